@@ -21,14 +21,14 @@ use Rattle.pf_book.specs.View.{mark_of, view_of_reply}
 
 -- ---- at one desk
 
--- DeskAnswers d c r d': a desk answers a call so and goes on to the next desk; memory runs out only where the log has room for the call, and
--- leaves the desk as it was
+-- DeskAnswers d c r d': a desk answers a call so and goes on to the next desk; memory runs out only where the log has
+-- room for the call, and leaves the desk as it was
 abbrev pub DeskAnswers : desk.Desk → Call → Result Reply NoMemory → desk.Desk → Type 0
 DeskAnswers d c (Ok r) d' = ForRight (λ p. (view_of_reply r ≡ reply_to p d c) × (d' ≡ after_call p d c))
 DeskAnswers d c (Err e) d' = HasRoom d × (d' ≡ d)
 
--- DeskClaims d t r d': the trial of a ticket is claimed, and this is its job; or it isn't queued; memory runs out only where it is, and the
--- desk is as it was then
+-- DeskClaims d t r d': the trial of a ticket is claimed, and this is its job; or it isn't queued; memory runs out only
+-- where it is, and the desk is as it was then
 abbrev pub DeskClaims : desk.Desk → ℕ → Result (Option (Arc Job Global)) NoMemory → desk.Desk → Type 0
 DeskClaims d t (Ok (Some j)) d' = (job_at d.trials t ≡ Some j.value) × (claim_step d t ≡ Some d')
 DeskClaims d t (Ok None) d' = (is_queued (held_at d.trials t) ≡ false) × (d' ≡ d)
@@ -38,7 +38,8 @@ DeskClaims d t (Err e) d' = (is_queued (held_at d.trials t) ≡ true) × (d' ≡
 abbrev pub with_result : desk.Desk → ℕ → shrinking.Result → desk.Desk
 with_result d t r = with_entry (record d { trials = with_state d.trials t (λ j. desk.done r) }) (filed t (mark_of r))
 
--- DeskFiles d t f b d': the result of the job of the trial of a ticket is filed, or it isn't running or is of another job
+-- DeskFiles d t f b d': the result of the job of the trial of a ticket is filed, or it isn't running or is of another
+-- job
 abbrev pub DeskFiles : desk.Desk → ℕ → FinishedView → Bool → desk.Desk → Type 0
 DeskFiles d t f true d' =
     (is_running (held_at d.trials t) ≡ true) × (d' ≡ with_result d t f.result) × ForRight (λ p. file_step p d t (mark_of f.result) ≡ Some d')
@@ -55,28 +56,29 @@ DeskTakesBack d t false d' = (is_running (held_at d.trials t) ≡ false) × (d' 
 abbrev pub work_told : Bool → Answer
 work_told b = if b then work_done else not_now
 
--- Answers w q c r w': a project's call is answered so, as the world's step says, and leads to the next world; memory runs out only where the
--- project's log has room for the call, and leaves the world as it was
+-- Answers w q c r w': a project's call is answered so, as the world's step says, and leads to the next world; memory
+-- runs out only where the project's log has room for the call, and leaves the world as it was
 abbrev pub Answers : World → ℕ → Call → Result Reply NoMemory → World → Type 0
 Answers w q c (Ok r) w' = ForRight (λ p. ◌≡◌ {A = World × Answer} (step p w (client q c)) (w', replied (view_of_reply r)))
 Answers w q c (Err e) w' = HasRoom (desk_at q w) × (w' ≡ w)
 
--- ClaimsAt w q t r w': the trial of a project's ticket is claimed, and this is its job; or there is none, since it isn't queued; memory
--- runs out only where it is, and the world is as it was then
+-- ClaimsAt w q t r w': the trial of a project's ticket is claimed, and this is its job; or there is none, since it
+-- isn't queued; memory runs out only where it is, and the world is as it was then
 abbrev pub ClaimsAt : World → ℕ → ℕ → Result (Option (Arc Job Global)) NoMemory → World → Type 0
 ClaimsAt w q t (Ok (Some j)) w' =
     (job_at (desk_at q w).trials t ≡ Some j.value) × ◌≡◌ {A = World × Answer} (worked q w (claim_step (desk_at q w) t)) (w', work_done)
 ClaimsAt w q t (Ok None) w' = ◌≡◌ {A = World × Answer} (worked q w (claim_step (desk_at q w) t)) (w', not_now)
 ClaimsAt w q t (Err e) w' = (is_queued (held_at (desk_at q w).trials t) ≡ true) × (w' ≡ w)
 
--- Claims w r w': some trial that is queued is claimed; or there is none, since no trial of any desk is queued; memory runs out only where
--- one is, and the world is as it was then
+-- Claims w r w': some trial that is queued is claimed; or there is none, since no trial of any desk is queued; memory
+-- runs out only where one is, and the world is as it was then
 abbrev pub Claims : World → Result (Option Claimed) NoMemory → World → Type 0
 Claims w (Ok (Some c)) w' = ClaimsAt w c.project c.ticket (Ok (Some c.job)) w'
 Claims w (Ok None) w' = ((q t : ℕ) → is_queued (held_at (desk_at q w).trials t) ≡ false) × (w' ≡ w)
 Claims w (Err e) w' = ((q : ℕ) × (t : ℕ) × (is_queued (held_at (desk_at q w).trials t) ≡ true)) × (w' ≡ w)
 
--- Files w q t f b w': the result of a project's ticket is filed under its mark, or the trial isn't running or is of another job
+-- Files w q t f b w': the result of a project's ticket is filed under its mark, or the trial isn't running or is of
+-- another job
 abbrev pub Files : World → ℕ → ℕ → FinishedView → Bool → World → Type 0
 Files w q t f true w' = ForRight (λ p. ◌≡◌ {A = World × Answer} (worked q w (file_step p (desk_at q w) t (mark_of f.result))) (w', work_done))
 Files w q t f false w' = IsStray (desk_at q w).trials t f.job × (w' ≡ w)

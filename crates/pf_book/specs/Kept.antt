@@ -16,9 +16,9 @@ use Rattle.pf_book.specs.declared.desk.Desk.TheInside.{Inside}
 abbrev pub desk_in : Inside → Desk
 desk_in b = record { edition = b.edition; modules = b.modules.items; trials = b.trials.items; history = map view_of_entry b.history.items }
 
--- the desk is what its history makes of an empty one, in an edition that there is; its sums are those over what it holds; it counts for each
--- module number the held trials that use it, and each held trial uses a module that is held; it counts the trials that run, and its history has
--- room for one note more of each of them
+-- the desk is what its history makes of an empty one, in an edition that there is; its sums are those over what it
+-- holds; it counts for each module number the held trials that use it, and each held trial uses a module that is held;
+-- it counts the trials that run, and its history has room for one note more of each of them
 pub record IsValid (b : Inside) : Type 0 where
   pub legal : ForRight (λ p. IsLegalDesk p (desk_in b))
   pub edition : IsEdition b.edition

@@ -25,7 +25,8 @@ with_change d (change.DropTrial t) = record d { trials = desk.with_held d.trials
 with_change d (change.Withdraw n) = record d { modules = desk.with_held d.modules n None }
 with_change d (change.Edition e) = record d { edition = e }
 
--- the result of a call to a desk is what it is answered with, which is noted so; and what is used then, with the call itself
+-- the result of a call to a desk is what it is answered with, which is noted so; and what is used then, with the call
+-- itself
 pub record IsPlan (d : desk.Desk) (c : Call) (plan : Plan) : Type 0 where
   pub answers : ForRight (λ p. ◌≡◌ {A = desk.Desk × desk.Reply} (with_change d plan.change, view_of_reply plan.reply) (answered p d c))
   pub notes : view_of_entry plan.noted ≡ desk.called c (view_of_reply plan.reply)
@@ -35,7 +36,8 @@ pub record IsPlan (d : desk.Desk) (c : Call) (plan : Plan) : Type 0 where
 abbrev pub IsCharged : desk.Desk → Usage → Type 0
 IsCharged d u = u ≡ charged (usage_in d) charge.Call
 
--- a change can be carried out: a trial is of a module that is held, no held trial uses a module that is given up, and there is the edition
+-- a change can be carried out: a trial is of a module that is held, no held trial uses a module that is given up, and
+-- there is the edition
 abbrev pub CanChange : desk.Desk → Change → Type 0
 CanChange d change.Nothing = Unit {0}
 CanChange d (change.Module m) = Unit {0}
@@ -53,7 +55,8 @@ KeepsModules (change.DropTrial t) = Unit {0}
 KeepsModules (change.Withdraw n) = ⊥
 KeepsModules (change.Edition e) = Unit {0}
 
--- FollowsPlan k k' d r: the holders of each source change as the modules of the desk will; where memory ran out they are as they were
+-- FollowsPlan k k' d r: the holders of each source change as the modules of the desk will; where memory ran out they
+-- are as they were
 abbrev pub FollowsPlan : Kept → Kept → desk.Desk → Result Plan NoMemory → Type 0
 FollowsPlan k k' d (Ok p) = FollowsDesk k d k' (with_change d p.change)
 FollowsPlan k k' d (Err e) = FollowsDesk k d k' d

@@ -24,8 +24,8 @@ pub record QueuesAll (k : Queue) (w : World) : Type 0 where
   pub running : k.running ≡ sum_by (λ e. running_in e.1) w
   pub waiting : (q t : ℕ) → is_queued (held_at (desk_at q w).trials t) ≡ true → Stands q t k.waiting.items
 
--- FollowsQueue q k d k' d': from one desk of a project to the next those that run are as many more or fewer as at the desk, and those wait that are
--- queued; nothing is lost but what isn't queued
+-- FollowsQueue q k d k' d': from one desk of a project to the next those that run are as many more or fewer as at the
+-- desk, and those wait that are queued; nothing is lost but what isn't queued
 pub record FollowsQueue (q : ℕ) (k : Queue) (d : Desk) (k' : Queue) (d' : Desk) : Type 0 where
   pub room : HoldsRoom k' 0
   pub running : k'.running + running_in d ≡ k.running + running_in d'

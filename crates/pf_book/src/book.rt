@@ -32,11 +32,12 @@ use std::hash::RandomState;
 use std::marker::Model;
 use std::sync::Arc;
 
-/// The desks of all projects, each opened by the first call of its project, the store of what was submitted, from which desks share
-/// the modules of equal sources, and the queue of the trials that wait for a worker. Contracts see the desks by project, in the order in
-/// which they were opened; neither what is shared nor the queue is seen. No call of one project reads or changes the desk of another.
-/// Random keys keep a look-up from being slow for projects or sources that are chosen to be; no reply depends on them. The desk of the last
-/// call is looked at first, at its index, since a hash by such keys takes as long as a small call.
+/// The desks of all projects, each opened by the first call of its project, the store of what was submitted, from which
+/// desks share the modules of equal sources, and the queue of the trials that wait for a worker. Contracts see the
+/// desks by project, in the order in which they were opened; neither what is shared nor the queue is seen. No call of
+/// one project reads or changes the desk of another. Random keys keep a look-up from being slow for projects or sources
+/// that are chosen to be; no reply depends on them. The desk of the last call is looked at first, at its index, since a
+/// hash by such keys takes as long as a small call.
 #[derive(Drop)]
 pub struct Book {
     desks: IndexMap<u32, Desk, RandomState>,
@@ -75,8 +76,8 @@ impl Book {
         }
     }
 
-    /// How many things the desk of a project noted. They are its whole history: replayed on an empty desk they give the desk, and
-    /// their own replies.
+    /// How many things the desk of a project noted. They are its whole history: replayed on an empty desk they give the
+    /// desk, and their own replies.
     pub fn note_count(&self, project: u32) -> usize
         ensures count { result ≡ length (desk_at project self.now).history }
         ensures legal { ForRight (λ p. IsLegalDesk p (desk_at project self.now)) }
@@ -177,7 +178,8 @@ impl Book {
         self.call(alloc, project, Call::Usage)
     }
 
-    /// Asks that the project's desk has this edition from now on, which isn't below the one that it has. What the project holds stays.
+    /// Asks that the project's desk has this edition from now on, which isn't below the one that it has. What the
+    /// project holds stays.
     pub fn edition(&mut self, alloc: Global, project: u32, edition: u32) -> Result<Reply, NoMemory>
         ensures answer { Answers self.old project (calls.edition edition) result self.new }
         ensures tickets { KeepsAllTickets self.old self.new }
@@ -185,8 +187,9 @@ impl Book {
         self.call(alloc, project, Call::Edition(edition))
     }
 
-    /// Answers a client's call on the desk of its project, and notes it there with its reply. After running out of memory nothing has
-    /// changed and nothing is noted. A new desk is put among the others before its first call, which the store then counts.
+    /// Answers a client's call on the desk of its project, and notes it there with its reply. After running out of
+    /// memory nothing has changed and nothing is noted. A new desk is put among the others before its first call, which
+    /// the store then counts.
     pub fn call(&mut self, alloc: Global, project: u32, call: Call) -> Result<Reply, NoMemory>
         ensures answer { Answers self.old project (view_of_call call) result self.new }
         ensures tickets { KeepsAllTickets self.old self.new }
@@ -214,16 +217,17 @@ impl Book {
         Ok(reply)
     }
 
-    /// Claims some trial that is queued, which is running then; none only if no trial of any desk is queued. A claim makes the room that the file
-    /// or the hand-back needs. After running out of memory nothing has changed and nothing is noted.
+    /// Claims some trial that is queued, which is running then; none only if no trial of any desk is queued. A claim
+    /// makes the room that the file or the hand-back needs. After running out of memory nothing has changed and nothing
+    /// is noted.
     pub fn claim(&mut self) -> Result<Option<Claimed>, NoMemory>
         ensures { Claims self.old result self.new }
     {
         claim_first(&mut self.desks, self.last, &mut self.queue)
     }
 
-    /// Claims the trial of a project's ticket, if it is queued; it leaves the queue as soon as none waits before it. After running out of memory
-    /// nothing has changed and nothing is noted.
+    /// Claims the trial of a project's ticket, if it is queued; it leaves the queue as soon as none waits before it.
+    /// After running out of memory nothing has changed and nothing is noted.
     pub fn claim_at(&mut self, project: u32, ticket: u64) -> Result<Option<Arc<Job>>, NoMemory>
         ensures { ClaimsAt self.old project ticket result self.new }
     {
@@ -239,8 +243,8 @@ impl Book {
         Ok(claimed)
     }
 
-    /// Files the result of the trial of a project's ticket; returns false if it isn't running or is of another job, and changes nothing then. It takes
-    /// no memory.
+    /// Files the result of the trial of a project's ticket; returns false if it isn't running or is of another job, and
+    /// changes nothing then. It takes no memory.
     pub fn file(&mut self, project: u32, ticket: u64, finished: Finished) -> bool
         ensures file { Files self.old project ticket finished result self.new }
         ensures own { OnTrue result (JobAt (desk_at project self.old).trials ticket finished.job) }
@@ -256,8 +260,8 @@ impl Book {
         filed
     }
 
-    /// Hands the trial of a project's ticket back, which is queued again; returns false if it isn't running, and changes nothing then. It takes no
-    /// memory.
+    /// Hands the trial of a project's ticket back, which is queued again; returns false if it isn't running, and
+    /// changes nothing then. It takes no memory.
     pub fn hand_back(&mut self, project: u32, ticket: u64) -> bool
         ensures { TakesBack self.old project ticket result self.new }
     {
@@ -321,8 +325,8 @@ fn claim_in(
     }
 }
 
-/// Lets the front of the queue go as long as it isn't queued: a trial that was claimed by its ticket, or dropped. Each leaves the queue once; those
-/// after one that is queued stay until it goes.
+/// Lets the front of the queue go as long as it isn't queued: a trial that was claimed by its ticket, or dropped. Each
+/// leaves the queue once; those after one that is queued stay until it goes.
 fn let_pass(desks: &IndexMap<u32, Desk, RandomState>, last: usize, queue: &mut Queue)
     requires { QueuesAll queue.old desks.now.entries }
     ensures queue { QueuesAll queue.new desks.now.entries }

@@ -42,9 +42,10 @@ use std::alloc::Global;
 use std::marker::Model;
 use std::sync::Arc;
 
-/// The desk of one project: its edition, its modules and trials by number, with nothing at a number that was given up, and what it
-/// noted; with the sums of what it uses, for each module the count of the held trials that use it, and how many trials run. There is room to note
-/// the file or the hand-back of each of those. Contracts see a desk that is what its history makes of an empty one.
+/// The desk of one project: its edition, its modules and trials by number, with nothing at a number that was given up,
+/// and what it noted; with the sums of what it uses, for each module the count of the held trials that use it, and how
+/// many trials run. There is room to note the file or the hand-back of each of those. Contracts see a desk that is what
+/// its history makes of an empty one.
 #[derive(Drop)]
 pub(crate) struct Desk {
     edition: u32,
@@ -86,7 +87,8 @@ impl Desk {
         }
     }
 
-    /// How many things were noted. They are the whole history: replayed on an empty desk they give this desk, and their own replies.
+    /// How many things were noted. They are the whole history: replayed on an empty desk they give this desk, and their
+    /// own replies.
     pub fn note_count(&self) -> usize
         ensures count { result ≡ length self.now.history }
         ensures legal { ForRight (λ p. IsLegalDesk p self.now) }
@@ -120,9 +122,9 @@ impl Desk {
         self.edition
     }
 
-    /// Answers a call and notes it with its reply; a trial that is ordered waits in the queue from then on. A call for which the log has no room is
-    /// refused first of all, takes no memory, and isn't noted. A source that is in store isn't read again. After running out of memory nothing
-    /// has changed.
+    /// Answers a call and notes it with its reply; a trial that is ordered waits in the queue from then on. A call for
+    /// which the log has no room is refused first of all, takes no memory, and isn't noted. A source that is in store
+    /// isn't read again. After running out of memory nothing has changed.
     pub fn call(
         &mut self,
         alloc: Global,
@@ -207,8 +209,8 @@ impl Desk {
         queued(&self.trials, ticket)
     }
 
-    /// Claims the trial of a ticket, if it is queued, and makes room for the note of its claim and that of its end. After running out of memory
-    /// nothing has changed.
+    /// Claims the trial of a ticket, if it is queued, and makes room for the note of its claim and that of its end.
+    /// After running out of memory nothing has changed.
     pub fn claim(&mut self, ticket: u64) -> Result<Option<Arc<Job>>, NoMemory>
         ensures claim { DeskClaims self.old ticket result self.new }
         ensures modules { self.new.modules ≡ self.old.modules }
@@ -224,7 +226,8 @@ impl Desk {
         Ok(Some(job))
     }
 
-    /// Files the result of the job of the trial of a ticket, if it is running and of that job, by the room that its claim made.
+    /// Files the result of the job of the trial of a ticket, if it is running and of that job, by the room that its
+    /// claim made.
     pub fn file(&mut self, ticket: u64, finished: Finished) -> bool
         ensures file { DeskFiles self.old ticket finished result self.new }
         ensures own { OnTrue result (JobAt self.old.trials ticket finished.job) }

@@ -36,7 +36,8 @@ impl Mark {
     }
 }
 
-/// What a desk notes: a call with its reply, and that a worker claimed the trial of a ticket, filed its result, or handed it back.
+/// What a desk notes: a call with its reply, and that a worker claimed the trial of a ticket, filed its result, or
+/// handed it back.
 #[derive(Drop)]
 pub(crate) enum Entry {
     /// A source was submitted, and given this number.

@@ -9,9 +9,9 @@ use pf_terms::NoMemory;
 use std::alloc::Global;
 use std::collections::VecDeque;
 
-/// The trials that wait for a worker, each by its project and its ticket, in the order in which they were queued, and how many trials run. There is
-/// room for those to wait again. A trial that was dropped, or claimed by its ticket, may be here still, after one that is queued: it leaves
-/// once it is at the front.
+/// The trials that wait for a worker, each by its project and its ticket, in the order in which they were queued, and
+/// how many trials run. There is room for those to wait again. A trial that was dropped, or claimed by its ticket, may
+/// be here still, after one that is queued: it leaves once it is at the front.
 #[derive(Drop)]
 pub(crate) struct Queue {
     pub waiting: VecDeque<(u32, u64)>,

@@ -25,7 +25,8 @@ pub enum Refusal {
     ModuleInUse,
     /// `B5`: the trial has no result yet.
     NotDone,
-    /// `B6`: the limit isn't from 1 to 100,000, the schedule has more than 100,000 numbers, or the runs of a shrinking aren't from 1 to 1,000.
+    /// `B6`: the limit isn't from 1 to 100,000, the schedule has more than 100,000 numbers, or the runs of a shrinking
+    /// aren't from 1 to 1,000.
     OutOfRange,
     /// `B7`: a weight isn't from 1 to 9.
     WeightsOutOfRange,

@@ -14,8 +14,8 @@ use std::mem;
 /// The most signals for which a queue has room that is kept as a spare one.
 const MOST_SPARE: usize = 64;
 
-/// Signals, the oldest first: never none. They are in a block of their own, so that a queue moves as a pointer where others come and
-/// go beside it.
+/// Signals, the oldest first: never none. They are in a block of their own, so that a queue moves as a pointer where
+/// others come and go beside it.
 #[derive(Drop)]
 pub(crate) struct Queue {
     waiting: Box<Waiting>,

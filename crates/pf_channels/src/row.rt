@@ -13,7 +13,8 @@ use pf_sorted::SortedMap;
 use std::alloc::Global;
 use std::marker::Model;
 
-/// The queues of one sender, by rising receiver; and a queue that was emptied, for the next, whose signals are none of the row's.
+/// The queues of one sender, by rising receiver; and a queue that was emptied, for the next, whose signals are none of
+/// the row's.
 #[derive(Drop)]
 pub(crate) struct Row {
     queues: SortedMap<Queue>,

@@ -1,5 +1,5 @@
--- What the grammar derives is formed: matches occur in bodies alone, bodies, guards and functions aren't empty, and a string is within
--- the limits of a value.
+-- What the grammar derives is formed: matches occur in bodies alone, bodies, guards and functions aren't empty, and a
+-- string is within the limits of a value.
 use Rattle.std.proofs.Common.{◌≡◌, inl, inr, ℕ, ◌<◌, ◌≤◌, Bool, true, false, List, [], ◌∷◌, length, refl, sym, subst, arith, IsTrue}
 use Rattle.std.proofs.lemmas.List.Elements.{All-nil, All-cons}
 use Rattle.pf_terms.specs.Value.{IsWithinLimits, nodes_in, depth_in}

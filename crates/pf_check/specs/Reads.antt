@@ -24,8 +24,9 @@ pub data Outcome : Type 0 where
 abbrev pub accepted_as : Checked → Outcome
 accepted_as m = accepted m.name m.atoms m.functions
 
--- Reads bytes outcome: the first fault of the tokens, and its offset; else that the first form isn't `-module(Atom).`; else that the
--- grammar derives no tree, at one of the tokens or at the end; else the first static fault, and its offset; else the checked module
+-- Reads bytes outcome: the first fault of the tokens, and its offset; else that the first form isn't `-module(Atom).`;
+-- else that the grammar derives no tree, at one of the tokens or at the end; else the first static fault, and its
+-- offset; else the checked module
 pub data Reads (bytes : List ℕ) : Outcome → Type 0 where
   token_fault : (code : Code) (at : ℕ) → HasFault bytes code at → Reads bytes (refused code at)
   no_head : (ts : List Placed) → HasTokens bytes ts → (HasHead (atoms_of ts) (numbered ts) → ⊥) → Reads bytes (refused NoHead 0)

@@ -7,7 +7,8 @@ ghost use Rattle.pf_intern.specs.NumberedTokens.{numbered};
 ghost use Rattle.pf_intern.specs.Offsets.{IsOffsetOf};
 ghost use Rattle.pf_check.specs.Reads.{Outcome, Reads, SameOutcome};
 
-/// A source is read in one way: as one module, or with one refusal at one offset, but for the offset of E5, which isn't stated.
+/// A source is read in one way: as one module, or with one refusal at one offset, but for the offset of E5, which isn't
+/// stated.
 pub fn one_outcome()
     ensures { (bytes : List ℕ) (o p : Outcome) → Reads bytes o → Reads bytes p → SameOutcome o p }
 {}

@@ -44,8 +44,8 @@ fn check(
     Ok(module_of(alloc, syntax, atoms)?)
 }
 
-/// The module that the bytes of a source are, or its first refusal and its offset. Where the grammar refuses, the offset is one of
-/// the tokens or the end: which one, tests show.
+/// The module that the bytes of a source are, or its first refusal and its offset. Where the grammar refuses, the
+/// offset is one of the tokens or the end: which one, tests show.
 pub fn read(alloc: Global, source: &[u8]) -> Result<Module, OrNoMemory<Refusal>>
     ensures read { IfOk result (λ m. Reads source.now (accepted_as m)) }
     ensures fault { IfErr result (IsRefusalOf source.now) }

@@ -70,8 +70,8 @@ required_rule name = wanted_rule true name
 abbrev pub flag_rule : Text → Rule
 flag_rule name = record (new_rule name) { long = Some name; action = Some SetTrue }
 
--- all runs have a source and a root: NAME [FILE] --root F; whether the root must be given, and whether there may be several sources, is their
--- command's
+-- all runs have a source and a root: NAME [FILE] --root F; whether the root must be given, and whether there may be
+-- several sources, is their command's
 abbrev pub rooted_app : (source : Rule) → (wanted : Bool) → Text → App
 rooted_app source wanted name = with_rule (with_rule (new_app name) source) (wanted_rule wanted (codes "root"))
 
@@ -174,8 +174,8 @@ pulsefarm = with_subcommand one_file_app farm_app.top
 
 -- ---- what is asked for
 
--- a run, a chart or a shrinking is asked for: a request of the module that a file holds, in an edition; and the seed by whose priorities the run
--- goes in place of the request's choices, where that is asked for
+-- a run, a chart or a shrinking is asked for: a request of the module that a file holds, in an edition; and the seed by
+-- whose priorities the run goes in place of the request's choices, where that is asked for
 pub record RunArgs : Type 0 where
   pub request : Request
   pub edition : ℕ
@@ -187,13 +187,14 @@ pub record ChartArgs : Type 0 where
   pub compact : Bool
   pub page : ℕ
 
--- what is sought among seeds: the least that fails, with its schedule shrunk within n runs where that is asked for; or each outcome
+-- what is sought among seeds: the least that fails, with its schedule shrunk within n runs where that is asked for; or
+-- each outcome
 pub data Sought : Type 0 where
   failure : (runs : Option ℕ) → Sought
   outcomes : Sought
 
--- a hunt is asked for: the request is the run by the seed 0, in whose place the seeds from a first to before an end go, by a strategy; for so
--- many seconds if a time is named, and by n workers if these are; and what it goes over
+-- a hunt is asked for: the request is the run by the seed 0, in whose place the seeds from a first to before an end go,
+-- by a strategy; for so many seconds if a time is named, and by n workers if these are; and what it goes over
 pub record HuntArgs : Type 0 where
   pub more : List Text
   pub roots : Roots
@@ -207,7 +208,8 @@ pub record HuntArgs : Type 0 where
   pub workers : Option ℕ
   pub sought : Sought
 
--- a farm is asked for: of n workers, and of the clients whose files these are, that of project 1 first; and whether what each worker did is reported
+-- a farm is asked for: of n workers, and of the clients whose files these are, that of project 1 first; and whether
+-- what each worker did is reported
 pub record FarmArgs : Type 0 where
   pub workers : ℕ
   pub files : List Text
@@ -399,7 +401,8 @@ sought_named false (Some word) = option_map (λ n. failure (Some n)) (number_of 
 abbrev pub sought_in : List Row → Option Sought
 sought_in rows = sought_named (is_given (first_of (codes "all") rows)) (first_of (codes "shrink") rows)
 
--- without a word for it a hunt goes by priorities, or by the weights where there are any; with weights no other strategy goes
+-- without a word for it a hunt goes by priorities, or by the weights where there are any; with weights no other
+-- strategy goes
 abbrev pub unless_guided : Option Strategy → Option Strategy
 unless_guided (Some Uniform) = Some Uniform
 unless_guided _ = None
@@ -486,8 +489,8 @@ farm_of rows =
 abbrev pub explain_of : List Row → Bool
 explain_of rows = is_given (first_of (codes "explain") rows)
 
--- a command asks for a run, for a hunt over seeds, for the shrinking of a schedule, for the chart of a run, for a check that may explain what
--- it refuses, for the steps that a file lists, or for a farm
+-- a command asks for a run, for a hunt over seeds, for the shrinking of a schedule, for the chart of a run, for a check
+-- that may explain what it refuses, for the steps that a file lists, or for a farm
 pub data Work : Type 0 where
   run : RunArgs → Work
   hunt : HuntArgs → Work
@@ -503,7 +506,8 @@ of_other name rows =
     if bytes_eq name (codes "check") then Some (check (explain_of rows))
     else (if bytes_eq name (codes "steps") then Some steps else None)
 
--- what a command of one file asks for by the values of its options, and by the text of its schedule's file where it is known
+-- what a command of one file asks for by the values of its options, and by the text of its schedule's file where it is
+-- known
 abbrev pub of_one_file : (text : Option Text) → (name : Text) → List Row → Option Work
 of_one_file text name rows =
     if bytes_eq name (codes "run") then option_map run (run_of text rows)
@@ -542,8 +546,8 @@ abbrev pub unless_refused : {T : Type 0} → Kinds → Option T → Option T
 unless_refused [] r = r
 unless_refused (k ∷ ks) r = None
 
--- what the words ask for, the first of which names the program, with a text in place of the file that they name for a schedule; nothing where
--- they are refused, or ask for help or the version
+-- what the words ask for, the first of which names the program, with a text in place of the file that they name for a
+-- schedule; nothing where they are refused, or ask for help or the version
 unfoldable pub wanted_by : (text : Option Text) → List Text → Option Wanted
 wanted_by text words = unless_refused (fault_of pulsefarm words) (asked (of_command text) (subcommand_of pulsefarm words))
 
@@ -691,8 +695,8 @@ StatusesAgree = (words : List Text) (k : ErrorKind) → IsFaultOf k words → st
 
 -- ---- how words are read
 
--- work, on this file; a schedule to be read first, from this file; or a text, with the status that the program ends with, which shows a fault or
--- doesn't
+-- work, on this file; a schedule to be read first, from this file; or a text, with the status that the program ends
+-- with, which shows a fault or doesn't
 pub data Reading : Type 0 where
   works : Wanted → (file : Option Text) → Reading
   reads : (file : Text) → Reading
@@ -710,8 +714,8 @@ abbrev pub reading_by : Option Wanted → (file schedule_file : Option Text) →
 reading_by None file schedule_file status = told status
 reading_by (Some wanted) file schedule_file status = works_by wanted file schedule_file
 
--- how the words are read, with a text in place of the file of the schedule; where the text isn't known yet, whether they ask for work is decided by a
--- schedule of no numbers
+-- how the words are read, with a text in place of the file of the schedule; where the text isn't known yet, whether
+-- they ask for work is decided by a schedule of no numbers
 abbrev pub reading_of : (text : Option Text) → List Text → Reading
 reading_of None words = reading_by (wanted_by (Some (codes "none")) words) (file_of words) (schedule_file_of words) (words_status words)
 reading_of (Some text) words = reading_by (wanted_by (Some text) words) (file_of words) None (words_status words)

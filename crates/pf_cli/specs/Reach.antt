@@ -4,8 +4,8 @@ use Rattle.pf_cli.specs.declared.args.Roots.{Roots}
 use Rattle.pf_cli.specs.declared.args.Roots.TheVariants.{Main, Named, Every}
 use Rattle.pf_cli.specs.declared.reach.Reach as reach_code
 
--- what a hunt goes over: the sources whose names come after the first, and which roots of each; whether it ends after the first root that fails;
--- and whether a seed also fails if its root returned while processes still wait
+-- what a hunt goes over: the sources whose names come after the first, and which roots of each; whether it ends after
+-- the first root that fails; and whether a seed also fails if its root returned while processes still wait
 pub record Reach : Type 0 where
   pub more : List (List ℕ)
   pub roots : Roots
@@ -31,7 +31,8 @@ abbrev pub reach_asked : (more : Option (List (List ℕ))) → Roots → (fail_f
 reach_asked None roots fail_fast leaks = None
 reach_asked (Some more) roots fail_fast leaks = Some (record { more = more; roots = roots; fail_fast = fail_fast; leaks = leaks })
 
--- every root doesn't go with one that is named, nor each outcome with a shrinking; and neither of these two with leaks, every root or several sources
+-- every root doesn't go with one that is named, nor each outcome with a shrinking; and neither of these two with leaks,
+-- every root or several sources
 abbrev pub clashes : (every leaks several all : Bool) → (root shrink : Option (List ℕ)) → Bool
 clashes every leaks several all root shrink =
     (every && is_some root) || ((all && is_some shrink) || ((all || is_some shrink) && (leaks || (every || several))))

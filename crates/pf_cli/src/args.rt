@@ -67,7 +67,8 @@ impl Weights {
     }
 }
 
-/// What `run` or `shrink` asks for, and of which run `chart` asks: a request of the module that a file holds, in an edition.
+/// What `run` or `shrink` asks for, and of which run `chart` asks: a request of the module that a file holds, in an
+/// edition.
 #[derive(Drop)]
 pub struct RunArgs<'a> {
     /// The file of the source; the standard input where there is none.
@@ -110,8 +111,8 @@ pub enum Roots {
     Every,
 }
 
-/// What `hunt` asks for: `request` is the run by the seed 0, by the weights that are named, in whose place those by the seeds from `first` to
-/// before `end` go.
+/// What `hunt` asks for: `request` is the run by the seed 0, by the weights that are named, in whose place those by the
+/// seeds from `first` to before `end` go.
 #[derive(Drop)]
 pub struct HuntArgs<'a> {
     /// The file of the source, of several the first; the standard input where there is none.

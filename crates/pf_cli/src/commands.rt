@@ -193,7 +193,8 @@ fn bare<'a>(alloc: Global, name: &'a str, about: &'a str) -> Command<'a>
     Command::new(alloc, name).about(about)
 }
 
-/// A command of runs without the options of its bounds, its choices and its property; its source is given, and whether it wants a root.
+/// A command of runs without the options of its bounds, its choices and its property; its source is given, and whether
+/// it wants a root.
 fn rooted<'a>(
     alloc: Global,
     source: Arg<'a>,

@@ -342,7 +342,8 @@ fn one_file_args<'a>(
     other_args(alloc, name, rows)
 }
 
-/// The work that the command of this name asks for by the values of its options, with a text in place of its schedule's file.
+/// The work that the command of this name asks for by the values of its options, with a text in place of its schedule's
+/// file.
 fn work_args<'a>(
     alloc: Global,
     name: &str,
@@ -366,7 +367,8 @@ fn work_args<'a>(
     one_file_args(alloc, name, rows, text)
 }
 
-/// What the command of this name asks for, and the form of its report, by the values of its options, with a text in place of its schedule's file.
+/// What the command of this name asks for, and the form of its report, by the values of its options, with a text in
+/// place of its schedule's file.
 fn command_args<'a>(
     alloc: Global,
     name: &str,
@@ -431,8 +433,8 @@ pub(crate) fn read_by<'a>(
     }
 }
 
-/// What the words ask for as they are given, the first of which names the program. Words that are refused or ask for help or the version are an
-/// error, which prints its text.
+/// What the words ask for as they are given, the first of which names the program. Words that are refused or ask for
+/// help or the version are an error, which prints its text.
 pub fn read_args<'a>(alloc: Global, words: &'a [&'a str]) -> Result<Asked<'a>, Error>
     ensures ok { IfOk result (λ a. wanted_of (map (λ w. w.now) words.now) ≡ Some (view_of_asked a)) }
     ensures file { IfOk result (λ a. named_file a.args ≡ file_of (map (λ w. w.now) words.now)) }

@@ -16,9 +16,11 @@ use std::fmt::Display;
 pub enum Reading<'a> {
     /// They ask for this.
     Asked(Asked<'a>),
-    /// They ask for work by the schedule in this file, `--schedule @FILE`: its text is read, and then the words once more with it.
+    /// They ask for work by the schedule in this file, `--schedule @FILE`: its text is read, and then the words once
+    /// more with it.
     ScheduleIn(&'a str),
-    /// They ask for no work: this text is printed, on the standard error where it reports a fault, and the program ends with this status.
+    /// They ask for no work: this text is printed, on the standard error where it reports a fault, and the program ends
+    /// with this status.
     Text {
         text: String,
         status: u8,
@@ -46,8 +48,8 @@ fn told<'a, E: Display>(alloc: Global, kind: ErrorKind, error: &E) -> Result<Rea
     }
 }
 
-/// How the words are read, the first of which names the program. Where they name a file for their schedule, `schedule` is the text that is in
-/// it, once that is read.
+/// How the words are read, the first of which names the program. Where they name a file for their schedule, `schedule`
+/// is the text that is in it, once that is read.
 pub fn read<'a>(
     alloc: Global,
     words: &'a [&'a str],

@@ -299,8 +299,8 @@ fn choices_by_schedule(
     }
 }
 
-/// The choices of a seed or of a schedule, of which one is given, with a text in place of the schedule's file; weights are given beside a seed
-/// alone.
+/// The choices of a seed or of a schedule, of which one is given, with a text in place of the schedule's file; weights
+/// are given beside a seed alone.
 pub(crate) fn choices(
     alloc: Global,
     valued: Valued,

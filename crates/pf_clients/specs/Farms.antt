@@ -74,7 +74,8 @@ status_of (c ∷ cs) = status_at c.ended (status_of cs)
 abbrev pub Prints : List ClientText → (status : ℕ) → (written_old written_new : Option (List ℕ)) → Type 0
 Prints cs status w0 w1 = (first_stop cs ≡ None) × (status ≡ status_of cs) × Appends w0 w1 (printed cs)
 
--- a write failed and was counted, and a beginning of what is printed went out; or a file can't be read or memory ran out, and all that is printed did
+-- a write failed and was counted, and a beginning of what is printed went out; or a file can't be read or memory ran
+-- out, and all that is printed did
 abbrev pub PrintsInPart : List ClientText → OrNoMemory StreamFault → (written_old written_new : Option (List ℕ)) → (failed_old failed_new : ℕ) → Type 0
 PrintsInPart cs (Fault (Write e)) w0 w1 n0 n1 = (n1 ≡ n0 + 1) × AppendsFront w0 w1 (printed cs)
 PrintsInPart cs (Fault (Read e)) w0 w1 n0 n1 = (n1 ≡ n0) × (first_stop cs ≡ Some (Fault (Read e))) × Appends w0 w1 (printed cs)
@@ -82,14 +83,16 @@ PrintsInPart cs NoMemory w0 w1 n0 n1 = (n1 ≡ n0) × (first_stop cs ≡ Some No
 
 -- ---- a farm
 
--- these are what is left of the clients of these files, and what they were told; the first is of project k, and each is of the next project
+-- these are what is left of the clients of these files, and what they were told; the first is of project k, and each is
+-- of the next project
 abbrev pub AreAnswered : (k : ℕ) → List (Option (List ℕ)) → List ClosedSeat → List ClientText → Type 0
 AreAnswered k [] [] [] = ⊤
 AreAnswered k (f ∷ fs) (s ∷ ss) (c ∷ cs) = AnswersFile k f (closed_as s) c.text c.ended × AreAnswered (suc k) fs ss cs
 AreAnswered k _ _ _ = ⊥
 
--- a farm of a client for each of these files, file k being that of project k, in which the clients were told this; and what is left when it is closed: the
--- receipts of the clients are those of all calls that the histories note, each once, and these histories are legal
+-- a farm of a client for each of these files, file k being that of project k, in which the clients were told this; and
+-- what is left when it is closed: the receipts of the clients are those of all calls that the histories note, each
+-- once, and these histories are legal
 pub record FarmOf (inputs : List (Option (List ℕ))) (clients : List ClientText) : Type 0 where
   pub closing : Closing
   pub answered : AreAnswered 1 inputs closing.seats.items clients

@@ -22,8 +22,8 @@ use Rattle.pf_clients.specs.Texts.{told_text}
 
 -- ---- one line
 
--- what came of a line: a call was logged, and this is its receipt; a call was one too many for the log; memory ran out in a call; a client waited for
--- the trial of a ticket
+-- what came of a line: a call was logged, and this is its receipt; a call was one too many for the log; memory ran out
+-- in a call; a client waited for the trial of a ticket
 pub data Line : Type 0 where
   logged : Told → Line
   one_too_many : Call → Line
@@ -54,14 +54,16 @@ line_text q (one_too_many c) = reply_text q (refused code.TooManyCalls)
 line_text q (without_memory c) = to_project q (codes "refused " ++ no_memory_text)
 line_text q (waited t) = []
 
--- what it leaves of the client's seat: its receipt is the newest. No call of a seat that is full is logged, and memory doesn't run out in one
+-- what it leaves of the client's seat: its receipt is the newest. No call of a seat that is full is logged, and memory
+-- doesn't run out in one
 abbrev pub Leaves : Line → (was is : ClientView) → Type 0
 Leaves (logged r) s s' = (s.is_full ≡ false) × (s' ≡ with_receipt s r)
 Leaves (one_too_many c) s s' = s' ≡ full_seat s
 Leaves (without_memory c) s s' = (s.is_full ≡ false) × (s' ≡ s)
 Leaves (waited t) s s' = s' ≡ s
 
--- AnswersLine m s s' before after: a line that asks for this was answered, and what came of it was added to what its client was told
+-- AnswersLine m s s' before after: a line that asks for this was answered, and what came of it was added to what its
+-- client was told
 abbrev pub AnswersLine : ClientLine → (was is : ClientView) → (before after : List ℕ) → Type 0
 AnswersLine m s s' t t' = (l : Line) × (asked_in l ≡ m) × Leaves l s s' × (t' ≡ t ++ line_text s.project l)
 
@@ -71,7 +73,8 @@ CutsLine m s s' t t' = (l : Line) × (asked_in l ≡ m) × Leaves l s s' × (t' 
 
 -- ---- the line in front
 
--- the line in front of some bytes of a client's file, of this number, was answered, and these bytes follow it; or it is no command
+-- the line in front of some bytes of a client's file, of this number, was answered, and these bytes follow it; or it is
+-- no command
 abbrev pub AnswersFront : List ℕ → (number : ℕ) → Option (List ℕ) → (was is : ClientView) → (before after : List ℕ) → Type 0
 AnswersFront bytes k (Some rest) s s' t t' =
     (m : ClientLine) × (client_line_at s.project bytes ≡ Some (m, rest)) × AnswersLine m s s' t t'
@@ -91,22 +94,24 @@ abbrev pub lines_text : ℕ → List Line → List ℕ
 lines_text q [] = []
 lines_text q (l ∷ ls) = line_text q l ++ lines_text q ls
 
--- AnswersLines q bytes s ls rest s': the bytes of a project's file are these lines, in order, and then the rest; they lead from the one state of its seat
--- to the other
+-- AnswersLines q bytes s ls rest s': the bytes of a project's file are these lines, in order, and then the rest; they
+-- lead from the one state of its seat to the other
 abbrev pub AnswersLines : ℕ → List ℕ → ClientView → List Line → List ℕ → ClientView → Type 0
 AnswersLines q bytes s [] rest s' = (bytes ≡ rest) × (s ≡ s')
 AnswersLines q bytes s (l ∷ ls) rest s' =
     (after : List ℕ) × (k : ClientView) × (client_line_at q bytes ≡ Some (asked_in l, after)) × Leaves l s k × AnswersLines q after k ls rest s'
 
--- how a file ends after so many lines, of which this rest is left, and what is told of the end: nothing is left; or what is left begins with no command,
--- and that is told; or the file can't be read, and none of its lines was; or memory ran out
+-- how a file ends after so many lines, of which this rest is left, and what is told of the end: nothing is left; or
+-- what is left begins with no command, and that is told; or the file can't be read, and none of its lines was; or
+-- memory ran out
 abbrev pub EndsAt : Ended → (lines : ℕ) → (rest : List ℕ) → (was is : ClientView) → (told : List ℕ) → Type 0
 EndsAt Answered n rest s s' t = (rest ≡ []) × (s' ≡ s) × (t ≡ [])
 EndsAt NoCommand n rest s s' t = (client_line_at s.project rest ≡ None) × ¬ (rest ≡ []) × (s' ≡ s) × (t ≡ last_text false (n + 1))
 EndsAt (Unread e) n rest s s' t = (n ≡ 0) × (s' ≡ s) × (t ≡ [])
 EndsAt OutOfMemory n rest s s' t = IsCut rest s s' × (t ≡ [])
 
--- AnswersBytes bytes s s' before after ended: the lines of a client's file were answered in order up to an end, and what came of them was added to what it was told
+-- AnswersBytes bytes s s' before after ended: the lines of a client's file were answered in order up to an end, and
+-- what came of them was added to what it was told
 pub record AnswersBytes (bytes : List ℕ) (was is : ClientView) (before after : List ℕ) (ended : Ended) : Type 0 where
   pub lines : List Line
   pub rest : List ℕ
@@ -116,7 +121,8 @@ pub record AnswersBytes (bytes : List ℕ) (was is : ClientView) (before after :
   pub ends : EndsAt ended (length lines) rest last is told
   pub text : after ≡ before ++ (lines_text was.project lines ++ told)
 
--- the client of a project's file was told this text: of the first 67,108,864 bytes of the file, if it is known what there is. Its seat began empty
+-- the client of a project's file was told this text: of the first 67,108,864 bytes of the file, if it is known what
+-- there is. Its seat began empty
 abbrev pub AnswersFile : (project : ℕ) → Option (List ℕ) → (seat : ClientView) → (text : List ℕ) → Ended → Type 0
 AnswersFile q input s text ended = (bytes : List ℕ) × AreRead input bytes × AnswersBytes bytes (empty_client q) s [] text ended
 
@@ -124,6 +130,7 @@ AnswersFile q input s text ended = (bytes : List ℕ) × AreRead input bytes × 
 abbrev pub IsNew : ClientView → List wire.Told → Type 0
 IsNew s told = (s ≡ empty_client s.project) × (told ≡ [])
 
--- the lines of a client's file, if it had one, were answered: this is left of its seat, this is what it was told, and so its file ended
+-- the lines of a client's file, if it had one, were answered: this is left of its seat, this is what it was told, and
+-- so its file ended
 abbrev pub IsServed : {R : Type 0} → (remaining : R → Option (List ℕ)) → Option R → (project : ℕ) → (seat : ClientView) → List wire.Told → Ended → Type 0
 IsServed remaining file q s told ended = IfSome file (λ f. AnswersFile q (remaining f) s (told_text told) ended)

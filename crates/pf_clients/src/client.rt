@@ -253,7 +253,8 @@ impl<N: FarmNames, R: Read + Drop> Client<N, R> {
         }
     }
 
-    /// Makes a call, and adds what came of it to what the client was told: the reply that its new receipt bears, or that the call is refused.
+    /// Makes a call, and adds what came of it to what the client was told: the reply that its new receipt bears, or
+    /// that the call is refused.
     fn answer_call<T: Wait, G: Watch>(
         &mut self,
         alloc: Global,

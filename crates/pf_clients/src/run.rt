@@ -26,8 +26,9 @@ use std::sync::ledger::Ledger;
 use std::thread::{Threads, for_each_mut, join_mut};
 use std::time::Clock;
 
-/// Has so many workers and a client for each file work on one farm, file k, counted from 1, being that of project k, each in a thread of its own; then writes what each
-/// client was told, file by file. Gives the status: 2 if a line was no command, after which that file isn't read any further, and else 0.
+/// Has so many workers and a client for each file work on one farm, file k, counted from 1, being that of project k,
+/// each in a thread of its own; then writes what each client was told, file by file. Gives the status: 2 if a line was
+/// no command, after which that file isn't read any further, and else 0.
 pub fn run_farm<
     N: FarmNames + Send + Sync,
     R: Read + Send + Drop,
@@ -117,7 +118,8 @@ fn seated<N: FarmNames, R: Drop>(
     Ok(clients)
 }
 
-/// Has all workers and all clients work side by side, until all clients are done; whether they did. Where the system starts no thread beside this one, none of them works.
+/// Has all workers and all clients work side by side, until all clients are done; whether they did. Where the system
+/// starts no thread beside this one, none of them works.
 fn serve<
     'a,
     N: FarmNames + Send + Sync,

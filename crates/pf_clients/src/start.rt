@@ -16,8 +16,9 @@ enum Stage {
     GivenUp,
 }
 
-/// The start of a farm. Where the system starts no thread, two that ought to work side by side do so one after the other, and each would wait for the other for ever: so
-/// the clients wait for the workers only for a time, and then neither works.
+/// The start of a farm. Where the system starts no thread, two that ought to work side by side do so one after the
+/// other, and each would wait for the other for ever: so the clients wait for the workers only for a time, and then
+/// neither works.
 #[derive(Drop)]
 pub(crate) struct Start {
     stage: Mutex<Stage>,

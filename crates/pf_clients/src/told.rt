@@ -42,7 +42,8 @@ fn write_one<W: Write, M: Ledger>(
     gathered.send(writer)
 }
 
-/// The status after a file that ended so, where this is the status before it: 2 if a line was no command. None after a file that can't be read or for which memory ran out.
+/// The status after a file that ended so, where this is the status before it: 2 if a line was no command. None after a
+/// file that can't be read or for which memory ran out.
 fn next_status(status: u8, ended: Ended) -> Result<u8, OrNoMemory<StreamFault>>
     ensures next { IfOk result (λ n. (stop_at ended ≡ None) × (n ≡ status_at ended status)) }
     ensures stop { IfErr result (λ e. stop_at ended ≡ Some e) }
@@ -55,7 +56,8 @@ fn next_status(status: u8, ended: Ended) -> Result<u8, OrNoMemory<StreamFault>>
     }
 }
 
-/// Writes what the clients were told, file by file, up to a file that can't be read or for which memory ran out; the status, 2 if a line was no command, and else 0.
+/// Writes what the clients were told, file by file, up to a file that can't be read or for which memory ran out; the
+/// status, 2 if a line was no command, and else 0.
 pub(crate) fn write_all<W: Write, M: Ledger>(
     alloc: Global,
     answers: Vec<Answers>,

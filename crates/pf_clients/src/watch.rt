@@ -7,6 +7,7 @@ pub trait Watch {
     /// A trial of a project was ordered.
     fn ordered(&self, project: u32);
 
-    /// The farm has stopped, and this is what the worker of this number, counted from 0, did. Each worker is told once, in order, before the answers of clients are written.
+    /// The farm has stopped, and this is what the worker of this number, counted from 0, did. Each worker is told once,
+    /// in order, before the answers of clients are written.
     fn worked(&self, worker: usize, tally: WorkTally);
 }

@@ -83,8 +83,8 @@ fn cure(alloc: Global, place: &Place<'_>, code: Code) -> Result<Option<Found>, N
     }
 }
 
-/// What is said of a source that is refused: of a construct that is known, what the language has in its place, with an example; of all else
-/// the sentence of the code.
+/// What is said of a source that is refused: of a construct that is known, what the language has in its place, with an
+/// example; of all else the sentence of the code.
 pub fn advise(alloc: Global, source: &[u8], refusal: Refusal) -> Result<Advice, NoMemory>
     ensures { IfOk result (λ a. IsAdvice source.now refusal.code refusal.offset a) }
 {

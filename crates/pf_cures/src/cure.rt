@@ -2,7 +2,8 @@
 
 ghost use Rattle.std.specs.Prelude.{◌≡◌, IfSome, option_map};
 
-/// A row of a table: the word that a construct is known by, what is said of it, and an example with how that is written here.
+/// A row of a table: the word that a construct is known by, what is said of it, and an example with how that is written
+/// here.
 #[derive(Clone, Copy)]
 pub(crate) struct Cure {
     pub word: &'static str,

@@ -1,4 +1,5 @@
-//! Which hint a refused source needs: the construct of Erlang that is there and that the language lacks, with how it is written here.
+//! Which hint a refused source needs: the construct of Erlang that is there and that the language lacks, with how it is
+//! written here.
 #![tactic(auto)]
 
 mod advice;

@@ -54,7 +54,8 @@ fn blank(source: &mut Vec<u8>, start: usize, end: usize)
     }
 }
 
-/// How far the head of a function was gone through: how deep its brackets are open, and whether a parameter is yet to come.
+/// How far the head of a function was gone through: how deep its brackets are open, and whether a parameter is yet to
+/// come.
 #[derive(Drop)]
 struct Head {
     depth: usize,
@@ -110,7 +111,8 @@ fn put_body(source: &mut Vec<u8>, at: usize)
     put(source, at.saturating_add(2), b'0');
 }
 
-/// Writes the head of a function without its patterns, and after it a body of one integer; the pieces begin after the function's name.
+/// Writes the head of a function without its patterns, and after it a body of one integer; the pieces begin after the
+/// function's name.
 fn put_head(source: &mut Vec<u8>, old: &[u8], pieces: &[Piece])
     ensures { IsMended source.old.items source.new.items }
 {
@@ -173,9 +175,9 @@ fn blank_form(source: &mut Vec<u8>, form: &[Piece]) -> bool
     true
 }
 
-/// Takes a fault of names or variables out of a source: the function that has it keeps its name and its number of arguments, and has
-/// a body of one integer; a function that is defined twice and an export form are blanked. Nothing is done, and `false` answered, in the first form and
-/// where there is no form. The source keeps its length.
+/// Takes a fault of names or variables out of a source: the function that has it keeps its name and its number of
+/// arguments, and has a body of one integer; a function that is defined twice and an export form are blanked. Nothing
+/// is done, and `false` answered, in the first form and where there is no form. The source keeps its length.
 #[tactic(auto, using(crate::proofs::Fillers::mended_not))]
 pub fn mend(alloc: Global, source: &mut Vec<u8>, refusal: Refusal) -> Result<bool, NoMemory>
     ensures { IsMended source.old.items source.new.items }

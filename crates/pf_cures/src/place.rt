@@ -19,7 +19,8 @@ pub(crate) struct Place<'a> {
     pub last: usize,
 }
 
-/// The number of the first piece that ends after an offset, that of the first of its form, and that of the first of the form before it.
+/// The number of the first piece that ends after an offset, that of the first of its form, and that of the first of the
+/// form before it.
 fn find_piece(pieces: &[Piece], offset: usize) -> (usize, usize, usize) {
     let mut form = 0;
     let mut last = 0;

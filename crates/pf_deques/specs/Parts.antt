@@ -23,7 +23,8 @@ module _ {T : Type 0} where
 
   -- ---- what its owner learns
 
-  -- the deque was found empty: all that was pushed was popped or stolen, and where the owner is the thief too, this was stolen
+  -- the deque was found empty: all that was pushed was popped or stolen, and where the owner is the thief too, this was
+  -- stolen
   abbrev pub IsFoundEmpty : (steals : Bool) → (pushed popped own : List T) → Type 0
   IsFoundEmpty steals pushed popped own = (stolen : List T) × IsDealt pushed popped stolen × (steals ≡ true → stolen ≡ own)
 
@@ -81,8 +82,8 @@ module _ {T : Type 0} where
 
   -- ---- the rule
 
-  -- one holder at most owns: it knows what was pushed and popped, and that no mark is there unless it sealed the deque, and no item if that is drained. One at most
-  -- steals, and knows what was stolen
+  -- one holder at most owns: it knows what was pushed and popped, and that no mark is there unless it sealed the deque,
+  -- and no item if that is drained. One at most steals, and knows what was stolen
   abbrev pub Knows : (owner thief : ℕ) → (pushed popped stolen held : List T) → (count : ℕ) → (holder : ℕ) → Part T → Type 0
   Knows owner thief pushed popped stolen held count holder v =
       (v.owns ≡ true → (holder ≡ owner) × (v.pushed ≡ pushed) × (v.popped ≡ popped) × (v.sealed ≡ false → count ≡ 0) × (v.drained ≡ true → held ≡ []))

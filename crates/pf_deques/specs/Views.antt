@@ -7,7 +7,8 @@ use Rattle.pf_deques.specs.Parts as parts
 abbrev pub Place : Type 0
 Place = (ℕ × ℕ) × Global
 
--- the owner's end: of which deque, whether that has no thief, what was pushed and what was popped, and whether it is known to be drained
+-- the owner's end: of which deque, whether that has no thief, what was pushed and what was popped, and whether it is
+-- known to be drained
 pub record OwnerView (T : Type 0) : Type 0 where
   pub deque : Place
   pub is_alone : Bool

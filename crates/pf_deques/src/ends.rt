@@ -10,8 +10,8 @@ use pf_fault::NoMemory;
 use std::alloc::Global;
 use std::marker::Model;
 
-/// The end of the worker whose deque it is. Contracts see which deque it is of and whether that has no thief, what was pushed, what was popped, and whether it
-/// is known that nothing is left.
+/// The end of the worker whose deque it is. Contracts see which deque it is of and whether that has no thief, what was
+/// pushed, what was popped, and whether it is known that nothing is left.
 #[derive(Drop)]
 pub struct Owner<T: Drop> {
     deque: Worker<Option<T>, Global, Part<T>, InOrder>,
@@ -123,8 +123,8 @@ impl<T: Drop> Owner<T> {
         }
     }
 
-    /// Pushes a mark after all items, if there is room. No item is pushed from then on, so when the owner pops a mark nothing is left. A thief may take a mark: then it
-    /// takes another.
+    /// Pushes a mark after all items, if there is room. No item is pushed from then on, so when the owner pops a mark
+    /// nothing is left. A thief may take a mark: then it takes another.
     pub fn mark(&mut self)
         ensures { self.new ≡ self.old }
     {

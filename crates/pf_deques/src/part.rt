@@ -3,7 +3,8 @@
 use crossbeam_deque::protocol::{Join, Lesson, Outcome, Protocol, Split};
 use std::collections::LinkedList;
 
-/// What a holder may do, whether it pushed a mark, whether it knows that nothing is left, and what it pushed, popped and stole. No value of it is made.
+/// What a holder may do, whether it pushed a mark, whether it knows that nothing is left, and what it pushed, popped
+/// and stole. No value of it is made.
 pub struct Part<T> {
     pub owns: bool,
     pub steals: bool,

@@ -56,7 +56,8 @@ rank_of_stage at_end = 2
 abbrev pub stage_at : ℕ → Stage
 stage_at n = if n == 0 then at_queue else (if n == 1 then at_work else at_end)
 
--- the replies that are a number are 0 to 2 with it; how far a trial is, is one of three, that it is given up the fourth, and that a desk has its edition the fifth
+-- the replies that are a number are 0 to 2 with it; how far a trial is, is one of three, that it is given up the
+-- fourth, and that a desk has its edition the fifth
 abbrev pub ReplyParts : Type 0
 ReplyParts = ((ℕ × ℕ) ⊎ ℕ) ⊎ ((List (List ℕ) × Result) ⊎ (Usage ⊎ Code))
 

@@ -4,8 +4,8 @@ use Rattle.pf_desks.specs.Desk.{Profile, Desk, no_desk, Reply, Entry, called, cl
 use Rattle.pf_desks.specs.Calls.{HasRoom, reply_to, after_call}
 use Rattle.pf_desks.specs.Work.{claim, file, hand_back, worker_step}
 
--- Follows p d e d': what is noted leads from a desk to the next: a call had room in the log, and its reply is the desk's own; what is claimed
--- was queued, and what is filed or handed back was running
+-- Follows p d e d': what is noted leads from a desk to the next: a call had room in the log, and its reply is the
+-- desk's own; what is claimed was queued, and what is filed or handed back was running
 abbrev pub Follows : Profile → Desk → Entry → Desk → Type 0
 Follows p d (called c r) d' = HasRoom d × (r ≡ reply_to p d c) × (d' ≡ after_call p d c)
 Follows p d (claimed t) d' = worker_step p d (claim t) ≡ Some d'

@@ -9,7 +9,7 @@ abbrev pub after_steps : Profile → World → List Step → World
 after_steps p w [] = w
 after_steps p w (s ∷ ss) = after_steps p (step p w s).0 ss
 
--- whatever steps there are, from the world in which no desk is open, the desk of each project is what its history makes of an empty
--- one, and what is noted in it follows: a worker claims what is queued and files what is running
+-- whatever steps there are, from the world in which no desk is open, the desk of each project is what its history makes
+-- of an empty one, and what is noted in it follows: a worker claims what is queued and files what is running
 abbrev pub Legality : Type 0
 Legality = (p : Profile) (q : ℕ) (ss : List Step) → IsLegalDesk p (desk_at q (after_steps p [] ss))

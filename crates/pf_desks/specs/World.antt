@@ -94,10 +94,12 @@ abbrev pub replies_along : Profile → Desk → List Step → List Reply
 replies_along p d [] = []
 replies_along p d (s ∷ ss) = desk_replies p d s ++ replies_along p (desk_after p d s) ss
 
--- the replies that a project gets where its own steps are all that there is: one empty desk, along the steps of the whole that belong to it
+-- the replies that a project gets where its own steps are all that there is: one empty desk, along the steps of the
+-- whole that belong to it
 abbrev pub alone : Profile → ℕ → List Step → List Reply
 alone p q ss = replies_along p no_desk (own_steps q ss (all_answers p ss))
 
--- isolation: whatever steps there are, of however many projects and in whatever order, a project gets the replies that it gets alone
+-- isolation: whatever steps there are, of however many projects and in whatever order, a project gets the replies that
+-- it gets alone
 abbrev pub Isolation : Type 0
 Isolation = (p : Profile) (q : ℕ) (ss : List Step) → told q ss (all_answers p ss) ≡ alone p q ss

@@ -18,9 +18,9 @@ pub fn legality()
     ensures { Legality }
 {}
 
-/// Limits of legal desks: each desk whose history is legal is within its limits, whoever made its calls and did its work.
-/// Each desk of a workshop is one (`legality` of `pf_worlds`), and so is each that a closed farm leaves (the clause `legal`
-/// of `Closing::note_count` of `pf_hall`): so it holds of the desks of `steps` and of `farm` alike.
+/// Limits of legal desks: each desk whose history is legal is within its limits, whoever made its calls and did its
+/// work. Each desk of a workshop is one (`legality` of `pf_worlds`), and so is each that a closed farm leaves (the
+/// clause `legal` of `Closing::note_count` of `pf_hall`): so it holds of the desks of `steps` and of `farm` alike.
 pub fn legal_desks_are_in_limits()
     ensures { LegalDesksAreInLimits }
 {}
@@ -42,8 +42,8 @@ pub fn no_number_twice()
     ensures { NoNumberTwice }
 {}
 
-/// Tickets: for every list of steps, in every world, a ticket that was given is for its job still: its trial, if it is held
-/// yet, is of that job.
+/// Tickets: for every list of steps, in every world, a ticket that was given is for its job still: its trial, if it is
+/// held yet, is of that job.
 pub fn tickets_stay()
     ensures { TicketsStay }
 {}

@@ -19,8 +19,8 @@ abbrev pub rewrite_text : Option Rewrite → List ℕ
 rewrite_text None = []
 rewrite_text (Some r) = line (codes "  instead of  " ++ r.instead.now) ++ line (codes "  write       " ++ r.write.now)
 
--- of a source and what is said of a position in it: the position, its line, a caret below the position, the sentence, and the example if there is
--- one; a position past the end is the end
+-- of a source and what is said of a position in it: the position, its line, a caret below the position, the sentence,
+-- and the example if there is one; a position past the end is the end
 abbrev pub explanation : (source : List ℕ) → Advice → List ℕ
 explanation source a =
     let front = take a.position source in

@@ -40,6 +40,7 @@ farthest behind = take MOST_SHOWN behind
 abbrev pub shown_line : (front behind : List ℕ) → List ℕ
 shown_line front behind = shown (nearest (since_newline front)) ++ shown (farthest (up_to_newline behind))
 
--- a caret in the column of the position, after as many blanks as the bytes that are shown before the position have columns
+-- a caret in the column of the position, after as many blanks as the bytes that are shown before the position have
+-- columns
 abbrev pub caret_line : (front : List ℕ) → List ℕ
 caret_line front = replicate (columns (nearest (since_newline front))) 32 ++ codes "^"

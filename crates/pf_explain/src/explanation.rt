@@ -93,8 +93,9 @@ fn put_lines(
     put_rewrite(out, advice.rewrite)
 }
 
-/// Puts what is said of a source that is refused: the line and the column of the position, the line around it, a caret below it, the
-/// sentence, and the example if there is one. A position past the end counts as the end. Where memory runs out nothing is put.
+/// Puts what is said of a source that is refused: the line and the column of the position, the line around it, a caret
+/// below it, the sentence, and the example if there is one. A position past the end counts as the end. Where memory
+/// runs out nothing is put.
 pub fn put_explanation(
     alloc: Global,
     out: &mut Vec<u8>,

@@ -9,7 +9,8 @@ use pf_fault::NoMemory;
 /// The most bytes of a line that are shown before a position, and from the position on.
 pub const MOST_SHOWN: usize = 100;
 
-/// Whether a byte is the first of the two of a letter in UTF-8, from À on. What comes before that could control a terminal.
+/// Whether a byte is the first of the two of a letter in UTF-8, from À on. What comes before that could control a
+/// terminal.
 fn leads(byte: u8) -> bool
     ensures { result ≡ leads byte }
 {
@@ -26,7 +27,8 @@ fn put_behind(out: &mut Vec<u8>, before: u8, byte: u8) -> Result<(), NoMemory>
     Ok(())
 }
 
-/// A byte with which a character begins: itself where it is a blank or a visible character, or begins such a letter, else `?`.
+/// A byte with which a character begins: itself where it is a blank or a visible character, or begins such a letter,
+/// else `?`.
 fn shown_first(byte: u8, next: u8) -> u8
     ensures { shown_first byte next ≡ result ∷ [] }
 {

@@ -66,8 +66,8 @@ IsModuleOf bytes m = (m.source ≡ bytes) × IsReadAs bytes m
 abbrev pub AsksOf : RunArgs → ReadModule → Result Job Code → Type 0
 AsksOf a m = Asks m a.edition a.request
 
--- of the run that is asked for of a source its processes are reported; nothing is said where the source is refused, or what is asked for of it,
--- or where that is a shrinking
+-- of the run that is asked for of a source its processes are reported; nothing is said where the source is refused, or
+-- what is asked for of it, or where that is a shrinking
 pub data Explains (a : RunArgs) (bytes : List ℕ) : List ℕ → Type 0 where
   source_refused : (code : Code) (offset : ℕ) → Reads bytes (refused code offset) → Explains a bytes []
   job_refused : (m : ReadModule) (code : Code) → IsModuleOf bytes m → AsksOf a m (Err code) → Explains a bytes []

@@ -26,8 +26,8 @@ use pf_sched::{Job, Scratch, report_by_priorities, report_of_run};
 use pf_standings::{KnownRun, Standing, put_standing, standings};
 use std::alloc::Global;
 
-/// The job of one run that is asked for of a source of these bytes; none where the source is refused, or what is asked for of it, or a shrinking
-/// is.
+/// The job of one run that is asked for of a source of these bytes; none where the source is refused, or what is asked
+/// for of it, or a shrinking is.
 fn job_of(alloc: Global, args: &RunArgs, bytes: Vec<u8>) -> Result<Option<Job>, NoMemory>
     ensures { IfOk result (Finds (view_of_run_args args.now) bytes.items) }
 {
@@ -108,8 +108,9 @@ fn explain_job(alloc: Global, args: &RunArgs, job: &Job, source: &[u8]) -> Resul
     explain_known(alloc, &run, source)
 }
 
-/// What is said of the processes of the run that is asked for of a source: of each, by pid, a line that says in whose call it began, and how it
-/// ended or where it waits when the run is over. Nothing is said where the source is refused, or what is asked for of it, or where that is a shrinking.
+/// What is said of the processes of the run that is asked for of a source: of each, by pid, a line that says in whose
+/// call it began, and how it ended or where it waits when the run is over. Nothing is said where the source is refused,
+/// or what is asked for of it, or where that is a shrinking.
 pub fn explain_run(alloc: Global, args: &RunArgs, source: &[u8]) -> Result<Vec<u8>, NoMemory>
     ensures { IfOk result (λ text. Explains (view_of_run_args args.now) source.now text.items) }
 {

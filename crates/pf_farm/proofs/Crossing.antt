@@ -1,4 +1,5 @@
--- Workers' seats may go to another thread, and the floor may be shared by threads: a lemma a type, each from those of its parts.
+-- Workers' seats may go to another thread, and the floor may be shared by threads: a lemma a type, each from those of
+-- its parts.
 use Rattle.std.specs.Prelude.{ℕ, [], ◌∷◌}
 use mir.Syntax.{Sym, Ty}
 use denote.RattleType.{RattleType}

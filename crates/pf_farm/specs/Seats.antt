@@ -10,8 +10,8 @@ use Rattle.pf_deques.specs.Parts.{IsDealt}
 use Rattle.pf_deques.specs.Views.{Place, OwnerView, ThiefView, stolen_by}
 use Rattle.pf_farm.specs.declared.tally.WorkTally.{WorkTally}
 
--- the end of its own deque and that of the deque of which it steals, if there is one, both by the numbers of claims; whether it holds a run; how many it filed, and what
--- else its worker did
+-- the end of its own deque and that of the deque of which it steals, if there is one, both by the numbers of claims;
+-- whether it holds a run; how many it filed, and what else its worker did
 pub record SeatView : Type 0 where
   pub own : OwnerView ℕ
   pub next : Option (ThiefView ℕ)
@@ -86,7 +86,8 @@ abbrev pub IsChain : (from : Option Place) → List SeatView → (to : Option Pl
 IsChain from [] to = from ≡ to
 IsChain from (s ∷ ss) to = (Some s.own.deque ≡ from) × IsChain (thief_deque s.next) ss to
 
--- each seat steals from the next one's deque, and the last from the first one's; but where there is one alone nobody steals
+-- each seat steals from the next one's deque, and the last from the first one's; but where there is one alone nobody
+-- steals
 abbrev pub IsRing : List SeatView → Type 0
 IsRing [] = ⊤
 IsRing (s ∷ []) = (s.next ≡ None) × (s.own.is_alone ≡ true)

@@ -87,8 +87,8 @@ impl<N: FarmNames> Model for Farm<N> {
 }
 
 impl<N: FarmNames> Farm<N> {
-    /// A farm of so many workers, with a seat for each: each steals from the next one's deque, and the last from the first one's; one alone steals from nobody. It hashes
-    /// with these keys, and has given no seat to a client.
+    /// A farm of so many workers, with a seat for each: each steals from the next one's deque, and the last from the
+    /// first one's; one alone steals from nobody. It hashes with these keys, and has given no seat to a client.
     pub fn open(
         alloc: Global,
         keys: RandomState,
@@ -160,9 +160,10 @@ impl<N: FarmNames> Farm<N> {
         &self.floor
     }
 
-    /// Closes the farm, with the seats of all its clients and of all its workers, each of which has returned. No claim is open then, the ledger tells what the histories
-    /// tell, and what was pushed to a deque was popped or stolen, each in order and so as often. The receipts of the clients are those of all calls that the histories note,
-    /// each once.
+    /// Closes the farm, with the seats of all its clients and of all its workers, each of which has returned. No claim
+    /// is open then, the ledger tells what the histories tell, and what was pushed to a deque was popped or stolen,
+    /// each in order and so as often. The receipts of the clients are those of all calls that the histories note, each
+    /// once.
     pub fn close(self, clients: Vec<ClientSeat<N>>, seats: Vec<WorkSeat<N>>) -> Closing
         requires clients { vec_len clients ≡ self.given }
         requires all { vec_len seats ≡ self.workers }

@@ -23,7 +23,8 @@ use std::array::from_fn;
 use std::sync::atomic::{AtomicBool, Ordering};
 use std::sync::{Condvar, Mutex, Wait};
 
-/// What lies under the lock: the hall, how often something came for which a worker may wait, how many workers wait, which clients do, and whether the farm stops.
+/// What lies under the lock: the hall, how often something came for which a worker may wait, how many workers wait,
+/// which clients do, and whether the farm stops.
 #[derive(Drop)]
 pub(crate) struct Shared<N: FarmNames> {
     pub hall: Hall<N>,
@@ -72,8 +73,8 @@ pub struct LastSeen {
     pub stops: bool,
 }
 
-/// What all threads share: the hall under its lock, and what they wait for. Workers wait for trials that are queued and runs that are parked, and clients for trials that
-/// are done or dropped.
+/// What all threads share: the hall under its lock, and what they wait for. Workers wait for trials that are queued and
+/// runs that are parked, and clients for trials that are done or dropped.
 #[derive(Drop)]
 pub struct Floor<N: FarmNames> {
     pub(crate) shared: Mutex<Shared<N>>,
@@ -119,8 +120,9 @@ impl<N: FarmNames> Floor<N> {
         hall
     }
 
-    /// Answers a client's call at its seat, in one hold of the lock. A call that is logged has a receipt then, with the reply that is answered. One for which the log has no
-    /// room is refused, and each call of a seat that is full is. After running out of memory nothing has changed.
+    /// Answers a client's call at its seat, in one hold of the lock. A call that is logged has a receipt then, with the
+    /// reply that is answered. One for which the log has no room is refused, and each call of a seat that is full is.
+    /// After running out of memory nothing has changed.
     pub fn call<R: Wait>(
         &self,
         alloc: Global,
@@ -148,7 +150,8 @@ impl<N: FarmNames> Floor<N> {
         Ok(reply)
     }
 
-    /// Waits until the trial of a ticket of the seat's project is done, or isn't held; or until the farm stops. Tells what it saw last.
+    /// Waits until the trial of a ticket of the seat's project is done, or isn't held; or until the farm stops. Tells
+    /// what it saw last.
     pub fn wait_done<R: Wait>(&self, rt: &R, seat: &ClientSeat<N>, ticket: u64) -> LastSeen
         ensures { result.stops ≡ false → IsOver result.stage }
     {

@@ -7,8 +7,8 @@ use pf_sched::{Parked, Scratch, Slice, run_slice};
 use std::alloc::Global;
 use std::sync::Wait;
 
-/// What a worker calls for each slice of a run, without the farm's lock: with the project and the ticket of its trial. It does what `run_slice` does, and may
-/// note it, or wait.
+/// What a worker calls for each slice of a run, without the farm's lock: with the project and the ticket of its trial.
+/// It does what `run_slice` does, and may note it, or wait.
 pub trait Gate {
     fn slice<R: Wait>(
         &self,

@@ -1,4 +1,5 @@
-//! The running farm: workers who claim trials, run them slice by slice, park runs in their own deques and steal from one another's.
+//! The running farm: workers who claim trials, run them slice by slice, park runs in their own deques and steal from
+//! one another's.
 #![tactic(auto)]
 
 mod farm;

@@ -18,8 +18,8 @@ use std::thread::{Threads, for_each_mut};
 /// How many events a slice has.
 const TURNS: u32 = 256;
 
-/// Works until the farm stops: takes up a run that it parked, else steals one, else claims a trial, else waits. Then it hands back what it holds and has parked. A
-/// worker whose claim was refused for memory tries again.
+/// Works until the farm stops: takes up a run that it parked, else steals one, else claims a trial, else waits. Then it
+/// hands back what it holds and has parked. A worker whose claim was refused for memory tries again.
 pub fn work<N: FarmNames, G: Gate, R: Wait>(
     alloc: Global,
     rt: &R,
@@ -46,8 +46,8 @@ pub fn work<N: FarmNames, G: Gate, R: Wait>(
     clear(rt, floor, seat);
 }
 
-/// Has each worker work in a thread of its own until the farm stops. Where the system starts fewer threads, workers work one after another, and those behind the first
-/// begin once the farm stops.
+/// Has each worker work in a thread of its own until the farm stops. Where the system starts fewer threads, workers
+/// work one after another, and those behind the first begin once the farm stops.
 pub fn work_all<N: FarmNames + Sync + Send, G: Gate + Sync, R: Threads + Wait + Sync>(
     alloc: Global,
     rt: &R,
@@ -169,7 +169,8 @@ fn begun<N: FarmNames, R: Wait>(
     }
 }
 
-/// Goes on with a run, and with those that come after it, slice by slice: what is over is filed, and what isn't is parked behind the others, where there is room.
+/// Goes on with a run, and with those that come after it, slice by slice: what is over is filed, and what isn't is
+/// parked behind the others, where there is room.
 fn run_on<N: FarmNames, G: Gate, R: Wait>(
     alloc: Global,
     rt: &R,
@@ -197,7 +198,8 @@ fn run_on<N: FarmNames, G: Gate, R: Wait>(
     floor.hand_back(rt, seat, claim);
 }
 
-/// A slice of a run, and the run with which the worker goes on: the same where it can't be parked, or else another one, if there is one. A run that is over is filed.
+/// A slice of a run, and the run with which the worker goes on: the same where it can't be parked, or else another one,
+/// if there is one. A run that is over is filed.
 fn sliced<N: FarmNames, G: Gate, R: Wait>(
     alloc: Global,
     rt: &R,

@@ -4,8 +4,9 @@ use pf_register::RegisterName;
 use std::marker::{Brand, PhantomData};
 use std::sync::ledger::Ledger;
 
-/// Which farm it is: the names of its three ledgers and the numbers of their parts, and where its two registers are. One type parameter stands for
-/// all of them. Whoever makes a farm passes `Brand` for it, with the members that the new ledgers and registers have.
+/// Which farm it is: the names of its three ledgers and the numbers of their parts, and where its two registers are.
+/// One type parameter stands for all of them. Whoever makes a farm passes `Brand` for it, with the members that the new
+/// ledgers and registers have.
 pub trait FarmNames {
     ghost use Rattle.std.specs.Prelude.{ℕ, Option};
     ghost use Rattle.std.specs.Global.{Global};

@@ -1,4 +1,5 @@
-//! What is reported of a source that is refused: its first refusal, and those of its other forms, in the order of the text.
+//! What is reported of a source that is refused: its first refusal, and those of its other forms, in the order of the
+//! text.
 #![tactic(auto)]
 
 mod alone;

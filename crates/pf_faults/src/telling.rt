@@ -58,7 +58,8 @@ fn fault_of_form(
     }
 }
 
-/// What is reported of each form between these ends that is refused by itself, of so many at most; the first begins at `start`.
+/// What is reported of each form between these ends that is refused by itself, of so many at most; the first begins at
+/// `start`.
 fn told_of_forms(
     alloc: Global,
     source: &[u8],
@@ -97,7 +98,8 @@ fn next_fault(
     first_refusal(alloc, mended, false)
 }
 
-/// What is reported of the faults of names and variables that are left once each reported one was taken out, after the first.
+/// What is reported of the faults of names and variables that are left once each reported one was taken out, after the
+/// first.
 fn told_of_mended(alloc: Global, source: &[u8], first: Refusal) -> Result<Vec<Advice>, NoMemory>
     ensures { IfOk result (λ told. All (IsOfFault source.now) told.items) }
 {
@@ -145,8 +147,9 @@ fn behind(
     told_of_forms(alloc, source, start, forms, MOST_TOLD.saturating_sub(told))
 }
 
-/// What is reported of a source with this first refusal: of one by tokens or grammar, that and one of each other form that is refused by
-/// itself; of one by names or variables, that and the others of its kind, one of each form. All in the order of the text.
+/// What is reported of a source with this first refusal: of one by tokens or grammar, that and one of each other form
+/// that is refused by itself; of one by names or variables, that and the others of its kind, one of each form. All in
+/// the order of the text.
 pub fn faults(alloc: Global, source: &[u8], refusal: Refusal) -> Result<Vec<Advice>, NoMemory>
     ensures { IfOk result (λ told. Tells source.now refusal.code refusal.offset told.items) }
 {

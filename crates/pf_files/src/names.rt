@@ -7,8 +7,8 @@ use std::alloc::{AllocError, Global};
 use std::fs::{self, Files};
 use std::io;
 
-/// A word whose bytes aren't UTF-8: each byte from 128 on is written as a NUL and two digits, so that no two words have the same text, since no
-/// word has a NUL.
+/// A word whose bytes aren't UTF-8: each byte from 128 on is written as a NUL and two digits, so that no two words have
+/// the same text, since no word has a NUL.
 fn marked(alloc: Global, bytes: &[u8]) -> Result<String, AllocError> {
     let mut text = String::new(alloc);
     for byte in bytes {

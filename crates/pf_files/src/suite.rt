@@ -30,7 +30,8 @@ use std::time::{Clock, Instant};
 /// What the work of a command ends with: a status, or what stopped it.
 pub type Answered = Result<u8, OrNoMemory<StreamFault>>;
 
-/// How many threads run the seeds of a hunt: those that are named, or one for each of the machine's processors, at most 64.
+/// How many threads run the seeds of a hunt: those that are named, or one for each of the machine's processors, at most
+/// 64.
 pub fn workers_of(rt: &impl Threads, args: &HuntArgs) -> u64
     ensures named { IfSome args.now.workers (λ workers. result ≡ workers) }
     ensures most { IfNone args.now.workers (result ≤ 64) }
@@ -42,7 +43,8 @@ pub fn workers_of(rt: &impl Threads, args: &HuntArgs) -> u64
     }
 }
 
-/// Whether a hunt goes over several sources or roots: it has several names, or every root, or its name is that of a folder.
+/// Whether a hunt goes over several sources or roots: it has several names, or every root, or its name is that of a
+/// folder.
 pub fn is_suite(rt: &impl Files, args: &HuntArgs) -> bool
     ensures several { goes_over_several (view_of_hunt_args args.now) ≡ true → result ≡ true }
     ensures named { result ≡ true → (is_some args.now.file || goes_over_several (view_of_hunt_args args.now)) ≡ true }

@@ -1,4 +1,5 @@
--- Each expression and each element that derives tokens and is no deeper than the limit is read, where what follows it ends it.
+-- Each expression and each element that derives tokens and is no deeper than the limit is read, where what follows it
+-- ends it.
 use Rattle.std.proofs.Common.{◌≡◌, ℕ, zero, suc, ◌-◌, ◌≤◌, ◌<◌, List, ◌∷◌, ◌++◌, length, Bool, false, Option, Some, None, refl, sym, ap, ◌∙◌, arith, append_assoc}
 use Rattle.std.proofs.lemmas.Bool.{le-leb}
 use Rattle.std.proofs.lemmas.List.{length-append}
@@ -144,7 +145,8 @@ module _ (n : Names) (d : ℕ) (parse_exprs : ExpressionsRead n d) (g : Bool) (p
 
 -- ---- elements of bodies
 
--- an expression that a pattern and `=` begin isn't followed by another token: a pattern is an expression too, and no tokens have two
+-- an expression that a pattern and `=` begin isn't followed by another token: a pattern is an expression too, and no
+-- tokens have two
 module _ (n : Names) (d : ℕ) (plain : Parse Expr) (plain_complete : CompleteFor plain (Fits n false top (suc d)) (Stops false top)) where
   match_behind : (e : Expr) (front rest : List NumberedToken) (x : ExprPattern × List NumberedToken) → Fits n false top (suc d) e front → Stops false top rest → match_ahead (pattern n d) (front ++ rest) ≡ Some x → after (mark marks.Match) rest ≡ Some x.1
   match_behind e front rest x fits stops h =

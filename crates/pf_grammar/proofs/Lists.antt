@@ -1,4 +1,5 @@
--- Lists with separators, for each kind of item: what is read derives the tokens that it took, and what derives tokens is read.
+-- Lists with separators, for each kind of item: what is read derives the tokens that it took, and what derives tokens
+-- is read.
 use Rattle.std.proofs.Common.{◌≡◌, ℕ, zero, suc, ◌≤◌, ◌<◌, List, [], ◌∷◌, ◌++◌, length, false, Option, Some, None, refl, sym, ap, subst, ◌∙◌, arith, append_assoc}
 use Rattle.std.proofs.lemmas.List.{length-append}
 use Rattle.pf_tokens.specs.declared.marks.Mark.TheVariants as marks

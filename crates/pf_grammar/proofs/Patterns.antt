@@ -1,4 +1,5 @@
--- Patterns: what is read derives what it took, no deeper than the limit, and each pattern that is no deeper is read whatever follows.
+-- Patterns: what is read derives what it took, no deeper than the limit, and each pattern that is no deeper is read
+-- whatever follows.
 use Rattle.std.proofs.Common.{◌≡◌, ◌⊎◌, ℕ, zero, suc, ◌≤◌, ◌<◌, List, [], ◌∷◌, ◌++◌, Option, Some, None, refl, ap, arith, inl, inr}
 use Rattle.std.specs.Prelude.{ℤ, pos, neg_ℤ}
 use Rattle.pf_tokens.specs.declared.marks.Mark.{Mark}

@@ -216,7 +216,8 @@ call_stands n true f arity = named_stands (builtin_named (name_of n.atoms f) ari
 abbrev pub Guarded : Condition → (List NumberedToken → Type 0) → List NumberedToken → Type 0
 Guarded c G ts = ((c ≡ unguarded) × (ts ≡ [])) ⊎ Behind (reserved words.When) G ts
 
--- what is before the arrow of a clause: its pattern, with its guard or none; in an `if`, where the flag says so, its guard alone
+-- what is before the arrow of a clause: its pattern, with its guard or none; in an `if`, where the flag says so, its
+-- guard alone
 abbrev pub FrontIs : Bool → ExprPattern → Condition → (List NumberedToken → Type 0) → (List NumberedToken → Type 0) → List NumberedToken → Type 0
 FrontIs false q c P G ts = Together P (Guarded c G) ts
 FrontIs true q c P G ts = (q ≡ s.anything) × G ts
@@ -280,8 +281,8 @@ abbrev mutual
 
 -- ---- functions
 
--- a clause of a function: its name, patterns between parentheses, a guard or none, an arrow and a body; no pattern, test or element
--- is too deep
+-- a clause of a function: its name, patterns between parentheses, a guard or none, an arrow and a body; no pattern,
+-- test or element is too deep
 pub record DerivesHead (n : Names) (h : Head) (ts : List NumberedToken) : Type 0 where
   pub name : NumberedToken
   pub more : List NumberedToken

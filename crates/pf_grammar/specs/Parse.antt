@@ -131,7 +131,8 @@ abbrev pub items_step : {A : Type 0} → Parse (List A) → A → List NumberedT
 items_step go x ts None = Some (x ∷ [], ts)
 items_step go x ts (Some rest) = go rest >>= λ more. Some (x ∷ more.0, more.1)
 
--- items with this kind of token between them; the number bounds the turns, and as many as there are tokens are always enough
+-- items with this kind of token between them; the number bounds the turns, and as many as there are tokens are always
+-- enough
 unfoldable pub items : {A : Type 0} → NumberedKind → Parse A → ℕ → Parse (List A)
 items s item zero ts = None
 items s item (suc n) ts = item ts >>= λ x. items_step (items s item n) x.0 x.1 (after s x.1)
@@ -152,7 +153,8 @@ abbrev pub exprs_of : List Expr → Exprs
 exprs_of [] = no_exprs
 exprs_of (e ∷ es) = expr e (exprs_of es)
 
--- items with commas between them, between brackets whose first one is read: with a bar and a last item after them, or without
+-- items with commas between them, between brackets whose first one is read: with a bar and a last item after them, or
+-- without
 abbrev pub Listed : Type 0 → Type 0
 Listed A = List A × Option A
 
@@ -216,8 +218,8 @@ pattern n (suc d) ts = pattern_with n (pattern n d) ts
 
 -- ---- infixes and their operands
 
--- the infix that comes first, where it is allowed, a left operand of the level `floor` may have it, and it is of at most this level;
--- and what follows it
+-- the infix that comes first, where it is allowed, a left operand of the level `floor` may have it, and it is of at
+-- most this level; and what follows it
 abbrev pub infix_fits : Bool → ℕ → ℕ → Infix → Bool
 infix_fits guard floor level i = infix_stands guard i && nat_le floor (left_level i) && nat_le (level_of i) level
 
@@ -235,8 +237,8 @@ joined send a b = p.send a b
 abbrev pub within : ℕ → Expr → List NumberedToken → Option (Expr × List NumberedToken)
 within limit e ts = if nat_le (expr_depth e) limit then Some (e, ts) else None
 
--- After a left operand: infixes of at most this level, each with its right operand, which `deeper` reads. What has been read is the
--- left operand of the next infix; `floor` is its level. The number of tokens bounds the turns
+-- After a left operand: infixes of at most this level, each with its right operand, which `deeper` reads. What has been
+-- read is the left operand of the next infix; `floor` is its level. The number of tokens bounds the turns
 abbrev pub more_step : (ℕ → Parse Expr) → ℕ → (ℕ → Expr → Parse Expr) → Expr → List NumberedToken → Option (Infix × List NumberedToken) → Option (Expr × List NumberedToken)
 more_step deeper limit go left ts None = Some (left, ts)
 more_step deeper limit go left ts (Some i) =

@@ -23,7 +23,8 @@ pub record Hall : Type 0 where
 abbrev pub no_hall : Hall
 no_hall = record { rows = []; desks = [] }
 
--- what the ledger and the receipts say is what the histories of the desks say, and each claim is of the job of its ticket
+-- what the ledger and the receipts say is what the histories of the desks say, and each claim is of the job of its
+-- ticket
 abbrev pub IsSound : List (Row Job) → List Told → World → Type 0
 IsSound rows log w = ForRight (λ p. IsTold rows w × IsLogged log w) × AreOfTheirJobs rows w
 

@@ -9,8 +9,8 @@ use pf_receipts::{Receipt, Seat, SeatReceipts};
 use pf_request::Call;
 use std::marker::Model;
 
-/// A client's seat: what its calls were answered, and whether the log of its project is full. Contracts see its project, its receipts, and whether it is full: then
-/// it has seen as many calls of the project as a log holds.
+/// A client's seat: what its calls were answered, and whether the log of its project is full. Contracts see its
+/// project, its receipts, and whether it is full: then it has seen as many calls of the project as a log holds.
 #[derive(Drop)]
 pub struct ClientSeat<N: FarmNames> {
     pub(crate) seat: Seat<N, Call, Reply>,

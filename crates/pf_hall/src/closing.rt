@@ -18,7 +18,8 @@ use pf_receipts::Gathering;
 use pf_request::Call;
 use pf_sched::Job;
 
-/// What is left of a farm that is closed: what each client was answered, all claims with their ends, and the desks of all projects.
+/// What is left of a farm that is closed: what each client was answered, all claims with their ends, and the desks of
+/// all projects.
 #[derive(Drop)]
 pub struct Closing {
     pub seats: Vec<ClosedSeat>,
@@ -27,7 +28,8 @@ pub struct Closing {
 }
 
 impl Closing {
-    /// How many things the history of a project notes. It is legal: replayed on an empty desk it gives the desk, and its own replies.
+    /// How many things the history of a project notes. It is legal: replayed on an empty desk it gives the desk, and
+    /// its own replies.
     pub fn note_count(&self, project: u32) -> usize
         ensures count { result ≡ length (desk_at project self.now.book).history }
         ensures legal { ForRight (λ p. IsLegalDesk p (desk_at project self.now.book)) }

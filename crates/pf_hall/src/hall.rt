@@ -36,8 +36,9 @@ use std::snapshot::Snapshot;
 use std::sync::ledger;
 use std::sync::ledger::Share;
 
-/// The desks of all projects, the claims of all workers with their ends, and which calls of all clients were logged. What the ledger says of claims and what receipts
-/// say of calls is what the histories of the desks say, at each moment. Contracts see the rows of the ledger, and the desks by project.
+/// The desks of all projects, the claims of all workers with their ends, and which calls of all clients were logged.
+/// What the ledger says of claims and what receipts say of calls is what the histories of the desks say, at each
+/// moment. Contracts see the rows of the ledger, and the desks by project.
 #[derive(Drop)]
 pub struct Hall<N: FarmNames> {
     pub(crate) book: Book,
@@ -102,8 +103,9 @@ impl<N: FarmNames> Hall<N> {
         self.book.stage(project, ticket)
     }
 
-    /// Answers a client's call on the desk of its seat's project, and notes it there with its reply, of which the seat has a receipt then. A call for which the log has no
-    /// room is refused and not noted, and the seat is full: from then on each call of it is refused, and memory doesn't run out. Where it does nothing has changed.
+    /// Answers a client's call on the desk of its seat's project, and notes it there with its reply, of which the seat
+    /// has a receipt then. A call for which the log has no room is refused and not noted, and the seat is full: from
+    /// then on each call of it is refused, and memory doesn't run out. Where it does nothing has changed.
     pub fn call(
         &mut self,
         alloc: Global,
@@ -159,8 +161,8 @@ impl<N: FarmNames> Hall<N> {
         self.book.call(alloc, project, call)
     }
 
-    /// Claims some trial that is queued, which is running then; none only if no trial of any desk is queued. After running out of memory nothing
-    /// has changed and nothing is noted.
+    /// Claims some trial that is queued, which is running then; none only if no trial of any desk is queued. After
+    /// running out of memory nothing has changed and nothing is noted.
     pub fn claim(
         &mut self,
         share: &mut Share<OpenedLedger<N>>,
@@ -192,8 +194,8 @@ impl<N: FarmNames> Hall<N> {
         }
     }
 
-    /// Ends a claim by filing its trial's result; says false if the trial was dropped: then the claim is stray, and no desk has changed. It takes no
-    /// memory.
+    /// Ends a claim by filing its trial's result; says false if the trial was dropped: then the claim is stray, and no
+    /// desk has changed. It takes no memory.
     pub fn file(
         &mut self,
         share: &mut Share<EndedLedger<N>>,
@@ -218,8 +220,8 @@ impl<N: FarmNames> Hall<N> {
         filed
     }
 
-    /// Ends a claim by handing its trial back, which is queued again; says false if the trial was dropped: then the claim is stray, and no desk has changed.
-    /// It takes no memory.
+    /// Ends a claim by handing its trial back, which is queued again; says false if the trial was dropped: then the
+    /// claim is stray, and no desk has changed. It takes no memory.
     pub fn hand_back(&mut self, share: &mut Share<EndedLedger<N>>, claim: OpenClaim<N, Job>) -> bool
         requires { 0 < share.old.parts }
         ensures back { TakesBack self.old.desks claim.1.project claim.1.ticket result self.new.desks }
@@ -238,8 +240,9 @@ impl<N: FarmNames> Hall<N> {
         taken
     }
 
-    /// The seats of all clients, the rows of the ledger, and the book. Where as many claims have ended as were opened, each has ended. Where all parts of the ledger of
-    /// calls are there, the receipts of the seats are those of all calls that the histories note, each once.
+    /// The seats of all clients, the rows of the ledger, and the book. Where as many claims have ended as were opened,
+    /// each has ended. Where all parts of the ledger of calls are there, the receipts of the seats are those of all
+    /// calls that the histories note, each once.
     pub fn settle(
         self,
         opened: &mut Share<OpenedLedger<N>>,

@@ -20,16 +20,16 @@ ReportsAreMeant =
     (p : Profile) (d : Desk) (t : ℕ) (atoms : List (List ℕ)) (r : Result) → IsLegalDesk p d → NoneForMemory d.history
     → reply_to p d (fetch t) ≡ result atoms r → IsMeant p d t atoms r
 
--- what a legal history with no file marked for memory notes that a `fetch` was answered is what the job of its trial means, at the desk of the
--- entries before it
+-- what a legal history with no file marked for memory notes that a `fetch` was answered is what the job of its trial
+-- means, at the desk of the entries before it
 abbrev pub NotedReportsAreMeant : Type 0
 NotedReportsAreMeant =
     (p : Profile) (d : Desk) (before after : List Entry) (t : ℕ) (atoms : List (List ℕ)) (r : Result)
     → IsLegalDesk p d → NoneForMemory d.history → d.history ≡ before ++ called (fetch t) (result atoms r) ∷ after
     → (k : Desk) × IsLegal p no_desk before k × IsMeant p k t atoms r
 
--- two legal desks with no file marked for memory, whose histories note the same calls in the same order, gave the same replies to settled
--- calls
+-- two legal desks with no file marked for memory, whose histories note the same calls in the same order, gave the same
+-- replies to settled calls
 abbrev pub SettledHistories : Type 0
 SettledHistories =
     (p : Profile) (d e : Desk) → IsLegalDesk p d → IsLegalDesk p e → NoneForMemory d.history → NoneForMemory e.history

@@ -1,4 +1,5 @@
--- Orders: which job an order asked for, by what its history notes before it, and what a `fetch` of its ticket is answered.
+-- Orders: which job an order asked for, by what its history notes before it, and what a `fetch` of its ticket is
+-- answered.
 use Rattle.std.specs.Prelude.{◌≡◌, ◌≢◌, ℕ, List, [], ◌∷◌, ◌++◌, All, Ok}
 use Rattle.pf_model.specs.Module.{Module}
 use Rattle.pf_model.specs.Shrinking.{Result}
@@ -25,8 +26,8 @@ edition_after e (claimed t ∷ es) = edition_after e es
 edition_after e (filed t m ∷ es) = edition_after e es
 edition_after e (handed_back t ∷ es) = edition_after e es
 
--- after these notes an order of a module asks for this job: the request's, of the source that was submitted and was given the module's number, as
--- it is read, in the edition that the desk has then
+-- after these notes an order of a module asks for this job: the request's, of the source that was submitted and was
+-- given the module's number, as it is read, in the edition that the desk has then
 pub record AsksFor (p : Profile) (es : List Entry) (n : ℕ) (q : Request) (j : Job) : Type 0 where
   pub source : List ℕ
   pub code : Module
@@ -38,8 +39,9 @@ pub record AsksFor (p : Profile) (es : List Entry) (n : ℕ) (q : Request) (j : 
 abbrev pub NoneForMemoryOf : ℕ → List Entry → Type 0
 NoneForMemoryOf t es = All (λ e. e ≢ filed t marked_memory) es
 
--- in a legal history, where an order was given a ticket and a later `fetch` of the ticket was given a result, and memory didn't run out for that
--- trial between the two, that result is what the job means which that very order asked for
+-- in a legal history, where an order was given a ticket and a later `fetch` of the ticket was given a result, and
+-- memory didn't run out for that trial between the two, that result is what the job means which that very order asked
+-- for
 abbrev pub ReportsAreOfTheirOrders : Type 0
 ReportsAreOfTheirOrders =
     (p : Profile) (d : Desk) (before between after : List Entry) (n : ℕ) (q : Request) (t : ℕ) (atoms : List (List ℕ)) (r : Result)

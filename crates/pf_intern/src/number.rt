@@ -73,7 +73,8 @@ fn offset_of(start: usize) -> Result<u32, NoMemory>
     }
 }
 
-/// The tokens with numbers for their names. Those of atoms enter a table after its own, and those of variables a fresh one.
+/// The tokens with numbers for their names. Those of atoms enter a table after its own, and those of variables a fresh
+/// one.
 fn number_all<'a>(
     alloc: Global,
     atoms: &mut AtomNumbers,
@@ -95,7 +96,8 @@ fn number_all<'a>(
     Ok(found)
 }
 
-/// The tokens with numbers for their names. Those of atoms enter a table after its own, and those of variables one that is dropped here.
+/// The tokens with numbers for their names. Those of atoms enter a table after its own, and those of variables one that
+/// is dropped here.
 fn number_names<'a>(
     alloc: Global,
     atoms: &mut AtomNumbers,
@@ -135,8 +137,8 @@ fn numbers_of(alloc: Global, atoms: &AtomTable) -> Result<AtomNumbers, NoMemory>
     Ok(numbers)
 }
 
-/// The atoms of a table with those of the tokens after them, and the tokens with numbers for their names. An atom of the table
-/// keeps its number there.
+/// The atoms of a table with those of the tokens after them, and the tokens with numbers for their names. An atom of
+/// the table keeps its number there.
 pub fn number_tokens_after<'a>(
     alloc: Global,
     tokens: &'a [Token],

@@ -12,6 +12,7 @@ InPieces = (h : Held) (front back : List ℕ)
 abbrev pub is_end : ℕ → Bool
 is_end b = b == 10
 
--- the objects of a text have as many line ends as the text: there is one object for each line that ends, on a line of its own
+-- the objects of a text have as many line ends as the text: there is one object for each line that ends, on a line of
+-- its own
 abbrev pub OneForEach : Type 0
 OneForEach = (h : Held) (text : List ℕ) → count_by is_end (objects_from h text) ≡ count_by is_end text

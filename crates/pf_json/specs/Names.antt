@@ -16,7 +16,8 @@ last_start w (b ∷ bs) = or_else (option_map (λ n. suc n) (last_start w bs)) (
 abbrev pub is_quoted : List ℕ → Bool
 is_quoted name = nat_lt 0 (length name) && get_or name (length name - 1) 0 == 39
 
--- the blank before a root: the last one, or before a root in quotes the last one that a quote follows which isn't the name's end
+-- the blank before a root: the last one, or before a root in quotes the last one that a quote follows which isn't the
+-- name's end
 abbrev pub blank_before : List ℕ → Option ℕ
 blank_before name = if is_quoted name then last_start (codes " '") (take (length name - 1) name) else last_start (codes " ") name
 

@@ -62,8 +62,8 @@ fn put<W: Write>(inner: &mut W, text: &[u8]) -> io::Result<()>
     Ok(())
 }
 
-/// A writer of lines, in place of each of which the inner writer gets a JSON object on a line of its own. What is left after the last line end goes
-/// nowhere.
+/// A writer of lines, in place of each of which the inner writer gets a JSON object on a line of its own. What is left
+/// after the last line end goes nowhere.
 #[derive(Drop)]
 pub struct JsonLines<W> {
     pub inner: W,
@@ -95,7 +95,8 @@ impl<W: Write> Write for JsonLines<W> {
     ghost use Rattle.pf_json.specs.Lines.{held_behind, objects_from};
     ghost use Rattle.pf_json.specs.Writers.{held_by};
 
-    /// Takes the whole text, and writes the objects of the lines that end in it. Where that fails, a beginning of them went out.
+    /// Takes the whole text, and writes the objects of the lines that end in it. Where that fails, a beginning of them
+    /// went out.
     fn write(&mut self, buf: &[u8]) -> io::Result<usize>
         ensures bound { WritesAtMost result buf.now }
         ensures bytes { WriteAppends None None result buf.now }
@@ -112,7 +113,8 @@ impl<W: Write> Write for JsonLines<W> {
         Ok(buf.len())
     }
 
-    /// Flushes the inner writer: what is held stays, since its line may go on, and nothing goes out that wasn't written.
+    /// Flushes the inner writer: what is held stays, since its line may go on, and nothing goes out that wasn't
+    /// written.
     fn flush(&mut self) -> io::Result<()>
         ensures bytes { Keeps None None }
         ensures held { held_by self.new ≡ held_by self.old }

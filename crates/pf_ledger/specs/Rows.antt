@@ -43,6 +43,7 @@ module _ {J : Type 0} where
   ended_at (r ∷ rs) zero = one_ended r.end
   ended_at (r ∷ rs) (suc k) = ended_at rs k
 
-  -- the register's entries are the claims, and the places that came back are those of the claims that have ended, each once
+  -- the register's entries are the claims, and the places that came back are those of the claims that have ended, each
+  -- once
   abbrev pub IsRegistered : List (Row J) → List (Claim J) → List ℕ → Type 0
   IsRegistered rows entries places = (entries ≡ map (λ r. r.claim) rows) × ((k : ℕ) → weigh (one_at k) places ≡ ended_at rows k)

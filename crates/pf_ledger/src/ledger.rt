@@ -11,7 +11,8 @@ use std::alloc::Global;
 use std::marker::Model;
 use std::sync::ledger::{Book, Share};
 
-/// All claims in the order in which they were opened, each with its end. Contracts see the rows, and whether there is room for one more.
+/// All claims in the order in which they were opened, each with its end. Contracts see the rows, and whether there is
+/// room for one more.
 #[derive(Drop)]
 pub struct Ledger<N: FarmNames, J> {
     rows: Vec<Row<J>>,
@@ -37,7 +38,8 @@ impl<N: FarmNames, J> Model for Ledger<N, J> {
         × (l.has_room ≡ true → vec_len l.rows < vec_capacity l.rows) };
 }
 
-/// A claim that hasn't ended. Whoever holds it can end it, once. Contracts see the number of its row, and which claim it is.
+/// A claim that hasn't ended. Whoever holds it can end it, once. Contracts see the number of its row, and which claim
+/// it is.
 #[derive(Drop)]
 pub struct OpenClaim<N: FarmNames, J> {
     number: usize,
@@ -97,7 +99,8 @@ impl<N: FarmNames, J> Ledger<N, J> {
         Ok(())
     }
 
-    /// Opens a claim of the trial of a project's ticket, which is of this job. It takes no memory, but the room that was made for it.
+    /// Opens a claim of the trial of a project's ticket, which is of this job. It takes no memory, but the room that
+    /// was made for it.
     pub fn open(
         &mut self,
         share: &mut Share<OpenedLedger<N>>,
@@ -164,7 +167,8 @@ impl<N: FarmNames, J> Ledger<N, J> {
         ended.add(share, 1);
     }
 
-    /// The rows of all claims. Where as many claims have ended as were opened, each has ended: whoever has all parts of both ledgers shows it.
+    /// The rows of all claims. Where as many claims have ended as were opened, each has ended: whoever has all parts of
+    /// both ledgers shows it.
     pub fn settle(
         self,
         opened: &mut Share<OpenedLedger<N>>,

@@ -1,5 +1,5 @@
-//! The laws that the limits of sources, values and runs are the numbers that users are given: functions with empty bodies, whose contracts are
-//! the laws.
+//! The laws that the limits of sources, values and runs are the numbers that users are given: functions with empty
+//! bodies, whose contracts are the laws.
 #![tactic(auto)]
 
 mod runs;

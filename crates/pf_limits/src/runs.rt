@@ -11,8 +11,8 @@ pub fn process_limits_are()
     ensures second { most_processes 2 ≡ 1024 }
 {}
 
-/// What may be asked for: a run within 1 to 100,000 steps, by a schedule of at most 100,000 numbers or by weights from 1 to 9; a shrinking
-/// within 1 to 1,000 runs.
+/// What may be asked for: a run within 1 to 100,000 steps, by a schedule of at most 100,000 numbers or by weights from
+/// 1 to 9; a shrinking within 1 to 1,000 runs.
 pub fn run_limits_are()
     ensures range { (limit choices : ℕ) → (is_in_range limit choices ≡ true)
         ↔ ((1 ≤ limit) × (limit ≤ 100000) × (choices ≤ 100000)) }

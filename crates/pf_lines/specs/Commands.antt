@@ -190,7 +190,8 @@ complete_command (Some (submission project size)) ended rest = with_source ended
 abbrev pub command_at : List ℕ → Option (WorkshopStep × List ℕ)
 command_at bytes = complete_command (asked_by (words_of (first_line bytes).text)) (first_line bytes).is_ended (first_line bytes).rest
 
--- Commands bytes steps good: the bytes are the commands of these steps; then they are over, or a line follows that is no command
+-- Commands bytes steps good: the bytes are the commands of these steps; then they are over, or a line follows that is
+-- no command
 pub data Commands : List ℕ → List WorkshopStep → Bool → Type 0 where
   over : Commands [] [] true
   no_command : (b : ℕ) (bs : List ℕ) → command_at (b ∷ bs) ≡ None → Commands (b ∷ bs) [] false

@@ -13,7 +13,8 @@ abbrev pub has_source : Option ℕ → List ℕ → Bool
 has_source None rest = true
 has_source (Some size) rest = nat_lt size (length rest)
 
--- the first command is complete, or its line is surely no command: the line has its end, and a submission what follows it
+-- the first command is complete, or its line is surely no command: the line has its end, and a submission what follows
+-- it
 abbrev pub is_complete : List ℕ → Bool
 is_complete bytes = (first_line bytes).is_ended && has_source (size_in (asked_by (words_of (first_line bytes).text))) (first_line bytes).rest
 

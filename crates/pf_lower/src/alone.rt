@@ -11,8 +11,8 @@ use pf_syntax::{ExprPatternId, Module, PatternId, SyntaxTree};
 use pf_terms::NoMemory;
 use std::alloc::Global;
 
-/// Adds a pattern by itself to a module. No variable is bound before it, and its atoms keep their numbers, whether or not
-/// the module names them.
+/// Adds a pattern by itself to a module. No variable is bound before it, and its atoms keep their numbers, whether or
+/// not the module names them.
 pub fn pattern_alone(
     alloc: Global,
     syntax: &SyntaxTree,

@@ -152,7 +152,8 @@ fn add_functions(alloc: Global, syntax: &SyntaxTree, module: &mut Module) -> Res
     add_each(alloc, syntax, &functions, &exported, module)
 }
 
-/// The checked module of a syntax tree that has no static fault and is formed as the grammar says; of another it is some module.
+/// The checked module of a syntax tree that has no static fault and is formed as the grammar says; of another it is
+/// some module.
 pub fn module_of(alloc: Global, syntax: &SyntaxTree, atoms: AtomTable) -> Result<Module, NoMemory>
     ensures { IfOk result (λ m. faults_of atoms (tree_of syntax.now) ≡ [] → AreFormed syntax.now.functions
         → IsModule atoms (tree_of syntax.now) m) }

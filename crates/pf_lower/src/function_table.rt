@@ -15,8 +15,8 @@ use pf_terms::{AtomId, NoMemory};
 use std::alloc::Global;
 use std::collections::BTreeMap;
 
-/// The number of the first function of each name and number of arguments. They are kept in an order, so that no choice of names or of
-/// numbers makes a look-up slow.
+/// The number of the first function of each name and number of arguments. They are kept in an order, so that no choice
+/// of names or of numbers makes a look-up slow.
 #[derive(Drop)]
 pub(crate) struct FunctionTable {
     numbers: BTreeMap<(u32, usize), u32>,

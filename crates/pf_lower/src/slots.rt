@@ -8,9 +8,9 @@ use pf_terms::{AtomId, NoMemory};
 use std::alloc::Global;
 use std::marker::Model;
 
-/// The names of the bound variables, in the order of binding, each once; and for each name, by its number, one more than its slot, or 0.
-/// A source numbers its variables one after another, so the list by number is about as long as there are variables, and no choice of names
-/// makes a look-up slow.
+/// The names of the bound variables, in the order of binding, each once; and for each name, by its number, one more
+/// than its slot, or 0. A source numbers its variables one after another, so the list by number is about as long as
+/// there are variables, and no choice of names makes a look-up slow.
 #[derive(Drop)]
 pub(crate) struct Slots {
     names: Vec<u32>,

@@ -25,7 +25,8 @@ fn tells_of(message: &Term, reference: u64) -> bool
     }
 }
 
-/// Takes out the first message about a reference, where the mark is at the front, and leaves it there; whether there was one.
+/// Takes out the first message about a reference, where the mark is at the front, and leaves it there; whether there
+/// was one.
 pub(crate) fn take_told(list: &mut MailList<Term>, pool: &mut Pool<Term>, reference: u64) -> bool
     requires { list.old.mark ≡ 0 }
     ensures flushed { map value_of list.new.items ≡ flushed reference (map value_of list.old.items) }

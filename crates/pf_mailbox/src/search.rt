@@ -11,7 +11,8 @@ use pf_terms::{NoMemory, Term};
 use std::alloc::Global;
 
 /// Moves the mark to the first message that some clause picks, and answers the body of that clause, whose bindings come
-/// onto the activation that begins at `base`. Each test that is made counts, and so a message that is tested twice counts twice.
+/// onto the activation that begins at `base`. Each test that is made counts, and so a message that is tested twice
+/// counts twice.
 pub(crate) fn search(
     list: &mut MailList<Term>,
     made: &mut usize,

@@ -9,9 +9,9 @@ use pf_syntax::{Clause, Module, Operand};
 use pf_terms::{NoMemory, Term};
 use std::alloc::Global;
 
-/// Tests the message at the mark against the clauses, and counts the test. Where a clause picks the message the mark stays,
-/// and the bindings come onto the activation that begins at `base`; else the mark passes the message, which so is tested
-/// once. A test that runs out of memory isn't counted. Nothing else in this crate calls `choose`.
+/// Tests the message at the mark against the clauses, and counts the test. Where a clause picks the message the mark
+/// stays, and the bindings come onto the activation that begins at `base`; else the mark passes the message, which so
+/// is tested once. A test that runs out of memory isn't counted. Nothing else in this crate calls `choose`.
 #[inline(always)]
 pub(crate) fn test_marked(
     list: &mut MailList<Term>,

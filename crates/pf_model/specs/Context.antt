@@ -1,5 +1,5 @@
--- The leftmost innermost redex of a tree, its context, and what a process does next by it. A frame is a tree with a hole and only values
--- left of it.
+-- The leftmost innermost redex of a tree, its context, and what a process does next by it. A frame is a tree with a
+-- hole and only values left of it.
 use Rattle.std.specs.Prelude.{◌≡◌, ℕ, List, [], ◌∷◌, Some}
 use Rattle.pf_terms.specs.Value.{Value, Values, none, more}
 use Rattle.pf_syntax.specs.Pattern.{Patterns}

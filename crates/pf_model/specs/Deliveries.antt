@@ -29,8 +29,8 @@ woken (ended e) = ended e
 abbrev pub with_message : Process → Value → Process
 with_message p v = record p { mailbox = p.mailbox ++ v ∷ []; state = woken p.state }
 
--- {'DOWN', Reference, process, Pid, Reason} and {'EXIT', Pid, Reason}; where the term would be too large, `system_limit` stands for
--- the reason
+-- {'DOWN', Reference, process, Pid, Reason} and {'EXIT', Pid, Reason}; where the term would be too large,
+-- `system_limit` stands for the reason
 abbrev pub down_message : (reference from : ℕ) → Value → Value
 down_message r a = built (λ reason. tuple (more down_atom (more (ref r) (more process (more (pid a) (more reason none))))))
 
@@ -46,7 +46,8 @@ changes c b p s x = deed (leaving (with_process c b p) []) (delivers s x)
 abbrev pub ends_with : Core → ℕ → Signal → Value → Deed
 ends_with c b s r = deed (ended_by c b (failed r)) (delivers s (ending_with r))
 
--- at a receiver that has ended: a link is answered by an exit signal, a monitor by a down signal, and all else is dropped
+-- at a receiver that has ended: a link is answered by an exit signal, a monitor by a down signal, and all else is
+-- dropped
 abbrev pub at_ended : Core → ℕ → Signal → Deed
 at_ended c a link = deed (leaving c ((a, exit true noproc) ∷ [])) (delivers link no_process)
 at_ended c a (monitor r) = deed (leaving c ((a, down r noproc) ∷ [])) (delivers (monitor r) no_process)

@@ -5,7 +5,8 @@ use Rattle.pf_syntax.specs.Tree.{Program}
 use Rattle.pf_syntax.specs.Module.{Checked, first_named}
 use Rattle.pf_syntax.specs.Root.{exported_at}
 
--- a module: its name, by its number among its atoms, the names of its atoms, and its functions, each of which it exports or not
+-- a module: its name, by its number among its atoms, the names of its atoms, and its functions, each of which it
+-- exports or not
 pub record Module : Type 0 where
   pub name : ℕ
   pub atoms : List (List ℕ)

@@ -36,8 +36,8 @@ pub record Found : Type 0 where
 abbrev pub found : List ℕ → Bool → Found
 found ns b = record { schedule = ns; complete = b }
 
--- from a schedule that fails and the candidates of it that are left, with n runs left: the first candidate that fails becomes
--- the schedule, and all begins again
+-- from a schedule that fails and the candidates of it that are left, with n runs left: the first candidate that fails
+-- becomes the schedule, and all begins again
 abbrev pub search : (List ℕ → Bool) → ℕ → List ℕ → List (List ℕ) → Found
 search fails k ns [] = found ns true
 search fails zero ns (c ∷ cs) = found ns false
@@ -68,7 +68,8 @@ pub data Result : Type 0 where
   shrunk_to : Found → Report → Result
   nothing_fails : Result
 
--- the result of a job: its meaning, and with runs the shrinking of its schedule, whose report is that of the schedule found
+-- the result of a job: its meaning, and with runs the shrinking of its schedule, whose report is that of the schedule
+-- found
 pub data IsResult (j : Job) : Result → Type 0 where
   plain : (r : Report) → j.runs ≡ zero → Means j r → IsResult j (report r)
   smaller : (k : ℕ) (ns : List ℕ) (fails : List ℕ → Bool) (f : Found) (r : Report) → j.runs ≡ suc k → j.choices ≡ schedule ns

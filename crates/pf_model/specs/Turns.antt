@@ -29,7 +29,8 @@ received c a fs ks (Some t) =
 abbrev pub ended_so : Core → ℕ → End → Deed
 ended_so c a e = deed (ended_by c a e) (label.ends (reason_of e))
 
--- what ends a turn: an action, a message that is taken or waited for, or the end; None where the process goes on by itself
+-- what ends a turn: an action, a message that is taken or waited for, or the end; None where the process goes on by
+-- itself
 abbrev pub last_of_turn : Module → Core → ℕ → Move → Option Deed
 last_of_turn m c a (goes_on s) = None
 last_of_turn m c a (asks fs x) = Some (after_act a fs (acted m c a x))

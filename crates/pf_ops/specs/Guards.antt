@@ -1,5 +1,5 @@
--- Guards: what their tests are worth in the process of this pid. A guard takes no step, and an error in a test makes its
--- alternative fail.
+-- Guards: what their tests are worth in the process of this pid. A guard takes no step, and an error in a test makes
+-- its alternative fail.
 use Rattle.std.specs.Prelude.{ℕ, Bool, true, false, ◌&&◌, ◌||◌, if◌then◌else◌, List, Option, Some, None, Result, Ok, Err, option_and_then}
 use Rattle.pf_terms.specs.Value.{Value, Values, tuple, none, more, same}
 use Rattle.pf_terms.specs.Fixed.{true_atom, false_atom}

@@ -12,7 +12,8 @@ fits_limits v = nat_le (nodes v) MOST_NODES && nat_le (depth v) MOST_DEPTH
 abbrev pub pair : Value → Value → Value
 pair v w = tuple (more v (more w none))
 
--- a term that the system builds around an inner value; where it would be too large, `system_limit` stands for that value
+-- a term that the system builds around an inner value; where it would be too large, `system_limit` stands for that
+-- value
 abbrev pub built : (Value → Value) → Value → Value
 built around v = if fits_limits (around v) then around v else around system_limit
 

@@ -7,8 +7,8 @@ use Rattle.pf_syntax.specs.Pattern.{Pattern, Patterns, any, new, slot, known, tu
 abbrev pub Scope : Type 0
 Scope = List Value
 
--- Fits p v before after: the value fits the pattern where these variables are bound, and then those are. A bound variable fits
--- an equal value alone; what the pattern binds takes the next slot
+-- Fits p v before after: the value fits the pattern where these variables are bound, and then those are. A bound
+-- variable fits an equal value alone; what the pattern binds takes the next slot
 abbrev mutual
   pub Fits : Pattern → Value → Scope → Scope → Type 0
   Fits any v before after = after ≡ before

@@ -26,7 +26,8 @@ lines_of n ws = map (λ w. w.line) (filter (λ w. has_number n w.sign) ws)
 abbrev pub told_lines : ℕ → List Spot → List Written → List ℕ
 told_lines n spots ws = if length (lines_of n ws) == count_of n spots then lines_of n ws else []
 
--- the line of the spot after these: its sign is written there, after as many of its kind as there are spots of it before
+-- the line of the spot after these: its sign is written there, after as many of its kind as there are spots of it
+-- before
 abbrev pub line_behind : (spots : List Spot) (ws : List Written) (before : List Spot) → Sign → Option ℕ
 line_behind spots ws before s = slice_get (told_lines (number_of s) spots ws) (count_of (number_of s) before)
 

@@ -155,9 +155,9 @@ impl Places {
         }
     }
 
-    /// The node at which a process is, if a part of this one has its value and so many are done with it: the first of the later
-    /// parts that isn't a variable or a literal, and within it its first such part, and so on; the node itself where none is left. None
-    /// is done before the node is worked out.
+    /// The node at which a process is, if a part of this one has its value and so many are done with it: the first of
+    /// the later parts that isn't a variable or a literal, and within it its first such part, and so on; the node
+    /// itself where none is left. None is done before the node is worked out.
     pub fn innermost(module: &Module, node: NodeId, done: Option<u32>) -> NodeId
         ensures { StandsAt (tree_at module.now.tables node.0) (unwrap_or done 0)
             (tree_at module.now.tables result.0) }

@@ -23,7 +23,8 @@ AreVisible = All IsVisible
 abbrev pub AreLines : List ℕ → Type 0
 AreLines = All (λ b. (b ≡ 10) ⊎ IsVisible b)
 
--- where atoms have these names, each value, event and outcome prints in visible bytes, so on one line, and each report and result in lines of them
+-- where atoms have these names, each value, event and outcome prints in visible bytes, so on one line, and each report
+-- and result in lines of them
 pub record PrintsVisibly (name : ℕ → List ℕ) : Type 0 where
   pub values : (v : Value) → AreVisible (value_text name v)
   pub events : (e : Event) → AreVisible (event_text name e)

@@ -1,5 +1,5 @@
--- Priorities: of those who may go the one with the highest goes. Each keeps its priority while it may go, and draws a new one after each time
--- that it went. Whoever may go is known by a key, and all are in the order of their keys.
+-- Priorities: of those who may go the one with the highest goes. Each keeps its priority while it may go, and draws a
+-- new one after each time that it went. Whoever may go is known by a key, and all are in the order of their keys.
 use Rattle.std.specs.Prelude.{ℕ, suc, nat_eq, nat_lt, if◌then◌else◌, List, [], ◌∷◌}
 use Rattle.std.specs.List.{remove}
 use Rattle.rand_core.specs.Pcg32Seed.{pcg32_seed}

@@ -58,7 +58,8 @@ fn key_at(pids: &[u32], channels: &[(u32, u32)], at: usize) -> u64
     channel_key(from, to)
 }
 
-/// The priority of a key, which may be after an index: the one that it holds, or else the generator's next word. The key is at the index then.
+/// The priority of a key, which may be after an index: the one that it holds, or else the generator's next word. The
+/// key is at the index then.
 #[inline(never)]
 fn seek(
     generator: &mut Lcg64Xsh32,
@@ -114,8 +115,8 @@ impl Priorities {
         }
     }
 
-    /// The next choice among these processes and then these channels, as an index from 0 on: the first of those with the highest priority. The allocation for
-    /// their priorities may fail.
+    /// The next choice among these processes and then these channels, as an index from 0 on: the first of those with
+    /// the highest priority. The allocation for their priorities may fail.
     pub fn choose(&mut self, pids: &[u32], channels: &[(u32, u32)]) -> Result<usize, NoMemory>
         requires { 0 < length pids.now + length channels.now }
         ensures choice { IfOk result (λ i.

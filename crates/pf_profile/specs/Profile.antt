@@ -1,4 +1,5 @@
--- The profile of the language: what a source is read as, which property bytes are, a job's result, and how many events it has.
+-- The profile of the language: what a source is read as, which property bytes are, a job's result, and how many events
+-- it has.
 use Rattle.std.specs.Prelude.{ℕ, zero, suc, ◌+◌, Bool, List, [], ◌∷◌, length, Option, Some, None}
 use Rattle.pf_check.proofs.AnyOutcome.{any_outcome}
 use Rattle.pf_desks.specs.Desk.{Profile}
@@ -19,8 +20,8 @@ abbrev pub shrunk_so : Job → Option Found → Result
 shrunk_so j None = nothing_fails
 shrunk_so j (Some f) = shrunk_to f (evaluated (by_schedule j f.schedule))
 
--- a job's result: that of its run, worked out, which is its one report; or with runs the shrinking of its schedule. A seed isn't
--- shrunk, nor are there weights but from 1 to 9: no such job is made, and its result is left open
+-- a job's result: that of its run, worked out, which is its one report; or with runs the shrinking of its schedule. A
+-- seed isn't shrunk, nor are there weights but from 1 to 9: no such job is made, and its result is left open
 abbrev pub comes_to : Job → (runs : ℕ) → Choices → Result
 comes_to j zero cs = report (evaluated j)
 comes_to j (suc k) (schedule ns) = shrunk_so j (shrunk (fails_by j) (suc k) ns)
@@ -34,7 +35,8 @@ abbrev pub events_by : Job → List (List ℕ) → ℕ
 events_by j [] = zero
 events_by j (ns ∷ nss) = length (evaluated (by_schedule j ns)).events + events_by j nss
 
--- how many events a job has: those of its run; or with runs those of all schedules that its shrinking tries. Of what isn't shrunk it is left open
+-- how many events a job has: those of its run; or with runs those of all schedules that its shrinking tries. Of what
+-- isn't shrunk it is left open
 abbrev pub events_of : Job → (runs : ℕ) → Choices → ℕ
 events_of j zero cs = length (evaluated j).events
 events_of j (suc k) (schedule ns) = events_by j (tried (fails_by j) (suc k) ns)
@@ -43,8 +45,8 @@ events_of j (suc k) (weighted_seed n process channel) = zero
 
 -- ---- profiles
 
--- a source is read as the rules of reading say; bytes are the property that their text says, or none; a job's result is the one that it
--- has in the language
+-- a source is read as the rules of reading say; bytes are the property that their text says, or none; a job's result is
+-- the one that it has in the language
 unfoldable pub profile : Profile
 profile = record {
   reading = λ bytes. reading_from (any_outcome bytes).0;

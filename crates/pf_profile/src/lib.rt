@@ -1,4 +1,5 @@
-//! The profile of the language: what a source is read as, which property bytes are and a job's result, and the work of `steps` by it.
+//! The profile of the language: what a source is read as, which property bytes are and a job's result, and the work of
+//! `steps` by it.
 #![tactic(auto)]
 
 mod laws;

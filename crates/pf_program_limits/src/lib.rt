@@ -1,4 +1,5 @@
-//! The laws that the limits of the commands are the numbers that users are given: functions with empty bodies, whose contracts are the laws.
+//! The laws that the limits of the commands are the numbers that users are given: functions with empty bodies, whose
+//! contracts are the laws.
 #![tactic(auto)]
 
 mod laws;

@@ -14,8 +14,8 @@ use Rattle.pf_reader.specs.PatternAlone.{DerivesPatternAlone}
 use Rattle.pf_lower.specs.Alone.{only_atoms}
 use Rattle.pf_model.specs.Properties.{Property, returns, returns_true, no_crash, no_deadlock, within_limit, never}
 
--- the text is a pattern: its tokens are a pattern by itself, and this is what that becomes where no variable is bound. Its atoms go by
--- their numbers in the table, where those that the table lacks go on
+-- the text is a pattern: its tokens are a pattern by itself, and this is what that becomes where no variable is bound.
+-- Its atoms go by their numbers in the table, where those that the table lacks go on
 pub record ReadsPattern (names : List (List ℕ)) (text : List ℕ) (p : Pattern) : Type 0 where
   pub tokens : List Placed
   pub has_tokens : HasTokens text tokens

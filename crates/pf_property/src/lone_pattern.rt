@@ -20,8 +20,8 @@ use std::alloc::Global;
 use std::marker::Model;
 use std::sync::Arc;
 
-/// A pattern in a module of its own, which has nothing else and is shared, never copied. An atom that the run's module doesn't name has a number past its names, and
-/// so fits nothing that the run sends.
+/// A pattern in a module of its own, which has nothing else and is shared, never copied. An atom that the run's module
+/// doesn't name has a number past its names, and so fits nothing that the run sends.
 #[derive(Drop)]
 pub struct LonePattern {
     module: Arc<Module>,

@@ -71,7 +71,8 @@ impl Property {
         }
     }
 
-    /// The verdict of a run with this outcome, some of whose labels rule the property out or none; none where memory ran out.
+    /// The verdict of a run with this outcome, some of whose labels rule the property out or none; none where memory
+    /// ran out.
     pub fn judge(&self, ruled_out: bool, outcome: &Outcome) -> Option<bool>
         ensures { (ls : List labels.Label) → ruled_out ≡ some_label (rules_out (property_of self.now)) ls
             → result ≡ spec.verdict (property_of self.now) ls (outcome_of outcome.now) }

@@ -118,8 +118,8 @@ pub fn usage_follows_held()
         → refunded (usage_of (before ++ thing ∷ after) calls) thing ≡ usage_of (before ++ after) calls }
 {}
 
-/// The law that the limits hold: at first, after each charge that is not refused, after each refund, and in an edition that
-/// isn't below. It has no code.
+/// The law that the limits hold: at first, after each charge that is not refused, after each refund, and in an edition
+/// that isn't below. It has no code.
 pub fn limits_hold()
     ensures at_first { (edition : ℕ) → IsWithinLimits edition (usage_of [] 0) }
     ensures charge { (edition : ℕ) (usage : Usage) (charge : Charge) → IsWithinLimits edition usage

@@ -1,4 +1,5 @@
--- What names become is closed: a pattern binds as many variables as its scope grows by, and names none but those that are bound.
+-- What names become is closed: a pattern binds as many variables as its scope grows by, and names none but those that
+-- are bound.
 use Rattle.std.proofs.Common.{◌≡◌, ℕ, zero, suc, ◌+◌, Bool, true, false, ◌||◌, ◌==◌, if◌then◌else◌, List, [], ◌∷◌, ◌++◌, Some, refl, subst, arith, length}
 use Rattle.std.specs.Prelude.{IsTrue, slice_get}
 use Rattle.std.proofs.lemmas.List.{length-append}

@@ -5,8 +5,8 @@ use Rattle.pf_syntax.specs.Root.{root_of}
 use Rattle.pf_check.specs.Reads.{accepted, Reads}
 use Rattle.pf_model.specs.Closed.{HasArity, ModuleIsClosed, RunsStayClosed}
 
--- it is closed, so no run of it reaches a variable without a value, a call of a function that the module lacks, or a built-in
--- function with another number of arguments
+-- it is closed, so no run of it reaches a variable without a value, a call of a function that the module lacks, or a
+-- built-in function with another number of arguments
 pub record IsClosedModule (name : ℕ) (atoms : List (List ℕ)) (functions : Program) : Type 0 where
   pub code : ModuleIsClosed functions
   pub runs : RunsStayClosed (record { name = name; atoms = atoms; functions = functions })

@@ -17,8 +17,8 @@ abbrev pub LacksModule : List Placed → Type 0
 LacksModule [] = Unit {0}
 LacksModule (t ∷ ts) = (t.kind ≡ own_module → ⊥) × LacksModule ts
 
--- what numbers in the tokens stand for, where those of atoms go on from these names. The own name is asked for at `?MODULE` alone,
--- which no token is, so its number doesn't matter
+-- what numbers in the tokens stand for, where those of atoms go on from these names. The own name is asked for at
+-- `?MODULE` alone, which no token is, so its number doesn't matter
 abbrev pub names_after : List (List ℕ) → List Placed → Names
 names_after names ts = record { atoms = atoms_after names ts; own = 0 }
 

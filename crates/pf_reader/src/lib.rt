@@ -1,7 +1,7 @@
 //! Reads the tokens of a source into the syntax tree of its module.
 //!
-//! `Grammar.antt` of `pf_grammar` has the rules as relations between a tree and its tokens, and `Parse.antt` what reading from
-//! left to right gives. Each function here gives what the one of `Parse` gives, unless memory runs out.
+//! `Grammar.antt` of `pf_grammar` has the rules as relations between a tree and its tokens, and `Parse.antt` what
+//! reading from left to right gives. Each function here gives what the one of `Parse` gives, unless memory runs out.
 #![tactic(auto)]
 
 mod export;

@@ -62,8 +62,8 @@ fn read_alone(
     })
 }
 
-/// The pattern that the tokens of a text are, from the first to the last. Its atoms have the numbers of the table; one that the
-/// table lacks has a number past the table's.
+/// The pattern that the tokens of a text are, from the first to the last. Its atoms have the numbers of the table; one
+/// that the table lacks has a number past the table's.
 pub fn read_pattern(
     alloc: Global,
     tokens: &[Token],

@@ -56,7 +56,8 @@ fn lacked_atom(
     }
 }
 
-/// What is said of a property whose pattern has an atom that a module lacks; nothing of another, nor where either is refused.
+/// What is said of a property whose pattern has an atom that a module lacks; nothing of another, nor where either is
+/// refused.
 fn said_of_module(
     alloc: Global,
     module: &ReadModule,

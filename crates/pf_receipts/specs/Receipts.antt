@@ -15,7 +15,8 @@ pub record SeatView (C A : Type 0) : Type 0 where
   pub seen : List (Receipt C A)
   pub has_room : Bool
 
--- all calls that were logged, the receipts of the seats that were gathered so far, and the parts of the ledger of calls that are there
+-- all calls that were logged, the receipts of the seats that were gathered so far, and the parts of the ledger of calls
+-- that are there
 pub record GatheringView (C A : Type 0) : Type 0 where
   pub log : List (Receipt C A)
   pub receipts : List (Receipt C A)
@@ -84,8 +85,8 @@ module _ {C A : Type 0} where
   standing_at [] log = []
   standing_at (k ∷ ks) log = put_some (slice_get log k) (standing_at ks log)
 
-  -- a seat's receipts are at the places that it bears, and of its project; their numbers rise, up to the number of calls of the project that it
-  -- has seen
+  -- a seat's receipts are at the places that it bears, and of its project; their numbers rise, up to the number of
+  -- calls of the project that it has seen
   pub record IsSeat (places : List ℕ) (seen : List (Receipt C A)) (project : ℕ) (receipts : List (Receipt C A)) : Type 0 where
     pub below : AreBelow places (length seen)
     pub standing : receipts ≡ standing_at places seen

@@ -20,7 +20,8 @@ pub struct SeatReceipts<C, A> {
     ghost rising: { AreRising 0 receipts.items } by { AreRising-prop 0 receipts.items },
 }
 
-/// The seats that were gathered so far. Contracts see all calls that were logged, the receipts of these seats, and how many parts of the ledger of calls are there.
+/// The seats that were gathered so far. Contracts see all calls that were logged, the receipts of these seats, and how
+/// many parts of the ledger of calls are there.
 #[derive(Drop)]
 pub struct Gathering<N: FarmNames, C, A> {
     logged: Book<CallLedger<N>>,

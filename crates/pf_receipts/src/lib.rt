@@ -1,4 +1,5 @@
-//! Receipts of calls: which calls were logged, in order, and the seats of clients, which keep a receipt of each call of theirs.
+//! Receipts of calls: which calls were logged, in order, and the seats of clients, which keep a receipt of each call of
+//! theirs.
 #![tactic(auto)]
 
 mod gathering;

@@ -14,7 +14,8 @@ use std::marker::Model;
 use std::snapshot::Snapshot;
 use std::sync::ledger::{Book, Share};
 
-/// Which calls of all seats were logged, in order: contracts see their receipts. It lies under the farm's lock, and takes no memory.
+/// Which calls of all seats were logged, in order: contracts see their receipts. It lies under the farm's lock, and
+/// takes no memory.
 #[derive(Drop)]
 pub struct CallLog<N: FarmNames, C, A> {
     logged: Book<CallLedger<N>>,

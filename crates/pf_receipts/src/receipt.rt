@@ -5,8 +5,8 @@ ghost use Rattle.pf_receipts.specs.Receipts.{receipt_of};
 
 use std::snapshot::Snapshot;
 
-/// What a client keeps of a call that was logged: its project, its number in the project's log, counted from 1, and what it asked and was answered. These two are known
-/// to proofs alone, and take no room.
+/// What a client keeps of a call that was logged: its project, its number in the project's log, counted from 1, and
+/// what it asked and was answered. These two are known to proofs alone, and take no room.
 #[derive(Drop)]
 pub struct Receipt<C, A> {
     pub project: u32,

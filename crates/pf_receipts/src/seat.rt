@@ -11,8 +11,8 @@ use std::alloc::Global;
 use std::marker::Model;
 use std::sync::ledger::Share;
 
-/// A client's seat: its project, and a receipt of each of its calls that was logged, in order. Contracts see these, all receipts of all seats that it has seen, and
-/// whether there is room for one more of its own.
+/// A client's seat: its project, and a receipt of each of its calls that was logged, in order. Contracts see these, all
+/// receipts of all seats that it has seen, and whether there is room for one more of its own.
 #[derive(Drop)]
 pub struct Seat<N: FarmNames, C, A> {
     pub(crate) project: u32,

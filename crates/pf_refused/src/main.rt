@@ -1,6 +1,6 @@
-//! Makes values, names of atoms, a mail list and a mailbox, and says so in four lines. Where an allocation fails it says `NoMemory` and ends with status 2,
-//! once it has seen that what it failed in is as it was; else it ends with status 3. The script under tests/refused runs it with each allocation failing in
-//! turn.
+//! Makes values, names of atoms, a mail list and a mailbox, and says so in four lines. Where an allocation fails it
+//! says `NoMemory` and ends with status 2, once it has seen that what it failed in is as it was; else it ends with
+//! status 3. The script under tests/refused runs it with each allocation failing in turn.
 #![tactic(auto)]
 
 mod mail;
@@ -20,7 +20,8 @@ enum Answer {
     Changed,
 }
 
-/// What the calls made: nodes of a value, spare nodes of a pool, pairs that were taken from a mailbox and messages that it kept.
+/// What the calls made: nodes of a value, spare nodes of a pool, pairs that were taken from a mailbox and messages that
+/// it kept.
 struct Made {
     nodes: u32,
     spare: usize,

@@ -4,8 +4,8 @@ use crossbeam_deque::protocol::{Join, Lesson, Protocol, Split};
 use std::collections::LinkedList;
 use std::marker::{Brand, PhantomData};
 
-/// What one holder knows: the register all entries and the places that came back, a token the places that it bears and the entries that it saw. No
-/// value of it is made.
+/// What one holder knows: the register all entries and the places that came back, a token the places that it bears and
+/// the entries that it saw. No value of it is made.
 pub struct Knowledge<T> {
     pub is_register: bool,
     pub entries: LinkedList<T>,

@@ -27,8 +27,8 @@ impl RegisterName for Brand {
     ghost home = { None };
 }
 
-/// A register of entries, each at its place, counted from 0. Contracts see the entries, and the places that tokens brought back. It keeps no
-/// entry: which entries there are is known to proofs alone.
+/// A register of entries, each at its place, counted from 0. Contracts see the entries, and the places that tokens
+/// brought back. It keeps no entry: which entries there are is known to proofs alone.
 #[derive(Drop)]
 pub struct Register<T, R: RegisterName> {
     deque: Worker<(), Global, Knowledge<T>, EachBorneOnce>,
@@ -49,7 +49,8 @@ impl<T, R: RegisterName> Model for Register<T, R> {
         × (worker_flavor r.deque ≡ 0) };
 }
 
-/// What bears places of a register. Contracts see the places, and the entries that it saw, with which the register begins.
+/// What bears places of a register. Contracts see the places, and the entries that it saw, with which the register
+/// begins.
 #[derive(Drop)]
 pub struct Token<T, R: RegisterName> {
     pass: Pass<(), Knowledge<T>>,
@@ -119,7 +120,8 @@ impl<T, R: RegisterName> Register<T, R> {
         }
     }
 
-    /// Enters one entry more, whose place the token bears from now on. The token has seen all entries then, that one among them. It takes no memory.
+    /// Enters one entry more, whose place the token bears from now on. The token has seen all entries then, that one
+    /// among them. It takes no memory.
     pub fn enter(&mut self, token: &mut Token<T, R>, entry: &T)
         ensures register { self.new ≡ (self.old.0 ++ entry.now ∷ [], self.old.1) }
         ensures token { token.new ≡ (token.old.0 ++ length self.old.0 ∷ [], self.new.0) }

@@ -1,4 +1,5 @@
--- Sources, requests and calls may go to another thread, and be shared by threads: a lemma a type, each from those of its parts.
+-- Sources, requests and calls may go to another thread, and be shared by threads: a lemma a type, each from those of
+-- its parts.
 use denote.Param.Send.{IsSend, IsSync, sendable}
 use Rattle.std.proofs.Crossing as heap
 use Rattle.pf_request.specs.contracts.source.Source as Source

@@ -47,7 +47,8 @@ abbrev pub with_root : ReadModule → (edition : ℕ) → (root : Option ℕ) �
 with_root m e None q r = Err code.NoRoot
 with_root m e (Some i) q r = with_property m e i q r
 
--- the job of a request of a module in an edition, where the bytes of its property are this one or none; or the first of its refusals
+-- the job of a request of a module in an edition, where the bytes of its property are this one or none; or the first of
+-- its refusals
 abbrev pub job_of : ReadModule → (edition : ℕ) → Option Property → Request → Result Job Code
 job_of m e q r = with_root m e (root_in m r.root) q r
 

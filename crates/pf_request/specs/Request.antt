@@ -9,7 +9,8 @@ pub data Kind : Type 0 where
   run : Choices → Kind
   shrink : (schedule : List ℕ) (runs : ℕ) → Kind
 
--- a run or a shrinking is asked for: from the function of this name, whether the property of these bytes holds, each run within n steps
+-- a run or a shrinking is asked for: from the function of this name, whether the property of these bytes holds, each
+-- run within n steps
 pub record Request : Type 0 where
   pub root : List ℕ
   pub property : List ℕ

@@ -17,7 +17,8 @@ pub enum RunChoices {
     Seed(u64),
     /// These numbers, and then 0 for ever.
     Schedule(Arc<Vec<u32>>),
-    /// The words of the generator of this seed, by the weight of a process and that of a channel, which are from 1 to 9 in a job.
+    /// The words of the generator of this seed, by the weight of a process and that of a channel, which are from 1 to 9
+    /// in a job.
     Weighted { seed: u64, run: u32, deliver: u32 },
 }
 

@@ -75,7 +75,8 @@ impl Kind {
         }
     }
 
-    /// Whether the same is asked for: a run by the same choices, or the shrinking of the same schedule within as many runs.
+    /// Whether the same is asked for: a run by the same choices, or the shrinking of the same schedule within as many
+    /// runs.
     pub fn same(&self, other: &Kind) -> bool
         ensures { Decides result (view_of_kind self.now ≡ view_of_kind other.now) }
     {
@@ -106,8 +107,8 @@ impl Kind {
     }
 }
 
-/// What is asked for of a module: a run or a shrinking, from the function of this name, and whether the property of these bytes holds, each run
-/// within n steps.
+/// What is asked for of a module: a run or a shrinking, from the function of this name, and whether the property of
+/// these bytes holds, each run within n steps.
 #[derive(Drop)]
 pub struct Request {
     pub root: ShortBytes,

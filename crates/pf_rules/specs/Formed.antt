@@ -1,5 +1,5 @@
--- What the grammar makes true of a module, and the static rules don't ask again: matches occur in bodies alone, a body, a guard and
--- a function aren't empty, and a string is within the limits of a value.
+-- What the grammar makes true of a module, and the static rules don't ask again: matches occur in bodies alone, a body,
+-- a guard and a function aren't empty, and a string is within the limits of a value.
 use Rattle.std.specs.Prelude.{Bool, true, false, IsTrue, List, [], ◌∷◌}
 use Rattle.std.specs.List.{All}
 use Rattle.pf_terms.specs.Value.{IsWithinLimits}

@@ -14,8 +14,8 @@ struct Signature {
     arity: u64,
 }
 
-/// A set of names with numbers of arguments, for the functions that a module defines and for those that it exports. It is kept in an
-/// order, so that no choice of numbers makes a look-up slow.
+/// A set of names with numbers of arguments, for the functions that a module defines and for those that it exports. It
+/// is kept in an order, so that no choice of numbers makes a look-up slow.
 #[derive(Drop)]
 pub struct Signatures {
     signatures: BTreeSet<Signature>,

@@ -2,7 +2,8 @@
 
 use std::fmt;
 
-/// A text that shows what is odd in it: `\x` and two digits in place of a byte that isn't text, or that controls a terminal.
+/// A text that shows what is odd in it: `\x` and two digits in place of a byte that isn't text, or that controls a
+/// terminal.
 #[derive(Clone, Copy)]
 pub struct Shown<'a> {
     pub text: &'a str,

@@ -5,8 +5,8 @@ use pf_cli::{Args, Asked};
 use pf_explained::explain_run;
 use std::alloc::AllocGlobal;
 
-/// Says on standard error, a line for each, the status of the processes of the run that was asked for, if that was asked for too. Where memory runs out
-/// for it nothing is said.
+/// Says on standard error, a line for each, the status of the processes of the run that was asked for, if that was
+/// asked for too. Where memory runs out for it nothing is said.
 pub fn say_processes(rt: &(impl Eprint + AllocGlobal), asked: &Asked, source: &[u8]) {
     let (Args::Run(args), true) = (&asked.args, asked.explain) else {
         return;

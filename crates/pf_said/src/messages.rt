@@ -77,7 +77,8 @@ pub fn failed(rt: &(impl Print + Eprint), file: Option<&str>, fault: &StreamFaul
     REFUSED
 }
 
-/// The status of a command, and what is said of its end. The answer to a source goes out in a form; replies to commands have none.
+/// The status of a command, and what is said of its end. The answer to a source goes out in a form; replies to commands
+/// have none.
 pub fn end(
     rt: &(impl Print + Eprint),
     file: Option<&str>,

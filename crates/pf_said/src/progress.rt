@@ -11,7 +11,8 @@ use std::io::{IsTerminal, Stderr, Write};
 use std::time::{Clock, Duration, Instant};
 use std::{fmt, io};
 
-/// A line of the terminal that standard error is, written over again and again; none if that is no terminal. Errors in writing it are ignored.
+/// A line of the terminal that standard error is, written over again and again; none if that is no terminal. Errors in
+/// writing it are ignored.
 #[derive(Drop)]
 pub struct Line {
     terminal: Option<Stderr>,
@@ -92,7 +93,8 @@ impl Observer for Runs<'_> {
     }
 }
 
-/// The progress of a hunt over n seeds, and in what time if that is known; and for how many seconds it goes on at most, where that is asked for.
+/// The progress of a hunt over n seeds, and in what time if that is known; and for how many seconds it goes on at most,
+/// where that is asked for.
 #[derive(Drop)]
 struct SeedsDone {
     done: u64,

@@ -70,7 +70,8 @@ pub fn why(alloc: Global, args: &Args, source: &[u8]) -> Result<String, NoMemory
     }
 }
 
-/// What is said of a property that no message of this source's runs can break, since an atom of its pattern occurs nowhere in it; usually nothing.
+/// What is said of a property that no message of this source's runs can break, since an atom of its pattern occurs
+/// nowhere in it; usually nothing.
 pub fn lacking_of(alloc: Global, args: &Args, source: &[u8]) -> Result<Option<String>, NoMemory> {
     match asked_of(args) {
         Some(asked) => lacking_sentence(alloc, source, asked.request.property.as_slice()),

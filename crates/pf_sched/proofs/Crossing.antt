@@ -1,5 +1,5 @@
--- Jobs and their results may go to another thread, and be shared by threads; parked jobs and what a worker keeps may go to another thread:
--- a lemma a type, each from those of its parts.
+-- Jobs and their results may go to another thread, and be shared by threads; parked jobs and what a worker keeps may go
+-- to another thread: a lemma a type, each from those of its parts.
 use denote.Param.Send.{IsSend, IsSync, recorded_send, recorded_sync, sendable}
 use Rattle.std.proofs.Crossing as heap
 use Rattle.pf_syntax.proofs.node.FunctionId.TheSendSync as function

@@ -1,4 +1,5 @@
--- A job has one result and one number of events: a run since it means one report, a shrinking since one function says which schedules fail.
+-- A job has one result and one number of events: a run since it means one report, a shrinking since one function says
+-- which schedules fail.
 use Rattle.std.proofs.Common.{◌≡◌, ◌⊎◌, inl, inr, ℕ, zero, suc, ◌+◌, Bool, List, Option, Some, None, length, refl, sym, ap, ◌∙◌}
 use Rattle.pf_choice.specs.Chosen.{IsProfile}
 use Rattle.pf_model.specs.Meaning as model

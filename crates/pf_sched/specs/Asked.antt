@@ -29,8 +29,9 @@ IsRefusal P (Fault e) = P (Err (code_of e))
 abbrev pub module_of : Job → ReadModule
 module_of j = record { source = j.source; code = j.asked.code }
 
--- what is true of each job: its module is what its source is read as; its root is an exported function without arguments; its limit, its
--- schedule, its runs and its weights are within bounds; what is shrunk is a schedule; there is its edition
+-- what is true of each job: its module is what its source is read as; its root is an exported function without
+-- arguments; its limit, its schedule, its runs and its weights are within bounds; what is shrunk is a schedule; there
+-- is its edition
 pub record IsValid (j : Job) : Type 0 where
   pub read : IsReadAs j.source (module_of j)
   pub name : List ℕ

@@ -18,6 +18,7 @@ most = 4294967295
 abbrev pub Counts : Processes → List Label → Type 0
 Counts n ls = (n.begun ≡ min (count_by is_begin ls) most) × (n.ended ≡ min (count_by is_end ls) most)
 
--- of a property, which is that of the job, it is known whether an event rules it out; and how many processes began and ended
+-- of a property, which is that of the job, it is known whether an event rules it out; and how many processes began and
+-- ended
 abbrev pub Shows : (of : Property) → Evidence → Job → List meaning.Event → Type 0
 Shows p v j told = Decides p v.ruled_out j told × Counts v.processes (labels_in told)

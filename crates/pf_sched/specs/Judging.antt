@@ -6,7 +6,8 @@ use Rattle.pf_strategy.specs.Runs.{MeansByPriorities}
 use Rattle.pf_sched.specs.Waiting.{waiting_in}
 use Rattle.pf_sched.specs.declared.whole.Judged.{Judged}
 
--- a report has this outcome and this verdict, and so many processes still wait at the end of its run though its root returned
+-- a report has this outcome and this verdict, and so many processes still wait at the end of its run though its root
+-- returned
 abbrev pub IsJudged : Report → Judged → Type 0
 IsJudged r v = (r.outcome ≡ outcome_of v.outcome) × (r.verdict ≡ v.verdict) × (v.waiting ≡ waiting_in r)
 

@@ -29,7 +29,8 @@ Executes j cs es x = Going j.asked.code (profile_of cs) (words_of cs) j.asked.li
 abbrev pub events_in : Run → List Event
 events_in r = told_so_far r.written.lines
 
--- the same with its events, which are written by the names of the module; and whether the label of one rules the property out
+-- the same with its events, which are written by the names of the module; and whether the label of one rules the
+-- property out
 pub record IsRunBy (j : Job) (cs : Choices) (r : Run) : Type 0 where
   pub run : Executes j cs (events_in r) r.execution
   pub written : AreWrittenSoFar (name_of j.asked.code.atoms) r.written.lines
@@ -41,8 +42,8 @@ IsRunOf j r = (j.asked.runs ≡ zero) × IsRunBy j j.asked.choices r
 
 -- ---- shrinkings
 
--- the hunt of a shrinking received true answers only: with them it finds what the shrinking finds, and the runs that were made,
--- with n events in all, are those that the shrinking tries first
+-- the hunt of a shrinking received true answers only: with them it finds what the shrinking finds, and the runs that
+-- were made, with n events in all, are those that the shrinking tries first
 pub record IsHuntOf (j : meaning.Job) (h : Hunting) (before : ℕ) : Type 0 where
   pub further : ℕ
   pub given : List ℕ

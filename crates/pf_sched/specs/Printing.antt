@@ -43,7 +43,8 @@ PrintsOn j cs es x p w0 w1 false = IsPrinted j cs es x p w0 w1 × IsOver j.asked
 abbrev pub CutsShort : OrNoMemory StreamFault → Job → Choices → (written_old written_new : Option (List ℕ)) → (failed_old failed_new : ℕ) → Type 0
 CutsShort e j cs w0 w1 n0 n1 = (r : Report) → Means (record j.asked { choices = cs }) r → StopsShort e (names_in j) r w0 w1 n0 n1
 
--- the report that a job means went out, and it is known what its verdict is and how many processes still wait though its root returned
+-- the report that a job means went out, and it is known what its verdict is and how many processes still wait though
+-- its root returned
 abbrev pub HasPrinted : Job → PrintedRun → (written_old written_new : Option (List ℕ)) → Type 0
 HasPrinted j p w0 w1 =
     (r : Report) × Means j.asked r × (r.verdict ≡ p.verdict) × (p.waiting ≡ waiting_in r) × Appends w0 w1 (report_text (names_in j) r)

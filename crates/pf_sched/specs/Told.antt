@@ -29,7 +29,8 @@ Lists es j told = map event_of es.items ≡ told
 abbrev pub Decides : (of : Property) → Bool → Job → List meaning.Event → Type 0
 Decides p b j told = (p ≡ j.property) × (b ≡ some_label (rules_out j.property) (labels_in told))
 
--- all events are written, a line each, by the names of the job's module, and it is known whether the label of one rules the property out
+-- all events are written, a line each, by the names of the job's module, and it is known whether the label of one rules
+-- the property out
 abbrev pub Writes : Writer → Job → List meaning.Event → Type 0
 Writes w j told =
     Decides (property_of w.property.now) w.written.ruled_out j told × (w.atoms.now ≡ j.code.atoms)

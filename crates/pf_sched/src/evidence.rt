@@ -60,7 +60,8 @@ impl Processes {
         self.ended = with_one(self.ended, is_end(label));
     }
 
-    /// How many still wait at the end of a run with this outcome though its root returned; no run has more labels than are counted.
+    /// How many still wait at the end of a run with this outcome though its root returned; no run has more labels than
+    /// are counted.
     pub fn waiting(self, outcome: &Outcome) -> u32
         ensures { (ls : List labels.Label) → Counts self ls → length ls < most
             → result ≡ waiting_at (outcome_of outcome.now) ls }
@@ -79,7 +80,8 @@ fn is_ruled_out(so_far: bool, property: &Property, label: &Label) -> bool
     so_far || property.rules_out(label)
 }
 
-/// What is kept of the events of a run to judge it: whether the label of one rules the property out, and how many processes began and ended.
+/// What is kept of the events of a run to judge it: whether the label of one rules the property out, and how many
+/// processes began and ended.
 #[derive(Drop, Clone, Copy)]
 pub(crate) struct Evidence {
     pub ruled_out: bool,

@@ -71,8 +71,8 @@ impl Execution {
         })
     }
 
-    /// The transition of the actor that the next word chooses, within the limit of steps, and which it is; none if nobody may go. What it
-    /// shows is written.
+    /// The transition of the actor that the next word chooses, within the limit of steps, and which it is; none if
+    /// nobody may go. What it shows is written.
     pub fn pass_next(
         &mut self,
         alloc: Global,
@@ -98,7 +98,8 @@ impl Execution {
         }))
     }
 
-    /// The same, whose event a trace receives; whether there was one, since nobody may go else. `shown` is room for what it shows.
+    /// The same, whose event a trace receives; whether there was one, since nobody may go else. `shown` is room for
+    /// what it shows.
     fn go<T: Trace>(
         &mut self,
         alloc: Global,
@@ -117,7 +118,8 @@ impl Execution {
         Ok(true)
     }
 
-    /// Goes on by n events, or fewer if the run is over before; whether it is over then. `shown` is room for what each shows.
+    /// Goes on by n events, or fewer if the run is over before; whether it is over then. `shown` is room for what each
+    /// shows.
     fn advance<T: Trace>(
         &mut self,
         alloc: Global,
@@ -157,8 +159,8 @@ impl Execution {
         went
     }
 
-    /// Goes on with a run of a job from its first event to its end, by whichever choices: each of its events is a step at least, so it is
-    /// over after as many events as the limit has steps.
+    /// Goes on with a run of a job from its first event to its end, by whichever choices: each of its events is a step
+    /// at least, so it is over after as many events as the limit has steps.
     pub fn complete<T: Trace>(
         &mut self,
         alloc: Global,

@@ -12,7 +12,8 @@ use pf_system::{Spare, System};
 use pf_terms::NoMemory;
 use std::alloc::Global;
 
-/// A run so far: its processes and signals, and the priorities by which its next actor is chosen. Its events go to a trace.
+/// A run so far: its processes and signals, and the priorities by which its next actor is chosen. Its events go to a
+/// trace.
 #[derive(Drop)]
 pub(crate) struct Guided {
     pub system: System,
@@ -32,8 +33,9 @@ impl Guided {
         })
     }
 
-    /// The transition of the actor that the priorities choose, within the limit of steps, whose event the trace receives; whether there was one,
-    /// since nobody may go else. `shown` is room for what it shows. The allocation for one more priority may fail.
+    /// The transition of the actor that the priorities choose, within the limit of steps, whose event the trace
+    /// receives; whether there was one, since nobody may go else. `shown` is room for what it shows. The allocation for
+    /// one more priority may fail.
     fn go<T: Trace>(
         &mut self,
         alloc: Global,
@@ -60,8 +62,8 @@ impl Guided {
         Ok(true)
     }
 
-    /// Goes on from the first event to the end: each event is a step at least, so it is over after as many as the limit has steps. `shown` is
-    /// room for what each shows.
+    /// Goes on from the first event to the end: each event is a step at least, so it is over after as many as the limit
+    /// has steps. `shown` is room for what each shows.
     fn go_all<T: Trace>(
         &mut self,
         alloc: Global,

@@ -22,9 +22,10 @@ use std::alloc::Global;
 use std::marker::Model;
 use std::sync::Arc;
 
-/// What a request asks for of a module: a run from one of its exported functions without arguments, of which it is asked whether a property
-/// holds, by choices and within a limit of steps, in an edition; or the shrinking of a schedule of such runs. The module is what its source
-/// is read as; the limit, the schedule, the weights and the runs of a shrinking are within their bounds.
+/// What a request asks for of a module: a run from one of its exported functions without arguments, of which it is
+/// asked whether a property holds, by choices and within a limit of steps, in an edition; or the shrinking of a
+/// schedule of such runs. The module is what its source is read as; the limit, the schedule, the weights and the runs
+/// of a shrinking are within their bounds.
 #[derive(Drop)]
 pub struct Job {
     pub(crate) module: ReadModule,
@@ -75,8 +76,8 @@ fn read_property(
 }
 
 impl Job {
-    /// The job of a request of a module in an edition, or the first of its refusals: of the root, of the property, of the limit, the schedule
-    /// and the runs, of the weights.
+    /// The job of a request of a module in an edition, or the first of its refusals: of the root, of the property, of
+    /// the limit, the schedule and the runs, of the weights.
     pub fn new(
         alloc: Global,
         module: ReadModule,
@@ -109,7 +110,8 @@ impl Job {
         })
     }
 
-    /// The run by a seed in place of this job's own choices, by the weights that they have. Module and property are shared.
+    /// The run by a seed in place of this job's own choices, by the weights that they have. Module and property are
+    /// shared.
     pub fn by_seed(&self, seed: u64) -> Result<Job, NoMemory>
         ensures { IfOk result (λ job. job ≡ by_seed self.now seed) }
     {

@@ -3,8 +3,8 @@
 ghost use Rattle.pf_sched.specs.One.{OneCount, OneResult, SomeCount, SomeResult};
 ghost use Rattle.pf_sched.specs.Waiting.{LivingIsRight, WaitingIsRight};
 
-/// At any point of a run, and whatever its choices, as many processes live as began, the root among them, less those that ended, as the run
-/// showed.
+/// At any point of a run, and whatever its choices, as many processes live as began, the root among them, less those
+/// that ended, as the run showed.
 pub fn living_is_right()
     ensures { LivingIsRight }
 {}

@@ -17,14 +17,16 @@ use std::alloc::Global;
 use std::marker::Model;
 use std::sync::Arc;
 
-/// What a job goes on with: its run, or its shrinking. Each is in a block of its own, so a parked job is moved at the cost of a few words.
+/// What a job goes on with: its run, or its shrinking. Each is in a block of its own, so a parked job is moved at the
+/// cost of a few words.
 #[derive(Drop)]
 pub(crate) enum Work {
     Run(Box<Run>),
     Shrinking(Box<Shrinking>),
 }
 
-/// A job so far. Contracts see the job and how many events it had so far: those of its run, or of all runs of its shrinking.
+/// A job so far. Contracts see the job and how many events it had so far: those of its run, or of all runs of its
+/// shrinking.
 #[derive(Drop)]
 pub struct Parked {
     pub(crate) job: Arc<Job>,

@@ -78,8 +78,8 @@ impl<'a> Printer<'a> {
     }
 }
 
-/// Goes on with a run by one event, whose line is printed with those before it if they make a piece; whether there was one, since nobody may
-/// go else.
+/// Goes on with a run by one event, whose line is printed with those before it if they make a piece; whether there was
+/// one, since nobody may go else.
 fn print_next<W: Write, M: Ledger>(
     alloc: Global,
     execution: &mut Execution,
@@ -108,7 +108,8 @@ fn print_next<W: Write, M: Ledger>(
     Ok(true)
 }
 
-/// Goes on with a run of a job from its first event to its end, and prints the lines of its events but for the last, which wait.
+/// Goes on with a run of a job from its first event to its end, and prints the lines of its events but for the last,
+/// which wait.
 fn print_events<W: Write, M: Ledger>(
     alloc: Global,
     job: &Job,
@@ -141,8 +142,8 @@ fn print_events<W: Write, M: Ledger>(
     Ok(())
 }
 
-/// What is known of a run whose report went out: whether its property holds, and how many processes still wait at its end, where its root
-/// returned; else none are reported.
+/// What is known of a run whose report went out: whether its property holds, and how many processes still wait at its
+/// end, where its root returned; else none are reported.
 #[derive(Drop, Clone, Copy)]
 pub struct PrintedRun {
     pub verdict: Option<bool>,
@@ -213,9 +214,9 @@ fn print_execution<W: Write, M: Ledger>(
     Ok(printed)
 }
 
-/// Prints the report of a job that is one run, as the run goes, and gives its verdict and how many processes still wait though its root
-/// returned. Where a write fails, a beginning of the report went out; where memory runs out, the lines of its first events did. What is in
-/// the scratch makes no difference.
+/// Prints the report of a job that is one run, as the run goes, and gives its verdict and how many processes still wait
+/// though its root returned. Where a write fails, a beginning of the report went out; where memory runs out, the lines
+/// of its first events did. What is in the scratch makes no difference.
 pub fn print_run<W: Write, M: Ledger>(
     alloc: Global,
     job: &Job,

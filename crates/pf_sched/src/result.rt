@@ -13,8 +13,8 @@ use std::alloc::Global;
 pub enum JobResult {
     /// The report of its run.
     Report(WrittenReport),
-    /// Whether no candidate of the schedule that its shrinking found fails, the schedule, and the report of its run. The schedule's own words
-    /// are in a block, so that no other result is larger for them.
+    /// Whether no candidate of the schedule that its shrinking found fails, the schedule, and the report of its run.
+    /// The schedule's own words are in a block, so that no other result is larger for them.
     Shrunk {
         complete: bool,
         schedule: Box<Vec<u32>>,

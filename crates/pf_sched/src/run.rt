@@ -45,8 +45,8 @@ impl Run {
         self.written.lines.len()
     }
 
-    /// Goes on by n events, or fewer if the run is over before; whether it is over then. What the scratch keeps is used,
-    /// and what is spare then comes back to it.
+    /// Goes on by n events, or fewer if the run is over before; whether it is over then. What the scratch keeps is
+    /// used, and what is spare then comes back to it.
     pub fn go_on(
         &mut self,
         alloc: Global,

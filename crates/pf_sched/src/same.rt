@@ -5,7 +5,8 @@ ghost use Rattle.std.specs.Prelude.{◌≡◌, Decides};
 use crate::job::Job;
 
 impl Job {
-    /// Whether it is the same job: of the same source, and so of the same module, with all else that is asked for. It takes no memory.
+    /// Whether it is the same job: of the same source, and so of the same module, with all else that is asked for. It
+    /// takes no memory.
     pub fn same(&self, other: &Job) -> bool
         ensures { Decides result (self.now ≡ other.now) }
     {

@@ -22,8 +22,9 @@ use pf_terms::NoMemory;
 use pf_trace::WrittenReport;
 use std::alloc::Global;
 
-/// A shrinking so far: its hunt, the run of the hunt's next schedule, the report of the hunt's current schedule, which is
-/// none before the first run that failed, the number of events of all runs before this one, and its progress for the observer.
+/// A shrinking so far: its hunt, the run of the hunt's next schedule, the report of the hunt's current schedule, which
+/// is none before the first run that failed, the number of events of all runs before this one, and its progress for the
+/// observer.
 #[derive(Drop)]
 pub(crate) struct Shrinking {
     pub hunt: Hunt,
@@ -71,7 +72,8 @@ fn found(alloc: Global, hunt: &Hunt, report: Option<WrittenReport>) -> Result<Jo
     })
 }
 
-/// Answers a hunt whether its next schedule fails, by the report of its run; the report of the schedule that is the hunt's current one then.
+/// Answers a hunt whether its next schedule fails, by the report of its run; the report of the schedule that is the
+/// hunt's current one then.
 fn tell(hunt: &mut Hunt, kept: Option<WrittenReport>, ended: WrittenReport) -> Option<WrittenReport>
     requires { IsSome (next_of hunt.old) }
     ensures told { hunt.new ≡ told_of (is_failure ended.verdict) hunt.old }
@@ -141,7 +143,8 @@ impl Shrinking {
         self.run.go_on(alloc, job, scratch, turns)
     }
 
-    /// What follows a run that is over: the hunt gets the answer whether it failed, and the report of one that did is kept.
+    /// What follows a run that is over: the hunt gets the answer whether it failed, and the report of one that did is
+    /// kept.
     fn follow(self, alloc: Global, job: &Job) -> Result<Advance, NoMemory>
         requires valid { IsValid job.now }
         requires shrinking { IsShrinkingOf job.now self }
@@ -162,8 +165,8 @@ impl Shrinking {
         begin(alloc, job, hunt, kept, after, further)
     }
 
-    /// Goes on by n events, over as many runs as they take. It goes on if the shrinking has more; else it is over, with the job's
-    /// result.
+    /// Goes on by n events, over as many runs as they take. It goes on if the shrinking has more; else it is over, with
+    /// the job's result.
     pub fn advance(
         self,
         alloc: Global,

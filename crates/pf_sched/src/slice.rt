@@ -88,9 +88,9 @@ fn slice_of_shrinking(
     }
 }
 
-/// Goes on with a job by n events at most, over as many runs as they take. It goes on if the job has more; else it is over, with
-/// the job's result. If an allocation fails it is over too, and its result is that memory ran out. What is in the scratch makes no
-/// difference.
+/// Goes on with a job by n events at most, over as many runs as they take. It goes on if the job has more; else it is
+/// over, with the job's result. If an allocation fails it is over too, and its result is that memory ran out. What is
+/// in the scratch makes no difference.
 pub fn run_slice(alloc: Global, parked: Parked, scratch: &mut Scratch, turns: u32) -> Slice
     requires { 0 < turns }
     ensures { Sliced parked turns result }
@@ -109,7 +109,8 @@ fn tell(observer: &mut impl Observer, parked: &Parked) {
     }
 }
 
-/// Runs a job to its end, slice by slice. If an allocation of its start fails, there is no run. The observer receives the progress of a shrinking.
+/// Runs a job to its end, slice by slice. If an allocation of its start fails, there is no run. The observer receives
+/// the progress of a shrinking.
 pub fn run_to_end(
     alloc: Global,
     job: Arc<Job>,

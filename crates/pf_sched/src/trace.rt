@@ -23,7 +23,8 @@ pub(crate) trait Trace {
     /// It received these events, in their order, and knows of them what it has to for a run of this job.
     ghost Told: { Self → model.Job → List model.Event → Type 0 };
 
-    /// Receives one event more: of `count` actors that might go number `choice` went, and showed this. It may take the label.
+    /// Receives one event more: of `count` actors that might go number `choice` went, and showed this. It may take the
+    /// label.
     fn tell(
         &mut self,
         choice: u32,
@@ -108,7 +109,8 @@ impl Trace for Seen<'_> {
     }
 }
 
-/// What is written of the events of a run, of which none is kept: their lines, and whether the label of one rules the property out.
+/// What is written of the events of a run, of which none is kept: their lines, and whether the label of one rules the
+/// property out.
 #[derive(Drop)]
 pub(crate) struct Written {
     pub lines: LinesSoFar,

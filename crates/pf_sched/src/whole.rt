@@ -25,8 +25,8 @@ use pf_system::{Spare, System};
 use pf_terms::NoMemory;
 use std::alloc::Global;
 
-/// How the run of a job ended, and whether its property holds; there is no verdict where memory ran out. How many processes still wait at
-/// its end, where its root returned; else none are reported.
+/// How the run of a job ended, and whether its property holds; there is no verdict where memory ran out. How many
+/// processes still wait at its end, where its root returned; else none are reported.
 #[derive(Drop)]
 pub struct Judged {
     pub outcome: Outcome,
@@ -128,7 +128,8 @@ pub fn report_of_run(alloc: Global, job: &Job, scratch: &mut Scratch) -> Result<
     report_to_end(alloc, job, execution, scratch)
 }
 
-/// The report of the run of a job by a schedule in place of the job's own choices. What is in the scratch makes no difference.
+/// The report of the run of a job by a schedule in place of the job's own choices. What is in the scratch makes no
+/// difference.
 pub fn report_by_schedule(
     alloc: Global,
     job: &Job,
@@ -153,7 +154,8 @@ fn judge_execution(alloc: Global, job: &Job, execution: &mut Execution) -> Resul
     Ok(judged)
 }
 
-/// What the report of a job that is one run says but for its events, of which none is kept. What is in the scratch makes no difference.
+/// What the report of a job that is one run says but for its events, of which none is kept. What is in the scratch
+/// makes no difference.
 pub fn judged_run(alloc: Global, job: &Job, scratch: &mut Scratch) -> Result<Judged, NoMemory>
     requires { job.now.asked.runs ≡ zero }
     ensures { IfOk result (λ v. Judges job.now.asked v) }
@@ -186,7 +188,8 @@ fn judge_guided(alloc: Global, job: &Job, guided: &mut Guided) -> Result<Judged,
     Ok(judged)
 }
 
-/// The report that a job means by the priorities of a seed, in place of its own choices. What is in the scratch makes no difference.
+/// The report that a job means by the priorities of a seed, in place of its own choices. What is in the scratch makes
+/// no difference.
 pub fn report_by_priorities(
     alloc: Global,
     job: &Job,
@@ -216,8 +219,8 @@ pub fn judged_by_priorities(
     judged
 }
 
-/// The choices of the run that a job makes by the priorities of a seed, event by event: by them as a schedule it runs so again. What is
-/// in the scratch makes no difference.
+/// The choices of the run that a job makes by the priorities of a seed, event by event: by them as a schedule it runs
+/// so again. What is in the scratch makes no difference.
 pub fn choices_by_priorities(
     alloc: Global,
     job: &Job,

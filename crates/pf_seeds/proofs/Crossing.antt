@@ -1,4 +1,5 @@
--- The result of a hunt may go to another thread, and what is hunted may be shared: a lemma a type, each from those of its parts.
+-- The result of a hunt may go to another thread, and what is hunted may be shared: a lemma a type, each from those of
+-- its parts.
 use denote.Param.Send.{IsSend, IsSync, recorded_send, recorded_sync, sendable}
 use Rattle.std.proofs.Crossing as heap
 use Rattle.std.proofs.MapsCrossing as maps

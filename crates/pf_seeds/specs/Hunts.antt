@@ -51,7 +51,8 @@ pub data Tallies (w : Strategy) (j : Job) (a : ℕ) : (b : ℕ) → List Row →
 
 -- ---- how far
 
--- SearchedTo may_stop a b c: a hunt over the seeds from a to before b went to before c: to its end; or, if it may stop, less far, but past its first seed
+-- SearchedTo may_stop a b c: a hunt over the seeds from a to before b went to before c: to its end; or, if it may stop,
+-- less far, but past its first seed
 pub data SearchedTo (may_stop : Bool) (a b : ℕ) : (c : ℕ) → Type 0 where
   to_end : SearchedTo may_stop a b b
   less_far : (c : ℕ) → may_stop ≡ true → a < c → c < b → SearchedTo may_stop a b c

@@ -6,7 +6,8 @@ use Rattle.pf_seeds.specs.declared.failure.Searched.{Searched}
 use Rattle.pf_seeds.specs.declared.seeded.Hunt.{Hunt}
 use Rattle.pf_seeds.specs.declared.tallied.Tallied.{Tallied}
 
--- of the seeds from a to before b the least that fails is given, and of those that were looked at up to it the least that leaks
+-- of the seeds from a to before b the least that fails is given, and of those that were looked at up to it the least
+-- that leaks
 pub record Finds (h : Hunt) (a b : ℕ) (s : Searched) : Type 0 where
   pub failure : FirstFailing h.leaks h.strategy h.job.asked a b (option_map failure_of s.failure)
   pub leak : FirstLeaking h.strategy h.job.asked a (looked_to b (option_map failure_of s.failure)) (option_map leak_of s.leak)

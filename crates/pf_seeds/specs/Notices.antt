@@ -7,8 +7,8 @@ use Rattle.pf_seeds.specs.Rows.{Row, failures_in}
 use Rattle.pf_seeds.specs.declared.pace.Pace.{Pace}
 use Rattle.pf_seeds.specs.declared.pace.Pace.TheVariants.{Longer, Same, Stop}
 
--- so many seeds were run so far, of which so many failed, and the observer answered how the hunt goes on; or this seed is the least that leaks, by so
--- many processes
+-- so many seeds were run so far, of which so many failed, and the observer answered how the hunt goes on; or this seed
+-- is the least that leaks, by so many processes
 pub data Notice : Type 0 where
   seeds_run : (done failures : ℕ) → (answer : Pace) → Notice
   leaked : (seed processes : ℕ) → Notice
@@ -29,14 +29,16 @@ stops may_stop Stop = may_stop
 stops may_stop Longer = false
 stops may_stop Same = false
 
--- GoesOn has may_stop a b c notices: of the seeds from a to before b those to before c were run, block by block. After each block the observer was notified
--- of how many were run in all and that the hunt has so many failures, and no answer ended the hunt
+-- GoesOn has may_stop a b c notices: of the seeds from a to before b those to before c were run, block by block. After
+-- each block the observer was notified of how many were run in all and that the hunt has so many failures, and no
+-- answer ended the hunt
 pub data GoesOn (has : (c failures : ℕ) → Type 0) (may_stop : Bool) (a b : ℕ) : (c : ℕ) → List Notice → Type 0 where
   begins : GoesOn has may_stop a b a []
   and_block : (c d n : ℕ) (p : Pace) (ns : List Notice) → GoesOn has may_stop a b c ns → c < d → d ≤ b → has d n → (d < b → stops may_stop p ≡ false)
       → GoesOn has may_stop a b d (ns ++ seeds_run (d - a) n p ∷ [])
 
--- Ends has may_stop a b c notices: so the hunt ended before c: at its end, or after the block at which the observer answered that it stops
+-- Ends has may_stop a b c notices: so the hunt ended before c: at its end, or after the block at which the observer
+-- answered that it stops
 pub data Ends (has : (c failures : ℕ) → Type 0) (may_stop : Bool) (a b : ℕ) : (c : ℕ) → List Notice → Type 0 where
   at_end : (c : ℕ) (ns : List Notice) → GoesOn has may_stop a b c ns → b ≤ c → Ends has may_stop a b b ns
   stopped : (c d n : ℕ) (p : Pace) (ns : List Notice) → GoesOn has may_stop a b c ns → c < d → d < b → has d n → stops may_stop p ≡ true
@@ -47,7 +49,8 @@ pub data Ends (has : (c failures : ℕ) → Type 0) (may_stop : Bool) (a b : ℕ
 abbrev pub has_none : (c failures : ℕ) → Type 0
 has_none c n = n ≡ 0
 
--- Searches may_stop a b c x notices: so a hunt for the least seed that fails went to before c and found x: none; or one, which ends it after its block
+-- Searches may_stop a b c x notices: so a hunt for the least seed that fails went to before c and found x: none; or
+-- one, which ends it after its block
 pub data Searches (may_stop : Bool) (a b : ℕ) : (c : ℕ) → Option (ℕ × Report) → List Notice → Type 0 where
   found_none : (c : ℕ) (ns : List Notice) → Ends has_none may_stop a b c ns → Searches may_stop a b c None ns
   found : (c d s : ℕ) (r : Report) (p : Pace) (ns : List Notice) → GoesOn has_none may_stop a b c ns → c ≤ s → s < d → d ≤ b

@@ -103,9 +103,9 @@ fn search_blocks<R: Threads + Sync, O: HuntObserver>(
     Ok(Searched { failure, leak, end })
 }
 
-/// The least seed from a first to before an end whose run fails, by the given number of workers, and the least of those up to it whose
-/// root returned while processes still waited, which the observer receives. It receives, too, how far the hunt got; if the hunt may
-/// stop, it does so once the observer says it, and what is known is returned.
+/// The least seed from a first to before an end whose run fails, by the given number of workers, and the least of those
+/// up to it whose root returned while processes still waited, which the observer receives. It receives, too, how far
+/// the hunt got; if the hunt may stop, it does so once the observer says it, and what is known is returned.
 pub fn first_failing<R: Threads + Sync, O: HuntObserver>(
     rt: &R,
     alloc: Global,
@@ -173,9 +173,10 @@ fn tally_blocks<R: Threads + Sync, O: HuntObserver>(
     Ok(Tallied { tally, leak, end })
 }
 
-/// The rows of the runs by the seeds from a first to before an end, by the given number of workers, and the least of these whose root
-/// returned while processes still waited, which the observer receives. It receives, too, how far the hunt got; if the hunt may stop, it
-/// does so once the observer says it, and the rows are those of the seeds that were run.
+/// The rows of the runs by the seeds from a first to before an end, by the given number of workers, and the least of
+/// these whose root returned while processes still waited, which the observer receives. It receives, too, how far the
+/// hunt got; if the hunt may stop, it does so once the observer says it, and the rows are those of the seeds that were
+/// run.
 pub fn tally_all<R: Threads + Sync, O: HuntObserver>(
     rt: &R,
     alloc: Global,

@@ -20,8 +20,8 @@ pub struct Failure {
     pub report: Report,
 }
 
-/// What is known of the seeds before an end: the least whose run fails, if any; and, up to and with that one, the least whose root returned
-/// while processes still waited.
+/// What is known of the seeds before an end: the least whose run fails, if any; and, up to and with that one, the least
+/// whose root returned while processes still waited.
 #[derive(Drop)]
 pub struct Searched {
     pub failure: Option<Failure>,
@@ -29,15 +29,16 @@ pub struct Searched {
     pub end: u64,
 }
 
-/// Whether a run fails: its property does; or, if leaks are failures too, processes still wait though its root returned.
+/// Whether a run fails: its property does; or, if leaks are failures too, processes still wait though its root
+/// returned.
 fn fails(leaks: bool, judged: &Judged) -> bool
     ensures { (r : ReportOf) → IsJudged r judged.now → result ≡ fails leaks r }
 {
     matches!(judged.verdict, Some(false)) || (leaks && judged.waiting > 0)
 }
 
-/// The least seed from a first to before an end whose run fails, with the report of that run, which is made once more for it; by the runs of
-/// this worker.
+/// The least seed from a first to before an end whose run fails, with the report of that run, which is made once more
+/// for it; by the runs of this worker.
 pub fn first_in(
     alloc: Global,
     hunt: &Hunt,

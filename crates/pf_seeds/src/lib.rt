@@ -1,4 +1,5 @@
-//! Hunts over seeds: the least seed whose run fails a property, or each outcome that is met, by as many workers as there are.
+//! Hunts over seeds: the least seed whose run fails a property, or each outcome that is met, by as many workers as
+//! there are.
 #![tactic(auto)]
 
 mod blocks;

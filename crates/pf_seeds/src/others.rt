@@ -32,7 +32,8 @@ fn other(
     }
 }
 
-/// The job that a request of a module results in, once more for each worker after the first, at most 63, over a module of its own.
+/// The job that a request of a module results in, once more for each worker after the first, at most 63, over a module
+/// of its own.
 pub fn other_jobs(
     alloc: Global,
     job: &Job,

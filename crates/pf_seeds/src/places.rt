@@ -15,8 +15,8 @@ struct Place {
     before: Option<usize>,
 }
 
-/// A list of numbers, in which the places of each are found from the last to the first, without a look at those of another. Contracts see the
-/// list.
+/// A list of numbers, in which the places of each are found from the last to the first, without a look at those of
+/// another. Contracts see the list.
 #[derive(Drop)]
 pub(crate) struct Places {
     places: Vec<Place>,

@@ -16,13 +16,13 @@ use pf_strategy::Strategy;
 use pf_terms::NoMemory;
 use std::alloc::Global;
 
-/// What is the same for all seeds of a hunt: the job in whose place their runs go, of whose own choices the weights alone play a part; how a
-/// seed chooses; and whether one fails too whose root returned while processes still waited.
+/// What is the same for all seeds of a hunt: the job in whose place their runs go, of whose own choices the weights
+/// alone play a part; how a seed chooses; and whether one fails too whose root returned while processes still waited.
 #[derive(Drop)]
 pub struct Hunt {
     pub job: Job,
-    /// The same job over modules of their own: one for each worker after the first, so that no two workers count the holders of one
-    /// module. Where there are fewer, the others share that of the first.
+    /// The same job over modules of their own: one for each worker after the first, so that no two workers count the
+    /// holders of one module. Where there are fewer, the others share that of the first.
     pub others: Vec<Job>,
     pub strategy: Strategy,
     pub leaks: bool,
@@ -70,7 +70,8 @@ fn judged_by_words(
     judged_run(alloc, &job.by_seed(seed)?, scratch)
 }
 
-/// The report that the job of a hunt means by a seed, in place of the job's own choices. What is in the scratch makes no difference.
+/// The report that the job of a hunt means by a seed, in place of the job's own choices. What is in the scratch makes
+/// no difference.
 pub fn run_by_seed(
     alloc: Global,
     hunt: &Hunt,
@@ -85,8 +86,8 @@ pub fn run_by_seed(
     }
 }
 
-/// The outcome and the verdict of that report, and how many processes still wait though its root returned. No event is kept. The run is that
-/// of this worker, counted from 0.
+/// The outcome and the verdict of that report, and how many processes still wait though its root returned. No event is
+/// kept. The run is that of this worker, counted from 0.
 pub(crate) fn judged_by_seed(
     alloc: Global,
     hunt: &Hunt,

@@ -11,7 +11,8 @@ use pf_sched::Scratch;
 use pf_terms::NoMemory;
 use std::alloc::Global;
 
-/// The rows of the runs by the seeds before an end, and the least of these whose root returned while processes still waited.
+/// The rows of the runs by the seeds before an end, and the least of these whose root returned while processes still
+/// waited.
 #[derive(Drop)]
 pub struct Tallied {
     pub tally: Tally,

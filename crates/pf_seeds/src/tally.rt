@@ -38,7 +38,8 @@ impl Tally {
         }
     }
 
-    /// The first row of the same outcome with the same verdict, among those of its hash, which are gone through from the last to the first.
+    /// The first row of the same outcome with the same verdict, among those of its hash, which are gone through from
+    /// the last to the first.
     fn index_of(&self, row: &Row) -> Option<usize>
         ensures { MatchOption result
             (NoneBefore self.now.rows.items row.now (length self.now.rows.items))

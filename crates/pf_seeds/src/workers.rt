@@ -52,7 +52,8 @@ fn edge(from: u64, end: u64, first: u64, workers: u64) -> u64
     from + part.min(count)
 }
 
-/// What is known of the seeds to before an end, by those of a first part and, where none of them fails, by those after it.
+/// What is known of the seeds to before an end, by those of a first part and, where none of them fails, by those after
+/// it.
 fn both_parts(
     front: Searched,
     back: Result<Searched, NoMemory>,

@@ -34,7 +34,8 @@ found_of (begins k ns) = None
 found_of (searches k ns c cs) = None
 found_of (ended f) = f
 
--- a candidate that is to be run is shorter than the schedule that it may take the place of, or as long with a smaller sum
+-- a candidate that is to be run is shorter than the schedule that it may take the place of, or as long with a smaller
+-- sum
 abbrev pub NextIsSmaller : Hunting → Type 0
 NextIsSmaller (begins k ns) = Unit {0}
 NextIsSmaller (searches k ns c cs) = IsSmaller c ns

@@ -20,7 +20,8 @@ tried_from fails (begins k ns) = tried fails (suc k) ns
 tried_from fails (searches k ns c cs) = tried_of_search fails (suc k) (c ∷ cs)
 tried_from fails (ended f) = []
 
--- the next of a hunt is the first of them, and a true answer leaves the others; there are none exactly where there is no next
+-- the next of a hunt is the first of them, and a true answer leaves the others; there are none exactly where there is
+-- no next
 pub record TriesInOrder (fails : List ℕ → Bool) (h : Hunting) : Type 0 where
   pub first : (ns : List ℕ) → next_of h ≡ Some ns → tried_from fails h ≡ ns ∷ tried_from fails (told_of (fails ns) h)
   pub none : (next_of h ≡ None) ↔ (tried_from fails h ≡ [])

@@ -6,7 +6,8 @@ use Rattle.pf_model.specs.Configuration.{Configuration}
 use Rattle.pf_model.specs.Module.{Module}
 use Rattle.pf_model.specs.Runs.{Actor, Goes, stays, more, Passed, Passes, Picks, Transition, transition, enabled, first_pick, later}
 
--- Marked m d ps n c ts k i e j: a run from c, with n steps left, by ts in k steps to d; after i transitions, in j steps, it was at e
+-- Marked m d ps n c ts k i e j: a run from c, with n steps left, by ts in k steps to d; after i transitions, in j
+-- steps, it was at e
 pub data Marked (m : Module) (d : Configuration) : Picks → ℕ → Configuration → List Transition → ℕ → ℕ → Configuration → ℕ → Type 0 where
   here : (ps : Picks) (n : ℕ) (c : Configuration) (ts : List Transition) (k : ℕ) → Goes m ps n c ts d k → Marked m d ps n c ts k zero c zero
   further : (ps : Picks) (n : ℕ) (c : Configuration) (x : Actor) (p : Passed) (ts : List Transition) (k i : ℕ) (e : Configuration) (j : ℕ)

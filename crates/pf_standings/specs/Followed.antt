@@ -20,7 +20,8 @@ HasGone limit i c s l s' false = (limit ≤ s.steps) ⊎ (slice_get (enabled c) 
 abbrev pub AreByPid : List Begun → Type 0
 AreByPid bs = (p : ℕ) (b : Begun) → slice_get bs p ≡ Some b → b.pid ≡ p
 
--- by pid the processes that there are in a configuration, each with the function in whose call it began, if that is given
+-- by pid the processes that there are in a configuration, each with the function in whose call it began, if that is
+-- given
 pub record AreBegun (k : KnownRun) (c : Configuration) (bs : List Begun) : Type 0 where
   pub count : length bs ≡ length c.core.processes
   pub pids : AreByPid bs

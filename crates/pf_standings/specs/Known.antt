@@ -19,7 +19,8 @@ code_of k = module_of (checked_of k)
 abbrev pub events_of : KnownRun → List Event
 events_of k = map event_of k.events.now
 
--- from the call of the root a run of the module, within the limit and by whichever choices, leads by these events to this configuration
+-- from the call of the root a run of the module, within the limit and by whichever choices, leads by these events to
+-- this configuration
 pub record Comes (k : KnownRun) (es : List Event) (c : Configuration) : Type 0 where
   pub picks : Picks
   pub transitions : List Transition

@@ -83,7 +83,8 @@ abbrev pub TakePoints : List Failure → List Standing → Type 0
 TakePoints fs xs =
     (q : ℕ) (x : Standing) (n : ℕ) (at : Option Point) → slice_get xs q ≡ Some x → x.fate ≡ fate.Failed n at → HasNote fs q n → HasPoint fs q n at
 
--- the processes that failed in these events have the places that were noted as the events were made, of each failure one
+-- the processes that failed in these events have the places that were noted as the events were made, of each failure
+-- one
 pub record TellPoints (es : List Event) (xs : List Standing) : Type 0 where
   pub notes : Notes
   pub made : AreMade es (length es) notes

@@ -41,7 +41,8 @@ IsPut p f = Are (λ q x y. y ≡ (if q == p then f else x))
 abbrev pub NoneBelow : List Event → ℕ → ℕ → Type 0
 NoneBelow es n p = (i : ℕ) (e : Event) → i < n → slice_get es i ≡ Some e → who_ends e.actor e.label ≡ Some p → ⊥
 
--- a process that an event below this number ended has the fate of one that ended, and all others have the one that they had
+-- a process that an event below this number ended has the fate of one that ended, and all others have the one that they
+-- had
 abbrev pub TellEnds : List Event → ℕ → List Standing → List Standing → Type 0
 TellEnds es n = Are (λ p x y. HasEnded es p y ⊎ ((y ≡ x) × NoneBelow es n p))
 

@@ -15,7 +15,8 @@ use pf_system::System;
 use pf_terms::NoMemory;
 use std::alloc::Global;
 
-/// A point, or the one before it where this is nowhere: a call whose last argument was just worked out has no node of its own then.
+/// A point, or the one before it where this is nowhere: a call whose last argument was just worked out has no node of
+/// its own then.
 fn placed(point: Option<Point>, before: Option<Point>) -> Option<Point> {
     match (point, before) {
         (Some(Point::Nowhere), Some(before)) => Some(before),
@@ -131,7 +132,8 @@ impl Notes {
         Ok(())
     }
 
-    /// Notes who failed in an event whose last step was here. One that an action's raise ends is where it asked for the action.
+    /// Notes who failed in an event whose last step was here. One that an action's raise ends is where it asked for the
+    /// action.
     fn note_failure(&mut self, pid: u32, event: usize, point: Option<Point>) -> Result<(), NoMemory>
         ensures { OnOk result (IsNoted event None (Some pid) point self.old self.new) }
     {

@@ -34,7 +34,8 @@ pub(crate) fn chosen(system: &System, choice: u32) -> Option<Actor>
     }
 }
 
-/// The actor at the index of a choice goes, if there is one and steps are left; whether it did. What it shows is written.
+/// The actor at the index of a choice goes, if there is one and steps are left; whether it did. What it shows is
+/// written.
 pub(crate) fn go(
     alloc: Global,
     system: &mut System,

@@ -4,7 +4,8 @@ use pf_model::report::Event;
 use pf_syntax::{FunctionId, Module};
 use std::sync::Arc;
 
-/// A run of a module from a root function, within a limit of steps and the limits of an edition, of which the events are known.
+/// A run of a module from a root function, within a limit of steps and the limits of an edition, of which the events
+/// are known.
 #[derive(Clone, Copy)]
 pub struct KnownRun<'a> {
     pub module: &'a Arc<Module>,

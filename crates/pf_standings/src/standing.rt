@@ -8,7 +8,8 @@ use pf_syntax::FunctionId;
 pub enum Fate {
     /// It ended with the reason `normal`, as one does whose function returns.
     Normal,
-    /// It ended by itself with another reason, in the event of this number from 0, at this point; one that never began has none.
+    /// It ended by itself with another reason, in the event of this number from 0, at this point; one that never began
+    /// has none.
     Failed { event: usize, point: Option<Point> },
     /// An exit signal of this process ended it.
     Killed(u32),

@@ -1,4 +1,5 @@
--- A machine may go to another thread, and so may what it asks for, how it moved and its room: a lemma a type, each from those of its parts.
+-- A machine may go to another thread, and so may what it asks for, how it moved and its room: a lemma a type, each from
+-- those of its parts.
 use denote.Param.Send.{IsSend, recorded_send, sendable}
 use Rattle.std.proofs.Crossing as heap
 use Rattle.pf_terms.proofs.Crossing as terms

@@ -5,8 +5,8 @@ use Rattle.pf_syntax.specs.Tree.{call, no_trees}
 use Rattle.pf_syntax.specs.Module.{Checked}
 use Rattle.pf_model.specs.Context.{State, running, Frame, after_values}
 
--- the status of a machine: memory ran out; its process goes on from a state, or waits for the answer to an action, which goes into these
--- frames; or its process has ended
+-- the status of a machine: memory ran out; its process goes on from a state, or waits for the answer to an action,
+-- which goes into these frames; or its process has ended
 pub data Standing : Type 0 where
   spent : Standing
   goes : State → Standing

@@ -50,7 +50,8 @@ part_of (k.Match n done) = 0
 part_of (k.Bind n done) = 0
 part_of (k.Case n) = 0
 
--- the node of a frame is what the frame waits at, where its hole doesn't come from there: a minus, or what takes two operands so
+-- the node of a frame is what the frame waits at, where its hole doesn't come from there: a minus, or what takes two
+-- operands so
 abbrev pub IsAtNode : Tables → Kind → Type 0
 IsAtNode t (k.BinaryLeft n) = Unit {0}
 IsAtNode t (k.BinaryRight b n) = pairing_in (tree_at t n.0) ≡ pairing_of b

@@ -41,6 +41,7 @@ pub record MayComeTo (s : MachineView) (r : Receive) : Type 0 where
   pub lives : s.standing ≡ spent → ⊥
   pub only : (ks : Clauses) → StandsAt s ks → r ≡ receive_of (module_of s.checked) s.own ks
 
--- ready for the `receive` at which the machine is; where it is at none, for whatever comes; once memory ran out, for nothing
+-- ready for the `receive` at which the machine is; where it is at none, for whatever comes; once memory ran out, for
+-- nothing
 abbrev pub IsReadyAhead : (Receive → Type 0) → MachineView → Type 0
 IsReadyAhead ready s = (r : Receive) → MayComeTo s r → ready r

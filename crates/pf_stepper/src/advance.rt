@@ -75,8 +75,8 @@ impl Stack {
         }
     }
 
-    /// Contractions up to this number, or to what stops the process: the steps that it made with it, and in `advance` where
-    /// it got to.
+    /// Contractions up to this number, or to what stops the process: the steps that it made with it, and in `advance`
+    /// where it got to.
     #[inline(never)]
     pub(crate) fn run(
         &mut self,

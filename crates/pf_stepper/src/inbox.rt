@@ -20,8 +20,8 @@ pub trait Inbox {
     /// The messages that this inbox passes over fit no clause of this `receive`.
     ghost IsReady: { Self → Receive → Type 0 };
 
-    /// Takes the oldest message that some clause fits with its guard, by the first such clause, in the process of
-    /// this pid: the body of that clause, whose bindings are pushed onto the activation that begins at `base`. The message
+    /// Takes the oldest message that some clause fits with its guard, by the first such clause, in the process of this
+    /// pid: the body of that clause, whose bindings are pushed onto the activation that begins at `base`. The message
     /// is written to `taken`, and its node, where it has one, goes to the pool. The others stay in order. The inbox is
     /// ready for this `receive`, and stays so; where a message is taken it is ready for whatever comes.
     fn select(

@@ -58,8 +58,8 @@ impl Model for Machine {
     ghost invariant = { IsValid };
 }
 
-/// What a process did: it went on by itself; it asks for an action and waits for its answer; it took this message; it waits at a
-/// `receive` that no message fits; or it ended, with the value that it returned or with a reason.
+/// What a process did: it went on by itself; it asks for an action and waits for its answer; it took this message; it
+/// waits at a `receive` that no message fits; or it ended, with the value that it returned or with a reason.
 #[derive(Drop)]
 pub enum Move {
     Pure,
@@ -164,7 +164,8 @@ fn settle<I: Inbox>(
 }
 
 impl Machine {
-    /// A process of this pid, at the call of a function with these arguments. It is the same in whatever room it begins.
+    /// A process of this pid, at the call of a function with these arguments. It is the same in whatever room it
+    /// begins.
     pub fn new(
         own: u32,
         module: Arc<Module>,
@@ -215,10 +216,10 @@ impl Machine {
         (&self.module, point)
     }
 
-    /// All steps up to and with the next action, message, wait or end, but no more than `left`: how many they were, and in
-    /// `did` the move that ended them. The inbox is ready for the `receive` at which the machine is, and else for
-    /// whatever comes; and it is so again afterwards. The node of a message that is taken goes to the pool. Once memory ran
-    /// out, each call answers so.
+    /// All steps up to and with the next action, message, wait or end, but no more than `left`: how many they were, and
+    /// in `did` the move that ended them. The inbox is ready for the `receive` at which the machine is, and else for
+    /// whatever comes; and it is so again afterwards. The node of a message that is taken goes to the pool. Once memory
+    /// ran out, each call answers so.
     pub fn run<I: Inbox>(
         &mut self,
         alloc: Global,

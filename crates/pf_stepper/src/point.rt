@@ -14,11 +14,12 @@ pub enum Point {
     Calls(FunctionId),
     /// Before this node is worked out.
     Before(NodeId),
-    /// The part of this number of a node has its value, and those before it are done: 0 is its left operand, and 1 its right one;
-    /// arguments and elements count from 0; a match, a `case`, a minus, and `andalso` and `orelse` have the part 0 alone.
+    /// The part of this number of a node has its value, and those before it are done: 0 is its left operand, and 1 its
+    /// right one; arguments and elements count from 0; a match, a `case`, a minus, and `andalso` and `orelse` have the
+    /// part 0 alone.
     Within(NodeId, u32),
-    /// Nowhere that has a node: it waits for an answer, has ended, returns its value, is about to end by a raise or an exit, has no
-    /// memory, or is at a built-in function or a tuple whose parts have their values.
+    /// Nowhere that has a node: it waits for an answer, has ended, returns its value, is about to end by a raise or an
+    /// exit, has no memory, or is at a built-in function or a tuple whose parts have their values.
     Nowhere,
 }
 

@@ -14,16 +14,16 @@ use std::mem::size_of;
 /// How many slots and frames a machine has room for from the first.
 const FIRST: usize = 16;
 
-/// How many bytes of room are kept in each vector. A process that recursed deeply had far more: its memory is given back,
-/// since most processes never need as much.
+/// How many bytes of room are kept in each vector. A process that recursed deeply had far more: its memory is given
+/// back, since most processes never need as much.
 const MOST: usize = 64 * 1024;
 
 const MOST_TERMS: usize = MOST / size_of::<Term>();
 
 const MOST_FRAMES: usize = MOST / size_of::<Frame>();
 
-/// No slot, no operand and no frame, only the room that their vectors have. A contract sees nothing of it: a machine is the same in
-/// whatever room it begins.
+/// No slot, no operand and no frame, only the room that their vectors have. A contract sees nothing of it: a machine is
+/// the same in whatever room it begins.
 #[derive(Drop)]
 pub struct Room {
     slots: Vec<Term>,

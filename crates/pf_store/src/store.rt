@@ -21,8 +21,9 @@ struct Held {
     holders: u64,
 }
 
-/// The modules that were read and are held, each under its source. Contracts see the sources, each once, and how many hold each. Random
-/// keys keep a look-up from being slow for sources that are chosen to be; what is found doesn't depend on them.
+/// The modules that were read and are held, each under its source. Contracts see the sources, each once, and how many
+/// hold each. Random keys keep a look-up from being slow for sources that are chosen to be; what is found doesn't
+/// depend on them.
 #[derive(Drop)]
 pub struct Store {
     modules: IndexMap<Source, Held, RandomState>,
@@ -86,8 +87,8 @@ impl Store {
         Ok(())
     }
 
-    /// The module of a source, with the bytes that are kept, and one more holds it: read and kept where no module of these bytes is kept
-    /// yet.
+    /// The module of a source, with the bytes that are kept, and one more holds it: read and kept where no module of
+    /// these bytes is kept yet.
     pub fn take_or_read(
         &mut self,
         alloc: Global,

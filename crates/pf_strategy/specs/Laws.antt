@@ -19,7 +19,8 @@ ReplayOfSeeds = (w : Strategy) (j : Job) (s : ℕ) (r : Report) → MeansBySeed 
 abbrev pub OneReport : Type 0
 OneReport = (w : Strategy) (j : Job) (s : ℕ) (r t : Report) → MeansBySeed w j s r → MeansBySeed w j s t → r ≡ t
 
--- a job means some report by the priorities of each seed: each transition takes a step at least, so the limit bounds how many there are
+-- a job means some report by the priorities of each seed: each transition takes a step at least, so the limit bounds
+-- how many there are
 abbrev pub SomeReportByPriorities : Type 0
 SomeReportByPriorities = (j : Job) (s : ℕ) → (r : Report) × MeansByPriorities j s r
 

@@ -16,16 +16,16 @@ picked s c = (choice pcg32 s (keys_of (enabled c))).0
 abbrev pub later : State Lcg → Configuration → State Lcg
 later s c = (choice pcg32 s (keys_of (enabled c))).1
 
--- GoesBy m s n c ts d k s': transitions from c to d, from these priorities to those, with n steps left and in k steps. Of the enabled actors
--- the one goes that the priorities choose
+-- GoesBy m s n c ts d k s': transitions from c to d, from these priorities to those, with n steps left and in k steps.
+-- Of the enabled actors the one goes that the priorities choose
 pub data GoesBy (m : Module) : State Lcg → ℕ → Configuration → List Transition → Configuration → ℕ → State Lcg → Type 0 where
   stays : (s : State Lcg) (n : ℕ) (c : Configuration) → GoesBy m s n c [] c zero s
   more : (s : State Lcg) (n : ℕ) (c : Configuration) (x : Actor) (p : Passed) (ts : List Transition) (d : Configuration) (k : ℕ) (s' : State Lcg)
       → slice_get (enabled c) (picked s c) ≡ Some x → Passes m (suc n) c x p → GoesBy m (later s c) (suc n - p.used) p.after ts d k s'
       → GoesBy m s (suc n) c (transition (picked s c) (enabled c) x p ∷ ts) d (p.used + k) s'
 
--- a report is what a job means by the priorities of a seed, in place of its own choices: that of a run from the root's call that goes on until
--- it stops
+-- a report is what a job means by the priorities of a seed, in place of its own choices: that of a run from the root's
+-- call that goes on until it stops
 pub record MeansByPriorities (j : Job) (seed : ℕ) (r : Report) : Type 0 where
   pub transitions : List Transition
   pub last : Configuration

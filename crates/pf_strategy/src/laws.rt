@@ -17,7 +17,8 @@ pub fn one_report()
     ensures { OneReport }
 {}
 
-/// A job means some report by each seed: by priorities always, and by any strategy if its weights, where it has any, are from 1 to 9.
+/// A job means some report by each seed: by priorities always, and by any strategy if its weights, where it has any,
+/// are from 1 to 9.
 pub fn some_report()
     ensures by_priorities { SomeReportByPriorities }
     ensures by_any { SomeReport }

@@ -16,8 +16,8 @@ use Rattle.pf_suite.specs.declared.end.RootEnd.TheVariants.{Fails, NoFailure, St
 abbrev pub request_for : HuntArgs → (root : List ℕ) → Request
 request_for h root = record h.request { root = root }
 
--- of the seeds of a hunt from its first to before an end the least by which a job fails, where leaks may be failures, with the report of its run; or
--- none
+-- of the seeds of a hunt from its first to before an end the least by which a job fails, where leaks may be failures,
+-- with the report of its run; or none
 abbrev pub IsLeast : HuntArgs → Job → (end : ℕ) → Option (ℕ × Report) → Type 0
 IsLeast h j end = FirstFailing h.leaks h.strategy j.asked h.seeds.0 end
 

@@ -101,8 +101,8 @@ fn hunt_job<T: Threads + Sync, O: HuntObserver>(
     Ok(end_of(args, &searched))
 }
 
-/// How the hunt of a root of a module ends, by the given number of workers, and what is reported to the observer on the way. If the hunt is
-/// one for a time, it ends once the observer says so, and never before a first block of seeds.
+/// How the hunt of a root of a module ends, by the given number of workers, and what is reported to the observer on the
+/// way. If the hunt is one for a time, it ends once the observer says so, and never before a first block of seeds.
 pub fn hunt_root<T: Threads + Sync, O: HuntObserver>(
     rt: &T,
     alloc: Global,

@@ -1,4 +1,5 @@
-//! Hunts over several sources and roots: which roots a source has, the result of each one's hunt, and what is reported of them.
+//! Hunts over several sources and roots: which roots a source has, the result of each one's hunt, and what is reported
+//! of them.
 #![tactic(auto)]
 
 mod end;

@@ -117,8 +117,8 @@ abbrev pub behind_all : Place → List Part → Place
 behind_all p [] = p
 behind_all p (part ∷ parts) = behind_all (behind p part) parts
 
--- after what was there, which led to this place, come parts that have these labels in their order, each escaped, and words and numbers for the
--- rest; they lead to that place
+-- after what was there, which led to this place, come parts that have these labels in their order, each escaped, and
+-- words and numbers for the rest; they lead to that place
 pub data DrawsFrom (own : List (List ℕ)) (from : Place) (labels : List (List ℕ)) (to : Place) (before after : List ℕ) : Type 0 where
   drawn : (parts : List Part) → after ≡ before ++ flat_map part_text parts → IsTrue (list_all (is_fixed own) parts)
       → flat_map labels_of_part parts ≡ labels → behind_all from parts ≡ to → DrawsFrom own from labels to before after

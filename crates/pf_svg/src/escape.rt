@@ -6,7 +6,8 @@ ghost use Rattle.pf_svg.specs.Escaped.{code_of, escaped, escaped_byte, reference
 use pf_terms::NoMemory;
 use pf_text::{put, put_byte, put_number};
 
-/// The character that stands for a byte that can't be written as it is: a blank of lines or a byte of Latin-1 is itself.
+/// The character that stands for a byte that can't be written as it is: a blank of lines or a byte of Latin-1 is
+/// itself.
 fn code_of(byte: u8) -> u64
     ensures { result ≡ code_of byte }
 {

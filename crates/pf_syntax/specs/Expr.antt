@@ -4,8 +4,8 @@ use Rattle.pf_syntax.specs.Tree.{Operator}
 use Rattle.pf_syntax.specs.ExprPattern.{ExprPattern, expr_pattern_size, expr_pattern_depth}
 
 mutual
-  -- an expression. Atoms, calls and variables have the numbers of their names; variables, `_` and calls the offset of their
-  -- first byte. Parentheses are kept, since they are a level of depth. A match occurs in bodies alone
+  -- an expression. Atoms, calls and variables have the numbers of their names; variables, `_` and calls the offset of
+  -- their first byte. Parentheses are kept, since they are a level of depth. A match occurs in bodies alone
   pub data Expr : Type 0 where
     integer : ℤ → Expr
     atom : ℕ → Expr
@@ -43,7 +43,8 @@ mutual
     no_branches : Branches
     branch : ExprPattern → Condition → Exprs → Branches → Branches
 
--- how many nodes an expression has: a leaf is 1, and else 1 more than its parts have together. A clause is no node of its own
+-- how many nodes an expression has: a leaf is 1, and else 1 more than its parts have together. A clause is no node of
+-- its own
 abbrev mutual
   pub expr_size : Expr → ℕ
   expr_size (integer n) = 1

@@ -2,8 +2,8 @@
 use Rattle.std.specs.Prelude.{ℕ, ◌+◌, max, ℤ, List}
 
 mutual
-  -- a pattern: an integer, with its sign; an atom or a variable by the number of its name, a variable with the offset of its
-  -- first byte; a string by its character codes; `_`; a tuple; a list of elements alone, or with a tail
+  -- a pattern: an integer, with its sign; an atom or a variable by the number of its name, a variable with the offset
+  -- of its first byte; a string by its character codes; `_`; a tuple; a list of elements alone, or with a tail
   pub data ExprPattern : Type 0 where
     integer : ℤ → ExprPattern
     atom : ℕ → ExprPattern

@@ -1,5 +1,5 @@
--- How the names of a function clause become slots and numbers: what its patterns, its guard and its body become in the checked
--- module. What breaks a static rule on variables or on calls becomes nothing.
+-- How the names of a function clause become slots and numbers: what its patterns, its guard and its body become in the
+-- checked module. What breaks a static rule on variables or on calls becomes nothing.
 use Rattle.std.specs.Prelude.{◌≡◌, ℕ, ◌+◌, IsTrue, ℤ, pos, List, [], ◌∷◌, slice_get, Option, Some}
 use Rattle.pf_terms.specs.Value.{Value, Values, int, atom as atom_value, list as list_value, none, more}
 use Rattle.pf_syntax.specs.Pattern.{Pattern, Patterns, any, new, slot, known, tuple_of, cons_of, no_patterns, pattern}
@@ -18,7 +18,8 @@ pub record Names : Type 0 where
   pub own_of : ℕ → ℕ → Option ℕ
   pub builtin_of : ℕ → ℕ → Option Builtin
 
--- the slot of a bound variable is the place of its name among the bound ones: the arguments' first, then in the order of binding
+-- the slot of a bound variable is the place of its name among the bound ones: the arguments' first, then in the order
+-- of binding
 abbrev pub IsSlotOf : Scope → ℕ → ℕ → Type 0
 IsSlotOf g x k = slice_get g.bound k ≡ Some x
 

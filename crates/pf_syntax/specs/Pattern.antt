@@ -3,8 +3,9 @@ use Rattle.std.specs.Prelude.{ℕ}
 use Rattle.pf_terms.specs.Value.{Value}
 
 mutual
-  -- a pattern: `_`, a variable that it binds, a variable that is bound, a value, a tuple, a list by its first element and its
-  -- tail, or what fits nothing. What it binds has no number: it takes the next slot in scope, from left to right
+  -- a pattern: `_`, a variable that it binds, a variable that is bound, a value, a tuple, a list by its first element
+  -- and its tail, or what fits nothing. What it binds has no number: it takes the next slot in scope, from left to
+  -- right
   pub data Pattern : Type 0 where
     any : Pattern
     new : Pattern

@@ -6,8 +6,8 @@ use Rattle.pf_syntax.specs.ExprPattern.{ExprPattern, ExprPatterns, no_expr_patte
 use Rattle.pf_syntax.specs.Expr as p
 use Rattle.pf_syntax.specs.Expr.{Expr, Exprs, Branches, no_exprs, expr, no_branches, branch}
 
--- what is seen at a point of a function clause: the names of the variables that are bound, in the order of binding, and of those
--- that are unsafe
+-- what is seen at a point of a function clause: the names of the variables that are bound, in the order of binding, and
+-- of those that are unsafe
 pub record Scope : Type 0 where
   pub bound : List ℕ
   pub unsafe : List ℕ
@@ -54,8 +54,8 @@ leaving g names = record { bound = g.bound; unsafe = g.unsafe ++ filter (λ x. n
 abbrev pub names_of : Scope → List ℕ
 names_of g = g.bound ++ g.unsafe
 
--- after an expression, from left to right, but in a match through the right side first. A clause begins with what is seen at its
--- construct, and a guard changes nothing
+-- after an expression, from left to right, but in a match through the right side first. A clause begins with what is
+-- seen at its construct, and a guard changes nothing
 abbrev mutual
   pub after : Scope → Expr → Scope
   after g (p.integer n) = g

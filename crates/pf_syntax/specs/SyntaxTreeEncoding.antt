@@ -1,4 +1,5 @@
--- How the logic stores patterns and expressions of the surface syntax: a number for the kind, then what is no part of its own, then the parts.
+-- How the logic stores patterns and expressions of the surface syntax: a number for the kind, then what is no part of
+-- its own, then the parts.
 use Rattle.std.specs.Prelude.{◌≡◌, ℕ, zero, suc, ℤ, pos, negsuc, List, [], ◌∷◌, refl}
 use Rattle.std.proofs.Common.{sym, ap, ◌∙◌}
 use base.Stored.{Gv, gnil, gnum, gcons, num, Coded}

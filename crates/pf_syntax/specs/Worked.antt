@@ -58,7 +58,8 @@ matched_unsafe = expr choosing (expr (p.match x_expr_pattern one) no_exprs)
 abbrev pub unbound : Exprs
 unbound = expr x no_exprs
 
--- what these bodies become, if anything: a new variable takes the next slot, and an unbound or unsafe one becomes nothing
+-- what these bodies become, if anything: a new variable takes the next slot, and an unbound or unsafe one becomes
+-- nothing
 pub record NamesBecomeSlots : Type 0 where
   pub doubled_is : BodyIs atoms_alone no_scope doubled doubled_tree
   pub chained_is : BodyIs atoms_alone no_scope chained chained_tree

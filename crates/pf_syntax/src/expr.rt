@@ -1,5 +1,6 @@
-//! The nodes of the surface syntax: patterns and expressions whose parts are named by numbers. The names of atoms and functions
-//! are numbers too, of the table of atoms that is beside the syntax tree; those of variables are numbers of another.
+//! The nodes of the surface syntax: patterns and expressions whose parts are named by numbers. The names of atoms and
+//! functions are numbers too, of the table of atoms that is beside the syntax tree; those of variables are numbers of
+//! another.
 
 use crate::operator::Operator;
 use pf_terms::AtomId;

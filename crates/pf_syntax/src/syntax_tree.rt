@@ -76,8 +76,8 @@ impl SyntaxTree {
         Ok(())
     }
 
-    /// Adds a pattern after its parts. It fails where memory runs out; no source is long enough for the other two cases:
-    /// that there are 2^32 already, or that its tree has 2^32 - 1 nodes or more.
+    /// Adds a pattern after its parts. It fails where memory runs out; no source is long enough for the other two
+    /// cases: that there are 2^32 already, or that its tree has 2^32 - 1 nodes or more.
     pub fn add_expr_pattern(&mut self, node: ExprPatternNode) -> Result<ExprPatternId, NoMemory>
         requires { ExprPatternPartsStand self.old.node_table node }
         ensures id { IfOk result (λ q. q.0 ≡ length self.old.node_table.expr_patterns) }

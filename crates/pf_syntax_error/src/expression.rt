@@ -11,7 +11,8 @@ enum Looks {
     Other,
 }
 
-/// Operands that wait for the rest of their tree: how many there are, and how deep the tree is at least, counted from its root.
+/// Operands that wait for the rest of their tree: how many there are, and how deep the tree is at least, counted from
+/// its root.
 #[derive(Clone, Copy)]
 struct Pending {
     count: u32,

@@ -83,7 +83,8 @@ pub(crate) enum Next {
     Name,
     Parameters,
     GuardOrArrow,
-    /// In an expression: an operand, with a minus or without; one after a minus; one, or the end of an empty list of them.
+    /// In an expression: an operand, with a minus or without; one after a minus; one, or the end of an empty list of
+    /// them.
     Operand,
     Part,
     OperandOrEnd,

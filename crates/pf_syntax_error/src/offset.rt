@@ -13,7 +13,8 @@ use std::alloc::Global;
 /// How many tokens the first form has.
 const HEAD: usize = 6;
 
-/// Where the tokens of a module go wrong that has this name, after its first form: the offset of one of them, or the end of the source.
+/// Where the tokens of a module go wrong that has this name, after its first form: the offset of one of them, or the
+/// end of the source.
 pub fn fault_offset(
     alloc: Global,
     atoms: &AtomTable,

@@ -112,7 +112,8 @@ impl Walk<'_> {
         }
     }
 
-    /// How many arguments a call of the atom has that a guard may hold. No built-in function that it may call has more than two.
+    /// How many arguments a call of the atom has that a guard may hold. No built-in function that it may call has more
+    /// than two.
     fn guard_arity(&self) -> Option<u64> {
         let name = self.atoms.name(self.name);
         if guard_may_call(name, 0) {

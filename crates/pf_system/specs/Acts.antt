@@ -72,7 +72,8 @@ IsBetween (asked.Unregister name) = Unit {0}
 IsBetween (asked.Whereis name) = Unit {0}
 IsBetween asked.MakeRef = Unit {0}
 
--- the processes are what an action of process a makes of them, but for the slot of that process, which waits for the answer
+-- the processes are what an action of process a makes of them, but for the slot of that process, which waits for the
+-- answer
 pub record ActedIn (c : Core) (x : Acted) (a : ℕ) (w : Processes) (r : Answer) (w' : Processes) : Type 0 where
   pub stands : RepresentsBut w' x.left.core a
   pub state : (of x.left.core a).state ≡ (of c a).state

@@ -34,7 +34,8 @@ core_of w = core_with (bodies_in w) w.shared.ties w.basis.most
 abbrev pub configuration_of : Processes → Configuration
 configuration_of w = record { core = core_of w; channels = w.shared.channels }
 
--- there is a row of channels for each process, and not too many processes; how many there may be is no more than may be stored
+-- there is a row of channels for each process, and not too many processes; how many there may be is no more than may be
+-- stored
 pub record IsRoomy (w : Processes) (c : Core) : Type 0 where
   pub rows : length c.processes ≤ length w.shared.channels
   pub few : length c.processes ≤ MOST_PROCESSES
@@ -65,7 +66,8 @@ pub record IsLeftAt (w : Processes) (a : ℕ) (x : Standing) (s : Slot) : Type 0
 
 -- ---- what one step of an actor does
 
--- a did this, over these channels, and this is what is left: processes that represent the definition's core and channels
+-- a did this, over these channels, and this is what is left: processes that represent the definition's core and
+-- channels
 pub record Done (a : ℕ) (d : Left) (cs : Channels) (w w' : Processes) : Type 0 where
   pub stands : Represents w' d.core
   pub channels : w'.shared.channels ≡ posted a d.sent (with_senders (length d.core.processes) cs)

@@ -3,7 +3,8 @@ use Rattle.std.specs.Prelude.{ℕ, Option}
 use Rattle.pf_syntax.specs.Module.{Checked}
 use Rattle.pf_model.specs.Configuration.{Configuration}
 
--- the checked module that its processes run, the steps that were used, and all that there is of processes and signals; None once memory ran out
+-- the checked module that its processes run, the steps that were used, and all that there is of processes and signals;
+-- None once memory ran out
 pub record SystemView : Type 0 where
   pub checked : Checked
   pub steps : ℕ

@@ -38,8 +38,8 @@ impl Processes {
         }
     }
 
-    /// A signal at a receiver that has ended: a link is answered by an exit signal, a monitor by a down signal, and all else is
-    /// dropped.
+    /// A signal at a receiver that has ended: a link is answered by an exit signal, a monitor by a down signal, and all
+    /// else is dropped.
     #[inline(never)]
     fn at_ended(
         &mut self,

@@ -11,8 +11,8 @@ use pf_model::report::Actor;
 use pf_sorted::SortedSet;
 use pf_terms::NoMemory;
 
-/// The enabled actors: the processes that neither ended nor wait, by number, and then the channels that aren't empty, by sender and
-/// then by receiver.
+/// The enabled actors: the processes that neither ended nor wait, by number, and then the channels that aren't empty,
+/// by sender and then by receiver.
 #[derive(Drop)]
 pub struct Enabled<'a> {
     pub(crate) ready: &'a SortedSet,

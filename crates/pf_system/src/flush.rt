@@ -29,7 +29,8 @@ fn are_flush(list: &List) -> bool
     true
 }
 
-/// Whether options ask for a flush: an empty list doesn't, any option other than `flush` is wrong, and so is what is no list.
+/// Whether options ask for a flush: an empty list doesn't, any option other than `flush` is wrong, and so is what is no
+/// list.
 fn flushes(options: &Term) -> Option<bool>
     ensures { result ≡ flushes (value_of options.now) }
 {

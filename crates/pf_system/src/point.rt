@@ -29,8 +29,8 @@ impl Slot {
 }
 
 impl Processes {
-    /// Where a process is, and the module of all processes, in whose code that is; none where there is none of this pid, or it
-    /// has ended.
+    /// Where a process is, and the module of all processes, in whose code that is; none where there is none of this
+    /// pid, or it has ended.
     pub(crate) fn point(&self, pid: u32) -> Option<(&Module, Point)>
         requires { Represents self.now (core_of self.now) }
         ensures own { IfSome result (λ x. x.0.now ≡ checked_in self.now) }

@@ -14,7 +14,8 @@ pub(crate) struct Basis {
     pub(crate) most: u32,
 }
 
-/// Module and limit, the slot of each process by its pid, ties and signals, the processes that can go by rising pid, and what is spare.
+/// Module and limit, the slot of each process by its pid, ties and signals, the processes that can go by rising pid,
+/// and what is spare.
 #[derive(Drop)]
 pub(crate) struct Processes {
     pub(crate) basis: Basis,

@@ -63,8 +63,8 @@ impl Shared {
         Ok(())
     }
 
-    /// A signal from a pid that may be of no process, which is then a sender like the others. There is no room for one past the most
-    /// processes of a run, and no process can know such a pid.
+    /// A signal from a pid that may be of no process, which is then a sender like the others. There is no room for one
+    /// past the most processes of a run, and no process can know such a pid.
     pub(crate) fn reply(
         &mut self,
         alloc: Global,

@@ -17,8 +17,8 @@ use pf_terms::{NoMemory, Term, copy};
 use std::alloc::Global;
 use std::mem;
 
-/// A process has a machine, which may wait for a message; or it never had one and is about to end with a reason; or it has
-/// ended, with the value that it returned or with a reason.
+/// A process has a machine, which may wait for a message; or it never had one and is about to end with a reason; or it
+/// has ended, with the value that it returned or with a reason.
 #[derive(Drop)]
 pub(crate) enum Life {
     Lives { machine: Machine, waits: bool },
@@ -34,8 +34,8 @@ pub(crate) struct Slot {
 }
 
 impl Slot {
-    /// All steps of the process up to and with its next action, message, wait or end, but no more than `left`: how many they
-    /// were, and in `did` the move that ended them.
+    /// All steps of the process up to and with its next action, message, wait or end, but no more than `left`: how many
+    /// they were, and in `did` the move that ended them.
     pub(crate) fn run(
         &mut self,
         alloc: Global,

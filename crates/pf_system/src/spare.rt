@@ -17,8 +17,8 @@ const MOST_ROOMS: usize = 256;
 /// How many slots a vector may have room for that is kept, of 64 KiB in all.
 const MOST_SLOTS: usize = 64 * 1024 / size_of::<Slot>();
 
-/// What runs leave for the next: spare nodes of mailboxes, rooms of machines, and vectors for slots and for pids. What a run means
-/// depends on none of them.
+/// What runs leave for the next: spare nodes of mailboxes, rooms of machines, and vectors for slots and for pids. What
+/// a run means depends on none of them.
 #[derive(Drop)]
 pub struct Spare {
     pub(crate) pool: Pool<Term>,

@@ -31,8 +31,8 @@ use std::marker::Model;
 use std::mem;
 use std::sync::Arc;
 
-/// The processes of one run and the signals between them. Once memory ran out each turn and each delivery answers so; of the processes
-/// nothing is said then, but the module stays known.
+/// The processes of one run and the signals between them. Once memory ran out each turn and each delivery answers so;
+/// of the processes nothing is said then, but the module stays known.
 #[derive(Drop)]
 pub struct System {
     module: Arc<Module>,
@@ -57,7 +57,8 @@ impl Model for System {
 }
 
 impl System {
-    /// One process, at the call of a function without arguments, within the limits of an edition, and nothing on its way.
+    /// One process, at the call of a function without arguments, within the limits of an edition, and nothing on its
+    /// way.
     pub fn new(
         alloc: Global,
         module: &Arc<Module>,
@@ -134,8 +135,8 @@ impl System {
         }
     }
 
-    /// Where a process is, and the module of the system, in whose code that is; none where there is none of this pid, it has
-    /// ended, or memory ran out.
+    /// Where a process is, and the module of the system, in whose code that is; none where there is none of this pid,
+    /// it has ended, or memory ran out.
     pub fn point(&self, pid: u32) -> Option<(&Module, Point)>
         ensures own { IfSome result (λ x. x.0.now ≡ self.now.checked) }
         ensures point { (c : _) → self.now.standing ≡ Some c
@@ -149,7 +150,8 @@ impl System {
         self.processes.point(pid)
     }
 
-    /// The outcome of a run that stops here: at its limit where anybody may go, and else by how the root ended, or that it waits.
+    /// The outcome of a run that stops here: at its limit where anybody may go, and else by how the root ended, or that
+    /// it waits.
     pub fn outcome(&self, alloc: Global) -> Result<Outcome, NoMemory>
         ensures outcome { IfOk result (λ o.
             (c : _) → self.now.standing ≡ Some c → outcome_of o ≡ outcome_where c) }
@@ -164,8 +166,8 @@ impl System {
         self.processes.outcome(alloc)
     }
 
-    /// The turn of a process that may go: all its steps up to and with its next action, message, wait or end, but none past the
-    /// limit of steps; and how many they were. What it shows is written to `shown`.
+    /// The turn of a process that may go: all its steps up to and with its next action, message, wait or end, but none
+    /// past the limit of steps; and how many they were. What it shows is written to `shown`.
     pub fn turn(
         &mut self,
         alloc: Global,
@@ -190,8 +192,8 @@ impl System {
         Ok(used)
     }
 
-    /// The delivery of the oldest signal from one process to another, which is a step within the limit. What it shows is written to
-    /// `shown`.
+    /// The delivery of the oldest signal from one process to another, which is a step within the limit. What it shows
+    /// is written to `shown`.
     pub fn deliver(
         &mut self,
         alloc: Global,
@@ -217,7 +219,8 @@ impl System {
         Ok(())
     }
 
-    /// What an actor does that may go, a turn or a delivery: how many steps it used. What it shows is written to `shown`.
+    /// What an actor does that may go, a turn or a delivery: how many steps it used. What it shows is written to
+    /// `shown`.
     pub fn pass(
         &mut self,
         alloc: Global,

@@ -27,8 +27,8 @@ fn ending(end: &Result<Term, Term>) -> Result<Label, NoMemory>
 }
 
 impl Processes {
-    /// All steps of a process up to and with its next action, message, wait or end, but no more than `left`, and how many they were. What
-    /// it shows is written to `shown`.
+    /// All steps of a process up to and with its next action, message, wait or end, but no more than `left`, and how
+    /// many they were. What it shows is written to `shown`.
     pub(crate) fn turn(
         &mut self,
         alloc: Global,

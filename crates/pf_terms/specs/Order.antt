@@ -16,8 +16,8 @@ rank (pid p) = 3
 rank (tuple vs) = 4
 rank (list vs) = 5
 
--- values of one kind are ordered by what they hold: integers by value, atoms by the bytes of their names, references and pids by
--- number, tuples by size and then element by element, lists element by element; others by kind
+-- values of one kind are ordered by what they hold: integers by value, atoms by the bytes of their names, references
+-- and pids by number, tuples by size and then element by element, lists element by element; others by kind
 abbrev mutual
   pub compare : (ℕ → List ℕ) → Value → Value → Ordering
   compare name (int x) w = elim w [ int y ↦ int_cmp x y | other ↦ nat_cmp 0 (rank other) ]

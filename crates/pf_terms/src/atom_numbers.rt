@@ -10,8 +10,8 @@ use std::alloc::Global;
 use std::collections::BTreeMap;
 use std::marker::Model;
 
-/// The names of a table, and the number of each but the fixed ones by its bytes. The numbers are kept in the names' order, so that no
-/// choice of names makes a look-up slow.
+/// The names of a table, and the number of each but the fixed ones by its bytes. The numbers are kept in the names'
+/// order, so that no choice of names makes a look-up slow.
 #[derive(Drop)]
 pub struct AtomNumbers {
     table: AtomTable,

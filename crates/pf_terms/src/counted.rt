@@ -66,7 +66,8 @@ impl<R: Read, L: Ledger> Counted<R, L> {
         }
     }
 
-    /// Reads up to `limit` bytes, or all that there are. What follows isn't read, also where it ends by a fault, so an endless reader ends too.
+    /// Reads up to `limit` bytes, or all that there are. What follows isn't read, also where it ends by a fault, so an
+    /// endless reader ends too.
     pub fn take_front(
         &mut self,
         alloc: Global,

@@ -11,8 +11,8 @@ use crate::atoms::AtomTable;
 use crate::term::{Elements, List, Term};
 use std::cmp::Ordering;
 
-/// The order of two values. Atoms are ordered by the bytes of their names, references and pids by number, tuples by size and
-/// then element by element, lists element by element.
+/// The order of two values. Atoms are ordered by the bytes of their names, references and pids by number, tuples by
+/// size and then element by element, lists element by element.
 #[cycle(order)]
 pub fn order(a: &Term, b: &Term, atoms: &AtomTable) -> Ordering
     ensures { result ≡ compare (name_of atoms.now) (value_of a.now) (value_of b.now) }

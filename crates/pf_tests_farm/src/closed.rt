@@ -225,7 +225,8 @@ fn runs_that_are_parked_at_the_stop_are_handed_back(rt: HostRuntime) -> Result<(
     let closing = play(rt.alloc(), &rt, keys, 2, &[1], &scene)?;
     let filed = ended_as(&closing, End::Filed);
     let handed_back = ended_as(&closing, End::HandedBack);
-    // Some trials may not have been claimed yet, and one that was handed back may be claimed again by a worker that hasn't seen the end.
+    // Some trials may not have been claimed yet, and one that was handed back may be claimed again by a worker that
+    // hasn't seen the end.
     assert!(rt;
         handed_back > 0 && closing.rows.len() == filed.saturating_add(handed_back),
         "each claim has ended"

@@ -20,7 +20,8 @@ use std::sync::ledger::Blank;
 use std::test::Fail;
 use std::thread::{Threads, for_each_mut, join_mut};
 
-/// What each client of a farm does, in a thread of its own, and what is at the gate meanwhile. A client ends whatever happens.
+/// What each client of a farm does, in a thread of its own, and what is at the gate meanwhile. A client ends whatever
+/// happens.
 pub(crate) trait Scene: Gate + Sync {
     fn client<N: FarmNames, R: Wait>(
         &self,

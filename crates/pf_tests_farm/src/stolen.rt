@@ -14,8 +14,9 @@ use std::hash::RandomState;
 use std::sync::Wait;
 use std::test::Fail;
 
-/// The trial of project 1 is long, those of projects 2 and 3 are short. The first and the third are held in their first slices until the second is ordered. The second is
-/// held until the first was fetched, and the third until the second has begun: so the first was parked by one worker, and went on at the other.
+/// The trial of project 1 is long, those of projects 2 and 3 are short. The first and the third are held in their first
+/// slices until the second is ordered. The second is held until the first was fetched, and the third until the second
+/// has begun: so the first was parked by one worker, and went on at the other.
 #[derive(Drop)]
 struct OneIsStolen {
     first_slices: Mark,

@@ -1,4 +1,5 @@
-//! Two trials of two projects run at the same time: neither ends before both have begun, and the one that began first waits until the other was fetched.
+//! Two trials of two projects run at the same time: neither ends before both have begun, and the one that began first
+//! waits until the other was fetched.
 
 ghost use Rattle.pf_sched.specs.Slices.{Sliced};
 

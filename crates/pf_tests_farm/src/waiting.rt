@@ -44,7 +44,8 @@ impl Mark {
         false
     }
 
-    /// Waits at the gate until it was set. A slice goes on all the same where that lasts too long, so the wait is noted as late.
+    /// Waits at the gate until it was set. A slice goes on all the same where that lasts too long, so the wait is noted
+    /// as late.
     pub fn hold(&self, late: &Mark) {
         if !self.wait(1) {
             late.set();
@@ -61,7 +62,8 @@ impl Mark {
     }
 }
 
-/// Lets other threads go on for so many turns. Where the processor has other work, a yield takes milliseconds, so few of the turns yield.
+/// Lets other threads go on for so many turns. Where the processor has other work, a yield takes milliseconds, so few
+/// of the turns yield.
 pub fn rest(turns: u32) {
     let turn = Mark::new();
     for _ in 0..turns {

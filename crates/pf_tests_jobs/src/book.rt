@@ -98,7 +98,8 @@ fn run(alloc: Global, job: &Arc<Job>) -> Result<Finished, Fail> {
     Ok(run_to_end(alloc, Arc::try_clone(job)?, &mut scratch, &mut Silent)?)
 }
 
-/// Whether the result of project 3's trial is filed under the equal ticket of project 4, then under its own, and then once more.
+/// Whether the result of project 3's trial is filed under the equal ticket of project 4, then under its own, and then
+/// once more.
 fn filings(alloc: Global, book: &mut Book) -> Result<[bool; 3], Fail> {
     let job = claimed(alloc, book, 3, SUM)?;
     claimed(alloc, book, 4, DIFFERENCE)?;

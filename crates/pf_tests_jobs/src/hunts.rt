@@ -72,7 +72,8 @@ fn hunt_of(
     hunt_in(alloc, &module, &request, strategy, leaks)
 }
 
-/// How many seeds a hunt reported at last; the leak that it reported, by its seed and its processes, and how often. It is to stop after twenty seeds.
+/// How many seeds a hunt reported at last; the leak that it reported, by its seed and its processes, and how often. It
+/// is to stop after twenty seeds.
 #[derive(Drop)]
 struct Told {
     done: u64,
@@ -113,7 +114,8 @@ fn failing<R: Threads + Sync>(
     }
 }
 
-/// Hunts by their source, their property and their strategy, and whether leaks are failures; and the verdict of the seed 0, which fails.
+/// Hunts by their source, their property and their strategy, and whether leaks are failures; and the verdict of the
+/// seed 0, which fails.
 const HUNTS: [(&str, &str, Strategy, bool, bool); 3] = [
     (LOST_UPDATE, "true", Strategy::Uniform, false, false),
     (TWO_WAIT, "nodeadlock", Strategy::Uniform, true, true),
@@ -166,7 +168,8 @@ fn tallied<R: Threads + Sync>(
     }
 }
 
-/// Whether a hunt may stop, up to where it comes, and how many seeds it has then: blocks of 2, 4, 8 and 16, and where it goes on of 16 and 4.
+/// Whether a hunt may stop, up to where it comes, and how many seeds it has then: blocks of 2, 4, 8 and 16, and where
+/// it goes on of 16 and 4.
 const ENDS: [(bool, u64, u64); 2] = [(true, 40, 30), (false, 60, 50)];
 
 #[test]

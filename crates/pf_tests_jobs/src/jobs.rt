@@ -96,7 +96,8 @@ fn text_by(alloc: Global, job: &Job, schedule: &[u32]) -> Result<Vec<u8>, Fail> 
     Ok(text)
 }
 
-/// Whether the talk gives its text by a schedule in place of a seed, and its property holds by the schedule that priorities choose.
+/// Whether the talk gives its text by a schedule in place of a seed, and its property holds by the schedule that
+/// priorities choose.
 fn goes_by_schedules(alloc: Global) -> Result<bool, Fail> {
     let job = job_of(alloc, TALK, "returns", Kind::Run(RunChoices::Seed(7)))?;
     let given = text_by(alloc, &job, CHOICES.as_slice())?;

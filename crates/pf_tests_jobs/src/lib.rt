@@ -1,4 +1,5 @@
-//! Tests of jobs and of what hands them out: the scheduler, hunts over seeds by several workers, the book, the store, and workshops.
+//! Tests of jobs and of what hands them out: the scheduler, hunts over seeds by several workers, the book, the store,
+//! and workshops.
 #![tactic(auto)]
 
 #[cfg(test)]

@@ -65,8 +65,8 @@ fn place_after(
     Ok(place(&machine))
 }
 
-/// A source, a number of steps, and the node and the part at which a process is then: each kind of frame, in the lane and out of it; and
-/// where it begins, waits, took its message, asked for an action, and ended.
+/// A source, a number of steps, and the node and the part at which a process is then: each kind of frame, in the lane
+/// and out of it; and where it begins, waits, took its message, asked for an action, and ended.
 const STOPS: [(&str, u32, &str, Option<u32>); 20] = [
     ("g(N) -> N + 1. f() -> 1 * g(2).", 3, "*", Some(1)),
     ("g(N) -> N * (N + 1). f() -> g(2).", 3, "*", Some(1)),

@@ -35,7 +35,8 @@ fn repacked(alloc: Global, mailbox: Mailbox, pool: &mut Pool<Term>) -> Result<Ma
     Mailbox::unpack(pool, alloc, packed)
 }
 
-/// Whether a process that waits beside 1 takes the 3 that wakes it, how many messages are left, and how many were tested.
+/// Whether a process that waits beside 1 takes the 3 that wakes it, how many messages are left, and how many were
+/// tested.
 fn woken(
     alloc: Global,
     machine: &mut Machine,

@@ -45,7 +45,8 @@ fn words_are_those_of_the_generator(rt: HostRuntime) {
     }
 }
 
-/// Two processes and three channels by weights 3 and 1: the choices by the first words of seed 0, of which each goes by a number from 0 to 8, modulo 9.
+/// Two processes and three channels by weights 3 and 1: the choices by the first words of seed 0, of which each goes by
+/// a number from 0 to 8, modulo 9.
 const THREE_TO_ONE: [usize; 16] = [0, 1, 1, 0, 2, 1, 1, 0, 4, 0, 1, 1, 0, 0, 1, 2];
 
 #[test]

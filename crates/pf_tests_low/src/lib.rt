@@ -1,5 +1,6 @@
-//! Tests of the crates that know nothing of a running module: channels, choices, priorities, mail, quotas, ties, tokens, values, atoms, searches
-//! for a small schedule, streams that count and fail, printed values, properties, and charts of reports that are made by hand.
+//! Tests of the crates that know nothing of a running module: channels, choices, priorities, mail, quotas, ties,
+//! tokens, values, atoms, searches for a small schedule, streams that count and fail, printed values, properties, and
+//! charts of reports that are made by hand.
 #![tactic(auto)]
 
 #[cfg(test)]

@@ -32,7 +32,8 @@ fn add<'a>(
     Ok(())
 }
 
-/// Passes over the first item and takes the second one. It gives the mark and the length before the mark goes back to the front.
+/// Passes over the first item and takes the second one. It gives the mark and the length before the mark goes back to
+/// the front.
 fn take_second<'a>(
     list: &mut MailList<Counted<'a>>,
     pool: &mut Pool<Counted<'a>>,
@@ -46,8 +47,8 @@ fn take_second<'a>(
     Some(place)
 }
 
-/// How many items are dropped and how many nodes are spare, where one of 1,030 is taken, where the others are drained, where two more are
-/// put in, and where the list is dropped.
+/// How many items are dropped and how many nodes are spare, where one of 1,030 is taken, where the others are drained,
+/// where two more are put in, and where the list is dropped.
 fn drops_and_spare(alloc: Global) -> Result<[(u32, usize); 4], Fail> {
     let drops = Cell::new(0);
     let mut pool = Pool::new(alloc);

@@ -9,7 +9,8 @@ use std::test::Fail;
 /// The atom of the run that isn't fixed.
 const READY: AtomId = AtomId(20);
 
-/// Whether `ready`, when it is sent, rules a property out, and the verdict of a run that the limit ends after that: judged by that, and from its events.
+/// Whether `ready`, when it is sent, rules a property out, and the verdict of a run that the limit ends after that:
+/// judged by that, and from its events.
 fn judged(alloc: Global, property: &Property) -> Result<(bool, Option<bool>, Option<bool>), Fail> {
     let message = Term::Atom(READY);
     let events = vec![in alloc;

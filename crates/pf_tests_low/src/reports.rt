@@ -38,7 +38,8 @@ pub(crate) enum Ends {
     InDeadlock(&'static [u32]),
 }
 
-/// A report: of each event its choice, who acts and what is reported, and after these so many references that the root makes.
+/// A report: of each event its choice, who acts and what is reported, and after these so many references that the root
+/// makes.
 pub(crate) struct Told {
     pub(crate) events: &'static [(u32, Actor, Did)],
     pub(crate) references: u64,

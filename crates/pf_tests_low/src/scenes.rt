@@ -1,11 +1,12 @@
-//! What happens in each run, and the pieces of its chart, by the middle of a column and of a row: of three processes column K has its middle at
-//! 180 + 200 K, and row N at 51 + 26 N up to the 40th.
+//! What happens in each run, and the pieces of its chart, by the middle of a column and of a row: of three processes
+//! column K has its middle at 180 + 200 K, and row N at 51 + 26 N up to the 40th.
 
 use crate::reports::{Did, Ends, Told};
 use pf_terms::AtomId;
 use pf_trace::Actor;
 
-/// A report, in which manner it is drawn, the names of the functions in whose calls its processes began, and what its chart has and hasn't.
+/// A report, in which manner it is drawn, the names of the functions in whose calls its processes began, and what its
+/// chart has and hasn't.
 pub(crate) struct Scene {
     pub(crate) told: Told,
     pub(crate) is_compact: bool,
@@ -40,7 +41,8 @@ const TWO_TO_ONE: Actor = Actor::Channel { from: 2, to: 1 };
 
 pub(crate) static SCENES: [Scene; 7] = [ARROWS, ENDS, DEADLOCK, COMPACT, NAMES, LONG_RUN, EMPTY];
 
-/// Messages that arrive, one that is dropped, and three that are on their way at the end: to the right, to the left and to oneself.
+/// Messages that arrive, one that is dropped, and three that are on their way at the end: to the right, to the left and
+/// to oneself.
 const ARROWS: Scene = Scene {
     told: Told {
         events: &[
@@ -83,8 +85,9 @@ const ARROWS: Scene = Scene {
     others: &["*0/", "data-event=\"11\""],
 };
 
-/// A child that is watched, one that is linked and one that is neither, until each has ended. The link that is there already sends nothing, nor does the
-/// demonitor, since its reference is active no more once the down has come. A link to who has ended is answered by an exit.
+/// A child that is watched, one that is linked and one that is neither, until each has ended. The link that is there
+/// already sends nothing, nor does the demonitor, since its reference is active no more once the down has come. A link
+/// to who has ended is answered by an exit.
 const ENDS: Scene = Scene {
     told: Told {
         events: &[
@@ -216,7 +219,8 @@ const NAMES: Scene = Scene {
     others: &[">main</text>", ">by &lt;1&gt;</text>"],
 };
 
-/// Heads are repeated after 40 rows and at the foot. What is long is shortened, and whole in its tooltip; labels are escaped.
+/// Heads are repeated after 40 rows and at the foot. What is long is shortened, and whole in its tooltip; labels are
+/// escaped.
 const LONG_RUN: Scene = Scene {
     told: Told {
         events: &[(0, ROOT, Did::TakesAtom(ATOM))],

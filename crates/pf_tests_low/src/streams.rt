@@ -77,7 +77,8 @@ fn what_goes_out_is_a_beginning(rt: HostRuntime) {
     }
 }
 
-/// How many bytes are read of an input, n at the most, where this call of the reader fails; none if that call is reached.
+/// How many bytes are read of an input, n at the most, where this call of the reader fails; none if that call is
+/// reached.
 fn take_by<L: Ledger>(
     alloc: Global,
     input: &[u8],

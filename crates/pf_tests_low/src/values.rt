@@ -22,7 +22,8 @@ fn behind_nine(alloc: Global, list: &List) -> Result<List, Fail> {
     }
 }
 
-/// The nodes and the depth of that list, whether it is equal to its copy, and how it compares with the list that has 9 before it.
+/// The nodes and the depth of that list, whether it is equal to its copy, and how it compares with the list that has 9
+/// before it.
 fn told(alloc: Global, atoms: &AtomTable, m: AtomId) -> Result<(u32, u32, bool, Ordering), Fail> {
     let list = each_kind(alloc, m)?;
     let other = Term::List(behind_nine(alloc, &list)?);

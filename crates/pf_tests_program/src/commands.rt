@@ -92,7 +92,8 @@ fn leaves(
     is_left(&worked, ended, case.out, count)
 }
 
-/// Whether all goes out where no call fails, and else a beginning. One read gives the whole input and one its end, so that a third can't fail.
+/// Whether all goes out where no call fails, and else a beginning. One read gives the whole input and one its end, so
+/// that a third can't fail.
 fn is_answered(alloc: Global, keys: RandomState, args: &Args, case: &Case) -> bool {
     let none = Failing {
         read: 3,

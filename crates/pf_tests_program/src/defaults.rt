@@ -71,7 +71,8 @@ fn has_defaults(args: &Args) -> bool {
     }
 }
 
-/// Whether these are the defaults of a command, whose file is the standard input, which reports in text and explains no more.
+/// Whether these are the defaults of a command, whose file is the standard input, which reports in text and explains no
+/// more.
 pub fn is_plain(asked: &Asked) -> bool {
     has_defaults(&asked.args)
         && asked.args.file().is_none()

@@ -8,8 +8,8 @@ use Rattle.pf_desks.specs.World.{World, desk_at}
 use Rattle.pf_receipts.specs.declared.receipt.Receipt.{Receipt}
 use Rattle.pf_receipts.specs.Receipts.{of_project, AreNumbered, EachOnce}
 
--- the point of a history at which call number n was made and got this reply: what is noted before it leads from an empty desk to one whose log has
--- room, and the reply is that desk's own
+-- the point of a history at which call number n was made and got this reply: what is noted before it leads from an
+-- empty desk to one whose log has room, and the reply is that desk's own
 pub record IsPoint (p : Profile) (es : List Entry) (n : ℕ) (c : Call) (r : Reply) (before : List Entry) : Type 0 where
   pub after : List Entry
   pub desk : Desk
@@ -43,8 +43,8 @@ module _ {C A : Type 0} (call : C → Call) (reply : A → Reply) where
   abbrev pub HasItsPoint : Profile → World → Receipt C A → Type 0
   HasItsPoint p w r = WasGiven p (desk_at r.project w).history r.number (call r.call.value) (reply r.reply.value)
 
-  -- where each history is legal and these are the receipts of the calls that they note, the reply of each was given at one point of the history of
-  -- its own project, in which no other project occurs
+  -- where each history is legal and these are the receipts of the calls that they note, the reply of each was given at
+  -- one point of the history of its own project, in which no other project occurs
   abbrev pub RepliesHaveTheirPoints : Type 0
   RepliesHaveTheirPoints =
       (p : Profile) (rs : List (Receipt C A)) (w : World) → ((q : ℕ) → IsLegalDesk p (desk_at q w)) → AreTheCalls rs w → All (HasItsPoint p w) rs

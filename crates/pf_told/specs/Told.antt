@@ -15,8 +15,9 @@ use Rattle.pf_told.specs.Gone.{IsGone}
 abbrev pub IsOut : Desk → ℕ → Type 0
 IsOut d t = (is_running (held_at d.trials t) ≡ true) ⊎ IsGone d t
 
--- what the ledger says of a project is what the history of its desk says: the same claims in the same order, and of each ticket as many filed and as
--- many handed back. A trial has one open claim at most, and only while it is running or if it is dropped; one with a stray claim is dropped
+-- what the ledger says of a project is what the history of its desk says: the same claims in the same order, and of
+-- each ticket as many filed and as many handed back. A trial has one open claim at most, and only while it is running
+-- or if it is dropped; one with a stray claim is dropped
 pub record IsToldAt (q : ℕ) (rows : List (Row Job)) (d : Desk) : Type 0 where
   pub claims : claims_noted d.history ≡ claims_opened q rows
   pub filed : (t : ℕ) → tally (is_file t) d.history ≡ claims_that is_filed q t rows

@@ -75,8 +75,8 @@ GoesOut name p q w0 w1 =
 abbrev pub HasGoneOut : (name : ℕ → List ℕ) → List Event → Pieces → (written_old written_new : Option (List ℕ)) → Type 0
 HasGoneOut name es p w0 w1 = (es ≡ all_told p) × AreWrittenSoFar name p.lines × Appends w0 w1 (lines_text name (gone_from p))
 
--- a report was cut short: memory ran out, and the lines of its first events went out, each whole; or a write failed and was counted, and
--- a beginning of its text went out
+-- a report was cut short: memory ran out, and the lines of its first events went out, each whole; or a write failed and
+-- was counted, and a beginning of its text went out
 abbrev pub StopsShort : OrNoMemory StreamFault → (name : ℕ → List ℕ) → Report → (written_old written_new : Option (List ℕ)) → (failed_old failed_new : ℕ) → Type 0
 StopsShort NoMemory name r w0 w1 n0 n1 =
     (es : List Event) × (rest : List Event) × (r.events ≡ es ++ rest) × Appends w0 w1 (lines_text name es) × (n1 ≡ n0)

@@ -6,8 +6,8 @@ use pf_model::report::Event;
 use std::alloc::Global;
 use std::snapshot::Snapshot;
 
-/// The lines of the events of a run that is over, and how many there are. The events are not kept: what stands for all of them has no
-/// bytes, and only clauses read it.
+/// The lines of the events of a run that is over, and how many there are. The events are not kept: what stands for all
+/// of them has no bytes, and only clauses read it.
 #[derive(Drop)]
 pub struct EventLines {
     text: Vec<u8>,

@@ -21,7 +21,8 @@ const MOST_EVENTS: usize = 100_000;
 /// Room for the first lines, some 30 of them.
 const FIRST_BYTES: usize = 1_000;
 
-/// The lines of a run's events, put as the run goes. The events are not kept: what stands for them has no bytes, and only clauses read it.
+/// The lines of a run's events, put as the run goes. The events are not kept: what stands for them has no bytes, and
+/// only clauses read it.
 #[derive(Drop)]
 pub struct LinesSoFar {
     pub(crate) text: Vec<u8>,

@@ -22,8 +22,8 @@ use std::sync::ledger::Ledger;
 /// Lines that have so many bytes go out.
 const PIECE_BYTES: usize = 65_536;
 
-/// The lines of a run's events, which go out in pieces: those that wait. Lines that went out are not kept; what stands for their events has no
-/// bytes, and only clauses read it.
+/// The lines of a run's events, which go out in pieces: those that wait. Lines that went out are not kept; what stands
+/// for their events has no bytes, and only clauses read it.
 #[derive(Drop)]
 pub struct Pieces {
     gone: Vec<Snapshot<Event>>,

@@ -28,15 +28,16 @@ last_text good k = if good then [] else line (codes "command " ++ decimal k ++ c
 abbrev pub steps_status : Bool → ℕ
 steps_status good = if good then 0 else 2
 
--- the text that the first command, number k, is answered with in a workshop, where these bytes follow it and that workshop; nothing
--- follows if it is no command
+-- the text that the first command, number k, is answered with in a workshop, where these bytes follow it and that
+-- workshop; nothing follows if it is no command
 abbrev pub AnswersOne : List ℕ → ℕ → Workshop → List ℕ → Option (List ℕ) → Workshop → Type 0
 AnswersOne bytes k w text (Some rest) w' =
     (s : WorkshopStep) × (a : Option Response) × (command_at bytes ≡ Some (s, rest)) × (text ≡ outcome_text s a) × ForRight (λ p. RespondsTo p w s a w')
 AnswersOne bytes k w text None w' = (command_at bytes ≡ None) × (text ≡ last_text false k)
 
--- the text and the status that some bytes are answered with: the answers to the steps of their commands, and if a line is no command
--- that it is none. Up to the first step in which an allocation failed, each project is answered as if it were alone
+-- the text and the status that some bytes are answered with: the answers to the steps of their commands, and if a line
+-- is no command that it is none. Up to the first step in which an allocation failed, each project is answered as if it
+-- were alone
 pub record StepsText (p : RunProfile) (bytes text : List ℕ) (status : ℕ) : Type 0 where
   pub steps : List WorkshopStep
   pub good : Bool

@@ -20,8 +20,9 @@ use Rattle.pf_wire.specs.declared.steps.TheConstants.{MOST_BYTES}
 abbrev pub Follows : Bool → List ℕ → Type 0
 Follows over more = over ≡ true → more ≡ []
 
--- Turns p over bytes v j text rest w k: whatever follows, the bytes are some commands and then the rest, which are complete commands unless the
--- input is over; their steps lead from the workshop v to w, the text is their answers, and they are numbered from j up to k
+-- Turns p over bytes v j text rest w k: whatever follows, the bytes are some commands and then the rest, which are
+-- complete commands unless the input is over; their steps lead from the workshop v to w, the text is their answers, and
+-- they are numbered from j up to k
 pub record Turns (p : RunProfile) (over : Bool) (bytes : List ℕ) (v : Workshop) (j : ℕ) (text rest : List ℕ) (w : Workshop) (k : ℕ) : Type 0 where
   pub steps : List WorkshopStep
   pub outcomes : List (Option Response)

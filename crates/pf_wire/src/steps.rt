@@ -112,8 +112,8 @@ struct Left<'a> {
     number: u64,
 }
 
-/// Answers the commands that are due, the first of which has this number, up to a line that is no command; after that there is
-/// nothing left, and the ending has that line.
+/// Answers the commands that are due, the first of which has this number, up to a line that is no command; after that
+/// there is nothing left, and the ending has that line.
 fn answer_due<'a, W: Write, M: Ledger>(
     alloc: Global,
     workshop: &mut Workshop,
@@ -219,8 +219,9 @@ fn answer_pieces<R: Read, W: Write, L: Ledger, M: Ledger>(
 }
 
 /// Reads at most 64 MiB, piece by piece, answers each command before it waits for more, and gives the status: 2 if a
-/// line is no command, after which nothing is done, and else 0. The workshop of four workers hashes with these
-/// keys, which no answer depends on. The ending has the line that is no command, by its number, for who says why reading ended.
+/// line is no command, after which nothing is done, and else 0. The workshop of four workers hashes with these keys,
+/// which no answer depends on. The ending has the line that is no command, by its number, for who says why reading
+/// ended.
 pub fn run_steps<R: Read, W: Write, L: Ledger, M: Ledger>(
     alloc: Global,
     keys: RandomState,

@@ -13,6 +13,7 @@ unfoldable pub last_told : (else_told : List ℕ) → (lines : List (List ℕ)) 
 last_told else_told [] = else_told
 last_told else_told (line ∷ lines) = last_told (unwrap_or (told_in line) else_told) lines
 
--- the answer of a hunt or of a shrinking has a line that begins so; any other text is the schedule itself, without the blanks at its end
+-- the answer of a hunt or of a shrinking has a line that begins so; any other text is the schedule itself, without the
+-- blanks at its end
 unfoldable pub schedule_in : (text : List ℕ) → List ℕ
 schedule_in text = last_told (trim_end text) (lines text)

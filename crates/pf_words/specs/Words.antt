@@ -78,8 +78,8 @@ FromInput w old new given = (end : End) × WorkEnds w old new end × HasStatus e
 abbrev pub reading_from : (unread : Option (List ℕ)) → (failed_reads : ℕ) → Streams → Streams
 reading_from unread failed s = record s { unread = unread; failed_reads = failed }
 
--- it is answered from a file, which has some bytes, and nothing is read of the standard input. A file that can't be opened is none that is answered:
--- nothing goes out then
+-- it is answered from a file, which has some bytes, and nothing is read of the standard input. A file that can't be
+-- opened is none that is answered: nothing goes out then
 abbrev pub FromFile : Work → (old new : Streams) → ℕ → Type 0
 FromFile w old new given =
     (new.unread ≡ old.unread) × (new.failed_reads ≡ old.failed_reads)
@@ -140,7 +140,8 @@ IsRefused old new given = NothingOut old new × IsFailure given
 abbrev pub IsDoneOrRefused : Reading → (old new : Streams) → ℕ → Type 0
 IsDoneOrRefused r old new given = IsDone r old new given ⊎ IsRefused old new given
 
--- these are the contents of a file, at most 67,108,864 bytes; those of the standard input are all that it still holds, and nothing else is read of it
+-- these are the contents of a file, at most 67,108,864 bytes; those of the standard input are all that it still holds,
+-- and nothing else is read of it
 abbrev pub AreContents : (file contents : Text) → (old new : Streams) → Type 0
 AreContents file contents old new =
     (length contents ≤ 67108864) × NothingOut old new × (bytes_eq file (codes "-") ≡ false → new ≡ old)

@@ -192,7 +192,8 @@ fn answer_read<R: Read, W: Write, L: Ledger, M: Ledger>(
     answer_bytes(rt, asked, &source, writer, line)
 }
 
-/// Does what is asked for between a reader and a writer; the line tells how far a hunt or a shrinking came, and is empty at the end.
+/// Does what is asked for between a reader and a writer; the line tells how far a hunt or a shrinking came, and is
+/// empty at the end.
 pub fn answer<R: Read, W: Write, L: Ledger, M: Ledger>(
     rt: &(impl Eprint + AllocGlobal + RandomSource + Clock + Threads + Sync),
     asked: &Asked,

@@ -81,8 +81,8 @@ fn told_in(line: &str) -> Option<&str>
     line.strip_prefix("schedule ")
 }
 
-/// The text of the schedule in a text: after the last `schedule` at the beginning of a line, as in the answer of a hunt or of a shrinking; if
-/// there is none, the whole, without the blanks at its end.
+/// The text of the schedule in a text: after the last `schedule` at the beginning of a line, as in the answer of a hunt
+/// or of a shrinking; if there is none, the whole, without the blanks at its end.
 pub fn schedule_in(text: &str) -> &str
     ensures { result.now ≡ schedule_in text.now }
 {

@@ -239,8 +239,8 @@ where
     }
 }
 
-/// Does what words ask for, the first of which names the program, between the standard streams and with the files that they name. If they ask
-/// for no work, nothing is read, and only their text goes out.
+/// Does what words ask for, the first of which names the program, between the standard streams and with the files that
+/// they name. If they ask for no work, nothing is read, and only their text goes out.
 pub fn obey<'a, R, I: Read, W: Write, L: Ledger, M: Ledger>(
     rt: &R,
     words: &'a [&'a str],

@@ -14,7 +14,8 @@ abbrev pub Parks : Deque → Hand → Result Unit NoMemory → Deque → Hand �
 Parks rs h (Ok x) rs' h' = (rs' ≡ with_parked rs h) × (h' ≡ None)
 Parks rs h (Err e) rs' h' = (rs' ≡ rs) × (h' ≡ h)
 
--- TakesOldest q t rs x rs': the oldest run is taken, which is that of a project's ticket; or the oldest is another, or there is none, and all stay
+-- TakesOldest q t rs x rs': the oldest run is taken, which is that of a project's ticket; or the oldest is another, or
+-- there is none, and all stay
 abbrev pub TakesOldest : (project ticket : ℕ) → Deque → Option ClaimedRun → Deque → Type 0
 TakesOldest q t rs (Some r) rs' = deque_effect q t rs ≡ Some (from_deque r rs')
 TakesOldest q t rs None rs' = (deque_effect q t rs ≡ None) × (rs' ≡ rs)

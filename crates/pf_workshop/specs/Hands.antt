@@ -53,8 +53,8 @@ pub record CameTo (q t : ℕ) (x : ClaimedRun) (f : FinishedView) : Type 0 where
   pub progress : x.progress ≡ over (mark_of f.result)
   pub job : x.job ≡ f.job
 
--- TakesFinished w q t hs f hs': the result of the run of a ticket is taken from a worker's hand, which is empty then; or the worker doesn't hold
--- that run, or it isn't over, and all stays as it was
+-- TakesFinished w q t hs f hs': the result of the run of a ticket is taken from a worker's hand, which is empty then;
+-- or the worker doesn't hold that run, or it isn't over, and all stays as it was
 abbrev pub TakesFinished : (worker project ticket : ℕ) → List Hand → Option FinishedView → List Hand → Type 0
 TakesFinished w q t hs (Some f) hs' = (x : ClaimedRun) × (slice_get hs w ≡ Some (Some x)) × CameTo q t x f × (hs' ≡ slice_set hs w None)
 TakesFinished w q t hs None hs' = ((holds q t (held_by hs w) ≡ false) ⊎ (holds_going q t (held_by hs w) ≡ true)) × (hs' ≡ hs)

@@ -1,4 +1,5 @@
--- Profiles that are right: desks and jobs mean to them what they do in the language, and jobs have the events that they have in it.
+-- Profiles that are right: desks and jobs mean to them what they do in the language, and jobs have the events that they
+-- have in it.
 use Rattle.std.specs.Prelude.{◌≡◌, ℕ}
 use Rattle.pf_model.specs.Meaning.{Job}
 use Rattle.pf_sched.specs.Events.{HasEvents}

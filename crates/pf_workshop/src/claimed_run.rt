@@ -80,8 +80,8 @@ impl ClaimedRun {
         }
     }
 
-    /// The run after a slice of this many turns, at least one; or, if an allocation failed in it, over. What is in the scratch makes no
-    /// difference.
+    /// The run after a slice of this many turns, at least one; or, if an allocation failed in it, over. What is in the
+    /// scratch makes no difference.
     pub fn sliced(self, alloc: Global, scratch: &mut Scratch, turns: u32) -> ClaimedRun
         requires { 0 < turns }
         ensures trial { IsOfSameTrial self result }

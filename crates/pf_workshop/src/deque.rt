@@ -47,7 +47,8 @@ impl Deque {
         self.runs.len() < MOST_PARKED
     }
 
-    /// Puts the run of a hand, if it holds one, after all others, and empties the hand. After running out of memory both are as they were.
+    /// Puts the run of a hand, if it holds one, after all others, and empties the hand. After running out of memory
+    /// both are as they were.
     pub fn park(&mut self, hand: &mut Option<ClaimedRun>) -> Result<(), NoMemory>
         ensures { Parks self.old hand.old result self.new hand.new }
     {

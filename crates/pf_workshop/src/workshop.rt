@@ -25,8 +25,8 @@ use std::sync::Arc;
 /// How many workers a workshop may have.
 pub const MOST_WORKERS: u32 = 64;
 
-/// The desks of all projects, and by worker what it holds and what it parked. The workers share one scratch, since only one step is done at a
-/// time; what is in it makes no difference.
+/// The desks of all projects, and by worker what it holds and what it parked. The workers share one scratch, since only
+/// one step is done at a time; what is in it makes no difference.
 #[derive(Drop)]
 pub struct Workshop {
     book: Book,
@@ -51,7 +51,8 @@ impl Model for Workshop {
 }
 
 impl Workshop {
-    /// A workshop of 1 to 64 workers, in which no desk is open and no worker has a run. Its book hashes with these keys.
+    /// A workshop of 1 to 64 workers, in which no desk is open and no worker has a run. Its book hashes with these
+    /// keys.
     pub fn new(alloc: Global, keys: RandomState, workers: u32) -> Result<Workshop, NoMemory>
         requires some { 1 ≤ workers }
         requires most { workers ≤ 64 }
@@ -115,7 +116,8 @@ impl Workshop {
         }
     }
 
-    /// A free worker claims a trial that is queued, and holds its run, of which no event is made yet. The run begins before the claim is noted.
+    /// A free worker claims a trial that is queued, and holds its run, of which no event is made yet. The run begins
+    /// before the claim is noted.
     pub fn claim(
         &mut self,
         alloc: Global,
@@ -137,8 +139,8 @@ impl Workshop {
         Ok(Response::Done)
     }
 
-    /// A worker makes events of a run that it holds, as many as turns: the run goes on if it has more, and else it is over. If an allocation fails
-    /// it is over too.
+    /// A worker makes events of a run that it holds, as many as turns: the run goes on if it has more, and else it is
+    /// over. If an allocation fails it is over too.
     pub fn slice(
         &mut self,
         alloc: Global,

@@ -76,8 +76,8 @@ module _ (p : RunProfile) (q : ℕ) where
           ∙ (λ i. effect_among p k.desks q t x (slice_get-map (keep q) s.hands w i) (slice_get-map (keep_runs q) s.deques (deque_owner w x) i))
           ∙ seen (slice_get s.hands w) (slice_get s.deques (deque_owner w x)) h
 
-  -- what becomes of the workshop in which only the project's steps are left: a step that belongs to it is answered there as here, and any
-  -- other is left out
+  -- what becomes of the workshop in which only the project's steps are left: a step that belongs to it is answered
+  -- there as here, and any other is left out
   abbrev Next : Workshop → WorkshopStep → Workshop × Response → Bool → Type 0
   Next k x y true = ((take_step p k x).1 ≡ y.1) × IsAlike y.0 (take_step p k x).0
   Next k x y false = IsAlike y.0 k

@@ -41,8 +41,8 @@ abbrev pub heard : ℕ → List WorkshopStep → List Response → List Reply
 heard q (x ∷ xs) (a ∷ ans) = (if project_of x == q then replies_of a else []) ++ heard q xs ans
 heard q xs ans = []
 
--- what a step is at its project's desk, if no allocation fails: a call, a claim, a file of a whole run, or a hand-back; slicing, parking, taking
--- up and stealing are nothing there
+-- what a step is at its project's desk, if no allocation fails: a call, a claim, a file of a whole run, or a hand-back;
+-- slicing, parking, taking up and stealing are nothing there
 abbrev pub at_desk : WorkshopStep → Option Step
 at_desk (client_calls q c) = Some (client q c)
 at_desk (worker_does w q t claiming) = Some (worker q (claim t))
@@ -50,6 +50,7 @@ at_desk (worker_does w q t filing) = Some (worker q (file t marked_whole))
 at_desk (worker_does w q t giving_back) = Some (worker q (hand_back t))
 at_desk (worker_does w q t k) = None
 
--- what a project hears alone: the replies of one empty desk along the steps that belong to it, with no other desk and no worker
+-- what a project hears alone: the replies of one empty desk along the steps that belong to it, with no other desk and
+-- no worker
 abbrev pub heard_alone : RunProfile → (workers : ℕ) → ℕ → List WorkshopStep → List Reply
 heard_alone p n q xs = replies_along p.profile no_desk (filter_map at_desk (own_part q xs (all_responses p n xs)))

@@ -7,8 +7,8 @@ use Rattle.pf_desks.specs.Work.{claim_step, file_step, back_step}
 use Rattle.pf_desks.specs.World.{Answer, work_done}
 use Rattle.pf_worlds.specs.Workshop.{RunProfile, Progress, going, over, ClaimedRun, Hand, Deque}
 
--- what a worker does about a trial: it claims it; makes events of its run, as many as turns; parks the run; takes the run up from its own deque,
--- or steals it from another worker's; files it; or gives it back
+-- what a worker does about a trial: it claims it; makes events of its run, as many as turns; parks the run; takes the
+-- run up from its own deque, or steals it from another worker's; files it; or gives it back
 pub data Chore : Type 0 where
   claiming : Chore
   slicing : (turns : ℕ) → Chore
@@ -23,8 +23,8 @@ pub data Response : Type 0 where
   answer : Answer → Response
   stray : Response
 
--- what a chore that can be done leaves: the desk of its project and the deque that it looks at, if it changes them; what the worker holds; and
--- what is answered
+-- what a chore that can be done leaves: the desk of its project and the deque that it looks at, if it changes them;
+-- what the worker holds; and what is answered
 pub record Effect : Type 0 where
   pub desk : Option Desk
   pub hand : Hand
@@ -106,7 +106,8 @@ free_effect q t taking_up d rs = deque_effect q t rs
 free_effect q t (stealing v) d rs = deque_effect q t rs
 free_effect q t k d rs = None
 
--- a worker that holds the ticket's run slices and parks it while it is going, files it when it is over, and hands it back at any time
+-- a worker that holds the ticket's run slices and parks it while it is going, files it when it is over, and hands it
+-- back at any time
 abbrev pub busy_effect : RunProfile → (ticket : ℕ) → Chore → Desk → ClaimedRun → Deque → Option Effect
 busy_effect p t (slicing n) d r rs = if is_going r.progress && nat_lt 0 n then Some (in_hand (sliced p n r)) else None
 busy_effect p t parking d r rs = if is_going r.progress && nat_lt (length rs) MOST_PARKED then Some (onto_deque r rs) else None

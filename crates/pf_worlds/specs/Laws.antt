@@ -48,15 +48,15 @@ DeletionOfOthers =
     (p : RunProfile) (n q : ℕ) (xs : List WorkshopStep)
     → all_responses p n (own_part q xs (all_responses p n xs)) ≡ own_responses q xs (all_responses p n xs)
 
--- a project whose clients make the same calls in the same order hears the same replies to settled calls, whatever numbers of workers there are,
--- whatever they do, and whatever other projects do
+-- a project whose clients make the same calls in the same order hears the same replies to settled calls, whatever
+-- numbers of workers there are, whatever they do, and whatever other projects do
 abbrev pub SettledReplies : Type 0
 SettledReplies =
     (p : RunProfile) (n m q : ℕ) (xs ys : List WorkshopStep) → calls_of q xs ≡ calls_of q ys
     → AgreeWhereSettled (calls_of q xs) (heard q xs (all_responses p n xs)) (heard q ys (all_responses p m ys))
 
--- whatever steps there are, and wherever allocations fail, the desk of each project is what its history makes of an empty one, and what
--- is noted in it follows: a worker claims what is queued, and files or hands back what is running
+-- whatever steps there are, and wherever allocations fail, the desk of each project is what its history makes of an
+-- empty one, and what is noted in it follows: a worker claims what is queued, and files or hands back what is running
 abbrev pub LegalityAmongWorkers : Type 0
 LegalityAmongWorkers =
     (p : RunProfile) (n q : ℕ) (xs : List WorkshopStep) (ans : List (Option Response)) (s : Workshop)

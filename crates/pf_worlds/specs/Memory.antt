@@ -30,7 +30,8 @@ refused_in s (worker_does w q t (slicing n)) =
     record s { hands = slice_set s.hands w (option_map out_of_memory (option_flatten (slice_get s.hands w))) }
 refused_in s x = s
 
--- RespondsTo p s x a s': in a workshop a step is answered so, and leads to a workshop; if an allocation failed, nothing is answered
+-- RespondsTo p s x a s': in a workshop a step is answered so, and leads to a workshop; if an allocation failed, nothing
+-- is answered
 abbrev pub RespondsTo : RunProfile → Workshop → WorkshopStep → Option Response → Workshop → Type 0
 RespondsTo p s x (Some a) s' = ◌≡◌ {A = Workshop × Response} (take_step p s x) (s', a)
 RespondsTo p s x None s' = MayBeRefused p s x × (s' ≡ refused_in s x)

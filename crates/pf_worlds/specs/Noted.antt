@@ -19,8 +19,8 @@ abbrev pub calls_answered : ℕ → List WorkshopStep → List (Option Response)
 calls_answered q (x ∷ xs) (a ∷ ans) = call_answered q x a ++ calls_answered q xs ans
 calls_answered q xs ans = []
 
--- whatever steps there are, and wherever allocations fail, the history of a project's desk notes its calls with the replies that they got, in their
--- order, as many as a log holds
+-- whatever steps there are, and wherever allocations fail, the history of a project's desk notes its calls with the
+-- replies that they got, in their order, as many as a log holds
 abbrev pub HistoriesNoteTheCalls : Type 0
 HistoriesNoteTheCalls =
     (p : RunProfile) (n q : ℕ) (xs : List WorkshopStep) (ans : List (Option Response)) (s : Workshop)

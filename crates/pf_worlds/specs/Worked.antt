@@ -97,7 +97,8 @@ stolen means =
     ∷ (client_calls 2 (fetch 1), its_result means)
     ∷ []
 
--- a run of five events is made in slices by two workers; it is filed only when it is over, and only by the one that holds it
+-- a run of five events is made in slices by two workers; it is filed only when it is over, and only by the one that
+-- holds it
 abbrev pub in_slices : (model.Job → Result) → List (WorkshopStep × Response)
 in_slices means =
     (client_calls 7 a_submit, hears (number 1))
@@ -115,8 +116,9 @@ in_slices means =
     ∷ (client_calls 7 (fetch 1), its_result means)
     ∷ []
 
--- the oldest parked run is taken first; what can't be done is not done: a second claim, no turns, a worker that steals from itself, workers that aren't
--- there, a parking of what is over; what is handed back is queued again, unless it was dropped
+-- the oldest parked run is taken first; what can't be done is not done: a second claim, no turns, a worker that steals
+-- from itself, workers that aren't there, a parking of what is over; what is handed back is queued again, unless it was
+-- dropped
 abbrev pub one_by_one : (model.Job → Result) → List (WorkshopStep × Response)
 one_by_one means =
     two_projects
@@ -144,8 +146,8 @@ one_by_one means =
     ∷ (worker_does 3 2 1 claiming, not_yet)
     ∷ []
 
--- an allocation fails in a claim, a parking and a slice; the first two leave all as it was, and the run that was sliced is filed as one for
--- which memory ran out
+-- an allocation fails in a claim, a parking and a slice; the first two leave all as it was, and the run that was sliced
+-- is filed as one for which memory ran out
 abbrev pub growths_refused : List (WorkshopStep × Option Response)
 growths_refused =
     (client_calls 1 a_submit, Some (hears (number 1)))

@@ -5,21 +5,22 @@ use Rattle.pf_request.specs.Job.{Job}
 use Rattle.pf_desks.specs.Desk.{Profile, Mark}
 use Rattle.pf_desks.specs.World.{World}
 
--- the profile of the language, or what workshops ask of it: what desks ask; and how many events the run of a job has, or of a job with
--- runs its whole shrinking
+-- the profile of the language, or what workshops ask of it: what desks ask; and how many events the run of a job has,
+-- or of a job with runs its whole shrinking
 pub record RunProfile : Type 0 where
   pub profile : Profile
   pub events : model.Job → ℕ
 
 -- ---- what a workshop holds
 
--- how far a run is: it made n events and isn't over; or it is over, and a file of it bears a mark: it is whole, or an allocation
--- failed in it
+-- how far a run is: it made n events and isn't over; or it is over, and a file of it bears a mark: it is whole, or an
+-- allocation failed in it
 pub data Progress : Type 0 where
   going : (made : ℕ) → Progress
   over : Mark → Progress
 
--- the run of a trial that a worker claimed: the trial's project and ticket, its job as it was claimed, and how far the run is
+-- the run of a trial that a worker claimed: the trial's project and ticket, its job as it was claimed, and how far the
+-- run is
 pub record ClaimedRun : Type 0 where
   pub project : ℕ
   pub ticket : ℕ

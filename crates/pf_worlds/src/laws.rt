@@ -37,8 +37,8 @@ pub fn legality()
 {}
 
 /// Notes: for every list of steps, wherever allocations fail, the history of a project's desk notes its calls with the
-/// replies that they got, in their order, as many as a log holds. So what a law says of a legal history it says of the replies
-/// that clients get.
+/// replies that they got, in their order, as many as a log holds. So what a law says of a legal history it says of the
+/// replies that clients get.
 pub fn histories_note_the_calls()
     ensures { HistoriesNoteTheCalls }
 {}

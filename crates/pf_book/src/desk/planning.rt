@@ -293,7 +293,8 @@ fn move_refused(edition: u32, refusal: Refusal, usage: Usage) -> Plan
     Plan::reply_alone(noted, Reply::Refused(refusal), usage)
 }
 
-/// The bytes under which a module is kept that the store counts one holder more of. Where memory runs out it counts one less again.
+/// The bytes under which a module is kept that the store counts one holder more of. Where memory runs out it counts one
+/// less again.
 fn source_held(store: &mut Store, held: &ReadModule) -> Result<Source, NoMemory>
     requires { 1 ≤ holders store.old held.now.source }
     ensures source { IfOk result (λ s. s ≡ held.now.source) }

@@ -5,7 +5,8 @@ use Rattle.pf_seeds.specs.Notices.{GoesOn, HasFailures, HearsSome}
 use Rattle.pf_seeds.specs.Views.{leak_of, rows_of}
 use Rattle.pf_seeds.proofs.blocks.tally_blocks.Given as goal
 
--- the runs before are counted, the least of them that leaks is known, and the observer received how many they are and fail
+-- the runs before are counted, the least of them that leaks is known, and the observer received how many they are and
+-- fail
 abbrev pub invariant-loop-at : goal.invariant-loop-at
 invariant-loop-at g l = record {
   behind : l.from ≤ l.at;

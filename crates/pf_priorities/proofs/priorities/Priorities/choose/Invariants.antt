@@ -6,8 +6,8 @@ use Rattle.pf_priorities.specs.Priorities.{all_given, highest_from}
 use Rattle.pf_priorities.proofs.Places.{behind}
 use Rattle.pf_priorities.proofs.priorities.Priorities.choose.Given as goal
 
--- those of the keys that were gone through are before the index with their priorities, the highest of them is known, and those of the keys
--- that are left give the same
+-- those of the keys that were gone through are before the index with their priorities, the highest of them is known,
+-- and those of the keys that are left give the same
 abbrev pub invariant-loop-at : goal.invariant-loop-at
 invariant-loop-at l = record {
   within : l.at ≤ length l.self.held.items;
