@@ -27,7 +27,7 @@ use Rattle.pf_clients.specs.Lines.{Line, logged, one_too_many, without_memory, w
 
 -- ---- calls
 
--- what a call comes to
+-- the result of a call
 abbrev pub CallComesTo : call_code.Call → Result Reply NoMemory → (was is : ClientView) → Type 0
 CallComesTo c r s s' = (l : Line) × (asked_in l ≡ calls (view_of_call c)) × Leaves l s s' × (call_text s.project r ≡ line_text s.project l)
 
@@ -58,7 +58,7 @@ call_cut c r s s' t t' h same = (h.0, h.1, h.2, same)
 pub waits : (t : ℕ) (s : ClientView) (text : List ℕ) → AnswersLine (awaits t) s s text text
 waits t s text = (waited t, refl, refl, sym (append-nil text))
 
--- the text of what came of a project's call, however the step is told
+-- the text of the result of a project's call, however the step is written
 pub outcome_of_call : (q : ℕ) (c : Call) (r : Result Reply NoMemory) → outcome_text (client_calls q c) (answer_in r) ≡ call_text q r
 outcome_of_call q c (Ok a) = refl
 outcome_of_call q c (Err e) = refl
@@ -107,7 +107,7 @@ pub none_yet : (bytes : List ℕ) (s : ClientView) (t : List ℕ) → SoFar byte
 none_yet bytes s t = record { lines = []; answered = (refl, refl); project = refl; text = sym (append-nil t); next = refl }
 
 module _ (bytes : List ℕ) (s0 s : ClientView) (t0 t : List ℕ) (rest : List ℕ) (n : ℕ) (f : SoFar bytes s0 s t0 t rest n) where
-  -- what is told after the lines
+  -- what is answered after the lines
   and_then : (t' more : List ℕ) → t' ≡ t ++ more → t' ≡ t0 ++ (lines_text s0.project f.lines ++ more)
   and_then t' more e = e ∙ ap (λ (x : List ℕ). x ++ more) f.text ∙ append_assoc t0 (lines_text s0.project f.lines) more
 

@@ -97,7 +97,7 @@ status_more (x ∷ cs) c = ap (status_at x.ended) (status_more cs c) ∙ status_
 
 -- ---- the files so far
 
--- what these clients were told was printed, and the next file is printed after them
+-- what these clients were answered was printed, and the next file is printed after them
 pub record PrintedSoFar (cs : List ClientText) (status : ℕ) (w0 w : Option (List ℕ)) : Type 0 where
   pub goes_on : first_stop cs ≡ None
   pub out : Appends w0 w (printed cs)
@@ -164,7 +164,7 @@ in_part_counts cs (Fault (Write e)) w0 w1 n0 n1 h = h.0
 in_part_counts cs (Fault (Read e)) w0 w1 n0 n1 h = h.0
 in_part_counts cs NoMemory w0 w1 n0 n1 h = h.0
 
--- ---- what was told last
+-- ---- the last text
 
 pub at_true : {P : Type 0} (b : Bool) → b ≡ true → OnTrue b P → P
 at_true true is h = h

@@ -1,4 +1,4 @@
--- What a farm of clients and workers tells, and what goes out of it.
+-- What a farm of clients and workers answers, and what goes out of it.
 use Rattle.std.specs.Prelude.{◌≡◌, ◌⊎◌, ⊤, ℕ, suc, ◌+◌, List, [], ◌∷◌, ◌++◌, Option, Some, None}
 use Rattle.std.specs.Io.KnownBytes.{Appends}
 use Rattle.std.specs.Global.{Vec}
@@ -24,7 +24,7 @@ use Rattle.pf_clients.specs.Texts.{told_text}
 
 -- ---- what goes out
 
--- what a client was told, and how its file ended
+-- what a client was answered, and how its file ended
 pub record ClientText : Type 0 where
   pub text : List ℕ
   pub ended : Ended
@@ -54,7 +54,7 @@ abbrev pub unless : Option (OrNoMemory StreamFault) → List ℕ → List ℕ
 unless None text = text
 unless (Some e) text = []
 
--- what is printed: what the clients were told, file by file, up to one after which none is printed
+-- what is printed: what the clients were answered, file by file, up to one after which none is printed
 abbrev pub printed : List ClientText → List ℕ
 printed [] = []
 printed (c ∷ cs) = c.text ++ unless (stop_at c.ended) (printed cs)
@@ -83,15 +83,15 @@ PrintsInPart cs NoMemory w0 w1 n0 n1 = (n1 ≡ n0) × (first_stop cs ≡ Some No
 
 -- ---- a farm
 
--- these are what is left of the clients of these files, and what they were told; the first is of project k, and each is
--- of the next project
+-- these are what is left of the clients of these files, and what they were answered; the first is of project k, and
+-- each is of the next project
 abbrev pub AreAnswered : (k : ℕ) → List (Option (List ℕ)) → List ClosedSeat → List ClientText → Type 0
 AreAnswered k [] [] [] = ⊤
 AreAnswered k (f ∷ fs) (s ∷ ss) (c ∷ cs) = AnswersFile k f (closed_as s) c.text c.ended × AreAnswered (suc k) fs ss cs
 AreAnswered k _ _ _ = ⊥
 
--- a farm of a client for each of these files, file k being that of project k, in which the clients were told this; and
--- what is left when it is closed: the receipts of the clients are those of all calls that the histories note, each
+-- a farm of a client for each of these files, file k being that of project k, in which the clients were answered this;
+-- and what is left when it is closed: the receipts of the clients are those of all calls that the histories note, each
 -- once, and these histories are legal
 pub record FarmOf (inputs : List (Option (List ℕ))) (clients : List ClientText) : Type 0 where
   pub closing : Closing
@@ -102,7 +102,7 @@ pub record FarmOf (inputs : List (Option (List ℕ))) (clients : List ClientText
   pub ended : HaveEnded closing.rows.items
   pub told : ForRight (λ p. IsTold closing.rows.items closing.book)
 
--- what such a farm told its clients was printed
+-- what such a farm answered its clients was printed
 abbrev pub FarmPrints : List (Option (List ℕ)) → (status : ℕ) → (written_old written_new : Option (List ℕ)) → Type 0
 FarmPrints inputs status w0 w1 = (clients : List ClientText) × FarmOf inputs clients × Prints clients status w0 w1
 
@@ -112,7 +112,7 @@ NeverBegins (Fault (Write e)) w0 w1 n0 n1 = ⊥
 NeverBegins (Fault (Read e)) w0 w1 n0 n1 = (w1 ≡ w0) × (n1 ≡ n0)
 NeverBegins NoMemory w0 w1 n0 n1 = (w1 ≡ w0) × (n1 ≡ n0)
 
--- the farm never began; or what it told its clients was printed in part
+-- the farm never began; or what it answered its clients was printed in part
 abbrev pub FarmLeaves : List (Option (List ℕ)) → OrNoMemory StreamFault → (written_old written_new : Option (List ℕ)) → (failed_old failed_new : ℕ) → Type 0
 FarmLeaves inputs e w0 w1 n0 n1 =
     NeverBegins e w0 w1 n0 n1 ⊎ ((clients : List ClientText) × FarmOf inputs clients × PrintsInPart clients e w0 w1 n0 n1)

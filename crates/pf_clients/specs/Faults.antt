@@ -7,7 +7,7 @@ use Rattle.pf_terms.specs.declared.stream.StreamFault.TheVariants.{Read, Write}
 use Rattle.pf_clients.specs.declared.client.Ended.{Ended}
 use Rattle.pf_clients.specs.declared.client.Ended.TheVariants.{Unread, NoMemory as OutOfMemory}
 
--- a write that failed was counted, once; a file that can't be read and want of memory are no fault of the writer
+-- a write that failed was counted, once; a file that can't be read and running out of memory are no fault of the writer
 abbrev pub CountsFault : OrNoMemory StreamFault → (failed_old failed_new : ℕ) → Type 0
 CountsFault (Fault (Write e)) m n = n ≡ m + 1
 CountsFault (Fault (Read e)) m n = n ≡ m

@@ -1,4 +1,4 @@
--- What the lines of a client's file come to, and what the client is told of them.
+-- What the lines of a client's file ask for, and what the client is answered.
 use Rattle.std.specs.Prelude.{◌≡◌, ◌⊎◌, ⊤, ℕ, ◌+◌, false, List, [], ◌∷◌, ◌++◌, length, Option, Some, None, IfSome, Result, Ok, Err, codes}
 use Rattle.pf_fault.specs.Codes.{no_memory_text}
 use Rattle.pf_fault.specs.declared.code.Code.TheVariants as code
@@ -47,7 +47,7 @@ abbrev pub call_text : ℕ → Result reply_code.Reply NoMemory → List ℕ
 call_text q (Ok r) = reply_text q (view_of_reply r)
 call_text q (Err e) = to_project q (codes "refused " ++ no_memory_text)
 
--- what the client of a project is told: the reply that the receipt bears; nothing, where it waited
+-- what the client of a project is answered: the reply that the receipt bears; nothing, where it waited
 abbrev pub line_text : ℕ → Line → List ℕ
 line_text q (logged r) = reply_text q (view_of_reply r.reply.value)
 line_text q (one_too_many c) = reply_text q (refused code.TooManyCalls)
@@ -63,7 +63,7 @@ Leaves (without_memory c) s s' = (s.is_full ≡ false) × (s' ≡ s)
 Leaves (waited t) s s' = s' ≡ s
 
 -- AnswersLine m s s' before after: a line that asks for this was answered, and what came of it was added to what its
--- client was told
+-- client was answered
 abbrev pub AnswersLine : ClientLine → (was is : ClientView) → (before after : List ℕ) → Type 0
 AnswersLine m s s' t t' = (l : Line) × (asked_in l ≡ m) × Leaves l s s' × (t' ≡ t ++ line_text s.project l)
 
@@ -73,8 +73,8 @@ CutsLine m s s' t t' = (l : Line) × (asked_in l ≡ m) × Leaves l s s' × (t' 
 
 -- ---- the line in front
 
--- the line in front of some bytes of a client's file, of this number, was answered, and these bytes follow it; or it is
--- no command
+-- the line at the front of some bytes of a client's file, of this number, was answered, and these bytes follow it; or
+-- it is no command
 abbrev pub AnswersFront : List ℕ → (number : ℕ) → Option (List ℕ) → (was is : ClientView) → (before after : List ℕ) → Type 0
 AnswersFront bytes k (Some rest) s s' t t' =
     (m : ClientLine) × (client_line_at s.project bytes ≡ Some (m, rest)) × AnswersLine m s s' t t'
@@ -89,7 +89,7 @@ CutsFront bytes s s' t t' = IsCut bytes s s' × (t' ≡ t)
 
 -- ---- a file
 
--- what a client is told of some lines
+-- what a client is answered for some lines
 abbrev pub lines_text : ℕ → List Line → List ℕ
 lines_text q [] = []
 lines_text q (l ∷ ls) = line_text q l ++ lines_text q ls
@@ -101,8 +101,8 @@ AnswersLines q bytes s [] rest s' = (bytes ≡ rest) × (s ≡ s')
 AnswersLines q bytes s (l ∷ ls) rest s' =
     (after : List ℕ) × (k : ClientView) × (client_line_at q bytes ≡ Some (asked_in l, after)) × Leaves l s k × AnswersLines q after k ls rest s'
 
--- how a file ends after so many lines, of which this rest is left, and what is told of the end: nothing is left; or
--- what is left begins with no command, and that is told; or the file can't be read, and none of its lines was; or
+-- how a file ends after so many lines, of which this rest is left, and what is answered of the end: nothing is left; or
+-- what is left begins with no command, and that is answered; or the file can't be read, and none of its lines was; or
 -- memory ran out
 abbrev pub EndsAt : Ended → (lines : ℕ) → (rest : List ℕ) → (was is : ClientView) → (told : List ℕ) → Type 0
 EndsAt Answered n rest s s' t = (rest ≡ []) × (s' ≡ s) × (t ≡ [])
@@ -111,7 +111,7 @@ EndsAt (Unread e) n rest s s' t = (n ≡ 0) × (s' ≡ s) × (t ≡ [])
 EndsAt OutOfMemory n rest s s' t = IsCut rest s s' × (t ≡ [])
 
 -- AnswersBytes bytes s s' before after ended: the lines of a client's file were answered in order up to an end, and
--- what came of them was added to what it was told
+-- their results were added to what it was answered
 pub record AnswersBytes (bytes : List ℕ) (was is : ClientView) (before after : List ℕ) (ended : Ended) : Type 0 where
   pub lines : List Line
   pub rest : List ℕ
@@ -121,16 +121,16 @@ pub record AnswersBytes (bytes : List ℕ) (was is : ClientView) (before after :
   pub ends : EndsAt ended (length lines) rest last is told
   pub text : after ≡ before ++ (lines_text was.project lines ++ told)
 
--- the client of a project's file was told this text: of the first 67,108,864 bytes of the file, if it is known what
+-- the client of a project's file was answered this text: of the first 67,108,864 bytes of the file, if it is known what
 -- there is. Its seat began empty
 abbrev pub AnswersFile : (project : ℕ) → Option (List ℕ) → (seat : ClientView) → (text : List ℕ) → Ended → Type 0
 AnswersFile q input s text ended = (bytes : List ℕ) × AreRead input bytes × AnswersBytes bytes (empty_client q) s [] text ended
 
--- a client's seat has no receipt yet, and it was told nothing
+-- a client's seat has no receipt yet, and it was answered nothing
 abbrev pub IsNew : ClientView → List wire.Told → Type 0
 IsNew s told = (s ≡ empty_client s.project) × (told ≡ [])
 
--- the lines of a client's file, if it had one, were answered: this is left of its seat, this is what it was told, and
--- so its file ended
+-- the lines of a client's file, if it had one, were answered: this is left of its seat, this is what it was answered,
+-- and so its file ended
 abbrev pub IsServed : {R : Type 0} → (remaining : R → Option (List ℕ)) → Option R → (project : ℕ) → (seat : ClientView) → List wire.Told → Ended → Type 0
 IsServed remaining file q s told ended = IfSome file (λ f. AnswersFile q (remaining f) s (told_text told) ended)

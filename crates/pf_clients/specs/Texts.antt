@@ -1,4 +1,4 @@
--- Texts that are told one after another.
+-- Texts that are answered one after another.
 use Rattle.std.specs.Prelude.{◌≡◌, ℕ, ◌-◌, List, [], ◌∷◌, ◌++◌, length, Some, None, slice_get}
 use Rattle.pf_wire.specs.Whole.{whole_text}
 use Rattle.pf_wire.specs.declared.told.Told.{Told}

@@ -57,7 +57,7 @@ fn stopped(stop: OrNoMemory<StreamFault>) -> Ended
     }
 }
 
-/// A client: its seat, its file until that is read, and what it was told, reply by reply.
+/// A client: its seat, its file until that is read, and what it was answered, reply by reply.
 #[derive(Drop)]
 pub(crate) struct Client<N: FarmNames, R> {
     pub seat: ClientSeat<N>,
@@ -114,7 +114,7 @@ fn refusal(alloc: Global, number: u64) -> Result<Told, NoMemory>
     Ok(Told { text, report: None })
 }
 
-/// Whether what was told may join the text that was told last: neither has a report, and that text isn't long.
+/// Whether an answer may join the last text: neither has a report, and that text isn't long.
 fn joins(all: &[Told], told: &Told) -> bool
     ensures { OnTrue result ((told.now.report ≡ None) × EndsInText all.now) }
 {
@@ -127,7 +127,7 @@ fn joins(all: &[Told], told: &Told) -> bool
     }
 }
 
-/// Adds what was told, to the text that was told last where it may join that.
+/// Adds an answer, to the last text where it may join that.
 fn add(all: &mut Vec<Told>, told: Told) -> Result<(), NoMemory>
     ensures added { OnOk result (told_text all.new.items ≡ told_text all.old.items ++ whole_text told) }
     ensures err { OnErr result (told_text all.new.items ≡ told_text all.old.items) }
@@ -201,7 +201,7 @@ impl<N: FarmNames, R: Read + Drop> Client<N, R> {
         Ended::Answered
     }
 
-    /// Answers the line of this number, which stands in front; what follows it, unless it is no command.
+    /// Answers the line of this number, which is first; returns what follows it, unless it is no command.
     fn answer_front<'a, T: Wait, G: Watch>(
         &mut self,
         alloc: Global,
@@ -253,7 +253,7 @@ impl<N: FarmNames, R: Read + Drop> Client<N, R> {
         }
     }
 
-    /// Makes a call, and adds what came of it to what the client was told: the reply that its new receipt bears, or
+    /// Makes a call, and adds its result to what the client was answered: the reply that its new receipt bears, or
     /// that the call is refused.
     fn answer_call<T: Wait, G: Watch>(
         &mut self,

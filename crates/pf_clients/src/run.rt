@@ -27,8 +27,8 @@ use std::thread::{Threads, for_each_mut, join_mut};
 use std::time::Clock;
 
 /// Has so many workers and a client for each file work on one farm, file k, counted from 1, being that of project k,
-/// each in a thread of its own; then writes what each client was told, file by file. Gives the status: 2 if a line was
-/// no command, after which that file isn't read any further, and else 0.
+/// each in a thread of its own; then writes what each client was answered, file by file. Gives the status: 2 if a line
+/// was no command, after which that file isn't read any further, and else 0.
 pub fn run_farm<
     N: FarmNames + Send + Sync,
     R: Read + Send + Drop,
@@ -237,14 +237,14 @@ fn tell_work<N: FarmNames, G: Watch>(seats: &[WorkSeat<N>], watch: &G) {
     }
 }
 
-/// The seats of clients, and what these were told.
+/// The seats of clients, and what these were answered.
 #[derive(Drop)]
 struct Room<N: FarmNames> {
     seats: Vec<ClientSeat<N>>,
     answers: Vec<Answers>,
 }
 
-/// The clients' seats apart from what they were told, in room that was made before.
+/// The clients' seats apart from what they were answered, in room that was made before.
 fn parted<N: FarmNames, R: Drop>(clients: Vec<Client<N, R>>, room: Room<N>) -> Room<N>
     requires none { (room.seats.items ≡ []) × (room.answers.items ≡ []) }
     requires seats { vec_len clients ≤ vec_capacity room.seats }

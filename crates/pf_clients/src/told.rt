@@ -1,4 +1,4 @@
-//! What all clients were told, file by file.
+//! What all clients were answered, file by file.
 
 ghost use Rattle.std.specs.Prelude.{◌≡◌, map, None, Some, IfErr, IfOk, OnErr, OnOk};
 ghost use Rattle.std.specs.Io.KnownBytes.{Appends};
@@ -15,14 +15,14 @@ use std::alloc::Global;
 use std::io::Write;
 use std::sync::ledger::Ledger;
 
-/// What a client was told, and how its file ended.
+/// What a client was answered, and how its file ended.
 #[derive(Drop)]
 pub(crate) struct Answers {
     pub told: Vec<Told>,
     pub ended: Ended,
 }
 
-/// Writes what one client was told.
+/// Writes what one client was answered.
 fn write_one<W: Write, M: Ledger>(
     alloc: Global,
     told: &[Told],
@@ -56,8 +56,8 @@ fn next_status(status: u8, ended: Ended) -> Result<u8, OrNoMemory<StreamFault>>
     }
 }
 
-/// Writes what the clients were told, file by file, up to a file that can't be read or for which memory ran out; the
-/// status, 2 if a line was no command, and else 0.
+/// Writes what the clients were answered, file by file, up to a file that can't be read or for which memory ran out;
+/// the status, 2 if a line was no command, and else 0.
 pub(crate) fn write_all<W: Write, M: Ledger>(
     alloc: Global,
     answers: Vec<Answers>,

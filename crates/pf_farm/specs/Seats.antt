@@ -36,7 +36,7 @@ seat_at own next = seat_of own next false 0 no_tally
 abbrev pub one_if : Bool → ℕ
 one_if b = if b then 1 else 0
 
--- as many claims came to the seat as left it, but for the one that it holds
+-- as many claims arrived at the seat as left it, but for the one that it holds
 abbrev pub IsBalanced : (opened ended : ℕ) → SeatView → Type 0
 IsBalanced opened ended s = opened + length s.own.popped + length (stolen_by s.next) ≡ ended + length s.own.pushed + one_if s.busy
 
@@ -97,7 +97,7 @@ IsRing (s ∷ t ∷ ss) = (from : Option Place) × IsChain from (s ∷ t ∷ ss)
 abbrev pub Spends : SeatView → SeatView → Type 0
 Spends s t = IsDealt t.own.pushed t.own.popped (stolen_by s.next)
 
--- it is so of each of these seats, the first of which stands after `before`
+-- it is so of each of these seats, the first of which is after `before`
 abbrev pub AllSpent : (before : SeatView) → List SeatView → Type 0
 AllSpent before [] = ⊤
 AllSpent before (s ∷ ss) = Spends before s × AllSpent s ss

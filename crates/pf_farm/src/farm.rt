@@ -161,7 +161,7 @@ impl<N: FarmNames> Farm<N> {
     }
 
     /// Closes the farm, with the seats of all its clients and of all its workers, each of which has returned. No claim
-    /// is open then, the ledger tells what the histories tell, and what was pushed to a deque was popped or stolen,
+    /// is open then, the ledger agrees with the histories, and what was pushed to a deque was popped or stolen,
     /// each in order and so as often. The receipts of the clients are those of all calls that the histories note, each
     /// once.
     pub fn close(self, clients: Vec<ClientSeat<N>>, seats: Vec<WorkSeat<N>>) -> Closing

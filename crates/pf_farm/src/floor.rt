@@ -212,7 +212,7 @@ impl<N: FarmNames> Floor<N> {
         seat.claim(&mut shared.hall)
     }
 
-    /// The same behind a park, of which it tells those who wait.
+    /// The same after a park, of which it notifies those who wait.
     pub(crate) fn claim_after_park<R: Wait>(
         &self,
         rt: &R,

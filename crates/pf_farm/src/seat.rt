@@ -22,7 +22,7 @@ const MOST_AHEAD: u32 = 64;
 /// A worker's seat: its own deque, the stealer of the next worker's if there are others, its shares of the ledgers,
 /// whether it holds a run, and how many runs it pushed more than it popped since it began or last found its deque
 /// empty. Contracts see what went through the two ends, by the numbers of claims, whether it holds a run, and what it
-/// counts: as many claims came to the seat as left it, but for the one that it holds.
+/// counts: as many claims arrived at the seat as left it, but for the one that it holds.
 #[derive(Drop)]
 pub struct WorkSeat<N: FarmNames> {
     pub(crate) own: Owner<HeldRun<N>>,
@@ -113,7 +113,7 @@ impl<N: FarmNames> WorkSeat<N> {
         }
     }
 
-    /// Parks the run that it holds, behind all others of its own deque. One that is refused comes back, and so does one
+    /// Parks the run that it holds, after all others of its own deque. One that is refused comes back, and so does one
     /// with which it would be too far ahead.
     pub(crate) fn park(&mut self, run: HeldRun<N>) -> Result<(), HeldRun<N>>
         requires { self.old.busy ≡ true }

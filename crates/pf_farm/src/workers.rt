@@ -47,7 +47,7 @@ pub fn work<N: FarmNames, G: Gate, R: Wait>(
 }
 
 /// Has each worker work in a thread of its own until the farm stops. Where the system starts fewer threads, workers
-/// work one after another, and those behind the first begin once the farm stops.
+/// work one after another, and those after the first begin once the farm stops.
 pub fn work_all<N: FarmNames + Sync + Send, G: Gate + Sync, R: Threads + Wait + Sync>(
     alloc: Global,
     rt: &R,
@@ -146,7 +146,7 @@ fn claimed_run<N: FarmNames, R: Wait>(
     }
 }
 
-/// The run of a claim, before its first event. A claim whose run can't begin for want of memory is handed back.
+/// The run of a claim, before its first event. A claim whose run can't begin because memory is out is handed back.
 fn begun<N: FarmNames, R: Wait>(
     alloc: Global,
     rt: &R,
@@ -170,7 +170,7 @@ fn begun<N: FarmNames, R: Wait>(
 }
 
 /// Goes on with a run, and with those that come after it, slice by slice: what is over is filed, and what isn't is
-/// parked behind the others, where there is room.
+/// parked after the others, where there is room.
 fn run_on<N: FarmNames, G: Gate, R: Wait>(
     alloc: Global,
     rt: &R,

@@ -25,7 +25,7 @@ unfolding last_told
 last_more d [] line = refl
 last_more d (l ∷ ls) line = last_more (unwrap_or (told_in l) d) ls line
 
--- of the lines so far the last that tells a schedule has this one
+-- of the lines so far the last that holds a schedule has this one
 abbrev pub IsLastOf : (found : Option (Bor (List ℕ))) → (passed : List (Bor (List ℕ))) → Type 0
 IsLastOf found passed = (d : List ℕ) → last_told d (map (λ x. x.now) passed) ≡ unwrap_or (option_map (λ s. s.now) found) d
 

@@ -120,13 +120,13 @@ InForm Json P old new given =
 abbrev pub NothingOut : (old new : Streams) → Type 0
 NothingOut old new = (new.written ≡ old.written) × (new.failed_writes ≡ old.failed_writes)
 
--- nothing is read, and a text is told
+-- nothing is read, and a text is printed
 abbrev pub TextTold : (status : ℕ) → (is_fault : Bool) → (old new : Streams) → ℕ → Type 0
 TextTold status is_fault old new given =
     (new.unread ≡ old.unread) × (new.failed_reads ≡ old.failed_reads)
     × TellsText is_fault status given old.written new.written old.failed_writes new.failed_writes
 
--- what words come to is done, and the program has this status; but a file for a schedule isn't read here
+-- what words ask for is done, and the program has this status; but a file for a schedule isn't read here
 abbrev pub IsDone : Reading → (old new : Streams) → ℕ → Type 0
 IsDone (works w file) = InForm w.format (FromOne w.work file)
 IsDone (tells status is_fault) = TextTold status is_fault

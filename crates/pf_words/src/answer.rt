@@ -60,7 +60,7 @@ fn most_runs(args: &HuntArgs) -> u32 {
     }
 }
 
-/// Answers a source whose seeds are run; the line tells how far that came.
+/// Answers a source whose seeds are run; the line shows the progress.
 fn answer_hunt<W: Write, M: Ledger>(
     rt: &(impl Eprint + AllocGlobal + Clock + Threads + Sync),
     args: &HuntArgs,
@@ -108,7 +108,7 @@ fn answer_by<W: Write, M: Ledger, C: Answering + Drop>(
     Ok(answer.status)
 }
 
-/// Answers a source; the line tells how far a hunt or a shrinking came.
+/// Answers a source; the line shows the progress of a hunt or a shrinking.
 fn answer_source<W: Write, M: Ledger>(
     rt: &(impl Eprint + AllocGlobal + Clock + Threads + Sync),
     asked: &Args,
@@ -192,7 +192,7 @@ fn answer_read<R: Read, W: Write, L: Ledger, M: Ledger>(
     answer_bytes(rt, asked, &source, writer, line)
 }
 
-/// Does what is asked for between a reader and a writer; the line tells how far a hunt or a shrinking came, and is
+/// Does what is asked for between a reader and a writer; the line shows the progress of a hunt or a shrinking, and is
 /// empty at the end.
 pub fn answer<R: Read, W: Write, L: Ledger, M: Ledger>(
     rt: &(impl Eprint + AllocGlobal + RandomSource + Clock + Threads + Sync),

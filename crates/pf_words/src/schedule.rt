@@ -1,4 +1,4 @@
-//! Schedules that stand in files, which words name with `@`.
+//! Schedules in files, which words name with `@`.
 
 ghost use Rattle.std.specs.Prelude.{◌≡◌, ◌<◌, ◌≤◌, IfOk, IfSome, is_some, length, option_map};
 ghost use Rattle.std.specs.String.{string_bytes};

@@ -22,7 +22,7 @@ use std::sync::ledger::Ledger;
 use std::thread::Threads;
 use std::time::Clock;
 
-/// What words came to.
+/// What was done for words.
 #[derive(Drop)]
 pub enum Obeyed<'a> {
     /// What they ask for is done, and the program ends with this status.
@@ -85,7 +85,7 @@ fn unread_file(rt: &(impl Print + Eprint), file: &str, error: io::Error) -> u8
     failed(rt, Some(file), &StreamFault::Read(error))
 }
 
-/// What stands in the file of a schedule; `-` names the standard input.
+/// What the file of a schedule holds; `-` names the standard input.
 fn schedule_contents<R, I: Read, L: Ledger>(
     rt: &R,
     file: &str,
@@ -107,7 +107,7 @@ where
     }
 }
 
-/// How many characters of a line are told.
+/// How many characters of a line are reported.
 const MOST_TOLD: usize = 60;
 
 /// The beginning of a line.

@@ -11,8 +11,8 @@ use Rattle.pulsefarm.specs.Words.{words_of}
 
 -- ---- a farm
 
--- a farm over these inputs ended: what its clients were told went out; or a stream failed or memory ran out, before the
--- farm began or after
+-- a farm over these inputs ended: what its clients were answered went out; or a stream failed or memory ran out, before
+-- the farm began or after
 abbrev pub FarmEnds : List (Option (List ℕ)) → (written_old written_new : Option (List ℕ)) → (failed_old failed_new : ℕ) → End → Type 0
 FarmEnds inputs w0 w1 n0 n1 (Ok status) = FarmPrints inputs status w0 w1 × (n1 ≡ n0)
 FarmEnds inputs w0 w1 n0 n1 (Err e) = ((w1 ≡ w0) × (n1 ≡ n0)) ⊎ FarmLeaves inputs e w0 w1 n0 n1

@@ -42,7 +42,7 @@ fn push_all<'a>(words: &mut Vec<&'a str>, given: &'a [String]) -> Result<(), NoM
     Ok(())
 }
 
-/// The words as they are read: the program's name stands in front, and `help WORD` is `WORD --help`.
+/// The words as they are read: the program's name is first, and `help WORD` is `WORD --help`.
 fn words_of<'a>(alloc: Global, given: &'a [String]) -> Result<Vec<&'a str>, NoMemory>
     ensures { IfOk result (λ v. map (λ w. w.now) v.items ≡ words_of (map (λ s. string_bytes s) given.now)) }
 {

@@ -3,7 +3,7 @@ use Rattle.pf_wire.proofs.Leaving.{IsAdded}
 use Rattle.pf_clients.specs.Texts.{told_text}
 use Rattle.pf_clients.proofs.told.write_one.Given as goal
 
--- what went out, and behind it what is gathered, is the text of the replies so far
+-- what went out, and after it what is gathered, is the text of the replies so far
 abbrev pub invariant-replies : goal.invariant-replies
 invariant-replies g l =
     let contents = g.W.Write.contents in
