@@ -6,8 +6,8 @@ ghost use Rattle.pf_farm.specs.Waits.{awaits, entered, left};
 /// How many conditions clients wait on. Projects share them, by their numbers.
 pub(crate) const SLOTS: usize = 16;
 
-/// Those who wait in a slot: how many, and for which ticket if there is one who waits; 0, which is no ticket, is
-/// for any.
+/// Those who wait in a slot: how many, and for which ticket if there is one who waits; 0, which is no ticket,
+/// means any.
 #[derive(Clone, Copy)]
 pub(crate) struct Slot {
     count: u32,
