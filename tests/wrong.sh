@@ -18,9 +18,9 @@
 # from the contract and the body of the function that it changes, from its new texts, from the Models in that file and from the
 # contracts of what is called. One that changes anything but the body of a function has all that its crate reaches.
 #
-# Where the own sum of a crate changed, all its edits are due; but a gate takes no more than MOST_CHANGED edits of changed crates, 8 a
+# Where the own sum of a crate changed, all its edits are due; but a gate takes no more than MOST_CHANGED edits of changed crates, 4 a
 # processor: crates go whole, new ones first and then those that were seen the longest ago, and the others wait. Where only the sum
-# below did, those edits are due whose own sums changed, the ones first that were seen the longest ago, until MOST_EDITS (30) are due
+# below did, those edits are due whose own sums changed, the ones first that were seen the longest ago, until MOST_EDITS (16) are due
 # with those of changed crates. Where there is room among these, all edits of the TURNS (2) crates that were seen the longest ago are due in turn.
 #
 # What was seen refused is noted in tests/wrong.seen, a line a crate: its name, its own sum, its sum below, the second at which it was

@@ -6,9 +6,9 @@
                                   `waits` or `later`
     due.py TOP note PLAN LOG..    notes by such a plan what the logs of `rt` say
 
-KIT is the kit's name, TURNS (2) how many crates are due in turn, and MOST_EDITS (30) how many edits are due at once of crates that are
+KIT is the kit's name, TURNS (2) how many crates are due in turn, and MOST_EDITS (16) how many edits are due at once of crates that are
 as they were. All edits of crates that changed themselves count among these; then come those that reach names that changed below
-them; and then crates in turn, each whole, until one has no room: the first has where nothing else is due. MOST_CHANGED (8 a
+them; and then crates in turn, each whole, until one has no room: the first has where nothing else is due. MOST_CHANGED (4 a
 processor) is how many edits of changed crates are due at once: crates go whole, new ones first and then those that were seen the
 longest ago, and those that would pass it wait for a later gate."""
 import os
@@ -56,7 +56,7 @@ def hold_back(by_crate, noted):
     """Has changed crates wait for a later gate that would bring more edits than one gate can try."""
     changed = [crate for crate, lines in by_crate.items() if lines[0].why in ("new", "changed")]
     changed.sort(key=lambda it: (noted.crates[it][2] if it in noted.crates else 0, it))
-    left = int(os.environ.get("MOST_CHANGED", 8 * len(os.sched_getaffinity(0))))
+    left = int(os.environ.get("MOST_CHANGED", 4 * len(os.sched_getaffinity(0))))
     for crate in changed:
         if len(by_crate[crate]) <= left or crate == changed[0]:
             left -= len(by_crate[crate])
@@ -72,7 +72,7 @@ def plan(tree, noted):
     hold_back(by_crate, noted)
     below = [it for lines in by_crate.values() for it in lines if it.why == "below"]
     below.sort(key=lambda it: (noted.edits.get(it.key(), ("", 0))[1], it.crate, it.name))
-    most = int(os.environ.get("MOST_EDITS", "30"))
+    most = int(os.environ.get("MOST_EDITS", "16"))
     own = sum(1 for lines in by_crate.values() for it in lines if it.why in ("new", "changed"))
     for it in below[max(0, most - own) :]:
         it.why = "waits"

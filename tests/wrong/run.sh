@@ -293,11 +293,11 @@ MOST_EDITS=1 tests/wrong.sh > /dev/null
 same "none waits" "$(tests/wrong.sh due)" "0 wrong bodies are due, and 0 wait for a later gate"
 same "its line is new" "$(grep -c "^$before\$" tests/wrong.seen) $(grep -c '^mid ' tests/wrong.seen)" "0 1"
 start_anew
-for number in $(seq 33); do printf 'file: src/lib.rt\nold: same(n)\nnew: %s\n' "$number" > "crates/top/wrong/number_$number.edit"; done
+for number in $(seq 19); do printf 'file: src/lib.rt\nold: same(n)\nnew: %s\n' "$number" > "crates/top/wrong/number_$number.edit"; done
 tests/wrong.sh top > /dev/null
 sed -i '/fn same/,/^{/s/result ≡ n/n ≡ result/' crates/mid/src/lib.rt
 tests/wrong.sh mid > /dev/null
-same "at most thirty" "$(tests/wrong.sh due | tail -n 1)" "30 wrong bodies are due, and 4 wait for a later gate"
+same "at most sixteen" "$(tests/wrong.sh due | tail -n 1)" "16 wrong bodies are due, and 4 wait for a later gate"
 tests/wrong.sh > /dev/null
 same "the rest" "$(tests/wrong.sh due | tail -n 1)" "4 wrong bodies are due, and 0 wait for a later gate"
 
