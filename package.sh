@@ -20,7 +20,7 @@ fail() {
 
 # A package is of a commit: what goes into it and into the program is as the commit has it. (The gate lays its wrong bodies elsewhere.)
 git -C "$top" rev-parse -q --verify HEAD > /dev/null 2>&1 || fail "this is no clone, so there is no commit to make a package of"
-git -C "$top" diff --quiet HEAD -- LICENSE README.md HANDLES crates.txt crates ':!crates/*/wrong' docs examples install install.sh package.sh port ||
+git -C "$top" diff --quiet HEAD -- LICENSE ':(glob)*.md' HANDLES crates.txt crates ':!crates/*/wrong' docs examples install install.sh package.sh port ||
   fail "there are changes that aren't committed: a package is of a commit"
 commit=$(git -C "$top" rev-parse HEAD)
 SOURCE_DATE_EPOCH=$(git -C "$top" log -1 --format=%ct)
@@ -49,7 +49,7 @@ lay() {
   install -D -m 644 "$top/docs/pulsefarm.zsh" "$1/share/zsh/vendor-completions/_pulsefarm"
   install -D -m 644 "$top/docs/pulsefarm.fish" "$1/share/fish/vendor_completions.d/pulsefarm.fish"
   mkdir -p "$docs/docs" "$docs/examples" "$docs/port" "$1/share/pulsefarm"
-  cp "$top/README.md" "$docs"
+  cp "$top"/*.md "$docs"
   tell_licence > "$docs/copyright"
   cp "$top"/docs/*.md "$top"/docs/*.png "$top"/docs/*.svg "$top"/docs/*.json "$docs/docs"
   cp "$top"/examples/*.erl "$top/examples/README.md" "$docs/examples"
