@@ -2,7 +2,7 @@
 use Rattle.std.proofs.Common.{◌≡◌, ◌≢◌, ◌<◌, ◌≤◌, ◌+◌, ◌-◌, ℕ, arith, inl, inr, min, length-drop, Bool, true, false, List, [], ◌∷◌, ◌++◌, refl, sym, ◌∙◌, ap, append_assoc, length, get_or, take, drop, map, add-one, suc}
 use Rattle.std.specs.Prelude.{flat_map, nat_lt, if◌then◌else◌}
 use Rattle.std.specs.List.{filter}
-use Rattle.std.proofs.lemmas.List.{drop-map, take-map, take_all, take_more}
+use Rattle.std.proofs.lemmas.List.{drop-map, map-append, take-map, take_all, take_more}
 use Rattle.std.proofs.lemmas.List.Elements.{filter-append}
 use Rattle.std.proofs.lemmas.List.Folds.{flat_map-map}
 use Rattle.std.proofs.lemmas.Bool.{cases_lt}
@@ -16,11 +16,16 @@ use Rattle.pf_model.specs.Text.{outcome_text}
 use Rattle.pf_chart.specs.declared.columns.Column.{Column}
 use Rattle.pf_chart.specs.declared.manner.Manner.{Manner}
 use Rattle.pf_chart.specs.declared.rows.Row.{Row}
-use Rattle.pf_chart.specs.Chart.{IsChart, chart, choice_labels, choice_text, copies, event_labels, first_row, has_row, page_of, process_labels, shown, twice}
+use Rattle.pf_chart.specs.Chart.{AreColumns, IsChart, ShowsSignals, chart, choice_labels, choice_text, copies, event_labels, first_row, has_row, page_of, process_labels, rows_from, shown, twice}
 use Rattle.pf_chart.specs.Origins.{process_of}
-use Rattle.pf_chart.specs.Words.{Draws, IsDocument}
+use Rattle.pf_chart.specs.Pages.{page_in}
+use Rattle.pf_chart.specs.Sheets.{Page}
+use Rattle.pf_chart.specs.declared.sheet.Sheet.{Sheet}
+use Rattle.pf_chart.specs.Words.{Draws}
 use Rattle.pf_svg.specs.Document.{end_text, start_text}
 use Rattle.pf_svg.proofs.Drawn.{elsewhere, renamed, whole}
+use Rattle.pf_chart.proofs.Lined.{holds_elsewhere}
+use Rattle.pf_chart.proofs.Placed.{place_next}
 
 abbrev pub told : Row → meaning.Event
 told row = event_of row.event.now
@@ -72,7 +77,29 @@ row_kept compact e is = rw is refl
 pub row_left : (compact : Bool) (e : meaning.Event) → has_row compact e ≡ false → [] ≡ filter (has_row compact) (e ∷ [])
 row_left compact e is = rw is refl
 
-length_told : (rows : List Row) → length (map told rows) ≡ length rows
+-- the row of one event more, if it has one
+pub row_next : (compact : Bool) (es : List Event) (i : ℕ) (e : Event) (xs ys : List Row) (row : Row) (has : Bool) → i < length es → e ≡ get_or es i e
+    → row.index ≡ i → row.event.now ≡ e → has ≡ has_row compact (event_of e) → ys ≡ xs ++ (if has then row ∷ [] else [])
+    → map told xs ≡ filter (has_row compact) (map event_of (take i es)) → map (λ r. r.index) xs ≡ rows_from compact 0 (map event_of (take i es))
+    → (map told ys ≡ filter (has_row compact) (map event_of (take (i + 1) es))) × (map (λ r. r.index) ys ≡ rows_from compact 0 (map event_of (take (i + 1) es)))
+row_next compact es i e xs ys row true low read index event is put events places =
+    let kept : has_row compact (event_of e) ≡ true = sym is in
+    let next = place_next event_of compact es i e low ∙ ap (λ (b : Bool). rows_from compact 0 (map event_of (take i es)) ++ (if b then i ∷ [] else [])) (ap (λ (x : Event). has_row compact (event_of x)) (sym read) ∙ kept) in (
+      ap (map told) put ∙ map-append told xs (row ∷ []) ∙ ap (λ t. t ++ told row ∷ []) events
+          ∙ ap (λ (x : Event). filter (has_row compact) (map event_of (take i es)) ++ event_of x ∷ []) event
+          ∙ ap (λ t. filter (has_row compact) (map event_of (take i es)) ++ t) (row_kept compact (event_of e) kept) ∙ rows_more compact es i e low read,
+      ap (map (λ r. r.index)) put ∙ map-append (λ r. r.index) xs (row ∷ []) ∙ ap (λ t. t ++ row.index ∷ []) places
+          ∙ ap (λ (n : ℕ). rows_from compact 0 (map event_of (take i es)) ++ n ∷ []) index ∙ sym next,
+    )
+row_next compact es i e xs ys row false low read index event is put events places =
+    let left : has_row compact (event_of e) ≡ false = sym is in
+    let next = place_next event_of compact es i e low ∙ ap (λ (b : Bool). rows_from compact 0 (map event_of (take i es)) ++ (if b then i ∷ [] else [])) (ap (λ (x : Event). has_row compact (event_of x)) (sym read) ∙ left) in (
+      ap (map told) put ∙ map-append told xs [] ∙ ap (λ t. t ++ []) events
+          ∙ ap (λ t. filter (has_row compact) (map event_of (take i es)) ++ t) (row_left compact (event_of e) left) ∙ rows_more compact es i e low read,
+      ap (map (λ r. r.index)) put ∙ map-append (λ r. r.index) xs [] ∙ ap (λ t. t ++ []) places ∙ sym next,
+    )
+
+pub length_told : (rows : List Row) → length (map told rows) ≡ length rows
 length_told [] = refl
 length_told (row ∷ rows) = ap suc (length_told rows)
 
@@ -84,17 +111,29 @@ paged page rows =
     ∙ ap (take 500) (sym (drop-map told first rows))
     ∙ ap (λ (n : ℕ). take 500 (drop (first_row page n) (map told rows))) (sym (length_told rows))
 
+-- ---- pages
+
+abbrev page_by : (pitch : ℕ) (events : List ℕ) (above count : ℕ) → Page
+page_by pitch events above count = record { pitch = pitch; events = events; above = above; count = count }
+
+-- a sheet's page, by its parts
+pub page_is : (s : Sheet) (pitch : ℕ) (events : List ℕ) (above count : ℕ) → s.pitch ≡ pitch → map (λ r. r.index) s.rows.now ≡ events → s.above ≡ above → s.count ≡ count
+    → page_in s ≡ page_by pitch events above count
+page_is s pitch events above count a b c d =
+    ap (λ (n : ℕ). page_by n (map (λ r. r.index) s.rows.now) s.above s.count) a ∙ ap (λ (ns : List ℕ). page_by pitch ns s.above s.count) b
+    ∙ ap (λ (n : ℕ). page_by pitch events n s.count) c ∙ ap (λ (n : ℕ). page_by pitch events above n) d
+
 -- ---- the whole
 
 -- the document is a chart of the report
 pub chart_of : (name : ℕ → List ℕ) (root : List ℕ) (names : List (List ℕ)) (m : Manner) (r : Report) (cs : List Column) (rows : List Row) (n : ℕ) (o p : List ℕ) (width height : ℕ) {x y z w : List ℕ}
-    → map told rows ≡ shown m (report_of r) → n ≡ length rows
+    → AreColumns (report_of r) (map process_of cs) → ShowsSignals m (report_of r) (map process_of cs) x w → map told rows ≡ shown m (report_of r) → n ≡ length rows
     → o ≡ outcome_text name (outcome_of r.outcome) → p ≡ outcome_text name (outcome_of r.outcome)
     → y ≡ x ++ start_text width height
     → Draws ((root ∷ root ∷ o ∷ []) ++ ((of_columns n root names cs ++ (of_choices rows ++ of_rows name rows)) ++ twice p)) y z
     → w ≡ z ++ end_text
     → IsChart name root names m (report_of r) x w
-chart_of name root names m r cs rows n o p width height are count e e' begins d ends =
+chart_of name root names m r cs rows n o p width height all shows are count e e' begins d ends =
     let outcome = outcome_text name (outcome_of r.outcome) in
     let events = shown m (report_of r) in
     let processes = map process_of cs in
@@ -114,11 +153,17 @@ chart_of name root names m r cs rows n o p width height are count e e' begins d 
     ∙ ap (λ (t : List (List ℕ)). flat_map (process_labels (length events) root names) processes ++ (t ++ (of_rows name rows ++ twice p))) choices
     ∙ ap (λ (t : List (List ℕ)). flat_map (process_labels (length events) root names) processes ++ (flat_map choice_labels events ++ (t ++ twice p))) labels
     ∙ ap (λ (t : List ℕ). flat_map (process_labels (length events) root names) processes ++ (flat_map choice_labels events ++ (flat_map (event_labels name) events ++ twice t))) e' in
-    chart processes (whole width height begins
+    chart processes all (whole width height begins
     (renamed (ap (λ (t : List ℕ). (root ∷ root ∷ t ∷ []) ++ ((of_columns n root names cs ++ (of_choices rows ++ of_rows name rows)) ++ twice p)) e
-    ∙ ap (λ (t : List (List ℕ)). (root ∷ root ∷ outcome ∷ []) ++ t) rest) d) ends)
+    ∙ ap (λ (t : List (List ℕ)). (root ∷ root ∷ outcome ∷ []) ++ t) rest) d) ends) shows
 
 -- a chart that was made by itself, after what stands elsewhere
 pub moved : {name : ℕ → List ℕ} {root : List ℕ} {names : List (List ℕ)} {m : Manner} {r : _} {x y : List ℕ} (before after : List ℕ) → x ≡ [] → after ≡ before ++ y
     → IsChart name root names m r x y → IsChart name root names m r before after
-moved before after none e (chart processes d) = chart processes (elsewhere before after none e d)
+moved before after none e (chart processes all d shows) = chart processes all (elsewhere before after none e d) (record {
+  signals = shows.signals;
+  are = shows.are;
+  arrows = shows.arrows;
+  manner = shows.manner;
+  lines = λ i a at from to here. holds_elsewhere before after none e (shows.lines i a at from to here);
+})

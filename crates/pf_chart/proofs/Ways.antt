@@ -1,8 +1,8 @@
 -- Signals that go out and come to their ends.
-use Rattle.std.proofs.Common.{◌≡◌, ℕ, false, List, [], ◌∷◌, ◌++◌, Option, Some, None, refl, sym, ap, ◌∙◌, subst}
+use Rattle.std.proofs.Common.{◌≡◌, ℕ, ◌++◌, Option, sym, ap, ◌∙◌, subst}
 use Rattle.std.specs.Prelude.{option_to_list}
 use Rattle.std.specs.BTreeMap.{get}
-use Rattle.pf_chart.specs.Traffic.{IsDelivered, KeepsOthers, Reaches, Way, is_way, items_of, waiting, way_order}
+use Rattle.pf_chart.specs.Traffic.{IsDelivered, KeepsOthers, Reaches, Way, items_of, waiting, way_order}
 use Rattle.pf_chart.specs.declared.arrows.Arrow.{Arrow}
 use Rattle.pf_chart.specs.declared.on_way.OnWay.{OnWay}
 use Rattle.pf_chart.specs.declared.traffic.Traffic.{Traffic}

@@ -1,11 +1,17 @@
 -- What a chart shows, as its labels.
-use Rattle.std.specs.Prelude.{ℕ, zero, suc, ◌+◌, ◌-◌, ◌*◌, ◌/◌, Bool, true, false, not, ◌&&◌, nat_lt, min, if◌then◌else◌, List, [], ◌∷◌, ◌++◌, Option, Some, None, length, take, drop, flat_map, slice_index_or, codes}
+use Rattle.std.specs.Prelude.{ℕ, zero, suc, ◌-◌, ◌*◌, ◌/◌, Bool, true, false, not, ◌&&◌, nat_lt, min, if◌then◌else◌, List, [], ◌∷◌, ◌++◌, Option, Some, None, length, take, drop, flat_map, slice_index_or, codes}
 use Rattle.std.specs.List.{filter}
+use Rattle.std.specs.List.Sorted.{IsNonDecreasingBy, IsPermutation}
 use Rattle.std.specs.Fmt.{decimal}
 use Rattle.pf_model.specs.Channels.{message}
 use Rattle.pf_model.specs.Labels.{Label, delivers, took_effect, waits}
 use Rattle.pf_model.specs.Meaning.{Event, Report}
 use Rattle.pf_model.specs.Text.{label_text, outcome_text}
+use Rattle.pf_chart.specs.Lines.{HaveLines}
+use Rattle.pf_chart.specs.Processes.{Process, processes_of}
+use Rattle.pf_chart.specs.Sheets.{Page, head_rows, pitch_of}
+use Rattle.pf_chart.specs.Signals.{AreArrows, IsManner}
+use Rattle.pf_chart.specs.declared.arrows.Arrow.{Arrow}
 use Rattle.pf_chart.specs.declared.manner.Manner.{Manner}
 use Rattle.pf_chart.specs.Words.{IsDocument}
 
@@ -28,6 +34,11 @@ first_row page rows = 500 * min (page - 1) ((rows - 1) / 500)
 abbrev pub page_of : {X : Type 0} → (page : ℕ) → List X → List X
 page_of page rows = take 500 (drop (first_row page (length rows)) rows)
 
+-- the places of those that have one, among events of which the first has this number
+abbrev pub rows_from : (compact : Bool) → (event : ℕ) → List Event → List ℕ
+rows_from compact n [] = []
+rows_from compact n (e ∷ es) = if has_row compact e then n ∷ rows_from compact (suc n) es else rows_from compact (suc n) es
+
 -- the events that have a row on the page
 abbrev pub shown : Manner → Report → List Event
 shown m r = page_of m.page (filter (has_row m.compact) r.events)
@@ -41,15 +52,6 @@ twice label = label ∷ label ∷ []
 abbrev pub copies : ℕ → List (List ℕ) → List (List ℕ)
 copies zero labels = []
 copies (suc n) labels = copies n labels ++ labels
-
--- heads stand above each 40 rows, and below the last row
-abbrev pub head_rows : (rows : ℕ) → ℕ
-head_rows rows = (rows - 1) / 40 + 2
-
--- a process of the run: its pid, and by whom and in which event it was spawned; the root by none
-pub record Process : Type 0 where
-  pub pid : ℕ
-  pub spawned : Option (ℕ × ℕ)
 
 -- the name of the function in whose call a process began, by pid; empty where it isn't known
 abbrev pub name_of_start : (names : List (List ℕ)) (pid : ℕ) → List ℕ
@@ -87,7 +89,33 @@ chart_labels name root names outcome rows processes =
     ++ (flat_map (process_labels (length rows) root names) processes
     ++ (flat_map choice_labels rows ++ (flat_map (event_labels name) rows ++ twice outcome)))
 
--- after what stood there comes a chart of this report, drawn in this manner, of these processes, whose functions have these names
+-- ---- the whole
+
+-- the columns are the processes of the run, by pid
+pub record AreColumns (r : Report) (processes : List Process) : Type 0 where
+  pub all : IsPermutation (processes_of r.events) processes
+  pub by_pid : IsNonDecreasingBy (λ p. p.pid) processes
+
+-- the page that is drawn in this manner, with so many columns
+abbrev pub page_drawn : Manner → Report → (columns : ℕ) → Page
+page_drawn m r n = record {
+  pitch = pitch_of n;
+  events = rows_from m.compact 0 r.events;
+  above = first_row m.page (length (filter (has_row m.compact) r.events));
+  count = length (shown m r);
+}
+
+-- the signals of the run have their arrows, and these their lines on the page
+pub record ShowsSignals (m : Manner) (r : Report) (processes : List Process) (before after : List ℕ) : Type 0 where
+  pub signals : List Arrow
+  pub are : AreArrows r.events processes (length r.events) signals
+  pub arrows : List Arrow
+  pub manner : IsManner m.compact signals arrows
+  pub lines : HaveLines (page_drawn m r (length processes)) (length processes) arrows before after
+
+-- after what stood there comes a chart of this report, drawn in this manner, of the processes of its run, whose functions have these names
 pub data IsChart (name : ℕ → List ℕ) (root : List ℕ) (names : List (List ℕ)) (m : Manner) (r : Report) (before after : List ℕ) : Type 0 where
-  chart : (processes : List Process) → IsDocument (chart_labels name root names (outcome_text name r.outcome) (shown m r) processes) before after
+  chart : (processes : List Process) → AreColumns r processes
+      → IsDocument (chart_labels name root names (outcome_text name r.outcome) (shown m r) processes) before after
+      → ShowsSignals m r processes before after
       → IsChart name root names m r before after

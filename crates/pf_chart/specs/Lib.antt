@@ -1,4 +1,10 @@
 pub mod Chart
+pub mod Laid
+pub mod Lines
 pub mod Origins
+pub mod Pages
+pub mod Processes
+pub mod Sheets
+pub mod Signals
 pub mod Traffic
 pub mod Words

@@ -1,5 +1,5 @@
 -- The signals that are on their way while a chart is laid out, and the arrows that they have.
-use Rattle.std.specs.Prelude.{◌≡◌, ◌==◌, if◌then◌else◌, Bool, false, ℕ, List, [], Option, Some, None, ◌++◌, ◌∷◌, length, option_map, option_to_list, slice_get}
+use Rattle.std.specs.Prelude.{⊤, ◌≡◌, ◌<◌, ◌==◌, if◌then◌else◌, Bool, false, ℕ, List, [], Option, Some, None, ◌++◌, ◌∷◌, length, option_map, option_to_list, slice_get}
 use Rattle.std.specs.declared.cmp.Ordering.{Ordering}
 use Rattle.std.specs.Ordering.{is_eq, nat_cmp, ordering_then}
 use Rattle.std.specs.BTreeMap.{get}
@@ -103,3 +103,34 @@ abbrev pub IsDelivered : Way → (alone : Arrow) → (old new : Traffic) → Typ
 IsDelivered w a s t =
     (o : Option ℕ) × (waiting s.on_way w ≡ option_to_list o ++ waiting t.on_way w) × KeepsOthers w s.on_way t.on_way
     × Reaches o a s.arrows.items t.arrows.items
+
+-- ---- what one event adds
+
+-- the number of an arrow of this way that has come to no end
+abbrev pub IsOnWay : List Arrow → Way → (number : ℕ) → Type 0
+IsOnWay xs w i = (x : Arrow) × (slice_get xs i ≡ Some x) × (way_of x.from x.to x.kind ≡ w) × (x.reach ≡ reach.Nowhere)
+
+abbrev pub AllAbove : ℕ → List ℕ → Type 0
+AllAbove i [] = ⊤
+AllAbove i (j ∷ js) = (i < j) × AllAbove i js
+
+-- the numbers of such arrows, which rise
+abbrev pub AreOnWay : List Arrow → Way → (numbers : List ℕ) → Type 0
+AreOnWay xs w [] = ⊤
+AreOnWay xs w (i ∷ is) = IsOnWay xs w i × AllAbove i is × AreOnWay xs w is
+
+-- the signals that wait are arrows of their ways
+abbrev pub AreWaiting : Traffic → Type 0
+AreWaiting t = (w : Way) → AreOnWay t.arrows.items w (waiting t.on_way w)
+
+-- a process of this column sends these in this event
+abbrev pub AreSentIn : (event from : ℕ) → List Arrow → Type 0
+AreSentIn n a [] = ⊤
+AreSentIn n a (x ∷ xs) = ((b : ℕ) × (k : SignalKind) × (x ≡ sent n a b k)) × AreSentIn n a xs
+
+-- arrows of signals that it sends come after all others, and wait
+pub record Sends (n a : ℕ) (s t : Traffic) : Type 0 where
+  pub more : List Arrow
+  pub after : t.arrows.items ≡ s.arrows.items ++ more
+  pub are_sent : AreSentIn n a more
+  pub wait : AreWaiting s → AreWaiting t

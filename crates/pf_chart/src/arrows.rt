@@ -2,6 +2,7 @@
 
 ghost use Rattle.std.specs.Prelude.{◌≡◌, IsTrue};
 ghost use Rattle.pf_model.specs.Signals.{signal_of};
+ghost use Rattle.pf_chart.specs.Sheets.{event_of_reach, event_of_start};
 ghost use Rattle.pf_chart.specs.Traffic.{kind_of, number_of};
 ghost use Rattle.pf_chart.specs.Words.{is_phrase};
 
@@ -96,13 +97,17 @@ pub(crate) struct Arrow {
 
 impl Arrow {
     /// The event in which it begins.
-    pub(crate) fn beginning(&self) -> usize {
+    pub(crate) fn beginning(&self) -> usize
+        ensures { result ≡ event_of_start self.now.start }
+    {
         let (Start::In(event) | Start::Above(event)) = self.start;
         event
     }
 
     /// The event in which it ends, if it does.
-    pub(crate) fn end(&self) -> Option<usize> {
+    pub(crate) fn end(&self) -> Option<usize>
+        ensures { result ≡ event_of_reach self.now.reach }
+    {
         match self.reach {
             Reach::Taken(event) | Reach::Dropped(event) | Reach::Received(event) => Some(event),
             Reach::Nowhere | Reach::Unread => None,

@@ -1,11 +1,13 @@
 //! The document of a chart.
 
-ghost use Rattle.std.specs.Prelude.{◌≡◌, ◌++◌, ◌∷◌, [], ℕ, List, IfOk, OnErr, OnOk, IsTrue, flat_map};
+ghost use Rattle.std.specs.Prelude.{◌≡◌, ◌++◌, ◌∷◌, [], ℕ, List, IfOk, OnErr, OnOk, IsTrue, flat_map, length};
 ghost use Rattle.pf_terms.specs.Atoms.{name_of};
 ghost use Rattle.pf_model.specs.Reports.{event_of, outcome_of, report_of};
 ghost use Rattle.pf_model.specs.Text.{outcome_text};
 ghost use Rattle.pf_chart.specs.Chart.{IsChart, choice_labels, event_labels, process_labels, twice};
+ghost use Rattle.pf_chart.specs.Lines.{HaveLines};
 ghost use Rattle.pf_chart.specs.Origins.{process_of, texts};
+ghost use Rattle.pf_chart.specs.Pages.{page_in};
 ghost use Rattle.pf_chart.specs.Words.{Draws, is_phrase};
 
 use crate::events::{put_events, put_numbers};
@@ -152,12 +154,14 @@ fn put_layout(
     layout: &Layout,
     sheet: Sheet,
 ) -> Result<(), NoMemory>
-    ensures { OnOk result (Draws
+    ensures drawn { OnOk result (Draws
         (flat_map (λ c. process_labels sheet.entry.count names.entry.root.now (texts names.entry.known.now) (process_of c))
         layout.now.columns.items
         ++ (flat_map (λ r. choice_labels (event_of r.event.now)) rows.now
         ++ flat_map (λ r. event_labels (name_of atoms.now) (event_of r.event.now)) rows.now))
         svg.old svg.new) }
+    ensures lines { OnOk result (HaveLines (page_in sheet.entry) (length layout.now.columns.items)
+        layout.now.traffic.arrows.items svg.old svg.new) }
 {
     put_ground(svg, sheet)?;
     put_columns(svg, &layout.columns, names, sheet)?;

@@ -1,8 +1,10 @@
 //! Processes on the sheet: heads, lifelines and feet.
 
-ghost use Rattle.std.specs.Prelude.{◌++◌, ◌∷◌, [], IsTrue, OnOk, flat_map};
-ghost use Rattle.pf_chart.specs.Chart.{copies, head_rows, process_labels};
+ghost use Rattle.std.specs.Prelude.{◌≡◌, ◌++◌, ◌∷◌, [], IfSome, IsTrue, OnOk, flat_map};
+ghost use Rattle.pf_chart.specs.Chart.{copies, process_labels};
 ghost use Rattle.pf_chart.specs.Origins.{labels_of_origin, process_of, texts};
+ghost use Rattle.pf_chart.specs.Pages.{IsParent, page_in};
+ghost use Rattle.pf_chart.specs.Sheets.{head_rows, life_end};
 ghost use Rattle.pf_chart.specs.Words.{Draws, is_phrase};
 
 use crate::columns::{Column, column_of};
@@ -77,7 +79,9 @@ fn put_heads(svg: &mut Svg, pid: u32, origin: Origin, sheet: Sheet, x: u64) -> R
 }
 
 /// Where the lifeline ends.
-fn end(column: &Column, sheet: Sheet) -> u64 {
+fn end(column: &Column, sheet: Sheet) -> u64
+    ensures { result ≡ life_end (page_in sheet.entry) column.now.ended }
+{
     match column.ended {
         Some(row) => sheet.y(row),
         None => sheet.bottom(),
@@ -199,7 +203,9 @@ pub(crate) fn put_columns(
 }
 
 /// The column of who spawned a process, and the event in which it did, if that stands on the page.
-fn parent_of(columns: &[Column], column: &Column, sheet: Sheet) -> Option<(usize, usize)> {
+fn parent_of(columns: &[Column], column: &Column, sheet: Sheet) -> Option<(usize, usize)>
+    ensures { IfSome result (IsParent (page_in sheet.entry) columns.now column.now.spawned) }
+{
     let (parent, event) = column.spawned?;
     if sheet.side(event) != Side::Here {
         return None;

@@ -1,9 +1,9 @@
 //! The rows of a chart: which events have one, and on which page.
 
-ghost use Rattle.std.specs.Prelude.{◌≡◌, ◌≤◌, IfOk, map};
+ghost use Rattle.std.specs.Prelude.{◌≡◌, ◌≤◌, ◌++◌, ◌∷◌, [], IfOk, OnOk, if◌then◌else◌, map};
 ghost use Rattle.std.specs.List.{filter};
 ghost use Rattle.pf_model.specs.Reports.{event_of, label_of};
-ghost use Rattle.pf_chart.specs.Chart.{first_row, has_row, is_quiet, page_of};
+ghost use Rattle.pf_chart.specs.Chart.{first_row, has_row, is_quiet, page_of, rows_from};
 
 use pf_model::Signal;
 use pf_model::report::{Event, Label, Suffix};
@@ -37,20 +37,31 @@ fn has_row(compact: bool, event: &Event) -> bool
     !(compact && is_quiet(&event.label))
 }
 
+/// Puts a row behind the others, if so.
+fn put_row<'e>(rows: &mut Vec<Row<'e>>, has_row: bool, row: Row<'e>) -> Result<(), NoMemory>
+    ensures { OnOk result (rows.new.items ≡ rows.old.items ++ (if has_row then row.entry ∷ [] else [])) }
+{
+    if has_row {
+        rows.push(row)?;
+    }
+    Ok(())
+}
+
 /// The rows of all pages.
 pub(crate) fn rows_of<'e>(
     alloc: Global,
     events: &'e [Event],
     compact: bool,
 ) -> Result<Vec<Row<'e>>, NoMemory>
-    ensures { IfOk result (λ rows. map (λ r. event_of r.event.now) rows.items
+    ensures events { IfOk result (λ rows. map (λ r. event_of r.event.now) rows.items
         ≡ filter (has_row compact) (map event_of events.now)) }
+    ensures places { IfOk result (λ rows. map (λ r. r.index) rows.items
+        ≡ rows_from compact 0 (map event_of events.now)) }
 {
     let mut rows = Vec::new(alloc);
     for (index, event) in events.iter().enumerate() {
-        if has_row(compact, event) {
-            rows.push(Row { index, event })?;
-        }
+        let has_row = has_row(compact, event);
+        put_row(&mut rows, has_row, Row { index, event })?;
     }
     Ok(rows)
 }

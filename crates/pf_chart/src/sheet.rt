@@ -1,7 +1,24 @@
 //! Where columns and rows stand on the sheet, in pixels.
 
-ghost use Rattle.std.specs.Prelude.{◌≡◌, ◌≤◌};
-ghost use Rattle.pf_chart.specs.Chart.{head_rows};
+ghost use Rattle.std.specs.Prelude.{◌≡◌, length, map};
+ghost use Rattle.std.specs.List.Sorted.{IsNonDecreasingBy};
+ghost use Rattle.pf_chart.specs.Sheets.{
+  bottom,
+  column_x,
+  event_number,
+  event_y,
+  head_rows,
+  head_y,
+  pitch_of,
+  point_of,
+  row_y,
+  rows_before,
+  rows_end,
+  sheet_height,
+  sheet_width,
+  side_at,
+  side_of,
+};
 
 use crate::rows::Row;
 
@@ -54,12 +71,12 @@ pub(crate) struct Sheet<'r> {
     /// How many of them stand above the page, and how many on it.
     pub(crate) above: usize,
     pub(crate) count: usize,
+    ghost in_order: { IsNonDecreasingBy (λ r. r.index) rows.now },
 }
 
 /// How wide each column is if there are this many.
 fn pitch_of(columns: u64) -> u64
-    ensures least { NARROWEST ≤ result }
-    ensures most { result ≤ WIDEST }
+    ensures { result ≡ pitch_of columns }
 {
     if columns == 0 {
         return WIDEST;
@@ -68,14 +85,22 @@ fn pitch_of(columns: u64) -> u64
 }
 
 /// The number of an event; the first is 1.
-pub(crate) fn event_number(index: usize) -> u64 {
+pub(crate) fn event_number(index: usize) -> u64
+    ensures { result ≡ event_number index }
+{
     (index as u64).saturating_add(1)
 }
 
 impl<'r> Sheet<'r> {
+    ghost use Rattle.pf_chart.specs.Pages.{page_in};
+
     /// The sheet of a page that has so many rows below those of the pages above it.
     pub(crate) fn new(columns: usize, rows: &'r [Row<'r>], above: usize, count: usize) -> Sheet<'r>
-        ensures { result.count ≡ count }
+        requires { IsNonDecreasingBy (λ r. r.index) rows.now }
+        ensures pitch { result.pitch ≡ pitch_of columns }
+        ensures rows { result.rows.now ≡ rows.now }
+        ensures above { result.above ≡ above }
+        ensures count { result.count ≡ count }
     {
         let columns = columns as u64;
         Sheet {
@@ -87,23 +112,31 @@ impl<'r> Sheet<'r> {
         }
     }
 
-    pub(crate) fn pitch(&self) -> u64 {
+    pub(crate) fn pitch(&self) -> u64
+        ensures { result ≡ self.now.pitch }
+    {
         self.pitch
     }
 
     /// How many rows all pages have together.
-    pub(crate) fn all_rows(&self) -> usize {
+    pub(crate) fn all_rows(&self) -> usize
+        ensures { result ≡ length self.now.rows.now }
+    {
         self.rows.len()
     }
 
     /// The middle of a column.
-    pub(crate) fn x(&self, column: usize) -> u64 {
+    pub(crate) fn x(&self, column: usize) -> u64
+        ensures { result ≡ column_x self.now.pitch column }
+    {
         let left = (column as u64).saturating_mul(self.pitch);
         left.saturating_add(GUTTER + self.pitch / 2)
     }
 
     /// The middle of a row of the page.
-    pub(crate) fn row_y(&self, row: usize) -> u64 {
+    pub(crate) fn row_y(&self, row: usize) -> u64
+        ensures { result ≡ row_y row }
+    {
         let row = row as u64;
         row.saturating_mul(ROW)
             .saturating_add((row / BAND).saturating_mul(GAP))
@@ -111,15 +144,16 @@ impl<'r> Sheet<'r> {
     }
 
     /// How many rows of all pages stand above an event.
-    fn rows_before(&self, event: usize) -> usize {
-        match self.rows.binary_search_by_key(&event, |row| row.index) {
-            Ok(before) | Err(before) => before,
-        }
+    fn rows_before(&self, event: usize) -> usize
+        ensures { result ≡ rows_before (map (λ r. r.index) self.now.rows.now) event }
+    {
+        self.rows.partition_point(|row| row.index < event)
     }
 
-    /// Whether an event stands on the page, or on which side of it.
-    pub(crate) fn side(&self, event: usize) -> Side {
-        let before = self.rows_before(event);
+    /// Where an event stands above which there are so many rows.
+    fn side_at(&self, before: usize) -> Side
+        ensures { result ≡ side_at self.now.above self.now.count before }
+    {
         if before < self.above {
             Side::Above
         } else if before - self.above < self.count {
@@ -129,22 +163,36 @@ impl<'r> Sheet<'r> {
         }
     }
 
+    /// Whether an event stands on the page, or on which side of it.
+    pub(crate) fn side(&self, event: usize) -> Side
+        ensures { result ≡ side_of (page_in self.now) event }
+    {
+        self.side_at(self.rows_before(event))
+    }
+
     /// The middle of the row of an event, or of the next one if it has none; the edge of the rows if it stands on another page.
-    pub(crate) fn y(&self, event: usize) -> u64 {
-        match self.side(event) {
+    pub(crate) fn y(&self, event: usize) -> u64
+        ensures { result ≡ event_y (page_in self.now) event }
+    {
+        let before = self.rows_before(event);
+        match self.side_at(before) {
             Side::Above => TOP,
-            Side::Here => self.row_y(self.rows_before(event).saturating_sub(self.above)),
+            Side::Here => self.row_y(before.saturating_sub(self.above)),
             Side::Below => self.rows_end(),
         }
     }
 
     /// Where a column and the row of an event meet.
-    pub(crate) fn at(&self, column: usize, event: usize) -> (u64, u64) {
+    pub(crate) fn at(&self, column: usize, event: usize) -> (u64, u64)
+        ensures { result ≡ point_of (page_in self.now) column event }
+    {
         (self.x(column), self.y(event))
     }
 
     /// The lower edge of the last row.
-    pub(crate) fn rows_end(&self) -> u64 {
+    pub(crate) fn rows_end(&self) -> u64
+        ensures { result ≡ rows_end self.now.count }
+    {
         let gaps = (self.count.saturating_sub(1) as u64) / BAND;
         (self.count as u64)
             .saturating_mul(ROW)
@@ -153,7 +201,9 @@ impl<'r> Sheet<'r> {
     }
 
     /// Where lifelines end, a row below the last one.
-    pub(crate) fn bottom(&self) -> u64 {
+    pub(crate) fn bottom(&self) -> u64
+        ensures { result ≡ bottom self.now.count }
+    {
         self.rows_end().saturating_add(ROW)
     }
 
@@ -165,7 +215,9 @@ impl<'r> Sheet<'r> {
     }
 
     /// Where a row of heads begins: above the rows, between them, or below.
-    pub(crate) fn head_y(&self, index: usize) -> u64 {
+    pub(crate) fn head_y(&self, index: usize) -> u64
+        ensures { result ≡ head_y self.now.count index }
+    {
         if index == 0 {
             return HEAD_TOP;
         }
@@ -178,12 +230,16 @@ impl<'r> Sheet<'r> {
             .saturating_sub(GAP - 6)
     }
 
-    pub(crate) fn width(&self) -> u64 {
+    pub(crate) fn width(&self) -> u64
+        ensures { result ≡ sheet_width self.now.columns self.now.pitch }
+    {
         let columns = self.columns.saturating_mul(self.pitch);
         columns.saturating_add(GUTTER + MARGIN).max(NARROWEST_SHEET)
     }
 
-    pub(crate) fn height(&self) -> u64 {
+    pub(crate) fn height(&self) -> u64
+        ensures { result ≡ sheet_height self.now.count }
+    {
         self.bottom().saturating_add(BOTTOM)
     }
 }

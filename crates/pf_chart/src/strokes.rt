@@ -1,6 +1,17 @@
 //! Signals on the sheet.
 
-ghost use Rattle.std.specs.Prelude.{[], IsTrue, OnOk};
+ghost use Rattle.std.specs.Prelude.{◌≡◌, ◌<◌, ◌++◌, [], IsTrue, OnOk, length, true};
+ghost use Rattle.pf_chart.specs.Pages.{page_in};
+ghost use Rattle.pf_chart.specs.Sheets.{
+  beginning_of,
+  end_of,
+  in_the_air,
+  is_across,
+  is_here,
+  line_of,
+  path_text,
+};
+ghost use Rattle.pf_chart.specs.Lines.{HaveLines, Holds};
 ghost use Rattle.pf_chart.specs.Words.{Draws, Opens, is_phrase};
 
 use crate::arrows::{Arrow, Reach, Start};
@@ -17,7 +28,8 @@ const FALL: u64 = 20;
 
 /// Puts a line from point to point; one that ends in its own column swings out.
 fn put_path(svg: &mut Svg, from: (u64, u64), to: (u64, u64)) -> Result<(), NoMemory>
-    ensures { OnOk result (Draws [] svg.old svg.new) }
+    ensures text { OnOk result (svg.new ≡ svg.old ++ path_text from to) }
+    ensures drawn { OnOk result (Draws [] svg.old svg.new) }
 {
     if from.0 != to.0 {
         return svg.stroke(from, to);
@@ -27,7 +39,9 @@ fn put_path(svg: &mut Svg, from: (u64, u64), to: (u64, u64)) -> Result<(), NoMem
 }
 
 /// Where a signal ends that is never delivered: beside the sender on the side of the receiver, between two lifelines, a row below.
-fn in_the_air(from: (u64, u64), to: u64, pitch: u64) -> (u64, u64) {
+fn in_the_air(from: (u64, u64), to: u64, pitch: u64) -> (u64, u64)
+    ensures { result ≡ in_the_air from to pitch }
+{
     let (x, y) = from;
     let y = y.saturating_add(FALL);
     if x == to {
@@ -95,7 +109,9 @@ fn put_opening(svg: &mut Svg, arrow: &Arrow, end: &'static str) -> Result<(), No
 }
 
 /// Where an arrow begins.
-fn beginning(arrow: &Arrow, sheet: Sheet) -> (u64, u64) {
+fn beginning(arrow: &Arrow, sheet: Sheet) -> (u64, u64)
+    ensures { result ≡ beginning_of (page_in sheet.entry) arrow.now }
+{
     match arrow.start {
         Start::In(row) => sheet.at(arrow.from, row),
         Start::Above(row) => (sheet.x(arrow.from), sheet.y(row).saturating_sub(HALF_ROW)),
@@ -103,25 +119,41 @@ fn beginning(arrow: &Arrow, sheet: Sheet) -> (u64, u64) {
 }
 
 /// Where an arrow ends.
-fn end(arrow: &Arrow, sheet: Sheet) -> (u64, u64) {
+fn end(arrow: &Arrow, sheet: Sheet) -> (u64, u64)
+    ensures { result ≡ end_of (page_in sheet.entry) arrow.now }
+{
     match arrow.end() {
         Some(event) => sheet.at(arrow.to, event),
         None => in_the_air(beginning(arrow, sheet), sheet.x(arrow.to), sheet.pitch()),
     }
 }
 
+/// Whether two ends have some of the page between them.
+fn is_across(beginning: Side, end: Side) -> bool
+    ensures { result ≡ is_across beginning end }
+{
+    !matches!(
+        (beginning, end),
+        (Side::Above, Side::Above) | (Side::Below, Side::Below)
+    )
+}
+
 /// Whether something of an arrow is on the page: an end, or one end on each side of it.
-fn is_here(arrow: &Arrow, sheet: Sheet) -> bool {
-    let beginning = sheet.side(arrow.beginning());
-    match arrow.end() {
-        Some(event) => beginning == Side::Here || beginning != sheet.side(event),
-        None => beginning == Side::Here,
+fn is_here(arrow: &Arrow, sheet: Sheet) -> bool
+    ensures { result ≡ is_here (page_in sheet.entry) arrow.now }
+{
+    match (sheet.side(arrow.beginning()), arrow.end()) {
+        (Side::Here, _) => true,
+        (_, None) => false,
+        (side, Some(event)) => is_across(side, sheet.side(event)),
     }
 }
 
 /// Puts an arrow between the processes of these pids, with its kind, its processes and its end in words, if something of it is on the page.
 fn put_arrow(svg: &mut Svg, arrow: &Arrow, from: u32, to: u32, sheet: Sheet) -> Result<(), NoMemory>
-    ensures { OnOk result (Draws [] svg.old svg.new) }
+    ensures drawn { OnOk result (Draws [] svg.old svg.new) }
+    ensures line { OnOk result (is_here (page_in sheet.entry) arrow.now ≡ true
+        → Holds (line_of (page_in sheet.entry) arrow.now) svg.old svg.new) }
 {
     if !is_here(arrow, sheet) {
         return Ok(());
@@ -142,6 +174,27 @@ fn put_arrow(svg: &mut Svg, arrow: &Arrow, from: u32, to: u32, sheet: Sheet) -> 
     svg.close_group()
 }
 
+/// Puts a signal that has both of its columns.
+fn put_signal(
+    svg: &mut Svg,
+    arrow: &Arrow,
+    columns: &[Column],
+    sheet: Sheet,
+) -> Result<(), NoMemory>
+    ensures drawn { OnOk result (Draws [] svg.old svg.new) }
+    ensures line { OnOk result (arrow.now.from < length columns.now → arrow.now.to < length columns.now
+        → is_here (page_in sheet.entry) arrow.now ≡ true → Holds (line_of (page_in sheet.entry) arrow.now) svg.old svg.new) }
+{
+    let (from, to) = (arrow.from, arrow.to);
+    if from >= columns.len() {
+        return Ok(());
+    }
+    if to >= columns.len() {
+        return Ok(());
+    }
+    put_arrow(svg, arrow, columns[from].pid, columns[to].pid, sheet)
+}
+
 /// Puts all signals that have both of their columns.
 pub(crate) fn put_arrows(
     svg: &mut Svg,
@@ -149,13 +202,11 @@ pub(crate) fn put_arrows(
     columns: &[Column],
     sheet: Sheet,
 ) -> Result<(), NoMemory>
-    ensures { OnOk result (Draws [] svg.old svg.new) }
+    ensures drawn { OnOk result (Draws [] svg.old svg.new) }
+    ensures lines { OnOk result (HaveLines (page_in sheet.entry) (length columns.now) arrows.now svg.old svg.new) }
 {
     for arrow in arrows {
-        let (Some(from), Some(to)) = (columns.get(arrow.from), columns.get(arrow.to)) else {
-            continue;
-        };
-        put_arrow(svg, arrow, from.pid, to.pid, sheet)?;
+        put_signal(svg, arrow, columns, sheet)?;
     }
     Ok(())
 }

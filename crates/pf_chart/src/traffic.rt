@@ -4,13 +4,15 @@
 //! downs to who watches) or by a delivery to a process that has ended (the answer to a link or a monitor). Each delivery takes the oldest
 //! signal of its kind that is on its way between its two processes.
 
-ghost use Rattle.std.specs.Prelude.{◌≡◌, ◌++◌, ◌∷◌, [], OnOk, length};
+ghost use Rattle.std.specs.Prelude.{◌≡◌, ◌++◌, ◌∷◌, [], IfOk, OnOk, length};
 ghost use Rattle.pf_model.specs.Reports.{suffix_of};
 ghost use Rattle.pf_model.specs.Signals.{signal_of};
 ghost use Rattle.pf_chart.specs.Traffic.{
+  AreWaiting,
   IsDelivered,
   IsEnded,
   KeepsOthers,
+  Sends,
   answer_to,
   answered,
   kind_of,
@@ -61,7 +63,10 @@ fn answer_to(signal: &Signal, suffix: &Suffix) -> Option<SignalKind>
 }
 
 impl Traffic {
-    pub(crate) fn new(alloc: Global, columns: usize) -> Result<Traffic, NoMemory> {
+    pub(crate) fn new(alloc: Global, columns: usize) -> Result<Traffic, NoMemory>
+        ensures arrows { IfOk result (λ t. t.arrows.items ≡ []) }
+        ensures waiting { IfOk result AreWaiting }
+    {
         Ok(Traffic {
             arrows: Vec::new(alloc),
             on_way: OnWay::new(alloc),
@@ -75,6 +80,7 @@ impl Traffic {
         ensures last { OnOk result (waiting self.new.on_way (way_of from to kind)
             ≡ waiting self.old.on_way (way_of from to kind) ++ length self.old.arrows.items ∷ []) }
         ensures others { OnOk result (KeepsOthers (way_of from to kind) self.old.on_way self.new.on_way) }
+        ensures sends { OnOk result (Sends row from self.old self.new) }
     {
         let index = self.arrows.len();
         self.arrows.push(Arrow {
@@ -88,20 +94,41 @@ impl Traffic {
         self.on_way.put((from, to, kind.number()), index)
     }
 
-    /// A link signal goes out if the link is new, and isn't to oneself.
-    fn link(&mut self, row: usize, a: usize, b: usize) -> Result<(), NoMemory> {
-        if a != b && self.peers.tie(a, b)? {
-            self.send(row, a, b, SignalKind::Link)?;
+    /// A signal goes out if so.
+    fn send_if(
+        &mut self,
+        goes: bool,
+        row: usize,
+        from: usize,
+        to: usize,
+        kind: SignalKind,
+    ) -> Result<(), NoMemory>
+        ensures { OnOk result (Sends row from self.old self.new) }
+    {
+        if goes {
+            self.send(row, from, to, kind)
+        } else {
+            Ok(())
         }
-        Ok(())
+    }
+
+    /// A link signal goes out if the link is new, and isn't to oneself.
+    fn link(&mut self, row: usize, a: usize, b: usize) -> Result<(), NoMemory>
+        ensures { OnOk result (Sends row a self.old self.new) }
+    {
+        if a == b {
+            return Ok(());
+        }
+        let is_new = self.peers.tie(a, b)?;
+        self.send_if(is_new, row, a, b, SignalKind::Link)
     }
 
     /// An unlink signal goes out if there was a link.
-    fn unlink(&mut self, row: usize, a: usize, b: usize) -> Result<(), NoMemory> {
-        if self.peers.untie(a, b) {
-            self.send(row, a, b, SignalKind::Unlink)?;
-        }
-        Ok(())
+    fn unlink(&mut self, row: usize, a: usize, b: usize) -> Result<(), NoMemory>
+        ensures { OnOk result (Sends row a self.old self.new) }
+    {
+        let was_there = self.peers.untie(a, b);
+        self.send_if(was_there, row, a, b, SignalKind::Unlink)
     }
 
     /// What a process does to another. No signal goes out to a child that is linked or watched at once.
@@ -111,7 +138,9 @@ impl Traffic {
         a: usize,
         b: usize,
         label: &Label,
-    ) -> Result<(), NoMemory> {
+    ) -> Result<(), NoMemory>
+        ensures { OnOk result (Sends row a self.old self.new) }
+    {
         match label {
             Label::Sends { .. } => self.send(row, a, b, SignalKind::Message),
             Label::Exits { .. } => self.send(row, a, b, SignalKind::Exit),
@@ -135,12 +164,9 @@ impl Traffic {
     }
 
     /// A demonitor signal goes out if the reference is active.
-    pub(crate) fn demonitor(
-        &mut self,
-        row: usize,
-        a: usize,
-        reference: u64,
-    ) -> Result<(), NoMemory> {
+    pub(crate) fn demonitor(&mut self, row: usize, a: usize, reference: u64) -> Result<(), NoMemory>
+        ensures { OnOk result (Sends row a self.old self.new) }
+    {
         match self.peers.deactivate(reference, a) {
             Some(b) => self.send(row, a, b, SignalKind::Demonitor),
             None => Ok(()),
@@ -209,8 +235,9 @@ impl Traffic {
         signal: &Signal,
         suffix: &Suffix,
     ) -> Result<(), NoMemory>
-        ensures { OnOk result (self.new.arrows.items
+        ensures answered { OnOk result (self.new.arrows.items
             ≡ answered row to from (answer_to (signal_of signal.now) (suffix_of suffix.now)) self.old.arrows.items) }
+        ensures sends { OnOk result (Sends row to self.old self.new) }
     {
         match answer_to(signal, suffix) {
             Some(kind) => self.send(row, to, from, kind),
@@ -232,19 +259,17 @@ impl Traffic {
     ) -> Result<(), NoMemory>
         ensures { OnOk result ((t : Traffic) × IsDelivered (way_of from to (kind_of (signal_of signal.now)))
             (untold row from to (kind_of (signal_of signal.now)) (reach_of (suffix_of suffix.now) row)) self.old t
-            × (self.new.arrows.items ≡ answered row to from (answer_to (signal_of signal.now) (suffix_of suffix.now)) t.arrows.items)) }
+            × (self.new.arrows.items ≡ answered row to from (answer_to (signal_of signal.now) (suffix_of suffix.now)) t.arrows.items)
+            × Sends row to t self.new) }
     {
         self.arrive(row, from, to, SignalKind::of(signal), reach_of(suffix, row))?;
         self.settle(row, from, to, signal, suffix)
     }
 
     /// An exit goes to each that is linked.
-    fn send_exits(
-        &mut self,
-        row: usize,
-        a: usize,
-        links: &BTreeSet<usize>,
-    ) -> Result<(), NoMemory> {
+    fn send_exits(&mut self, row: usize, a: usize, links: &BTreeSet<usize>) -> Result<(), NoMemory>
+        ensures { OnOk result (Sends row a self.old self.new) }
+    {
         for linked in links.iter() {
             self.send(row, a, *linked, SignalKind::Exit)?;
         }
@@ -252,7 +277,9 @@ impl Traffic {
     }
 
     /// A process ends: an exit goes to each that is linked, and then a down to each that watches.
-    pub(crate) fn end(&mut self, alloc: Global, row: usize, a: usize) -> Result<(), NoMemory> {
+    pub(crate) fn end(&mut self, alloc: Global, row: usize, a: usize) -> Result<(), NoMemory>
+        ensures { OnOk result (Sends row a self.old self.new) }
+    {
         let Some((links, watchers)) = self.peers.end(alloc, a) else {
             return Ok(());
         };

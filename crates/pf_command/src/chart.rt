@@ -1,12 +1,20 @@
 //! What a source is answered with of which the chart of a run is asked for.
 
-ghost use Rattle.std.specs.Prelude.{◌≡◌, ◌<◌, List, ℕ, zero, IfOk, Some};
+ghost use Rattle.std.specs.Prelude.{◌≡◌, ◌<◌, List, ℕ, zero, IfOk, Some, map};
 ghost use Rattle.pf_model.specs.Reports.{report_of};
 ghost use Rattle.pf_model.specs.Shrinking.{IsResult, by_schedule};
 ghost use Rattle.pf_sched.specs.Views.{result_of};
 ghost use Rattle.pf_command.specs.Answers.{IsModuleOf, run_args};
 ghost use Rattle.pf_cli.specs.Args.{view_of_chart_args};
-ghost use Rattle.pf_command.specs.Charts.{ChartAnswers, Draws, DrawsMeaning, DrawsRun};
+ghost use Rattle.pf_command.specs.Charts.{
+  AreNamesIn,
+  ChartAnswers,
+  Draws,
+  DrawsMeaning,
+  DrawsRun,
+  IsOfRun,
+  IsRootOf,
+};
 ghost use Rattle.pf_command.specs.Guided.{DrawnAnswers, manner_of};
 
 use crate::answer::{Answer, read_source, refused_at, refused_by_code, run_status};
@@ -15,7 +23,7 @@ use crate::serving::Answering;
 use pf_chart::{Manner, put_chart};
 use pf_cli::{ChartArgs, Edition};
 use pf_fault::{Code, NoMemory, OrNoMemory};
-use pf_model::report::{Event, Report};
+use pf_model::report::Report;
 use pf_module::ReadModule;
 use pf_request::Request;
 use pf_sched::{
@@ -25,13 +33,17 @@ use pf_standings::{KnownRun, names};
 use std::alloc::Global;
 use std::sync::Arc;
 
-/// The names of the functions in whose calls the processes of a run began, by pid, as far as they are known.
+/// The names of the functions in whose calls the processes of a run of a job began, by pid; an empty one where there is none.
 fn names_of(
     alloc: Global,
     job: &Job,
     root: &[u8],
-    events: &[Event],
-) -> Result<Vec<Vec<u8>>, NoMemory> {
+    report: &Report,
+) -> Result<Vec<Vec<u8>>, NoMemory>
+    requires root { IsRootOf job.now root.now }
+    requires run { IsOfRun job.now.asked (report_of report.now) }
+    ensures { IfOk result (λ v. AreNamesIn job.now.asked (report_of report.now) (map (λ name. name.items) v.items)) }
+{
     let module = job.module();
     let Some(root) = module.root(root) else {
         return Ok(Vec::new(alloc));
@@ -41,7 +53,7 @@ fn names_of(
         root,
         edition: job.edition(),
         limit: job.limit(),
-        events,
+        events: report.events.as_slice(),
     };
     names(alloc, &run)
 }
@@ -54,9 +66,11 @@ fn draw_run(
     manner: Manner,
     run: &Report,
 ) -> Result<Answer, NoMemory>
-    ensures { IfOk result (DrawsRun job.now.asked.code.atoms root.now manner (report_of run.now)) }
+    requires root { IsRootOf job.now root.now }
+    requires run { IsOfRun job.now.asked (report_of run.now) }
+    ensures { IfOk result (DrawsRun job.now.asked root.now manner (report_of run.now)) }
 {
-    let names = names_of(alloc, job, root, run.events.as_slice())?;
+    let names = names_of(alloc, job, root, run)?;
     let mut text = Vec::new(alloc);
     let atoms = job.module().atoms();
     put_chart(alloc, &mut text, atoms, root, names.as_slice(), run, manner)?;
@@ -66,7 +80,8 @@ fn draw_run(
 
 /// The chart of a job that is one run, which is made with its events.
 fn draw_one_run(alloc: Global, root: &[u8], manner: Manner, job: &Job) -> Result<Answer, NoMemory>
-    requires { job.now.asked.runs ≡ zero }
+    requires runs { job.now.asked.runs ≡ zero }
+    requires root { IsRootOf job.now root.now }
     ensures { IfOk result (DrawsMeaning job.now.asked root.now manner) }
 {
     let run = report_of_run(alloc, job, &mut Scratch::new(alloc))?;
@@ -81,6 +96,7 @@ fn draw_by_schedule(
     job: &Job,
     schedule: &[u32],
 ) -> Result<Answer, NoMemory>
+    requires { IsRootOf job.now root.now }
     ensures { IfOk result (DrawsMeaning (by_schedule job.now.asked schedule.now) root.now manner) }
 {
     let run = report_by_schedule(alloc, job, schedule, &mut Scratch::new(alloc))?;
@@ -96,6 +112,7 @@ fn draw_result(
     came: &JobResult,
 ) -> Result<Answer, NoMemory>
     requires shrinks { 0 < job.now.asked.runs }
+    requires root { IsRootOf job.now root.now }
     requires result { IsResult job.now.asked (result_of came.now) }
     ensures { IfOk result (λ a. Draws root.now manner job.now a.text.items a.status) }
 {
@@ -113,7 +130,8 @@ fn draw_finished(
     manner: Manner,
     finished: &Finished,
 ) -> Result<Answer, NoMemory>
-    requires { 0 < finished.now.job.asked.runs }
+    requires shrinks { 0 < finished.now.job.asked.runs }
+    requires root { IsRootOf finished.now.job root.now }
     ensures { IfOk result (λ a. Draws root.now manner finished.now.job a.text.items a.status) }
 {
     match finished.result() {
@@ -124,7 +142,8 @@ fn draw_finished(
 
 /// The chart of a shrinking, which is run to its end.
 fn draw_shrinking(alloc: Global, root: &[u8], manner: Manner, job: Job) -> Result<Answer, NoMemory>
-    requires { 0 < job.asked.runs }
+    requires shrinks { 0 < job.asked.runs }
+    requires root { IsRootOf job root.now }
     ensures { IfOk result (λ a. Draws root.now manner job a.text.items a.status) }
 {
     let job = Arc::new(alloc, job)?;
@@ -134,6 +153,7 @@ fn draw_shrinking(alloc: Global, root: &[u8], manner: Manner, job: Job) -> Resul
 
 /// The chart of a job.
 fn draw_job(alloc: Global, root: &[u8], manner: Manner, job: Job) -> Result<Answer, NoMemory>
+    requires { IsRootOf job root.now }
     ensures { IfOk result (λ a. Draws root.now manner job a.text.items a.status) }
 {
     if job.runs() > 0 {

@@ -1,6 +1,7 @@
 use Rattle.std.proofs.Common.{ℕ, List, ◌++◌, ap}
 use Rattle.std.proofs.lemmas.Result.{on_ok_weaker}
-use Rattle.pf_chart.specs.Chart.{copies, head_rows}
+use Rattle.pf_chart.specs.Chart.{copies}
+use Rattle.pf_chart.specs.Sheets.{head_rows}
 use Rattle.pf_svg.proofs.Drawn.{grouped, in_turn, plainly, renamed, to_close}
 use Rattle.pf_chart.proofs.heads.put_column.Goals as goal
 

@@ -1,13 +1,20 @@
+use Rattle.std.proofs.Common.{inr}
 use Rattle.std.proofs.lemmas.Result.{IfOk-weaker}
 use Rattle.pf_model.specs.Reports.{report_of}
 use Rattle.pf_model.specs.Shrinking.{by_schedule}
 use Rattle.pf_command.specs.Charts.{DrawsMeaning, DrawsRun}
+use Rattle.pf_command.proofs.Drawn.{rescheduled}
 use Rattle.pf_command.proofs.chart.draw_by_schedule.Goals as goal
+
+pub draw_run-requires-clause-run : goal.draw_run-requires-clause-run
+draw_run-requires-clause-run c = inr (c.args.schedule.now, c.in_ok-run.ensures)
 
 pub returns : goal.returns
 returns c =
-    let j = by_schedule c.args.job.now.asked c.args.schedule.now in
+    let own = c.args.job.now.asked in
+    let numbers = c.args.schedule.now in
+    let j = by_schedule own numbers in
     let root = c.args.root.now in
     let run = report_of c.in_ok-run.run' in
-    IfOk-weaker c.draw_run.result (DrawsRun j.code.atoms root c.args.manner run) (DrawsMeaning j root c.args.manner)
-    (λ a drawn. (run, c.in_ok-run.ensures, drawn)) c.draw_run.ensures
+    IfOk-weaker c.draw_run.result (DrawsRun own root c.args.manner run) (DrawsMeaning j root c.args.manner)
+    (λ a drawn. (run, c.in_ok-run.ensures, (drawn.0, rescheduled own numbers run drawn.0 drawn.1, drawn.2, drawn.3))) c.draw_run.ensures

@@ -1,13 +1,18 @@
 use Rattle.std.proofs.Common.{◌≡◌, ◌<◌, ◌∙◌, IfOk, subst, sym}
 use Rattle.pf_model.specs.Shrinking.{IsResult}
 use Rattle.pf_request.specs.Job.{Job}
-use Rattle.pf_command.specs.Charts.{Draws}
+use Rattle.pf_command.specs.Charts.{Draws, IsRootOf}
 use Rattle.pf_command.proofs.chart.draw_finished.Goals as goal
 
 pub draw_result-requires-clause-shrinks : goal.draw_result-requires-clause-shrinks
 draw_result-requires-clause-shrinks c =
     let job : c.deref.result.now ≡ c.args.finished.now.job = c.deref.ensures ∙ c.job.ensures in
-    subst (λ (k : Job). 0 < k.asked.runs) (sym job) c.requires
+    subst (λ (k : Job). 0 < k.asked.runs) (sym job) c.requires.shrinks
+
+pub draw_result-requires-clause-root : goal.draw_result-requires-clause-root
+draw_result-requires-clause-root c =
+    let job : c.deref.result.now ≡ c.args.finished.now.job = c.deref.ensures ∙ c.job.ensures in
+    subst (λ (k : Job). IsRootOf k c.args.root.now) (sym job) c.requires.root
 
 pub draw_result-requires-clause-result : goal.draw_result-requires-clause-result
 draw_result-requires-clause-result c =

@@ -1,12 +1,24 @@
-use Rattle.std.proofs.Common.{◌≡◌, ◌∙◌, ap, ℕ, List, Ok, Err, subst}
+use Rattle.std.proofs.Common.{◌≡◌, ◌∙◌, ap, ℕ, List, Ok, Err, Some, subst, sym}
 use Rattle.std.proofs.lemmas.Result.{IfOk-weaker}
 use Rattle.pf_fault.specs.Codes.{code_text}
+use Rattle.pf_syntax.specs.Root.{root_of}
+use Rattle.pf_model.specs.Module.{Module}
+use Rattle.pf_explained.proofs.Telling.{from_asked}
 use Rattle.pf_sched.specs.Views.{code_of}
 use Rattle.pf_command.specs.Answers.{AsksOf, IsModuleOf, Refuses, run_args}
-use Rattle.pf_command.specs.Charts.{ChartAnswers, Draws}
+use Rattle.pf_command.specs.Charts.{ChartAnswers, Draws, IsRootOf}
 use Rattle.pf_command.proofs.Asking.{asks_in}
 use Rattle.pf_command.proofs.Rows.{row_told, row_job_refused}
 use Rattle.pf_command.proofs.chart.draw_module.Goals as goal
+
+pub draw_job-requires : goal.draw_job-requires
+draw_job-requires c =
+    let asked = run_args c.args.request.now c.args.edition in
+    let job = c.in-Ok.job in
+    let x = asks_in c.args.module c.number.result asked.edition asked.request (Ok job) c.number.ensures.number c.in-Ok.ensures in
+    let from = from_asked c.args.module asked.edition x.0 asked.request job x.2 in
+    subst (IsRootOf job) (sym c.as_slice.ensures)
+    (subst (λ (m : Module). root_of asked.request.root m.atoms m.functions ≡ Some job.asked.root) (sym from.code) from.root)
 
 pub returns-in-Ok : goal.returns-in-Ok
 returns-in-Ok c =

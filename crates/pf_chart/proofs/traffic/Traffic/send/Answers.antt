@@ -1,6 +1,7 @@
-use Rattle.std.proofs.Common.{◌≡◌, ℕ, ◌++◌, ◌∷◌, [], length, subst, arith}
+use Rattle.std.proofs.Common.{◌≡◌, ℕ, ◌++◌, ◌∷◌, [], length, subst, arith, rules}
 use Rattle.std.specs.Prelude.{OnOk}
 use Rattle.pf_chart.specs.Traffic.{KeepsOthers, waiting, way_of}
+use Rattle.pf_chart.proofs.Sending.{all_ok_then, sends_one}
 use Rattle.pf_chart.proofs.traffic.Traffic.send.Goals as goal
 
 pub returns-clause-last : goal.returns-clause-last
@@ -18,3 +19,12 @@ pub returns-clause-others : goal.returns-clause-others
 returns-clause-others c =
     let o = c.args.self.now.on_way in
     subst (λ (n : ℕ). OnOk c.put.result (KeepsOthers (c.args.from, c.args.to, n) o c.put.new.self)) c.number.ensures c.put.ensures.others
+
+pub returns-clause-arrow : goal.returns-clause-arrow
+returns-clause-arrow c = search rules
+
+pub returns-clause-sends : goal.returns-clause-sends
+returns-clause-sends c =
+    all_ok_then c.put.result
+    (λ arrow last others. sends_one c.args.row c.args.from c.args.to c.args.kind c.args.self.now _ arrow last others)
+    (returns-clause-arrow c) (returns-clause-last c) (returns-clause-others c)
