@@ -157,7 +157,7 @@ chart_of name root names m r cs rows n o p width height all shows are count e e'
     (renamed (ap (λ (t : List ℕ). (root ∷ root ∷ t ∷ []) ++ ((of_columns n root names cs ++ (of_choices rows ++ of_rows name rows)) ++ twice p)) e
     ∙ ap (λ (t : List (List ℕ)). (root ∷ root ∷ outcome ∷ []) ++ t) rest) d) ends) shows
 
--- a chart that was made by itself, after what stands elsewhere
+-- a chart that was made by itself, after what is elsewhere
 pub moved : {name : ℕ → List ℕ} {root : List ℕ} {names : List (List ℕ)} {m : Manner} {r : _} {x y : List ℕ} (before after : List ℕ) → x ≡ [] → after ≡ before ++ y
     → IsChart name root names m r x y → IsChart name root names m r before after
 moved before after none e (chart processes all d shows) = chart processes all (elsewhere before after none e d) (record {

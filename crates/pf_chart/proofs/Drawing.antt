@@ -21,7 +21,7 @@ use Rattle.pf_chart.proofs.Sending.{Tells, at_seam, one_ends, other_stays, stays
 
 -- ---- arrows by their columns and kinds
 
--- the kinds are told apart by their numbers
+-- the kinds differ by their numbers
 abbrev kind_at : ℕ → SignalKind
 kind_at n =
     if n == 0 then kind.Message
@@ -44,7 +44,7 @@ number_back kind.Exit = refl
 same_kind : (a b c d : ℕ) (k l : SignalKind) → way_of a b k ≡ way_of c d l → k ≡ l
 same_kind a b c d k l e = sym (number_back k) ∙ ap (λ (w : Way). kind_at w.2) e ∙ number_back l
 
--- the same signal, whatever it comes to
+-- the same signal, however it ends
 alike : (ps : List Process) (a b : Arrow) (x : Suffix) (e : Event) → b.kind ≡ a.kind → b.from ≡ a.from → b.to ≡ a.to → Delivers ps a x e → Delivers ps b x e
 alike ps a b x e kinds froms tos d = record {
   from = d.from;
@@ -129,7 +129,7 @@ module _ (es : List Event) (ps : List Process) where
 
   -- ---- what is delivered
 
-  -- an arrow that comes to its end is one still
+  -- an arrow that ends is one still
   ended_is : (a : Arrow) (x : Suffix) (n : ℕ) (b : Arrow) → b ≡ record a { reach = reach_of x n } → IsDeliveredIn es ps a x n → IsArrow es ps a → IsArrow es ps b
   ended_is a x n b is d h =
       let c : Arrow = record a { reach = reach_of x n } in

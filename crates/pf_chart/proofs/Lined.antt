@@ -1,4 +1,4 @@
--- Texts that stand in a document stay where they are.
+-- Texts that are in a document stay where they are.
 use Rattle.std.proofs.Common.{◌≡◌, ◌+◌, ◌<◌, ◌≤◌, inl, inr, ℕ, true, List, [], ◌++◌, Some, length, get_or, sym, ap, ◌∙◌, subst, append_assoc, append-nil, arith}
 use Rattle.std.specs.Prelude.{flat_map, slice_get}
 use Rattle.std.proofs.lemmas.Bool.Decides.{eqb_tells}
@@ -33,11 +33,11 @@ closed_grows ls x y d = grows_from (d [])
 pub grown_on : {x y z : List ℕ} → Grows x y → Grows y z → Grows x z
 grown_on {x} {y} {z} a b = record { more = a.more ++ b.more; is = b.is ∙ ap (λ (t : List ℕ). t ++ b.more) a.is ∙ append_assoc x a.more b.more }
 
--- a text that is put stands there
+-- a text that is put is there
 pub holds_put : (text x y : List ℕ) → y ≡ x ++ text → Holds text x y
 holds_put text x y e = record { front = []; behind = []; is = e ∙ ap (λ (t : List ℕ). x ++ t) (sym (append-nil text)) }
 
--- it stands there still when more is put behind it
+-- it is there still when more is put after it
 pub holds_then : {text x y z : List ℕ} → Holds text x y → Grows y z → Holds text x z
 holds_then {text} {x} {y} {z} h g = record {
   front = h.front;
@@ -46,7 +46,7 @@ holds_then {text} {x} {y} {z} h g = record {
       ∙ ap (λ (t : List ℕ). x ++ t) (append_assoc h.front (text ++ h.behind) g.more ∙ ap (λ (t : List ℕ). h.front ++ t) (append_assoc text h.behind g.more));
 }
 
--- and where more stood in front of it
+-- and where more was before it
 pub then_holds : {text x y z : List ℕ} → Grows x y → Holds text y z → Holds text x z
 then_holds {text} {x} {y} {z} g h = record {
   front = g.more ++ h.front;
@@ -55,7 +55,7 @@ then_holds {text} {x} {y} {z} g h = record {
       ∙ ap (λ (t : List ℕ). x ++ t) (sym (append_assoc g.more h.front (text ++ h.behind)));
 }
 
--- a document that was made by itself, after what stands elsewhere
+-- a document that was made by itself, after what is elsewhere
 pub holds_elsewhere : {text x y : List ℕ} (before after : List ℕ) → x ≡ [] → after ≡ before ++ y → Holds text x y → Holds text before after
 holds_elsewhere {text} {x} {y} before after none e h = record {
   front = h.front;
@@ -86,7 +86,7 @@ lines_next p n k arrows d {x} {y} {z} lines low before after one i b less is fro
 pub lines_all : (p : Page) (n k : ℕ) (arrows : List Arrow) {x y : List ℕ} → HaveLinesTo p n k arrows x y → length arrows ≤ k → HaveLines p n arrows x y
 lines_all p n k arrows lines all i a is from to here = lines i a (omega (arith, all, slice_get_within arrows i a is)) is from to here
 
--- they have them where more stands around
+-- they have them where more is around
 pub lines_within : (p : Page) (n : ℕ) (arrows : List Arrow) {x y z v : List ℕ} → Grows x y → HaveLines p n arrows y z → Grows z v → HaveLines p n arrows x v
 lines_within p n arrows before lines after i a is from to here = then_holds before (holds_then (lines i a is from to here) after)
 

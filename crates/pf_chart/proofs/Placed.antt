@@ -1,4 +1,4 @@
--- Rows stand in the order of their events, and those before an event are counted.
+-- Rows are in the order of their events, and those before an event are counted.
 use Rattle.std.proofs.Common.{◌≡◌, ◌+◌, ◌<◌, ◌≤◌, ℕ, zero, suc, Bool, true, false, cond, List, [], ◌∷◌, ◌++◌, length, take, get_or, map, sym, ap, ◌∙◌, subst, arith}
 use Rattle.std.specs.Prelude.{if◌then◌else◌, nat_lt}
 use Rattle.std.specs.List.Sorted.{IsNonDecreasingBy, IsPartitionPoint}
@@ -13,7 +13,7 @@ use Rattle.pf_chart.specs.declared.rows.Row.{Row}
 abbrev places : List Row → List ℕ
 places rows = map (λ r. r.index) rows
 
--- ---- how many stand before an event
+-- ---- how many are before an event
 
 next : (n e : ℕ) (ns : List ℕ) → rows_before (n ∷ ns) e ≡ cond (nat_lt n e) 1 0 + rows_before ns e
 next n e ns = sum_by-cons (λ k. cond (nat_lt k e) 1 0) n ns

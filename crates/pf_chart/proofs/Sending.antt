@@ -62,7 +62,7 @@ pub at_seam : {X : Type 0} (xs : List X) (x : X) (more : List X) → slice_get (
 at_seam [] x more = refl
 at_seam (y ∷ xs) x more = at_seam xs x more
 
--- all but the arrow that comes to its end stay
+-- all but the arrow that ends stay
 pub other_stays : (j : ℕ) (r : Reach) (xs ys : List Arrow) → IsEnded j r xs ys → (i : ℕ) (x : Arrow) → slice_get xs i ≡ Some x → (i ≡ j → ⊥) → slice_get ys i ≡ Some x
 other_stays j r xs ys h i x at other =
     let within : i < length ys = omega (arith, h.0, slice_get_within xs i x at) in
@@ -105,7 +105,7 @@ on_way_push xs x w (i ∷ is) way ends (one, above, rest) = (
   on_way_push xs x w is way ends rest,
 )
 
--- none of them comes to its end
+-- none of them ends
 on_way_besides : (j : ℕ) (r : Reach) (xs ys : List Arrow) → IsEnded j r xs ys → (w : Way) (is : List ℕ) → AreOnWay xs w is
     → ((i : ℕ) → IsOnWay xs w i → i ≡ j → ⊥) → AreOnWay ys w is
 on_way_besides j r xs ys h w [] are others = tt

@@ -1,4 +1,4 @@
--- Signals that go out and come to their ends.
+-- Signals that go out and end.
 use Rattle.std.proofs.Common.{◌≡◌, ℕ, ◌++◌, Option, sym, ap, ◌∙◌, subst}
 use Rattle.std.specs.Prelude.{option_to_list}
 use Rattle.std.specs.BTreeMap.{get}
@@ -14,7 +14,7 @@ same_waiting o p w e = ap (λ ws. items_of (λ q. q.items) (get way_order ws w))
 pub same_others : (o p : OnWay) (w : Way) → p.ways ≡ o.ways → KeepsOthers w o p
 same_others o p w e = λ v h. same_waiting o p v e
 
--- a signal of a way was taken, and its arrow came to its end
+-- a signal of a way was taken, and its arrow ended
 pub delivered : (w : Way) (a : Arrow) (s t : Traffic) (o : Option ℕ) (p : OnWay) → waiting s.on_way w ≡ option_to_list o ++ waiting p w
     → KeepsOthers w s.on_way p → t.on_way ≡ p → Reaches o a s.arrows.items t.arrows.items → IsDelivered w a s t
 delivered w a s t o p first others same reaches = (

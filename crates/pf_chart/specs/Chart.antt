@@ -57,7 +57,7 @@ copies (suc n) labels = copies n labels ++ labels
 abbrev pub name_of_start : (names : List (List ℕ)) (pid : ℕ) → List ℕ
 name_of_start names pid = slice_index_or names pid []
 
--- a process shows this name, where it is known; else the root function, unless it tells who spawned it
+-- a process shows this name, where it is known; else the root function, unless it says who spawned it
 abbrev pub name_or_root : (root name : List ℕ) → Option (ℕ × ℕ) → List (List ℕ)
 name_or_root root [] None = root ∷ []
 name_or_root root [] (Some spawned) = []
@@ -81,8 +81,8 @@ choice_labels e = if nat_lt 0 e.choice then choice_text e ∷ [] else []
 abbrev pub event_labels : (name : ℕ → List ℕ) → Event → List (List ℕ)
 event_labels name e = twice (label_text name e.label)
 
--- all labels in their order: the root function in the title; this and the outcome in the words on the document; those of each process; the
--- choices above 0; the label of each event; and the outcome
+-- all labels in their order: the root function in the title; this and the outcome in the words on the document; those
+-- of each process; the choices above 0; the label of each event; and the outcome
 abbrev pub chart_labels : (name : ℕ → List ℕ) (root : List ℕ) (names : List (List ℕ)) (outcome : List ℕ) (rows : List Event) (processes : List Process) → List (List ℕ)
 chart_labels name root names outcome rows processes =
     (root ∷ root ∷ outcome ∷ [])
@@ -113,7 +113,8 @@ pub record ShowsSignals (m : Manner) (r : Report) (processes : List Process) (be
   pub manner : IsManner m.compact signals arrows
   pub lines : HaveLines (page_drawn m r (length processes)) (length processes) arrows before after
 
--- after what stood there comes a chart of this report, drawn in this manner, of the processes of its run, whose functions have these names
+-- after what was there comes a chart of this report, drawn in this manner, of the processes of its run, whose functions
+-- have these names
 pub data IsChart (name : ℕ → List ℕ) (root : List ℕ) (names : List (List ℕ)) (m : Manner) (r : Report) (before after : List ℕ) : Type 0 where
   chart : (processes : List Process) → AreColumns r processes
       → IsDocument (chart_labels name root names (outcome_text name r.outcome) (shown m r) processes) before after

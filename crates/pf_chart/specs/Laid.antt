@@ -27,7 +27,7 @@ abbrev pub delivery_in : Label → Option (Signal × Suffix)
 delivery_in (delivers signal x) = Some (signal, x)
 delivery_in l = None
 
--- a signal that is delivered between two columns comes to its end, and then the receiver sends what it does
+-- a signal that is delivered between two columns ends, and then the receiver sends what it does
 abbrev pub IsCarried : (event from to : ℕ) → Option (Signal × Suffix) → (old new : Traffic) → Type 0
 IsCarried n a b None s u = Sends n b s u
 IsCarried n a b (Some d) s u =

@@ -12,7 +12,7 @@ use Rattle.pf_chart.specs.declared.origin.Origin.TheVariants.{Root, Named, Unnam
 abbrev pub process_of : Column → Process
 process_of c = record { pid = c.pid; spawned = c.spawned }
 
--- the label that an origin tells
+-- the label that an origin shows
 abbrev pub labels_of_origin : Origin → List (List ℕ)
 labels_of_origin (Root name) = name.now ∷ []
 labels_of_origin (Named name parent event) = name.now ∷ []

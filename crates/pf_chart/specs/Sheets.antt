@@ -1,4 +1,4 @@
--- Where things stand on the sheet, in pixels.
+-- Where things are on the sheet, in pixels.
 use Rattle.std.specs.Prelude.{◌+◌, ◌-◌, ◌*◌, ◌/◌, ◌^◌, ◌==◌, ℕ, Bool, true, false, nat_lt, min, max, if◌then◌else◌, List, Option, Some, None}
 use Rattle.std.specs.List.{count_by}
 use Rattle.pf_svg.specs.Document.{curve_text, stroke_text}
@@ -12,7 +12,7 @@ use Rattle.pf_chart.specs.declared.sheet.Side.TheVariants as side
 
 -- ---- columns and rows
 
--- a coordinate that would be past the largest number stands at it
+-- a coordinate that would be past the largest number is at it
 abbrev pub edge : ℕ → ℕ
 edge n = min n (2 ^ 64 - 1)
 
@@ -24,7 +24,7 @@ pitch_of n = if n == 0 then 200 else min (max (1600 / n) 64) 200
 abbrev pub column_x : (pitch column : ℕ) → ℕ
 column_x pitch column = edge (edge (column * pitch) + (80 + pitch / 2))
 
--- the middle of a row of the page; heads stand above each 40 rows
+-- the middle of a row of the page; heads are above each 40 rows
 abbrev pub row_y : (row : ℕ) → ℕ
 row_y row = edge (edge (edge (row * 26) + edge (row / 40 * 52)) + (64 + 13))
 
@@ -35,7 +35,7 @@ rows_end count = edge (edge (edge (count * 26) + edge ((count - 1) / 40 * 52)) +
 abbrev pub bottom : (count : ℕ) → ℕ
 bottom count = edge (rows_end count + 26)
 
--- heads stand above each 40 rows, and below the last row
+-- heads are above each 40 rows, and below the last row
 abbrev pub head_rows : (rows : ℕ) → ℕ
 head_rows rows = (rows - 1) / 40 + 2
 
@@ -59,25 +59,25 @@ event_number index = edge (index + 1)
 
 -- ---- events on a page
 
--- a page: how wide its columns are, the events that have rows, of all pages, and how many rows stand above it and on it
+-- a page: how wide its columns are, the events that have rows, of all pages, and how many rows are above it and on it
 pub record Page : Type 0 where
   pub pitch : ℕ
   pub events : List ℕ
   pub above : ℕ
   pub count : ℕ
 
--- how many rows of all pages stand before an event
+-- how many rows of all pages are before an event
 abbrev pub rows_before : (events : List ℕ) → (event : ℕ) → ℕ
 rows_before events e = count_by (λ n. nat_lt n e) events
 
--- an event before which so many rows stand is on the page, or on one side of it
+-- an event before which so many rows are is on the page, or on one side of it
 abbrev pub side_at : (above count n : ℕ) → Side
 side_at above count n = if nat_lt n above then side.Above else (if nat_lt (n - above) count then side.Here else side.Below)
 
 abbrev pub side_of : Page → (event : ℕ) → Side
 side_of p e = side_at p.above p.count (rows_before p.events e)
 
--- it stands in the middle of its row, or at the edge of the rows if it is on another page
+-- it is in the middle of its row, or at the edge of the rows if it is on another page
 abbrev pub y_on : (above count n : ℕ) → Side → ℕ
 y_on above count n side.Above = 64
 y_on above count n side.Here = row_y (n - above)

@@ -1,4 +1,5 @@
--- Which signals a chart shows: each as an arrow from the mark of the event that sends it to that of the event that delivers it.
+-- Which signals a chart shows: each as an arrow from the mark of the event that sends it to that of the event that
+-- delivers it.
 use Rattle.std.specs.Prelude.{◌≡◌, ◌<◌, ℕ, Bool, true, false, List, Option, Some, length, slice_get}
 use Rattle.pf_model.specs.Channels.{Signal}
 use Rattle.pf_model.specs.Labels.{Suffix, delivers}
@@ -23,7 +24,8 @@ abbrev pub marked : Actor → ℕ
 marked (process p) = p
 marked (channel p q) = q
 
--- an event delivers a signal with this suffix, which is of the kind of an arrow and goes between the processes of its columns
+-- an event delivers a signal with this suffix, which is of the kind of an arrow and goes between the processes of its
+-- columns
 pub record Delivers (ps : List Process) (a : Arrow) (suffix : Suffix) (e : Event) : Type 0 where
   pub from : ℕ
   pub to : ℕ
@@ -59,7 +61,7 @@ pub record AreArrows (es : List Event) (ps : List Process) (count : ℕ) (arrows
       → e.actor ≡ channel p q → e.label ≡ delivers signal x → HasPid ps i p → HasPid ps j q
       → (k : ℕ) × (a : Arrow) × (slice_get arrows k ≡ Some a) × Delivers ps a x e × (a.reach ≡ reach_of x n)
 
--- what a message that was delivered in this event comes to, where these are the events that take messages
+-- what a message that was delivered in this event becomes, where these are the events that take messages
 abbrev pub reach_by : Option (Option ℕ) → Reach
 reach_by (Some (Some n)) = reach.Received n
 reach_by o = reach.Unread

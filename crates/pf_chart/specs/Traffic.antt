@@ -62,7 +62,7 @@ kind_of (exit by_link v) = kind.Exit
 
 -- ---- arrows
 
--- how a signal comes to its end that is delivered in this event
+-- how a signal ends that is delivered in this event
 abbrev pub reach_of : Suffix → (event : ℕ) → Reach
 reach_of no_process n = reach.Dropped n
 reach_of dropped n = reach.Dropped n
@@ -74,7 +74,7 @@ reach_of (ending_with r) n = reach.Taken n
 abbrev pub sent : (event from to : ℕ) → SignalKind → Arrow
 sent n a b k = record { kind = k; from = a; to = b; start = start.In n; reach = reach.Nowhere; chosen = false }
 
--- a signal that came to its end in this event, of which no event tells that it was sent
+-- a signal that ended in this event, of which no event shows that it was sent
 abbrev pub untold : (event from to : ℕ) → SignalKind → Reach → Arrow
 untold n a b k r = record { kind = k; from = a; to = b; start = start.Above n; reach = r; chosen = false }
 
@@ -88,7 +88,7 @@ answer_to signal suffix = None
 abbrev pub answered : (event from to : ℕ) → Option SignalKind → List Arrow → List Arrow
 answered n a b o xs = xs ++ option_to_list (option_map (sent n a b) o)
 
--- the arrow of this number comes to its end, and all others stay
+-- the arrow of this number ends, and all others stay
 abbrev pub IsEnded : (number : ℕ) → Reach → (old new : List Arrow) → Type 0
 IsEnded i r xs ys =
     (length ys ≡ length xs)
@@ -98,7 +98,8 @@ abbrev pub Reaches : Option ℕ → (alone : Arrow) → (old new : List Arrow) �
 Reaches None a xs ys = ys ≡ xs ++ a ∷ []
 Reaches (Some i) a xs ys = IsEnded i a.reach xs ys
 
--- a signal of a way is delivered: the oldest that waits goes, and its arrow comes to this end; where none waits there is an arrow for the delivery alone
+-- a signal of a way is delivered: the oldest that waits goes, and its arrow comes to this end; where none waits there
+-- is an arrow for the delivery alone
 abbrev pub IsDelivered : Way → (alone : Arrow) → (old new : Traffic) → Type 0
 IsDelivered w a s t =
     (o : Option ℕ) × (waiting s.on_way w ≡ option_to_list o ++ waiting t.on_way w) × KeepsOthers w s.on_way t.on_way
@@ -106,7 +107,7 @@ IsDelivered w a s t =
 
 -- ---- what one event adds
 
--- the number of an arrow of this way that has come to no end
+-- the number of an arrow of this way that has not ended
 abbrev pub IsOnWay : List Arrow → Way → (number : ℕ) → Type 0
 IsOnWay xs w i = (x : Arrow) × (slice_get xs i ≡ Some x) × (way_of x.from x.to x.kind ≡ w) × (x.reach ≡ reach.Nowhere)
 

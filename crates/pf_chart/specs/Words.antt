@@ -50,21 +50,22 @@ phrases =
 abbrev pub words : List (List ℕ)
 words = markup ++ attributes ++ classes ++ outlines ++ phrases ++ STYLE.now ∷ DEFINITIONS.now ∷ []
 
--- a word that stands as text, or in an attribute's quotes
+-- a word that is text, or in an attribute's quotes
 abbrev pub is_phrase : List ℕ → Bool
 is_phrase w = is_phrase_of words w
 
--- after what stood there comes what has these labels in their order, each escaped, and for the rest words of a chart and numbers
+-- after what was there comes what has these labels in their order, each escaped, and for the rest words of a chart and
+-- numbers
 abbrev pub Draws : (labels : List (List ℕ)) (before after : List ℕ) → Type 0
 Draws labels before after = DrawsIn words labels before after
 
--- the same, and behind it a group is open, or closed
+-- the same, and after it a group is open, or closed
 abbrev pub Opens : (labels : List (List ℕ)) (before after : List ℕ) → Type 0
 Opens labels before after = OpensIn words (codes "g") labels before after
 
 abbrev pub Closes : (labels : List (List ℕ)) (before after : List ℕ) → Type 0
 Closes labels before after = ClosesIn words (codes "g") labels before after
 
--- after what stood there comes a whole document with these labels
+-- after what was there comes a whole document with these labels
 abbrev pub IsDocument : (labels : List (List ℕ)) (before after : List ℕ) → Type 0
 IsDocument labels before after = IsDocumentIn words labels before after

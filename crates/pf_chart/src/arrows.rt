@@ -65,15 +65,16 @@ impl SignalKind {
     }
 }
 
-/// Where an arrow begins: in the row of the event that sent the signal, or, if no event tells of it, just above its delivery.
+/// Where an arrow begins: in the row of the event that sent the signal, or, if no event shows it, just above its
+/// delivery.
 #[derive(Clone, Copy)]
 pub(crate) enum Start {
     In(usize),
     Above(usize),
 }
 
-/// Where an arrow ends: nowhere, or at the delivery, at which the signal may have been dropped. In a compact chart a message that comes into a
-/// mailbox ends at the event that takes it, or nowhere if none does.
+/// Where an arrow ends: nowhere, or at the delivery, at which the signal may have been dropped. In a compact chart a
+/// message that comes into a mailbox ends at the event that takes it, or nowhere if none does.
 #[derive(Clone, Copy)]
 pub(crate) enum Reach {
     Nowhere,

@@ -198,9 +198,9 @@ fn put_document(
     svg.close()
 }
 
-/// Puts a report of a run from the function `root` as a message sequence chart: a whole SVG document, after what stood there. The names
-/// tell by pid in whose call each process began, as `counter/1`; it isn't known where a name is empty or isn't there. If memory runs out,
-/// nothing is put.
+/// Puts a report of a run from the function `root` as a message sequence chart: a whole SVG document, after what was
+/// there. The names say by pid in whose call each process began, as `counter/1`; it isn't known where a name is empty
+/// or isn't there. If memory runs out, nothing is put.
 pub fn put_chart(
     alloc: Global,
     out: &mut Vec<u8>,

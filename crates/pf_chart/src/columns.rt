@@ -50,7 +50,7 @@ fn made_column(pid: u32, spawned: Option<(u32, usize)>) -> Column
     }
 }
 
-/// Which column a process has; columns stand by rising pid.
+/// Which column a process has; columns are by rising pid.
 pub(crate) fn column_of(columns: &[Column], pid: u32) -> Option<usize>
     ensures found { IfSome result (λ i. (i < length columns.now) × HoldsAt (λ c. c.pid ≡ pid) columns.now i) }
     ensures missing { result ≡ None → IsNonDecreasingBy (λ c. c.pid) columns.now → All (λ c. c.pid ≢ pid) columns.now }

@@ -67,8 +67,8 @@ pub(crate) fn put_numbers(
     Ok(())
 }
 
-/// The column in which an event has its mark: that of who acts, or of the receiver of a signal. No run has a process that was never
-/// spawned; its events stand in the first column.
+/// The column in which an event has its mark: that of who acts, or of the receiver of a signal. No run has a process
+/// that was never spawned; its events are in the first column.
 fn column_of_actor(columns: &[Column], actor: Actor) -> usize
     ensures { IsMarkedIn columns.now (marked (actor_of actor)) result }
 {
@@ -76,14 +76,14 @@ fn column_of_actor(columns: &[Column], actor: Actor) -> usize
     column_of(columns, pid).unwrap_or(0)
 }
 
-/// What the class of an event tells of its choice.
+/// What the class of an event says of its choice.
 fn class_of_choice(event: &Event) -> &'static str
     ensures { IsTrue (is_phrase result.now) }
 {
     if event.choice == 0 { "" } else { " chosen" }
 }
 
-/// Puts the beginning of an event of a kind, which stands at a point.
+/// Puts the beginning of an event of a kind, which is at a point.
 fn put_opening(svg: &mut Svg, row: &Row, at: (u64, u64), kind: &'static str) -> Result<(), NoMemory>
     requires { IsTrue (is_phrase kind.now) }
     ensures { OnOk result (Opens [] svg.old svg.new) }

@@ -88,7 +88,8 @@ fn end(column: &Column, sheet: Sheet) -> u64
     }
 }
 
-/// Puts the dotted line from the head to where a process was spawned, and tells where that is: there its lifeline begins.
+/// Puts the dotted line from the head to where a process was spawned, and returns where that is: there its lifeline
+/// begins.
 fn put_before(svg: &mut Svg, column: &Column, sheet: Sheet, x: u64) -> Result<u64, NoMemory>
     ensures { OnOk result (Draws [] svg.old svg.new) }
 {
@@ -202,7 +203,7 @@ pub(crate) fn put_columns(
     Ok(())
 }
 
-/// The column of who spawned a process, and the event in which it did, if that stands on the page.
+/// The column of who spawned a process, and the event in which it did, if that is on the page.
 fn parent_of(columns: &[Column], column: &Column, sheet: Sheet) -> Option<(usize, usize)>
     ensures { IfSome result (IsParent (page_in sheet.entry) columns.now column.now.spawned) }
 {

@@ -161,7 +161,7 @@ fn is_chosen(events: &[Event], index: usize) -> bool {
     events.get(index).is_some_and(|event| event.choice > 0)
 }
 
-/// What a message that was delivered in an event comes to in a compact chart.
+/// What a message that was delivered in an event becomes in a compact chart.
 fn receipt_of(receipts: &[Option<usize>], delivery: usize) -> Reach
     ensures { result ≡ receipt_at receipts.now delivery }
 {

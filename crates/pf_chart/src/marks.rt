@@ -1,11 +1,11 @@
-//! What stands on the lifelines: a mark for each event, each kind with a shape of its own.
+//! What is on the lifelines: a mark for each event, each kind with a shape of its own.
 
 ghost use Rattle.std.specs.Prelude.{IsTrue};
 ghost use Rattle.pf_chart.specs.Words.{is_phrase};
 
 use pf_model::report::{Label, Suffix};
 
-/// What kind of event it marks, in a word, and its outline about the place where it stands.
+/// What kind of event it marks, in a word, and its outline about the place where it is.
 #[derive(Clone, Copy)]
 pub(crate) struct Mark {
     pub(crate) kind: &'static str,

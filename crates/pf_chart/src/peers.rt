@@ -40,7 +40,7 @@ impl Peers {
         })
     }
 
-    /// Enters b among the links of a, and tells whether it is new there.
+    /// Enters b among the links of a, and returns whether it is new there.
     pub(crate) fn tie(&mut self, a: usize, b: usize) -> Result<bool, NoMemory> {
         match self.peers.get_mut(a) {
             Some(peer) => Ok(peer.links.insert(b)?),
@@ -48,7 +48,7 @@ impl Peers {
         }
     }
 
-    /// Takes b out of the links of a, and tells whether it was there.
+    /// Takes b out of the links of a, and returns whether it was there.
     pub(crate) fn untie(&mut self, a: usize, b: usize) -> bool {
         match self.peers.get_mut(a) {
             Some(peer) => peer.links.remove(&b),

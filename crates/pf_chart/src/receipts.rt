@@ -6,7 +6,8 @@ use pf_model::report::{Actor, Event, Label, Suffix};
 use pf_terms::{NoMemory, Term, equal};
 use std::alloc::Global;
 
-/// The messages in the mailboxes, and which were taken. A message goes by the event that delivered it, a mailbox by the column of its process.
+/// The messages in the mailboxes, and which were taken. A message goes by the event that delivered it, a mailbox by the
+/// column of its process.
 #[derive(Drop)]
 struct Mailboxes {
     waiting: Vec<Vec<usize>>,

@@ -37,7 +37,7 @@ fn has_row(compact: bool, event: &Event) -> bool
     !(compact && is_quiet(&event.label))
 }
 
-/// Puts a row behind the others, if so.
+/// Puts a row after the others, if so.
 fn put_row<'e>(rows: &mut Vec<Row<'e>>, has_row: bool, row: Row<'e>) -> Result<(), NoMemory>
     ensures { OnOk result (rows.new.items ≡ rows.old.items ++ (if has_row then row.entry ∷ [] else [])) }
 {
@@ -66,7 +66,7 @@ pub(crate) fn rows_of<'e>(
     Ok(rows)
 }
 
-/// How many rows stand on the pages before this one; before the last where there are fewer pages.
+/// How many rows are on the pages before this one; before the last where there are fewer pages.
 pub(crate) fn first_row(page: u32, rows: usize) -> usize
     ensures first { result ≡ first_row page rows }
     ensures within { result ≤ rows }

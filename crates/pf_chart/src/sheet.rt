@@ -1,4 +1,4 @@
-//! Where columns and rows stand on the sheet, in pixels.
+//! Where columns and rows are on the sheet, in pixels.
 
 ghost use Rattle.std.specs.Prelude.{◌≡◌, length, map};
 ghost use Rattle.std.specs.List.Sorted.{IsNonDecreasingBy};
@@ -26,9 +26,9 @@ use crate::rows::Row;
 const ROW: u64 = 26;
 
 pub(crate) const HALF_ROW: u64 = 13;
-/// What stands above the rows: the heads.
+/// What is above the rows: the heads.
 pub(crate) const TOP: u64 = 64;
-/// After so many rows the heads stand again, and what they take there.
+/// After so many rows the heads are repeated, and how high they are there.
 const BAND: u64 = 40;
 
 const GAP: u64 = 52;
@@ -36,11 +36,11 @@ const GAP: u64 = 52;
 const HEAD_TOP: u64 = 12;
 
 pub(crate) const HEAD_HEIGHT: u64 = 40;
-/// What stands left of the columns: the numbers of events, and choices above 0.
+/// What is left of the columns: the numbers of events, and choices above 0.
 pub(crate) const GUTTER: u64 = 80;
-/// What stands right of the columns: labels of the last one.
+/// What is right of the columns: labels of the last one.
 const MARGIN: u64 = 280;
-/// What stands below the lifelines: feet, the outcome, the legend.
+/// What is below the lifelines: feet, the outcome, the legend.
 const BOTTOM: u64 = 170;
 
 /// How wide the columns are together, if each of them may be.
@@ -53,7 +53,7 @@ const WIDEST: u64 = 200;
 /// The legend has this room at least.
 const NARROWEST_SHEET: u64 = 760;
 
-/// On which side of the rows of a page an event stands, if it isn't among them.
+/// On which side of the rows of a page an event is, if it isn't among them.
 #[derive(Clone, Copy, PartialEq, Eq)]
 pub(crate) enum Side {
     Above,
@@ -61,14 +61,14 @@ pub(crate) enum Side {
     Below,
 }
 
-/// How many columns there are and how wide one is, and which rows stand on the page.
+/// How many columns there are and how wide one is, and which rows are on the page.
 #[derive(Clone, Copy)]
 pub(crate) struct Sheet<'r> {
     columns: u64,
     pitch: u64,
     /// The rows of all pages.
     rows: &'r [Row<'r>],
-    /// How many of them stand above the page, and how many on it.
+    /// How many of them are above the page, and how many on it.
     pub(crate) above: usize,
     pub(crate) count: usize,
     ghost in_order: { IsNonDecreasingBy (λ r. r.index) rows.now },
@@ -143,14 +143,14 @@ impl<'r> Sheet<'r> {
             .saturating_add(TOP + HALF_ROW)
     }
 
-    /// How many rows of all pages stand above an event.
+    /// How many rows of all pages are above an event.
     fn rows_before(&self, event: usize) -> usize
         ensures { result ≡ rows_before (map (λ r. r.index) self.now.rows.now) event }
     {
         self.rows.partition_point(|row| row.index < event)
     }
 
-    /// Where an event stands above which there are so many rows.
+    /// Where an event is above which there are so many rows.
     fn side_at(&self, before: usize) -> Side
         ensures { result ≡ side_at self.now.above self.now.count before }
     {
@@ -163,14 +163,15 @@ impl<'r> Sheet<'r> {
         }
     }
 
-    /// Whether an event stands on the page, or on which side of it.
+    /// Whether an event is on the page, or on which side of it.
     pub(crate) fn side(&self, event: usize) -> Side
         ensures { result ≡ side_of (page_in self.now) event }
     {
         self.side_at(self.rows_before(event))
     }
 
-    /// The middle of the row of an event, or of the next one if it has none; the edge of the rows if it stands on another page.
+    /// The middle of the row of an event, or of the next one if it has none; the edge of the rows if it is on another
+    /// page.
     pub(crate) fn y(&self, event: usize) -> u64
         ensures { result ≡ event_y (page_in self.now) event }
     {

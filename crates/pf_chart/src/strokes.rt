@@ -38,7 +38,8 @@ fn put_path(svg: &mut Svg, from: (u64, u64), to: (u64, u64)) -> Result<(), NoMem
     svg.curve(from, ((swung, from.1), (swung, to.1)), to)
 }
 
-/// Where a signal ends that is never delivered: beside the sender on the side of the receiver, between two lifelines, a row below.
+/// Where a signal ends that is never delivered: beside the sender on the side of the receiver, between two lifelines, a
+/// row below.
 fn in_the_air(from: (u64, u64), to: u64, pitch: u64) -> (u64, u64)
     ensures { result ≡ in_the_air from to pitch }
 {
@@ -53,7 +54,7 @@ fn in_the_air(from: (u64, u64), to: u64, pitch: u64) -> (u64, u64)
     }
 }
 
-/// What the end of an arrow adds to its class, and how it is told in words.
+/// What the end of an arrow adds to its class, and how it is said in words.
 fn end_in_words(reach: Reach) -> (&'static str, &'static str)
     ensures class { IsTrue (is_phrase result.0.now) }
     ensures words { IsTrue (is_phrase result.1.now) }
@@ -66,7 +67,8 @@ fn end_in_words(reach: Reach) -> (&'static str, &'static str)
     }
 }
 
-/// What the class of an arrow tells of the choice by which it was delivered, if no row does, and how that is told in words.
+/// What the class of an arrow says of the choice by which it was delivered, if no row does, and how that is said in
+/// words.
 fn choice_in_words(chosen: bool) -> (&'static str, &'static str)
     ensures class { IsTrue (is_phrase result.0.now) }
     ensures words { IsTrue (is_phrase result.1.now) }
@@ -149,7 +151,8 @@ fn is_here(arrow: &Arrow, sheet: Sheet) -> bool
     }
 }
 
-/// Puts an arrow between the processes of these pids, with its kind, its processes and its end in words, if something of it is on the page.
+/// Puts an arrow between the processes of these pids, with its kind, its processes and its end in words, if something
+/// of it is on the page.
 fn put_arrow(svg: &mut Svg, arrow: &Arrow, from: u32, to: u32, sheet: Sheet) -> Result<(), NoMemory>
     ensures drawn { OnOk result (Draws [] svg.old svg.new) }
     ensures line { OnOk result (is_here (page_in sheet.entry) arrow.now ≡ true

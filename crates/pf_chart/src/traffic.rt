@@ -1,8 +1,8 @@
 //! The signals of a run: who sent each, and where it was delivered.
 //!
-//! A signal is sent by the event that tells of it. One of which no event tells is sent by the end of a process (exits to who is linked,
-//! downs to who watches) or by a delivery to a process that has ended (the answer to a link or a monitor). Each delivery takes the oldest
-//! signal of its kind that is on its way between its two processes.
+//! A signal is sent by the event that shows it. One that no event shows is sent by the end of a process (exits to who
+//! is linked, downs to who watches) or by a delivery to a process that has ended (the answer to a link or a monitor).
+//! Each delivery takes the oldest signal of its kind that is on its way between its two processes.
 
 ghost use Rattle.std.specs.Prelude.{◌≡◌, ◌++◌, ◌∷◌, [], IfOk, OnOk, length};
 ghost use Rattle.pf_model.specs.Reports.{suffix_of};
@@ -41,7 +41,7 @@ pub(crate) struct Traffic {
     pub(crate) peers: Peers,
 }
 
-/// How a signal that is delivered in this row comes to its end.
+/// How a signal ends that is delivered in this row.
 fn reach_of(suffix: &Suffix, row: usize) -> Reach
     ensures { result ≡ reach_of (suffix_of suffix.now) row }
 {
@@ -173,7 +173,7 @@ impl Traffic {
         }
     }
 
-    /// An arrow comes to its end.
+    /// An arrow ends.
     fn reach(&mut self, index: usize, reach: Reach)
         ensures arrows { IsEnded index reach self.old.arrows.items self.new.arrows.items }
         ensures on_way { self.new.on_way ≡ self.old.on_way }
@@ -206,7 +206,7 @@ impl Traffic {
         Ok(())
     }
 
-    /// The oldest signal comes to its end; if there is none, it was sent just above.
+    /// The oldest signal ends; if there is none, it was sent just above.
     fn arrive(
         &mut self,
         row: usize,

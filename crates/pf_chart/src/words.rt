@@ -4,7 +4,7 @@ ghost use Rattle.pf_chart.specs.Words.{words};
 
 use pf_svg::Vocabulary;
 
-/// What stands for the words of a chart in the type of its document.
+/// What the words of a chart are in the type of its document.
 #[derive(Drop)]
 pub(crate) struct Words;
 

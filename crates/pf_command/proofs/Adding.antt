@@ -38,7 +38,7 @@ front_longer g a b w0 w1 h = subst (AppendsFront w0 w1) (append_assoc g a b) (fr
 pub adds_out : (g a g1 : List ℕ) (w0 w1 w2 : Option (List ℕ)) → Adds g a g1 w0 w1 → Appends w1 w2 g1 → Appends w0 w2 (g ++ a)
 adds_out g a g1 w0 w1 w2 h k = subst (Appends w0 w2) h.2 (appends_both w0 w1 w2 h.0 g1 h.1 k)
 
--- a second text in turn, and what is behind
+-- a second text in turn, and what is after it
 pub front_of_second : (g a g1 b c : List ℕ) (w0 w1 w2 : Option (List ℕ)) → Adds g a g1 w0 w1 → AppendsFront w1 w2 (g1 ++ b) → AppendsFront w0 w2 (g ++ (a ++ b ++ c))
 front_of_second g a g1 b c w0 w1 w2 h k = front_longer g (a ++ b) c w0 w2 (front_after g a g1 b w0 w1 w2 h k)
 

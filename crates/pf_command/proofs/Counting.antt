@@ -1,4 +1,4 @@
--- Who still waits behind a run that is told.
+-- Who still waits after a run that is reported.
 use Rattle.std.proofs.Common.{◌≡◌, ℕ, zero, List, ◌++◌, Option, Result, Ok, Err, None, Some, sym, ap, ◌∙◌, subst}
 use Rattle.std.specs.Prelude.{IfOk, IfSome, take}
 use Rattle.std.specs.Io.KnownBytes.{Appends}
@@ -30,7 +30,7 @@ module _ {E : Type 0} (P Q : List ℕ → ℕ → Type 0) (w0 w1 : Option (List 
   went_more (Ok s) h = (h.0, more h.0 s h.1, h.2)
   went_more (Err e) h = tt
 
--- what is told of a refusal
+-- what is reported of a refusal
 pub went_refused : (P : List ℕ → ℕ → Type 0) (words : List ℕ) (w0 w1 : Option (List ℕ)) (n0 n1 : ℕ) → ((t : List ℕ) → P t 2) → (r : Result ℕ (OrNoMemory StreamFault))
     → Sends (IsRefused words) w0 w1 n0 n1 r → IfOk r (WentOut P w0 w1)
 went_refused P words w0 w1 n0 n1 f (Ok s) h = (h.0, subst (P h.0) (sym h.1.1) (f h.0), h.2)

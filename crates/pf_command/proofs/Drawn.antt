@@ -1,4 +1,4 @@
--- What is told of charts, for texts and statuses that are equal to theirs.
+-- What is reported of charts, for texts and statuses that are equal to theirs.
 use Rattle.std.proofs.Common.{◌≡◌, ◌<◌, inl, inr, ℕ, zero, List, None, arith}
 use Rattle.pf_fault.specs.Codes.{code_text}
 use Rattle.pf_fault.specs.declared.code.Code.TheVariants as code
@@ -16,11 +16,11 @@ use Rattle.pf_standings.specs.declared.known.KnownRun.{KnownRun}
 use Rattle.pf_command.specs.Charts.{AreNamesIn, Draws, DrawsMeaning, IsOfRun, run_drawn, found_drawn, none_drawn}
 use Rattle.pf_command.specs.declared.answer.Answer.{Answer}
 
--- a shrinking comes to no report alone
+-- a shrinking ends in no report alone
 pub no_report : (j : meaning.Job) (r : Report) → 0 < j.runs → IsResult j (report r) → ⊥
 no_report j _ shrinks (plain r one means) = omega arith
 
--- what was found stands with each report that its schedule means
+-- what was found holds with each report that its schedule means
 found_again : (j : meaning.Job) (f : Found) (r s : Report) → IsResult j (shrunk_to f r) → Means (by_schedule j f.schedule) s → IsResult j (shrunk_to f s)
 found_again j _ _ s (smaller k ns fails f r runs choices tells is means) again = smaller k ns fails f s runs choices tells is again
 

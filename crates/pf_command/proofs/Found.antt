@@ -1,4 +1,4 @@
--- What is told of hunts, for texts and statuses that are equal to theirs.
+-- What is reported of hunts, for texts and statuses that are equal to theirs.
 use Rattle.std.proofs.Common.{◌≡◌, ◌++◌, ◌-◌, ◌||◌, ℕ, Bool, List, [], ◌∷◌, Option, None, Some, map, flat_map, inl, inr, refl, sym, ap, subst}
 use Rattle.std.specs.List.{list_any}
 use Rattle.std.proofs.lemmas.Simd.{map-map}
@@ -50,7 +50,7 @@ module _ (h : HuntArgs) (bytes : List ℕ) (j : Job) (ns : List Notice) where
       → SearchNotices h.strategy j.asked m h.seeds.0 h.seeds.1 c None ns → IsLeast h j ns c None
   none_so_far m c may none told = (none, subst (λ b. SearchNotices h.strategy j.asked b h.seeds.0 h.seeds.1 c None ns) may told)
 
-  -- behind the seed and the choices of a run that fails stands its report, or what it was cut to
+  -- after the seed and the choices of a run that fails comes its report, or what it was cut to
   pub tells_report : (s : ℕ) (r : Report) (text : List ℕ) (status : ℕ) → IsLeast h j ns h.seeds.1 (Some (s, r))
       → TellsReport j r text status → TellsSought h bytes j ns (failure None) (seed_text s h.strategy (choices_of r) ++ text) status
   tells_report s r text status least (inl is) = rw (is.0, is.1) (seed_fails s r least)
@@ -62,7 +62,7 @@ module _ (h : HuntArgs) (bytes : List ℕ) (j : Job) (ns : List Notice) where
   tells_shrinking s r runs text status least (inl answers) = seed_shrunk s r runs text status least answers
   tells_shrinking s r runs text status least (inr is) = rw (is.0, is.1) (seed_alone s r runs least)
 
-  -- something may be told behind the seed of a run that fails
+  -- something may be reported after the seed of a run that fails
   pub may_be_told : (s : ℕ) (r : Report) (runs : Option ℕ) → IsLeast h j ns h.seeds.1 (Some (s, r))
       → (text : List ℕ) × (status : ℕ) × TellsSought h bytes j ns (failure runs) (seed_text s h.strategy (choices_of r) ++ text) status
   may_be_told s r None least = (report_text (names_of j) r, 1, seed_fails s r least)

@@ -30,7 +30,7 @@ module _ (asks : ReadModule → Result Job Code → Type 0) (tells : Job → Lis
       → AnswersBy asks tells bytes a.text.items a.status
   row_told m bytes j a of asked is = told m j a.text.items a.status of asked is
 
--- what tells a result of a job
+-- what reports a result of a job
 pub tells_result : (j : Job) (atoms : List (List ℕ)) (x y : shrinking.Result) (a : Answer) → IsResult j.asked y → x ≡ y → atoms ≡ j.asked.code.atoms
     → TellsResult atoms x a → Tells j a.text.items a.status
 tells_result j atoms x y a is e f tells =

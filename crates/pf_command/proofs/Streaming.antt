@@ -32,7 +32,7 @@ module _ (P Q : List ℕ → ℕ → Type 0) (w0 w1 : Option (List ℕ)) (n0 n1 
   sends_more (Err NoMemory) h = h
   sends_more (Err (Fault e)) h = (h.0, h.1, more h.0 h.1 h.2, h.3, h.4)
 
--- behind a text that went out
+-- after a text that went out
 pub prints_after : (P Q : List ℕ → ℕ → Type 0) (front : List ℕ) (w0 w w1 : Option (List ℕ)) (n0 n n1 : ℕ) (r : Result ℕ StreamFault) → Appends w0 w front → n ≡ n0
     → ((t : List ℕ) (s : ℕ) → P t s → Q (front ++ t) s) → Prints P w w1 n n1 r → Prints Q w0 w1 n0 n1 r
 prints_after P Q front w0 w w1 n0 n n1 (Ok s) out same f h = (front ++ h.0, f h.0 s h.1, appends_both w0 w w1 front h.0 out h.2, h.3 ∙ same)
@@ -75,7 +75,7 @@ module _ (P : Answering) (bytes : List ℕ) (u0 u1 w0 w1 : Option (List ℕ)) (m
 
 -- ---- a run
 
--- what was told first of a report
+-- what was printed first of a report
 pub first_of : (j : meaning.Job) (r : Report) (es rest : List Event) → Means j r → r.events ≡ es ++ rest → AreFirst j es
 first_of j r es rest means e other also = (rest, ap (λ z. z.events) (only_evaluated j other also ∙ sym (only_evaluated j r means)) ∙ e)
 

@@ -27,8 +27,8 @@ use Rattle.pf_command.specs.declared.answer.Answer.{Answer}
 abbrev pub IsModuleOf : List ℕ → ReadModule → Type 0
 IsModuleOf bytes m = (m.source ≡ bytes) × IsReadAs bytes m
 
--- AnswersBy asks tells bytes text status: a source of these bytes is answered with this text and this status, if `asks` says which job is
--- asked for of a module or what it is refused for, and `tells` what is told of a job
+-- AnswersBy asks tells bytes text status: a source of these bytes is answered with this text and this status, if `asks`
+-- says which job is asked for of a module or what it is refused for, and `tells` what is reported of a job
 pub data AnswersBy (asks : ReadModule → Result Job Code → Type 0) (tells : Job → List ℕ → ℕ → Type 0) (bytes : List ℕ) : List ℕ → ℕ → Type 0 where
   -- the source is refused
   source_refused : (code : Code) (offset : ℕ) → Reads bytes (refused code offset)
@@ -36,7 +36,7 @@ pub data AnswersBy (asks : ReadModule → Result Job Code → Type 0) (tells : J
   -- what is asked for of the module is refused
   job_refused : (m : ReadModule) (code : Code) → IsModuleOf bytes m → asks m (Err code)
       → AnswersBy asks tells bytes (line (code_text code)) 2
-  -- what is told of the job
+  -- what is reported of the job
   told : (m : ReadModule) (j : Job) (text : List ℕ) (status : ℕ) → IsModuleOf bytes m → asks m (Ok j) → tells j text status
       → AnswersBy asks tells bytes text status
 
@@ -56,7 +56,7 @@ run_status (Some true) = 0
 run_status (Some false) = 1
 run_status None = 2
 
--- what a job came to in words, if `name` tells the names of atoms: that nothing fails is told by its code
+-- a job's result in words, if `name` gives the names of atoms: that nothing fails is reported by its code
 abbrev pub told_text : (ℕ → List ℕ) → shrinking.Result → List ℕ
 told_text name (shrinking.report r) = result_text name (shrinking.report r)
 told_text name (shrinking.shrunk_to f r) = result_text name (shrinking.shrunk_to f r)
@@ -72,19 +72,19 @@ told_status shrinking.nothing_fails = 2
 abbrev pub AreFirst : meaning.Job → List Event → Type 0
 AreFirst j es = (r : Report) → Means j r → (rest : List Event) × (r.events ≡ es ++ rest)
 
--- what is told of a run within which memory ran out: no event, no step and no verdict
+-- what is reported of a run within which memory ran out: no event, no step and no verdict
 abbrev pub no_memory_text : List ℕ
 no_memory_text = codes "memory\nsteps 0\nno verdict\n"
 
 abbrev pub IsNoMemory : List ℕ → ℕ → Type 0
 IsNoMemory text status = (text ≡ no_memory_text) × (status ≡ 2)
 
--- the lines of events, and that memory ran out behind them
+-- the lines of events, and that memory ran out after them
 abbrev pub cut_text : (ℕ → List ℕ) → List Event → List ℕ
 cut_text name es = lines_text name es ++ no_memory_text
 
--- what is told of a job: what it comes to; or of a run that memory ran out within it, behind the lines of its first events that went out by
--- then. Nothing is told of a shrinking without memory
+-- what is reported of a job: its result; or of a run that memory ran out within it, after the lines of its first events
+-- that went out by then. Nothing is reported of a shrinking without memory
 pub data Tells (j : Job) : List ℕ → ℕ → Type 0 where
   result : (x : shrinking.Result) → IsResult j.asked x → Tells j (told_text (names_of j) x) (told_status x)
   out_of_memory : (es : List Event) → j.asked.runs ≡ zero → AreFirst j.asked es → Tells j (cut_text (names_of j) es) 2
@@ -95,8 +95,9 @@ Answers a = AnswersBy (AsksOf a) Tells
 
 -- ---- who still waits
 
--- Counts j old new text status: where this is told of a job, new is how many processes still wait at the end of its run though its root returned, if the
--- report of that is told. If it isn't, what was counted stays: of a shrinking, and with the status of what is refused
+-- Counts j old new text status: where this is reported of a job, new is how many processes still wait at the end of its
+-- run though its root returned, if the report of that is printed. If it isn't, what was counted stays: of a shrinking,
+-- and with the status of what is refused
 pub data Counts (j : Job) (old : ℕ) : (new : ℕ) → List ℕ → ℕ → Type 0 where
   reported : (r : Report) → j.asked.runs ≡ zero → Means j.asked r
       → Counts j old (waiting_in r) (report_text (names_of j) r) (run_status r.verdict)
@@ -119,6 +120,6 @@ run_args r e = record { request = view_of_request r; edition = edition_number e;
 abbrev pub Refuses : Answer → List ℕ → Type 0
 Refuses a words = (a.text.items ≡ line words) × (a.status ≡ 2)
 
--- the answer tells a result, if atoms have these names
+-- the answer reports a result, if atoms have these names
 abbrev pub TellsResult : (atoms : List (List ℕ)) → shrinking.Result → Answer → Type 0
 TellsResult atoms x a = (a.text.items ≡ told_text (name_of atoms) x) × (a.status ≡ told_status x)

@@ -24,8 +24,9 @@ use Rattle.pf_command.specs.declared.answer.Answer.{Answer}
 abbrev pub AreNamesIn : meaning.Job → Report → (names : List (List ℕ)) → Type 0
 AreNamesIn j r names = (k : KnownRun) × IsRunOf j r k × ((d : Configuration) × ComesTo k d × AreNames k d names)
 
--- what is told of a job from this root: a chart of its run, drawn in this manner and with the names of its processes, with the status of the run, or of
--- a shrinking that of the run which it found. If memory runs out within it nothing is told
+-- what is reported of a job from this root: a chart of its run, drawn in this manner and with the names of its
+-- processes, with the status of the run, or of a shrinking that of the run which it found. If memory runs out within it
+-- nothing is reported
 pub data Draws (root : List ℕ) (m : Manner) (j : Job) : List ℕ → ℕ → Type 0 where
   run_drawn : (r : Report) (names : List (List ℕ)) (text : List ℕ) → IsResult j.asked (report r) → AreNamesIn j.asked r names
       → IsChart (names_of j) root names m r [] text
@@ -35,7 +36,8 @@ pub data Draws (root : List ℕ) (m : Manner) (j : Job) : List ℕ → ℕ → T
       → Draws root m j text (run_status r.verdict)
   none_drawn : IsResult j.asked nothing_fails → Draws root m j (line (code_text code.NothingFails)) 2
 
--- a source of these bytes, of which the chart of a run in this manner is asked for, is answered with this text and this status
+-- a source of these bytes, of which the chart of a run in this manner is asked for, is answered with this text and this
+-- status
 abbrev pub ChartAnswers : Manner → RunArgs → (bytes text : List ℕ) → ℕ → Type 0
 ChartAnswers m a = AnswersBy (AsksOf a) (Draws a.request.root m)
 

@@ -10,8 +10,8 @@ use Rattle.pf_explain.specs.declared.advice.Advice.{Advice}
 use Rattle.pf_faults.specs.Faults.{Tells}
 use Rattle.pf_command.specs.declared.answer.Answer.{Answer}
 
--- Explains bytes code offset explain text: what follows the line of a refusal is this text: nothing, or where that is asked for explanations of faults, among them
--- that of the refusal
+-- Explains bytes code offset explain text: what follows the line of a refusal is this text: nothing, or where that is
+-- asked for explanations of faults, among them that of the refusal
 pub data Explains (bytes : List ℕ) (code : Code) (offset : ℕ) : (explain : Bool) → List ℕ → Type 0 where
   unasked : Explains bytes code offset false []
   asked : (told : List Advice) → Tells bytes code offset told → Explains bytes code offset true (explanations bytes told)

@@ -17,8 +17,8 @@ use Rattle.pf_command.specs.Hunts.{choices_of}
 abbrev pub with_schedule : Request → (numbers : List ℕ) → Request
 with_schedule r numbers = record r { kind = run (schedule numbers) }
 
--- AsksOfRun a m x: what is asked for of a module is this job, or refused for this: a run by its own choices; or one by the schedule of those
--- that the priorities of a seed make of it
+-- AsksOfRun a m x: what is asked for of a module is this job, or refused for this: a run by its own choices; or one by
+-- the schedule of those that the priorities of a seed make of it
 pub data AsksOfRun (a : RunArgs) (m : ReadModule) : Result Job Code → Type 0 where
   by_own : (x : Result Job Code) → a.priorities ≡ None → Asks m a.edition a.request x → AsksOfRun a m x
   refused : (seed : ℕ) (code : Code) → a.priorities ≡ Some seed → Asks m a.edition a.request (Err code) → AsksOfRun a m (Err code)

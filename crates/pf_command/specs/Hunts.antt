@@ -34,15 +34,15 @@ MayShrink h (failure (Some runs)) m = (j : Job) × AsksOf (shrinking_of h [] run
 MayShrink h (failure None) m = Unit {0}
 MayShrink h outcomes m = Unit {0}
 
--- AsksFor h sought m x: the run in whose place those by the seeds go is this job, or what is asked for is refused for this: first the shrinking
--- of the empty schedule, if one is to be shrunk, and then the run
+-- AsksFor h sought m x: the run in whose place those by the seeds go is this job, or what is asked for is refused for
+-- this: first the shrinking of the empty schedule, if one is to be shrunk, and then the run
 pub data AsksFor (h : HuntArgs) : Sought → ReadModule → Result Job Code → Type 0 where
   shrinking_refused : (runs : ℕ) (m : ReadModule) (code : Code) → AsksOf (shrinking_of h [] runs) m (Err code)
       → AsksFor h (failure (Some runs)) m (Err code)
   run_asked : (sought : Sought) (m : ReadModule) (x : Result Job Code) → MayShrink h sought m → Asks m h.edition h.request x
       → AsksFor h sought m x
 
--- ---- what is told
+-- ---- what is reported
 
 -- the choices of a run, event by event: by them as a schedule it runs so again
 abbrev pub choices_of : Report → List ℕ
@@ -55,7 +55,7 @@ may_stop h = is_some h.time
 abbrev pub stopped_text : (seeds : ℕ) → List ℕ
 stopped_text seeds = codes "stopped behind " ++ decimal seeds ++ codes " seeds\n"
 
--- in front of what is told of the seeds to before c stands that the hunt stopped there, unless these are all
+-- before what is reported of the seeds to before c comes that the hunt stopped there, unless these are all
 abbrev pub front_text : HuntArgs → (c : ℕ) → List ℕ
 front_text h c = if c == h.seeds.1 then [] else stopped_text (c - h.seeds.0)
 
@@ -86,15 +86,16 @@ row_text name x =
 abbrev pub rows_status : List Row → ℕ
 rows_status rows = if list_any (λ x. is_failure x.verdict) rows then 1 else 0
 
--- of the seeds to before c this is the least whose run fails, with the report of its run, or none; and the observer of the hunt receives these notices
+-- of the seeds to before c this is the least whose run fails, with the report of its run, or none; and the observer of
+-- the hunt receives these notices
 abbrev pub IsLeast : HuntArgs → Job → List Notice → (c : ℕ) → Option (ℕ × Report) → Type 0
 IsLeast h j ns c x =
     FirstFailing h.leaks h.strategy j.asked h.seeds.0 c x × SearchNotices h.strategy j.asked (may_stop h) h.seeds.0 h.seeds.1 c x ns
 
--- TellsSought h bytes j notices sought text status: what is told of the runs of a job by the seeds, by what is sought, if the source has these bytes
--- and the observer receives these notices
+-- TellsSought h bytes j notices sought text status: what is reported of the runs of a job by the seeds, by what is
+-- sought, if the source has these bytes and the observer receives these notices
 pub data TellsSought (h : HuntArgs) (bytes : List ℕ) (j : Job) (ns : List Notice) : Sought → List ℕ → ℕ → Type 0 where
-  -- no run fails of the seeds that it came to
+  -- no run fails of the seeds that it reached
   none_fails : (runs : Option ℕ) (c : ℕ) → SearchedTo (may_stop h) h.seeds.0 h.seeds.1 c → IsLeast h j ns c None
       → TellsSought h bytes j ns (failure runs) (front_text h c ++ none_text (c - h.seeds.0)) 0
   -- the least seed whose run fails, the choices of that run, and its report
@@ -110,13 +111,13 @@ pub data TellsSought (h : HuntArgs) (bytes : List ℕ) (j : Job) (ns : List Noti
   -- or, if memory ran out within the shrinking, that it did
   seed_alone : (s : ℕ) (r : Report) (runs : ℕ) → IsLeast h j ns h.seeds.1 (Some (s, r))
       → TellsSought h bytes j ns (failure (Some runs)) (seed_text s h.strategy (choices_of r) ++ no_memory_text) 2
-  -- the strategy, and each outcome that is met by the seeds that it came to
+  -- the strategy, and each outcome that is met by the seeds that it reached
   tallied : (c : ℕ) (rows : List Row) → SearchedTo (may_stop h) h.seeds.0 h.seeds.1 c → Tallies h.strategy j.asked h.seeds.0 c rows
       → TallyNotices h.strategy j.asked (may_stop h) h.seeds.0 h.seeds.1 c ns
       → TellsSought h bytes j ns outcomes (front_text h c ++ strategy_text h.strategy ++ flat_map (row_text (names_of j)) rows) (rows_status rows)
 
--- SoughtAnswers h sought bytes notices text status: a source of these bytes, of whose runs by many seeds this is sought, is answered with this text and
--- this status, and the observer of the hunt receives these notices
+-- SoughtAnswers h sought bytes notices text status: a source of these bytes, of whose runs by many seeds this is
+-- sought, is answered with this text and this status, and the observer of the hunt receives these notices
 pub data SoughtAnswers (h : HuntArgs) (sought : Sought) (bytes : List ℕ) : List Notice → List ℕ → ℕ → Type 0 where
   -- something is refused, so that nothing is hunted
   refused : (text : List ℕ) (status : ℕ) → AnswersBy (AsksFor h sought) (λ j t s. ⊥) bytes text status → SoughtAnswers h sought bytes [] text status
@@ -124,7 +125,8 @@ pub data SoughtAnswers (h : HuntArgs) (sought : Sought) (bytes : List ℕ) : Lis
   hunted : (m : ReadModule) (j : Job) (ns : List Notice) (text : List ℕ) (status : ℕ) → IsModuleOf bytes m → AsksFor h sought m (Ok j)
       → TellsSought h bytes j ns sought text status → SoughtAnswers h sought bytes ns text status
 
--- a source of these bytes, whose runs by many seeds are asked for, is answered with this text and this status, while the observer receives these notices
+-- a source of these bytes, whose runs by many seeds are asked for, is answered with this text and this status, while
+-- the observer receives these notices
 abbrev pub HuntNotifies : HuntArgs → List Notice → (bytes text : List ℕ) → ℕ → Type 0
 HuntNotifies h ns bytes text status = SoughtAnswers h h.sought bytes ns text status
 
@@ -132,7 +134,7 @@ HuntNotifies h ns bytes text status = SoughtAnswers h h.sought bytes ns text sta
 abbrev pub HuntAnswers : HuntArgs → (bytes text : List ℕ) → ℕ → Type 0
 HuntAnswers h bytes text status = (ns : List Notice) × HuntNotifies h ns bytes text status
 
--- ---- what a hunt comes to before it is told
+-- ---- the result of a hunt before it is reported
 
 -- what may be said of the end of a hunt over the runs of a source's job: its answer; or, where a run fails, that
 abbrev pub MaySay : HuntArgs → (bytes : List ℕ) → List Notice → HuntEnd → List ℕ → ℕ → Type 0
@@ -144,7 +146,7 @@ abbrev pub IsFound : HuntArgs → (bytes : List ℕ) → List Notice → HuntEnd
 IsFound h bytes ns (Told a) = Unit {0}
 IsFound h bytes ns (Found f) = IsModuleOf bytes f.«module» × IsLeast h f.job ns h.seeds.1 (Some (failure_of f.failure))
 
--- whatever may be said of it is told of the runs of this job
+-- whatever may be said of it is reported of the runs of this job
 abbrev pub TellsAs : HuntArgs → (bytes : List ℕ) → Job → Sought → HuntEnd → List Notice → Type 0
 TellsAs h bytes j sought x ns =
     IsFound h bytes ns x × ((text : List ℕ) (status : ℕ) → MaySay h bytes ns x text status → TellsSought h bytes j ns sought text status)
@@ -160,7 +162,8 @@ OfEach m so ns = (bytes : List ℕ) → IsModuleOf bytes m → so bytes ns
 
 -- ---- the code's own words
 
--- what is told of a run that fails behind its choices: its report; or the lines of its first events, and that memory ran out
+-- what is reported of a run that fails after its choices: its report; or the lines of its first events, and that memory
+-- ran out
 abbrev pub TellsReport : Job → Report → List ℕ → ℕ → Type 0
 TellsReport j r text status =
     ((text ≡ report_text (names_of j) r) × (status ≡ 1))

@@ -10,7 +10,8 @@ use Rattle.pf_model.specs.TermText.{line}
 use Rattle.pf_command.specs.declared.answer.Answer.{Answer}
 use Rattle.pf_command.specs.declared.serving.TheConstants.{MOST_BYTES}
 
--- a reader and a writer: what is still to be read and what was written, if it is known, and how many calls of each failed
+-- a reader and a writer: what is still to be read and what was written, if it is known, and how many calls of each
+-- failed
 pub record Streams : Type 0 where
   pub unread : Option (List ℕ)
   pub written : Option (List ℕ)
@@ -54,7 +55,8 @@ Leaves (Fault (Write e)) P old new = (new.failed_reads ≡ old.failed_reads) × 
 
 -- ---- within a command
 
--- what goes out of a text that may be told, with its status: all of it; or a beginning, where a write failed and was counted
+-- what goes out of a text that may be printed, with its status: all of it; or a beginning, where a write failed and was
+-- counted
 abbrev pub Prints : (may : List ℕ → ℕ → Type 0) → (written_old written_new : Option (List ℕ)) → (failed_old failed_new : ℕ) → Result ℕ StreamFault → Type 0
 Prints P w0 w1 n0 n1 (Ok status) = (text : List ℕ) × P text status × Appends w0 w1 text × (n1 ≡ n0)
 Prints P w0 w1 n0 n1 (Err f) = (text : List ℕ) × (status : ℕ) × P text status × AppendsFront w0 w1 text × CountsWrite f n0 n1

@@ -33,7 +33,8 @@ use pf_standings::{KnownRun, names};
 use std::alloc::Global;
 use std::sync::Arc;
 
-/// The names of the functions in whose calls the processes of a run of a job began, by pid; an empty one where there is none.
+/// The names of the functions in whose calls the processes of a run of a job began, by pid; an empty one where there is
+/// none.
 fn names_of(
     alloc: Global,
     job: &Job,
@@ -103,7 +104,8 @@ fn draw_by_schedule(
     draw_run(alloc, job, root, manner, &run)
 }
 
-/// The chart of what a shrinking came to: of the run by the schedule that it found. If the given schedule doesn't fail, that is refused.
+/// The chart of a shrinking's result: of the run by the schedule that it found. If the given schedule doesn't fail,
+/// that is refused.
 fn draw_result(
     alloc: Global,
     root: &[u8],

@@ -1,5 +1,5 @@
-//! What a hunt comes to, and how a run that fails is told: its seed and its choices go out first, which takes no memory, so that they are
-//! known whatever comes behind.
+//! The result of a hunt, and how a run that fails is reported: its seed and its choices go out first, which takes no
+//! memory, so that they are known whatever comes after.
 
 ghost use Rattle.std.specs.Prelude.{◌≡◌, ◌++◌, List, ℕ, Some, OnErr, OnOk, IfErr, IfOk, codes, map};
 ghost use Rattle.std.specs.Fmt.{decimal};
@@ -33,7 +33,8 @@ use std::alloc::Global;
 use std::io::Write;
 use std::sync::ledger::Ledger;
 
-/// A run that fails: its job, the module of that, its seed and its report; and within how many runs its schedule is to be shrunk, if it is.
+/// A run that fails: its job, the module of that, its seed and its report; and within how many runs its schedule is to
+/// be shrunk, if it is.
 #[derive(Drop)]
 pub struct Found {
     pub job: Job,
@@ -42,12 +43,12 @@ pub struct Found {
     pub runs: Option<u32>,
 }
 
-/// What a hunt comes to.
+/// The result of a hunt.
 #[derive(Drop)]
 pub enum HuntEnd {
     /// An answer.
     Told(Answer),
-    /// A run that fails, which is to be told.
+    /// A run that fails, which is to be reported.
     Found(Found),
 }
 
@@ -242,7 +243,7 @@ fn print_found<W: Write, M: Ledger>(
     }
 }
 
-/// Prints what a hunt came to.
+/// Prints the result of a hunt.
 pub(crate) fn print_end<W: Write, M: Ledger>(
     alloc: Global,
     args: &HuntArgs,

@@ -20,7 +20,7 @@ use std::io::{Read, Write};
 use std::sync::ledger::Ledger;
 use std::thread::Threads;
 
-/// What it comes to for a source of these bytes, by the given number of workers: an answer, or a run that fails.
+/// The result for a source of these bytes, by the given number of workers: an answer, or a run that fails.
 fn end_of_hunt<T: Threads + Sync, S: HuntObserver>(
     rt: &T,
     alloc: Global,
@@ -65,9 +65,9 @@ pub fn print_hunt<W: Write, M: Ledger, T: Threads + Sync, S: HuntObserver>(
     Ok(print_end(alloc, args, end, observer, writer)?)
 }
 
-/// Answers a source whose runs by many seeds are asked for, by n workers: reads at most one byte more than a source may have, writes a
-/// text and gives the status. The observer of the seeds receives how far the hunt came and the least leak, and answers how it goes on; the
-/// other observer receives the progress of a shrinking.
+/// Answers a source whose runs by many seeds are asked for, by n workers: reads at most one byte more than a source may
+/// have, writes a text and gives the status. The observer of the seeds receives how far the hunt came and the least
+/// leak, and answers how it goes on; the other observer receives the progress of a shrinking.
 pub fn hunt_source<R: Read, W: Write, L: Ledger, M: Ledger, T: Threads + Sync, S: HuntObserver>(
     rt: &T,
     alloc: Global,

@@ -1,4 +1,5 @@
-//! The work of a run between a reader and a writer: its report goes out as the run goes, so that no more of it is held than a piece.
+//! The work of a run between a reader and a writer: its report goes out as the run goes, so that no more of it is held
+//! than a piece.
 
 ghost use Rattle.std.specs.Prelude.{◌≡◌, List, ℕ, zero, IfErr, IfOk, OnOk, Some};
 ghost use Rattle.pf_fault.specs.Codes.{code_text, refusal_text};
@@ -48,7 +49,7 @@ fn print_refusal<W: Write, M: Ledger>(
     Ok(print_answer(&answer, writer)?)
 }
 
-/// Writes what is told of a run within which memory ran out, behind the lines that went out. It takes no memory.
+/// Writes what is reported of a run within which memory ran out, after the lines that went out. It takes no memory.
 pub(crate) fn print_no_memory<W: Write, M: Ledger>(
     writer: &mut Counted<W, M>,
 ) -> Result<u8, StreamFault>
@@ -71,7 +72,8 @@ pub(crate) fn print_answer<W: Write, M: Ledger>(
     Ok(answer.status)
 }
 
-/// Prints the report of a job that is one run, as the run goes, and counts how many processes still wait though its root returned.
+/// Prints the report of a job that is one run, as the run goes, and counts how many processes still wait though its
+/// root returned.
 fn print_one_run<W: Write, M: Ledger>(
     alloc: Global,
     job: &Job,
@@ -94,7 +96,8 @@ fn print_one_run<W: Write, M: Ledger>(
     }
 }
 
-/// Prints what is told of a job. Of one that is one run it counts how many processes still wait though its root returned.
+/// Prints what is reported of a job. Of one that is one run it counts how many processes still wait though its root
+/// returned.
 fn print_job<W: Write, M: Ledger>(
     alloc: Global,
     job: Job,
@@ -188,8 +191,8 @@ fn print_module<W: Write, M: Ledger>(
     }
 }
 
-/// Prints the answer to a source of these bytes of which a run is asked for. Where a report is told, how many processes still wait though the
-/// root returned is put in `waiting`.
+/// Prints the answer to a source of these bytes of which a run is asked for. Where a report is printed, how many
+/// processes still wait though the root returned is put in `waiting`.
 pub fn print_source<W: Write, M: Ledger>(
     alloc: Global,
     args: &RunArgs,
@@ -210,8 +213,9 @@ pub fn print_source<W: Write, M: Ledger>(
     }
 }
 
-/// Answers a source of which a run is asked for: reads at most one byte more than a source may have, writes the report as the run goes, or
-/// why there is none, and gives the status. Where a report is told, how many processes still wait though the root returned is put in `waiting`.
+/// Answers a source of which a run is asked for: reads at most one byte more than a source may have, writes the report
+/// as the run goes, or why there is none, and gives the status. Where a report is printed, how many processes still
+/// wait though the root returned is put in `waiting`.
 pub fn run_source<R: Read, W: Write, L: Ledger, M: Ledger>(
     alloc: Global,
     reader: &mut Counted<R, L>,

@@ -32,7 +32,8 @@ fn write_run(alloc: Global, atoms: &AtomTable, told: &WrittenReport) -> Result<A
     Ok(Answer { text, status })
 }
 
-/// The answer of a shrinking: the schedule that it found, whether no candidate of that fails, and the report of its run, which fails.
+/// The answer of a shrinking: the schedule that it found, whether no candidate of that fails, and the report of its
+/// run, which fails.
 fn write_shrunk(
     alloc: Global,
     atoms: &AtomTable,
@@ -53,7 +54,7 @@ fn write_shrunk(
     })
 }
 
-/// The answer of what a job came to. If the given schedule doesn't fail, that is refused.
+/// The answer of a job's result. If the given schedule doesn't fail, that is refused.
 fn write_result(alloc: Global, atoms: &AtomTable, told: &JobResult) -> Result<Answer, NoMemory>
     requires { IsWritten (name_of atoms.now) told.now }
     ensures { IfOk result (TellsResult atoms.now (result_of told.now)) }

@@ -74,7 +74,8 @@ fn put_met(out: &mut Vec<u8>, atoms: &AtomTable, met: &HashedOutcome) -> Result<
     put_outcome(out, atoms, met.get())
 }
 
-/// Puts a row: whether the property holds, by how many seeds the outcome was met, the least of them, and the outcome's line.
+/// Puts a row: whether the property holds, by how many seeds the outcome was met, the least of them, and the outcome's
+/// line.
 fn put_row(out: &mut Vec<u8>, atoms: &AtomTable, row: &Row) -> Result<(), NoMemory>
     ensures { OnOk result (out.new.items ≡ out.old.items ++ row_text (name_of atoms.now) (row_of row.now)) }
 {

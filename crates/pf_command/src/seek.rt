@@ -63,8 +63,8 @@ fn try_shrinking(
     Job::new(alloc, module.share()?, &request, args.edition.number())
 }
 
-/// Whether a schedule may be shrunk within n runs: the shrinking of the empty one is made, so that its number of runs is refused before
-/// any seed is run.
+/// Whether a schedule may be shrunk within n runs: the shrinking of the empty one is made, so that its number of runs
+/// is refused before any seed is run.
 fn may_shrink(
     alloc: Global,
     args: &HuntArgs,
@@ -145,7 +145,7 @@ fn workers_of(args: &HuntArgs, workers: u64) -> u64 {
     workers.min(args.end.saturating_sub(args.first))
 }
 
-/// What it comes to if the least seed that fails is sought, by the given number of workers.
+/// The result if the least seed that fails is sought, by the given number of workers.
 fn seek_failure<T: Threads + Sync, S: HuntObserver>(
     rt: &T,
     alloc: Global,
@@ -188,7 +188,7 @@ fn seek_failure<T: Threads + Sync, S: HuntObserver>(
     }))
 }
 
-/// What it comes to for a module if the least seed that fails is sought.
+/// The result for a module if the least seed that fails is sought.
 fn hunt_failure<T: Threads + Sync, S: HuntObserver>(
     rt: &T,
     alloc: Global,
@@ -211,7 +211,8 @@ fn hunt_failure<T: Threads + Sync, S: HuntObserver>(
     }
 }
 
-/// The answer of rows, of the seeds to before an end: the strategy and each row on a line, and 1 if the property of some run fails, else 0.
+/// The answer of rows, of the seeds to before an end: the strategy and each row on a line, and 1 if the property of
+/// some run fails, else 0.
 fn write_rows(
     alloc: Global,
     args: &HuntArgs,
@@ -284,7 +285,7 @@ fn hunt_outcomes<T: Threads + Sync, S: HuntObserver>(
     }
 }
 
-/// What it comes to for a module, by the given number of workers.
+/// The result for a module, by the given number of workers.
 pub(crate) fn hunt_module<T: Threads + Sync, S: HuntObserver>(
     rt: &T,
     alloc: Global,

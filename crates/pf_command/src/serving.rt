@@ -25,7 +25,8 @@ pub trait Answering {
         ensures { IfOk result (λ a. answers self bytes.items a.text.items a.status) };
 }
 
-/// Answers a source by a command: reads at most one byte more than a source may have, writes a text and gives the status.
+/// Answers a source by a command: reads at most one byte more than a source may have, writes a text and gives the
+/// status.
 pub fn serve<R: Read, W: Write, L: Ledger, M: Ledger, C: Answering + Drop>(
     alloc: Global,
     reader: &mut Counted<R, L>,

@@ -1,4 +1,4 @@
-//! What is told of a hunt that stopped before its end.
+//! What is reported of a hunt that stopped before its end.
 
 ghost use Rattle.std.specs.Prelude.{◌≡◌, ◌++◌, OnOk};
 ghost use Rattle.pf_cli.specs.Args.{view_of_hunt_args};
@@ -15,7 +15,7 @@ pub(crate) fn may_stop(args: &HuntArgs) -> bool
     args.time.is_some()
 }
 
-/// Puts that a hunt stopped behind n seeds.
+/// Puts that a hunt stopped after n seeds.
 fn put_stopped(out: &mut Vec<u8>, seeds: u64) -> Result<(), NoMemory>
     ensures { OnOk result (out.new.items ≡ out.old.items ++ stopped_text seeds) }
 {
@@ -24,7 +24,7 @@ fn put_stopped(out: &mut Vec<u8>, seeds: u64) -> Result<(), NoMemory>
     put(out, b" seeds\n")
 }
 
-/// Puts that a hunt stopped behind the seeds to before an end, unless these are all.
+/// Puts that a hunt stopped after the seeds to before an end, unless these are all.
 pub(crate) fn put_front(out: &mut Vec<u8>, args: &HuntArgs, end: u64) -> Result<(), NoMemory>
     ensures { OnOk result (out.new.items ≡ out.old.items ++ front_text (view_of_hunt_args args.now) end) }
 {
