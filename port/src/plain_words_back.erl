@@ -9,20 +9,8 @@ line(Line, Names) -> iolist_to_binary(scan(Line, Names)).
 
 -spec scan(binary(), #{atom() => plain_translation:place()}) -> iodata().
 scan(<<>>, _) -> [];
-scan(<<"{'#", _/binary>> = Text, Names) ->
-    case term(Text) of
-        {ok, Term, Rest} -> [written(Term, Names) | scan(Rest, Names)];
-        error ->
-            <<First, Rest/binary>> = Text,
-            [First | scan(Rest, Names)]
-    end;
-scan(<<"[", _/binary>> = Text, Names) ->
-    case term(Text) of
-        {ok, Term, Rest} -> [written(Term, Names) | scan(Rest, Names)];
-        error ->
-            <<First, Rest/binary>> = Text,
-            [First | scan(Rest, Names)]
-    end;
+scan(<<"{'#", _/binary>> = Text, Names) -> scan_term(Text, Names);
+scan(<<"[", _/binary>> = Text, Names) -> scan_term(Text, Names);
 scan(<<"'", Rest/binary>>, Names) ->
     {Quoted, Behind} = quoted(Rest, <<>>),
     [$', Quoted, $' | scan(Behind, Names)];
@@ -33,6 +21,16 @@ scan(<<C, _/binary>> = Text, Names) when C >= $a, C =< $z ->
     {Word, Behind} = bare(Text, <<>>),
     [Word | scan(Behind, Names)];
 scan(<<C, Rest/binary>>, Names) -> [C | scan(Rest, Names)].
+
+%% A term where one is read here, and else its first byte as it is.
+-spec scan_term(binary(), #{atom() => plain_translation:place()}) -> iodata().
+scan_term(Text, Names) ->
+    case term(Text) of
+        {ok, Term, Rest} -> [written(Term, Names) | scan(Rest, Names)];
+        error ->
+            <<First, Rest/binary>> = Text,
+            [First | scan(Rest, Names)]
+    end.
 
 -spec quoted(binary(), binary()) -> {binary(), binary()}.
 quoted(<<"\\", C, Rest/binary>>, Before) -> quoted(Rest, <<Before/binary, "\\", C>>);
