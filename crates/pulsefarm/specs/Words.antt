@@ -7,6 +7,6 @@ abbrev pub asked_by : (given : List (List ℕ)) → List (List ℕ)
 asked_by [] = []
 asked_by (first ∷ rest) = if bytes_eq first (codes "help") then rest ++ (codes "--help" ∷ []) else first ∷ rest
 
--- the program's name stands in front
+-- the program's name is first
 abbrev pub words_of : (given : List (List ℕ)) → List (List ℕ)
 words_of given = codes "pulsefarm" ∷ asked_by given

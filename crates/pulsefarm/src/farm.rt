@@ -1,6 +1,7 @@
 //! `farm`: a client for each file, and workers, on one running farm.
 
-ghost use Rattle.std.specs.Prelude.{◌≡◌, ◌<◌, ◌≤◌, IfOk, IfSome, Some, length, vec_len};
+ghost use Rattle.std.specs.Prelude.{◌≡◌, ◌<◌, ◌≤◌, IfOk, IfSome, Some, length, map, vec_len};
+ghost use Rattle.pulsefarm.specs.Program.{FarmAnswers, FarmEnds, FarmIsDone};
 
 use crate::watch::FarmWatch;
 use pf_cli::FarmArgs;
@@ -47,6 +48,9 @@ pub fn farm<R, W: Write, M: Ledger>(
 where
     R: Files + Print + Eprint + AllocGlobal + RandomSource + Clock + Threads + Wait + Sync,
     R::File: Send + Drop,
+    ensures { FarmIsDone (vec_len args.now.files)
+        (W.contents writer.old.inner) (W.contents writer.new.inner)
+        writer.old.failures.total writer.new.failures.total result }
 {
     end(rt, None, None, answer(rt, args, host, writer))
 }
@@ -61,6 +65,9 @@ fn answer<R, W: Write, M: Ledger>(
 where
     R: Files + Print + Eprint + AllocGlobal + RandomSource + Clock + Threads + Wait + Sync,
     R::File: Send + Drop,
+    ensures { FarmAnswers (vec_len args.now.files)
+        (W.contents writer.old.inner) (W.contents writer.new.inner)
+        writer.old.failures.total writer.new.failures.total result }
 {
     if !host.has_stack {
         say(
@@ -150,6 +157,9 @@ where
     requires workers { (0 < workers) × (workers < N.workers) }
     requires seats { MOST_SEATS < N.seats }
     requires files { (0 < vec_len files) × (vec_len files ≤ MOST_SEATS) }
+    ensures { FarmEnds (map R.File.remaining files.items)
+        (W.contents writer.old.inner) (W.contents writer.new.inner)
+        writer.old.failures.total writer.new.failures.total result }
 {
     let keys = random_keys(rt)?;
     run_farm::<N, R::File, W, M, R, FarmWatch<R>>(

@@ -8,6 +8,8 @@ mod watch;
 
 ghost use Rattle.std.specs.Prelude.{◌≡◌, ◌<◌, ◌++◌, IfOk, OnOk, map};
 ghost use Rattle.std.specs.String.{string_bytes};
+ghost use Rattle.pf_command.specs.Streams.{Streams, streams};
+ghost use Rattle.pulsefarm.specs.Program.{Does, DoesGiven, IsStatus};
 ghost use Rattle.pulsefarm.specs.Words.{words_of};
 
 use crate::args::given_words;
@@ -40,7 +42,7 @@ fn push_all<'a>(words: &mut Vec<&'a str>, given: &'a [String]) -> Result<(), NoM
     Ok(())
 }
 
-/// The words as they are read: the program's name stands in front, and `help WORD` is `WORD --help`.
+/// The words as they are read: the program's name is first, and `help WORD` is `WORD --help`.
 fn words_of<'a>(alloc: Global, given: &'a [String]) -> Result<Vec<&'a str>, NoMemory>
     ensures { IfOk result (λ v. map (λ w. w.now) v.items ≡ words_of (map (λ s. string_bytes s) given.now)) }
 {
@@ -68,6 +70,11 @@ fn obeyed<R, I: Read, W: Write, L: Ledger, M: Ledger>(
 where
     R: Files + Print + Eprint + AllocGlobal + RandomSource + Clock + Threads + Wait + Sync,
     R::File: Send + Drop,
+    ensures { Does (map (λ w. w.now) words.now)
+        (streams (I.remaining reader.old.inner) (W.contents writer.old.inner)
+        reader.old.failures.total writer.old.failures.total)
+        (streams (I.remaining reader.new.inner) (W.contents writer.new.inner)
+        reader.new.failures.total writer.new.failures.total) result }
 {
     let done = obey(rt, words, reader, writer, line)?;
     match &done {
@@ -76,7 +83,29 @@ where
     }
 }
 
-/// Reads the words and does what they ask for, between the standard streams.
+/// Reads the words and does what they ask for, between a reader and a writer.
+fn answer_words<R, I: Read, W: Write, L: Ledger, M: Ledger>(
+    rt: &R,
+    reader: &mut Counted<I, L>,
+    writer: &mut Counted<W, M>,
+    line: &Line,
+    host: Host,
+) -> Result<u8, NoMemory>
+where
+    R: Env + Files + Print + Eprint + AllocGlobal + RandomSource + Clock + Threads + Wait + Sync,
+    R::File: Send + Drop,
+    ensures { DoesGiven
+        (streams (I.remaining reader.old.inner) (W.contents writer.old.inner)
+        reader.old.failures.total writer.old.failures.total)
+        (streams (I.remaining reader.new.inner) (W.contents writer.new.inner)
+        reader.new.failures.total writer.new.failures.total) result }
+{
+    let given = given_words(rt)?;
+    let words = words_of(rt.alloc(), &given)?;
+    obeyed(rt, &words, reader, writer, line, host)
+}
+
+/// The same between the standard streams, of which no call has failed yet.
 fn try_all_by<R, I: Read + Drop, W: Write + Drop, L: Ledger, M: Ledger>(
     rt: &R,
     stdin: I,
@@ -95,12 +124,11 @@ where
     requires writes { writes.name ≡ M.name }
     requires write_parts { writes.parts ≡ M.parts }
     requires some_writes { 0 < writes.parts }
+    ensures { (after : Streams) × DoesGiven (streams (I.remaining stdin) (W.contents stdout) 0 0) after result }
 {
-    let given = given_words(rt)?;
-    let words = words_of(rt.alloc(), &given)?;
     let mut reader = Counted::<I, L>::new(stdin, reads);
     let mut writer = Counted::<W, M>::new(stdout, writes);
-    obeyed(rt, &words, &mut reader, &mut writer, line, host)
+    answer_words(rt, &mut reader, &mut writer, line, host)
 }
 
 /// The same; before anything is written the line is emptied.
@@ -114,6 +142,7 @@ fn try_all<R, I: Read + Drop, W: Write + Drop>(
 where
     R: Env + Files + Print + Eprint + AllocGlobal + RandomSource + Clock + Threads + Wait + Sync,
     R::File: Send + Drop,
+    ensures { (after : Streams) × DoesGiven (streams (I.remaining stdin) (W.contents stdout) 0 0) after result }
 {
     let inner = stdout;
     let clearing = Clearing { line, inner };
@@ -128,6 +157,7 @@ fn all<R, I: Read + Drop>(rt: &R, stdin: I, host: Host) -> u8
 where
     R: Env + Files + Print + Eprint + AllocGlobal + RandomSource + Clock + Threads + Wait + Sync,
     R::File: Send + Drop,
+    ensures { IsStatus result }
 {
     match try_all(rt, stdin, io::writer(rt), &Line::new(host.stderr), host) {
         Ok(status) => status,

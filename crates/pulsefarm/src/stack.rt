@@ -17,7 +17,7 @@ fn limit_in(table: &str) -> Option<u64> {
     }
 }
 
-/// Whether the system lets the stack of the first thread grow so far; no, if it doesn't tell.
+/// Whether the system lets the stack of the first thread grow so far; no, if it doesn't say.
 pub fn first_thread_has_stack(files: &impl Files) -> bool {
     let mut table = [0u8; 4_096];
     let Ok(mut limits) = fs::open(files, "/proc/self/limits") else {

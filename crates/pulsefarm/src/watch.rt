@@ -14,10 +14,10 @@ use std::sync::Wait;
 use std::sync::atomic::{AtomicU64, Ordering};
 use std::time::{Clock, Instant};
 
-/// How many milliseconds what was told stands there at least.
+/// How many milliseconds what is shown stays at least.
 const PAUSE: u64 = 100;
 
-/// How many projects are told of.
+/// How many projects are shown.
 const MOST_TOLD: usize = 6;
 
 /// How many trials of a project were ordered, and how many are done.
@@ -34,9 +34,9 @@ pub struct FarmWatch<'a, C> {
     stderr: Stderr,
     is_shown: bool,
     summary: bool,
-    /// When it began, if the clock tells.
+    /// When it began, if the clock says.
     start: Option<Instant>,
-    /// After how many milliseconds it told last.
+    /// After how many milliseconds it showed progress last.
     told: AtomicU64,
     /// By project, from the first on.
     trials: Vec<Trials>,
@@ -93,7 +93,7 @@ impl<'a, C: Clock> FarmWatch<'a, C> {
         })
     }
 
-    /// The milliseconds since its start, if the clock tells.
+    /// The milliseconds since its start, if the clock says.
     fn milliseconds(&self) -> Option<u64> {
         let time = self.start?.elapsed(self.clock).ok()?;
         u64::try_from(time.as_millis()).ok()

@@ -1,0 +1,13 @@
+-- What is done between streams that equal others.
+use Rattle.std.proofs.Common.{◌≡◌, subst, ℕ, List, Option, Result}
+use Rattle.pf_fault.specs.declared.memory.NoMemory.{NoMemory}
+use Rattle.pf_command.specs.Streams.{Streams, streams}
+use Rattle.pulsefarm.specs.Program.{DoesGiven}
+
+module _ (x y x' y' : Option (List ℕ)) (m n m' n' : ℕ) (after : Streams) (r : Result ℕ NoMemory) where
+  pub from_equal : x ≡ x' → y ≡ y' → m ≡ m' → n ≡ n' → DoesGiven (streams x y m n) after r → DoesGiven (streams x' y' m' n') after r
+  from_equal e f g h done =
+      subst (λ (it : Option (List ℕ)). DoesGiven (streams it y' m' n') after r) e
+      (subst (λ (it : Option (List ℕ)). DoesGiven (streams x it m' n') after r) f
+      (subst (λ (it : ℕ). DoesGiven (streams x y it n') after r) g
+      (subst (λ (it : ℕ). DoesGiven (streams x y m it) after r) h done)))

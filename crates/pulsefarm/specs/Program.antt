@@ -1,0 +1,47 @@
+-- What the program does for words, between the standard input and the standard output.
+use Rattle.std.specs.Prelude.{◌≡◌, ◌⊎◌, ℕ, List, length, Option, None, Result, Ok, Err}
+use Rattle.pf_fault.specs.declared.memory.NoMemory.{NoMemory}
+use Rattle.pf_cli.specs.Args.{reading_of}
+use Rattle.pf_cli.specs.declared.args.FarmArgs.{FarmArgs}
+use Rattle.pf_command.specs.Streams.{Streams}
+use Rattle.pf_said.specs.Texts.{HasStatus, IsFailure}
+use Rattle.pf_clients.specs.Farms.{FarmLeaves, FarmPrints}
+use Rattle.pf_words.specs.Words.{End, IsDoneAs, IsFarmOf, NothingOut}
+use Rattle.pulsefarm.specs.Words.{words_of}
+
+-- ---- a farm
+
+-- a farm over these inputs ended: what its clients were answered went out; or a stream failed or memory ran out, before
+-- the farm began or after
+abbrev pub FarmEnds : List (Option (List ℕ)) → (written_old written_new : Option (List ℕ)) → (failed_old failed_new : ℕ) → End → Type 0
+FarmEnds inputs w0 w1 n0 n1 (Ok status) = FarmPrints inputs status w0 w1 × (n1 ≡ n0)
+FarmEnds inputs w0 w1 n0 n1 (Err e) = ((w1 ≡ w0) × (n1 ≡ n0)) ⊎ FarmLeaves inputs e w0 w1 n0 n1
+
+-- a farm of so many files was run, and the program has the status of its end; or it wasn't begun, which is a failure,
+-- and nothing went out
+abbrev pub FarmIsDone : (files : ℕ) → (written_old written_new : Option (List ℕ)) → (failed_old failed_new : ℕ) → ℕ → Type 0
+FarmIsDone n w0 w1 n0 n1 given =
+    ((w1 ≡ w0) × (n1 ≡ n0) × IsFailure given)
+    ⊎ ((inputs : List (Option (List ℕ))) × (end : End) × (length inputs ≡ n) × FarmEnds inputs w0 w1 n0 n1 end × HasStatus end given)
+
+-- it is done, whatever status this end of it has
+abbrev pub FarmAnswers : (files : ℕ) → (written_old written_new : Option (List ℕ)) → (failed_old failed_new : ℕ) → End → Type 0
+FarmAnswers n w0 w1 n0 n1 end = (given : ℕ) → HasStatus end given → FarmIsDone n w0 w1 n0 n1 given
+
+-- ---- words
+
+-- what words ask for is done, a farm too; or memory ran out, and nothing went out
+abbrev pub Does : (words : List (List ℕ)) → (old new : Streams) → Result ℕ NoMemory → Type 0
+Does words old new (Ok given) =
+    IsDoneAs words (reading_of None words) old new given
+    ⊎ ((args : FarmArgs) × IsFarmOf words args
+    × FarmIsDone (length args.files.items) old.written new.written old.failed_writes new.failed_writes given)
+Does words old new (Err e) = NothingOut old new
+
+-- the same for the words that the system gives, of which nothing is known
+abbrev pub DoesGiven : (old new : Streams) → Result ℕ NoMemory → Type 0
+DoesGiven old new result = (given : List (List ℕ)) × Does (words_of given) old new result
+
+-- a status of the program: that of what words ask for, or 2 where memory ran out
+abbrev pub IsStatus : ℕ → Type 0
+IsStatus given = ((old : Streams) × (new : Streams) × DoesGiven old new (Ok given)) ⊎ (given ≡ 2)
