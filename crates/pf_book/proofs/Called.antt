@@ -2,10 +2,10 @@
 use Rattle.std.proofs.Common.{◌≡◌, ℕ, List, [], ◌∷◌, ◌++◌, map, Option, Some, None, Ok, refl, sym, ap, ◌∙◌, subst, arith, ◌+◌, ◌≤◌}
 use Rattle.std.specs.Option.{option_map}
 use Rattle.std.specs.Vec.{vec_len, vec_capacity}
-use Rattle.pf_fault.specs.declared.code.Code.{Code}
+use Rattle.pf_errors.specs.declared.code.Code.{Code}
 use Rattle.pf_quota.specs.declared.usage.Usage.{Usage}
 use Rattle.pf_quota.specs.declared.charges.Charge.TheVariants as charge
-use Rattle.pf_quota.specs.declared.refusals.Refusal.{Refusal as Limit}
+use Rattle.pf_quota.specs.declared.refusals.LimitRefusal.{LimitRefusal as Limit}
 use Rattle.pf_quota.specs.Checks.{refusal_of}
 use Rattle.pf_quota.specs.Refusals as quota
 use Rattle.pf_quota.specs.Usage.{usage_of}
@@ -14,20 +14,20 @@ use Rattle.pf_request.specs.Calls.{Call}
 use Rattle.pf_request.specs.Module.{ReadModule}
 use Rattle.pf_desks.specs.Desk as desk
 use Rattle.pf_desks.specs.Desk.{Profile, Desk, Trial, called}
-use Rattle.pf_desks.specs.Calls.{answered, within_limits, noted, passed_by, HasRoom, after_call, reply_to, with_entry, usage_in, held_by}
+use Rattle.pf_desks.specs.Calls.{answer_of_call, within_limits, noted, passed_by, HasRoom, after_call, reply_to, with_entry, usage_in, held_by}
 use Rattle.pf_desks.specs.History.{IsLegalDesk}
 use Rattle.pf_desks.proofs.Histories.{desk_more}
 use Rattle.pf_book.specs.Answers.{DeskAnswers}
 use Rattle.pf_book.specs.Kept.{desk_in, IsValid}
 use Rattle.pf_book.specs.Plans.{with_change, IsPlan}
 use Rattle.pf_book.specs.Profile.{ForRight}
-use Rattle.pf_book.specs.Queues.{ended_by}
+use Rattle.pf_book.specs.Queues.{trials_dropped_by}
 use Rattle.pf_book.specs.Running.{running_in}
 use Rattle.pf_book.specs.Users.{holding, CountUsers}
 use Rattle.pf_book.specs.View.{view_of_reply, view_of_entry}
 use Rattle.pf_book.specs.declared.desk.Desk.TheInside.{Inside}
-use Rattle.pf_book.specs.declared.plan.Change.{Change}
-use Rattle.pf_book.specs.declared.plan.Change.TheVariants as change
+use Rattle.pf_book.specs.declared.plan.DeskChange.{DeskChange}
+use Rattle.pf_book.specs.declared.plan.DeskChange.TheVariants as change
 use Rattle.pf_book.specs.declared.plan.Plan.{Plan}
 use Rattle.pf_book.specs.declared.reply.Reply.{Reply}
 use Rattle.pf_book.proofs.Queued.{change_running}
@@ -69,14 +69,14 @@ module _ (d : Desk) (u : Usage) (sums : u ≡ usage_in d) where
       → (d' : Desk) → d' ≡ d → DeskAnswers d c (Ok r) d'
   full_answers limit c r h told d' same p right =
       let full = told_limit (Some limit) h in (
-        told ∙ sym (ap (λ (o : Option Code). (within_limits d o (noted c (answered p d c))).1) full),
-        same ∙ sym (ap (λ (o : Option Code). (within_limits d o (noted c (answered p d c))).0) full),
+        told ∙ sym (ap (λ (o : Option Code). (within_limits d o (noted c (answer_of_call p d c))).1) full),
+        same ∙ sym (ap (λ (o : Option Code). (within_limits d o (noted c (answer_of_call p d c))).0) full),
       )
 
 -- ---- a call that is noted
 
 -- a change leaves what was noted, and looks at modules and trials alone
-with_history : (d : Desk) (a : Change) → with_change d a ≡ record (with_change (holding d.edition d.modules d.trials) a) { history = d.history }
+with_history : (d : Desk) (a : DeskChange) → with_change d a ≡ record (with_change (holding d.edition d.modules d.trials) a) { history = d.history }
 with_history d change.Nothing = refl
 with_history d (change.Module m) = refl
 with_history d (change.Trial n j) = refl
@@ -84,11 +84,11 @@ with_history d (change.DropTrial t) = refl
 with_history d (change.Withdraw n) = refl
 with_history d (change.Edition e) = refl
 
-same_history : (d : Desk) (a : Change) → (with_change d a).history ≡ d.history
+same_history : (d : Desk) (a : DeskChange) → (with_change d a).history ≡ d.history
 same_history d a = ap (λ (k : Desk). k.history) (with_history d a)
 
 -- the desk of the lists that a change was carried out in, and of what was noted
-pub changed_desk : (d : Desk) (a : Change) (e : desk.Entry) (edition : ℕ) (ms : List (Option ReadModule)) (ts : List (Option Trial)) (es : List desk.Entry)
+pub changed_desk : (d : Desk) (a : DeskChange) (e : desk.Entry) (edition : ℕ) (ms : List (Option ReadModule)) (ts : List (Option Trial)) (es : List desk.Entry)
     → holding edition ms ts ≡ with_change (holding d.edition d.modules d.trials) a → es ≡ d.history ++ e ∷ []
     → ◌≡◌ {A = Desk} (record { edition = edition; modules = ms; trials = ts; history = es }) (with_entry (with_change d a) e)
 changed_desk d a e edition ms ts es made noted =
@@ -108,12 +108,12 @@ module _ (d : Desk) (c : Call) (plan : Plan) (planned : IsPlan d c plan) (room :
   called_is p right =
       is
       ∙ ap (λ (x : Desk × desk.Reply). with_entry x.0 (called c x.1)) (planned.answers p right)
-      ∙ sym (ap (λ (o : Option Code). (within_limits d o (noted c (answered p d c))).0) room)
+      ∙ sym (ap (λ (o : Option Code). (within_limits d o (noted c (answer_of_call p d c))).0) room)
 
   reply_is : ForRight (λ p. told ≡ reply_to p d c)
   reply_is p right =
       ap (λ (x : Desk × desk.Reply). x.1) (planned.answers p right)
-      ∙ sym (ap (λ (o : Option Code). (within_limits d o (noted c (answered p d c))).1) room)
+      ∙ sym (ap (λ (o : Option Code). (within_limits d o (noted c (answer_of_call p d c))).1) room)
 
   pub called_answers : (reply : Reply) → reply ≡ plan.reply → DeskAnswers d c (Ok reply) d'
   called_answers reply same p right = (ap view_of_reply same ∙ reply_is p right, called_is p right)
@@ -129,7 +129,7 @@ module _ (d : Desk) (c : Call) (plan : Plan) (planned : IsPlan d c plan) (room :
 
   -- what a desk keeps, where it is this desk
   pub called_valid : (b' : Inside) → desk_in b' ≡ d' → b'.usage ≡ plan.usage → IsEdition b'.edition → CountUsers b'.users.items b'.modules.items b'.trials.items
-      → b'.running + ended_by d.trials plan.change ≡ running_in d → vec_len b'.history + b'.running ≤ vec_capacity b'.history
+      → b'.running + trials_dropped_by d.trials plan.change ≡ running_in d → vec_len b'.history + b'.running ≤ vec_capacity b'.history
       → ForRight (λ p. IsLegalDesk p d) → IsValid b'
   called_valid b' here uses edition counts running room legal = record {
     legal = λ p right. subst (IsLegalDesk p) (sym here) (called_legal legal p right);

@@ -10,8 +10,8 @@ use Rattle.pf_store.specs.Sources.{Kept, holders, HeldOnceMore, HeldOnceLess}
 use Rattle.pf_desks.specs.Desk.{Desk, held_at, with_held}
 use Rattle.pf_book.specs.Kept.{modules_of, Counts, FollowsDesk}
 use Rattle.pf_book.specs.Plans.{with_change, KeepsModules}
-use Rattle.pf_book.specs.declared.plan.Change.{Change}
-use Rattle.pf_book.specs.declared.plan.Change.TheVariants as change
+use Rattle.pf_book.specs.declared.plan.DeskChange.{DeskChange}
+use Rattle.pf_book.specs.declared.plan.DeskChange.TheVariants as change
 use Rattle.pf_desks.proofs.Held.{OneMore, one_pushed, one_gone}
 
 bytes_eq_turned : (a b : List ℕ) → bytes_eq a b ≡ bytes_eq b a
@@ -67,7 +67,7 @@ module _ (d : Desk) where
     follows_withdrawal k k' less s = omega (arith, less s, turned m.source s, one_less s)
 
   -- a change that keeps the modules
-  pub follows_kept : (k k' : Kept) (c : Change) → KeepsModules c → k' ≡ k → FollowsDesk k d k' (with_change d c)
+  pub follows_kept : (k k' : Kept) (c : DeskChange) → KeepsModules c → k' ≡ k → FollowsDesk k d k' (with_change d c)
   follows_kept k k' change.Nothing h same = follows_none k k' same
   follows_kept k k' (change.Module m) h same = absurd h
   follows_kept k k' (change.Trial n j) h same = follows_none k k' same

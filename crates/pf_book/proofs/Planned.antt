@@ -3,12 +3,12 @@ use Rattle.std.proofs.Common.{◌≡◌, ◌<◌, ◌==◌, arith, inl, inr, Boo
 use Rattle.std.specs.Prelude.{◌||◌, nat_lt, if◌then◌else◌}
 use Rattle.std.specs.Option.{option_map}
 use Rattle.std.proofs.lemmas.Bool.{eqb-true}
-use Rattle.pf_fault.specs.declared.code.Code.{Code}
-use Rattle.pf_fault.specs.declared.code.Code.TheVariants as fault
+use Rattle.pf_errors.specs.declared.code.Code.{Code}
+use Rattle.pf_errors.specs.declared.code.Code.TheVariants as fault
 use Rattle.pf_quota.specs.declared.usage.Usage.{Usage}
 use Rattle.pf_quota.specs.declared.charges.Charge.TheVariants as charge
-use Rattle.pf_quota.specs.declared.charges.Held.TheVariants as held
-use Rattle.pf_quota.specs.declared.refusals.Refusal.{Refusal as Limit}
+use Rattle.pf_quota.specs.declared.charges.Holding.TheVariants as held
+use Rattle.pf_quota.specs.declared.refusals.LimitRefusal.{LimitRefusal as Limit}
 use Rattle.pf_quota.specs.Charges.{steps_of_trial}
 use Rattle.pf_quota.specs.Checks.{refusal_of}
 use Rattle.pf_quota.specs.Refusals as quota
@@ -20,13 +20,13 @@ use Rattle.pf_request.specs.Calls.{Call}
 use Rattle.pf_request.specs.Job.{Job}
 use Rattle.pf_request.specs.Module.{ReadModule}
 use Rattle.pf_request.specs.View.{view_of_order}
-use Rattle.pf_module.specs.Reading.{IsReadAs}
+use Rattle.pf_check.specs.Reading.{IsReadAs}
 use Rattle.pf_desks.specs.Desk as desk
 use Rattle.pf_desks.specs.Desk.{Profile, Desk, Trial, held_at, with_held}
-use Rattle.pf_desks.specs.Calls.{answered, within_limits, passed_by, submitted, ordered, dropped, withdrawn, with_job, users_of, is_edition, in_edition, usage_in}
+use Rattle.pf_desks.specs.Calls.{answer_of_call, within_limits, passed_by, submitted, ordered, dropped, withdrawn, with_job, users_of, is_edition, in_edition, usage_in}
 use Rattle.pf_request.specs.declared.call.Order.{Order}
 use Rattle.pf_book.specs.declared.plan.Plan.{Plan}
-use Rattle.pf_book.specs.Orders.{Asked}
+use Rattle.pf_book.specs.Orders.{OrderAsksFor}
 use Rattle.pf_book.specs.Plans.{with_change, IsPlan, IsCharged}
 use Rattle.pf_book.specs.Profile.{ForRight}
 use Rattle.pf_book.specs.View.{view_of_entry, view_of_reply}
@@ -39,7 +39,7 @@ Answer = Desk × desk.Reply
 module _ (d : Desk) (u : Usage) (counts : IsCharged d u) (plan : Plan) where
   -- a plan that changes nothing
   pub alone : (c : Call) (r : desk.Reply) → with_change d plan.change ≡ d → view_of_reply plan.reply ≡ r → plan.usage ≡ u
-      → ForRight (λ p. ◌≡◌ {A = Answer} (answered p d c) (d, r)) → view_of_entry plan.noted ≡ desk.called c r → IsPlan d c plan
+      → ForRight (λ p. ◌≡◌ {A = Answer} (answer_of_call p d c) (d, r)) → view_of_entry plan.noted ≡ desk.called c r → IsPlan d c plan
   alone c r same told uses so noted = record {
     answers = λ p right. (λ i. (same i, told i)) ∙ sym (so p right);
     notes = noted ∙ ap (desk.called c) (sym told);
@@ -49,7 +49,7 @@ module _ (d : Desk) (u : Usage) (counts : IsCharged d u) (plan : Plan) where
   -- a plan that leads to another desk
   changed : (c : Call) (d' : Desk) (r : desk.Reply) → with_change d plan.change ≡ d' → view_of_reply plan.reply ≡ r
       → plan.usage ≡ charged (usage_in d') charge.Call
-      → ForRight (λ p. ◌≡◌ {A = Answer} (answered p d c) (d', r)) → view_of_entry plan.noted ≡ desk.called c r → IsPlan d c plan
+      → ForRight (λ p. ◌≡◌ {A = Answer} (answer_of_call p d c) (d', r)) → view_of_entry plan.noted ≡ desk.called c r → IsPlan d c plan
   changed c d' r leads told uses so noted = record {
     answers = λ p right. (λ i. (leads i, told i)) ∙ sym (so p right);
     notes = noted ∙ ap (desk.called c) (sym told);
@@ -107,7 +107,7 @@ module _ (d : Desk) (u : Usage) (counts : IsCharged d u) (plan : Plan) where
         (λ p right. ap (λ (o : Option Code). within_limits d o (submitted d text (p.reading text))) (module_limit (length text) (Some limit) past)) noted
 
     module _ (within : refusal_of d.edition u (charge.Module (length text)) ≡ None) where
-      no_limit : (p : Profile) → ◌≡◌ {A = Answer} (answered p d (calls.submit text)) (submitted d text (p.reading text))
+      no_limit : (p : Profile) → ◌≡◌ {A = Answer} (answer_of_call p d (calls.submit text)) (submitted d text (p.reading text))
       no_limit p = ap (λ (o : Option Code). within_limits d o (submitted d text (p.reading text))) (module_limit (length text) None within)
 
       pub source_no_module : (code : Code) (index : ℕ) → Reads text (refused code index) → with_change d plan.change ≡ d
@@ -132,16 +132,16 @@ module _ (d : Desk) (u : Usage) (counts : IsCharged d u) (plan : Plan) where
   -- ---- orders
 
   module _ (o : Order) where
-    asked_answered : (r : Result Job Code) → Asked d.edition d.modules o r → ForRight (λ p. ◌≡◌ {A = Answer} (answered p d (view_of_order o)) (ordered d o.module r))
+    asked_answered : (r : Result Job Code) → OrderAsksFor d.edition d.modules o r → ForRight (λ p. ◌≡◌ {A = Answer} (answer_of_call p d (view_of_order o)) (ordered d o.module r))
     asked_answered r asked p right = ap (ordered d o.module) (asked p right)
 
-    pub order_refused : (code : Code) → Asked d.edition d.modules o (Err code) → with_change d plan.change ≡ d
+    pub order_refused : (code : Code) → OrderAsksFor d.edition d.modules o (Err code) → with_change d plan.change ≡ d
         → view_of_reply plan.reply ≡ desk.refused code → plan.usage ≡ u
         → view_of_entry plan.noted ≡ desk.called (view_of_order o) (desk.refused code) → IsPlan d (view_of_order o) plan
     order_refused code asked same told uses noted =
         alone (view_of_order o) (desk.refused code) same told uses (asked_answered (Err code) asked) noted
 
-    module _ (j : Job) (asked : Asked d.edition d.modules o (Ok j)) where
+    module _ (j : Job) (asked : OrderAsksFor d.edition d.modules o (Ok j)) where
       pub order_past_limit : (limit : Limit) → refusal_of d.edition u (charge.Trial (steps_of_trial j.asked.limit j.asked.runs)) ≡ Some limit → with_change d plan.change ≡ d
           → view_of_reply plan.reply ≡ desk.refused (quota.code_of limit) → plan.usage ≡ u
           → view_of_entry plan.noted ≡ desk.called (view_of_order o) (desk.refused (quota.code_of limit)) → IsPlan d (view_of_order o) plan

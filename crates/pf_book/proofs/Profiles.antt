@@ -1,6 +1,6 @@
 -- What right profiles say of a source that was read, and of an order.
 use Rattle.std.proofs.Common.{◌≡◌, ℕ, ◌+◌, List, [], ◌∷◌, ◌++◌, length, Option, Some, Result, sym, ap, ◌∙◌}
-use Rattle.pf_fault.specs.declared.code.Code.{Code}
+use Rattle.pf_errors.specs.declared.code.Code.{Code}
 use Rattle.pf_check.specs.Reads.{accepted, refused, Reads}
 use Rattle.pf_model.specs.Properties.{Property}
 use Rattle.pf_request.specs.Job.{Job, job_of}
@@ -8,12 +8,12 @@ use Rattle.pf_request.specs.Module.{ReadModule}
 use Rattle.pf_request.specs.Request.{Request}
 use Rattle.pf_request.specs.View.{view_of_request}
 use Rattle.pf_request.specs.declared.call.Order.{Order}
-use Rattle.pf_module.specs.Reading.{IsReadAs}
+use Rattle.pf_check.specs.Reading.{IsReadAs}
 use Rattle.pf_desks.specs.Desk as desk
 use Rattle.pf_desks.specs.Desk.{Profile, Desk, Reply, number, held_at, job_ordered}
 use Rattle.pf_desks.specs.Calls.{submitted}
 use Rattle.pf_sched.specs.Asked.{Asks}
-use Rattle.pf_book.specs.Orders.{Asked}
+use Rattle.pf_book.specs.Orders.{OrderAsksFor}
 use Rattle.pf_book.specs.Profile.{IsRight}
 
 module _ (p : Profile) (right : IsRight p) where
@@ -36,7 +36,7 @@ module _ (p : Profile) (right : IsRight p) where
 
 -- an order asks for what its request of its module results in
 pub order_asks : (e : ℕ) (modules : List (Option ReadModule)) (o : Order) (m : ReadModule) (x : Result Job Code)
-    → held_at modules o.module ≡ Some m → Asks m e (view_of_request o.request) x → Asked e modules o x
+    → held_at modules o.module ≡ Some m → Asks m e (view_of_request o.request) x → OrderAsksFor e modules o x
 order_asks e modules o m x found asks p right =
     ap (λ (held : Option ReadModule). job_ordered p e held (view_of_request o.request)) found
     ∙ request_so p right m e (view_of_request o.request) x asks

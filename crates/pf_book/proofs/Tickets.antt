@@ -3,14 +3,14 @@ use Rattle.std.proofs.Common.{◌≡◌, ℕ, sym, subst}
 use Rattle.pf_model.specs.Shrinking.{Result}
 use Rattle.pf_desks.specs.Desk.{Desk, done}
 use Rattle.pf_desks.specs.Jobs.{KeepsTickets, KeepsAllTickets}
-use Rattle.pf_desks.specs.World.{World, desk_at, put_desk}
+use Rattle.pf_desks.specs.Desks.{Desks, desk_at, put_desk}
 use Rattle.pf_desks.proofs.Jobs.{tickets_dropped, tickets_in_state, tickets_placed, tickets_pushed}
 use Rattle.pf_book.specs.Answers.{with_result}
 use Rattle.pf_book.specs.Plans.{with_change}
-use Rattle.pf_book.specs.declared.plan.Change.{Change}
-use Rattle.pf_book.specs.declared.plan.Change.TheVariants as change
+use Rattle.pf_book.specs.declared.plan.DeskChange.{DeskChange}
+use Rattle.pf_book.specs.declared.plan.DeskChange.TheVariants as change
 
-pub change_tickets : (d : Desk) (a : Change) → KeepsTickets d (with_change d a)
+pub change_tickets : (d : Desk) (a : DeskChange) → KeepsTickets d (with_change d a)
 change_tickets d change.Nothing = λ t j k. k
 change_tickets d (change.Module m) = λ t j k. k
 change_tickets d (change.Trial n j) = tickets_pushed d n j.value
@@ -25,9 +25,9 @@ pub same_tickets : (d d' : Desk) → d' ≡ d → KeepsTickets d d'
 same_tickets d d' same = subst (KeepsTickets d) (sym same) (λ t j k. k)
 
 -- a world in which nothing changed, and one with another desk for a project
-pub same_all_tickets : (w w' : World) → w' ≡ w → KeepsAllTickets w w'
+pub same_all_tickets : (w w' : Desks) → w' ≡ w → KeepsAllTickets w w'
 same_all_tickets w w' same = subst (KeepsAllTickets w) (sym same) (λ q t j k. k)
 
-pub put_tickets : (q : ℕ) (w w' : World) (d d' : Desk) → desk_at q w ≡ d → w' ≡ put_desk q d' w → KeepsTickets d d' → KeepsAllTickets w w'
+pub put_tickets : (q : ℕ) (w w' : Desks) (d d' : Desk) → desk_at q w ≡ d → w' ≡ put_desk q d' w → KeepsTickets d d' → KeepsAllTickets w w'
 put_tickets q w w' d d' here put keeps =
     subst (KeepsAllTickets w) (sym put) (λ r. tickets_placed r q d' w (subst (λ (k : Desk). KeepsTickets k d') (sym here) keeps))

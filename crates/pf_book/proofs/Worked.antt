@@ -9,10 +9,10 @@ use Rattle.pf_model.specs.Shrinking.{Result}
 use Rattle.pf_request.specs.Job.{Job}
 use Rattle.pf_request.specs.Module.{ReadModule}
 use Rattle.pf_desks.specs.Desk as desk
-use Rattle.pf_desks.specs.Desk.{Profile, State, queued, running, done, Trial, Desk, Mark, claimed, filed, handed_back, held_at, with_held, all_held}
+use Rattle.pf_desks.specs.Desk.{Profile, TrialState, queued, running, done, Trial, Desk, FileMark, claimed, filed, handed_back, held_at, with_held, all_held}
 use Rattle.pf_desks.specs.Calls.{calls_in, usage_in, with_entry}
 use Rattle.pf_desks.specs.History.{IsLegalDesk}
-use Rattle.pf_desks.specs.Work.{is_queued_state, is_queued, is_running_state, is_running, in_state, with_state, result_marked, after_claim, after_file, after_back, claim_step, file_step, back_step}
+use Rattle.pf_desks.specs.Work.{is_queued_state, is_queued, is_running_state, is_running, in_state, with_state, result_marked, after_claim, after_file, after_hand_back, claim_step, file_step, hand_back_step}
 use Rattle.pf_book.specs.Kept.{desk_in, IsValid}
 use Rattle.pf_book.specs.Profile.{ForRight}
 use Rattle.pf_book.specs.Queued.{job_in_state, job_of_trial, job_at, is_undone}
@@ -53,7 +53,7 @@ held_none ts (suc i) = none_index ts i
 -- ---- how far a trial is
 
 -- a trial is held there in this state
-pub record IsAt (o : Option Trial) (s : State) : Type 0 where
+pub record IsAt (o : Option Trial) (s : TrialState) : Type 0 where
   pub trial : Trial
   pub is : o ≡ Some trial
   pub state : trial.state ≡ s
@@ -62,7 +62,7 @@ pub queued_at : (o : Option Trial) → is_queued o ≡ true → IsAt o queued
 queued_at None h = absurd (cc)
 queued_at (Some x) h = by x.state refl h
   where
-    by : (s : State) → x.state ≡ s → is_queued_state s ≡ true → IsAt (Some x) queued
+    by : (s : TrialState) → x.state ≡ s → is_queued_state s ≡ true → IsAt (Some x) queued
     by queued e h = record { trial = x; is = refl; state = e }
     by running e h = absurd (cc)
     by (done r) e h = absurd (cc)
@@ -71,13 +71,13 @@ pub running_at : (o : Option Trial) → is_running o ≡ true → IsAt o running
 running_at None h = absurd (cc)
 running_at (Some x) h = by x.state refl h
   where
-    by : (s : State) → x.state ≡ s → is_running_state s ≡ true → IsAt (Some x) running
+    by : (s : TrialState) → x.state ≡ s → is_running_state s ≡ true → IsAt (Some x) running
     by queued e h = absurd (cc)
     by running e h = record { trial = x; is = refl; state = e }
     by (done r) e h = absurd (cc)
 
 -- a trial that waits for a worker is queued, and of its job
-job_queued : (x : Trial) (s : State) (j : Job) → job_in_state x.job s ≡ Some j → (is_queued_state s ≡ true) × (x.job ≡ j)
+job_queued : (x : Trial) (s : TrialState) (j : Job) → job_in_state x.job s ≡ Some j → (is_queued_state s ≡ true) × (x.job ≡ j)
 job_queued x queued j h = (refl, cc)
 job_queued x running j h = absurd (cc)
 job_queued x (done r) j h = absurd (cc)
@@ -94,7 +94,7 @@ is_waiting ts t j h = queued_so (held_at ts t) j h
 pub same_job_at : (ts us : List (Option Trial)) (t : ℕ) (j k : Job) → ts ≡ us → j ≡ k → JobAt ts t j → JobAt us t k
 same_job_at ts us t j k trials job h = subst (JobAt us t) job (subst (λ (l : List (Option Trial)). JobAt l t j) trials h)
 
-not_queued : (x : Trial) (s : State) → job_in_state x.job s ≡ None → is_queued_state s ≡ false
+not_queued : (x : Trial) (s : TrialState) → job_in_state x.job s ≡ None → is_queued_state s ≡ false
 not_queued x queued h = absurd (cc)
 not_queued x running h = refl
 not_queued x (done r) h = refl
@@ -107,17 +107,17 @@ unqueued_so (Some x) h = not_queued x x.state h
 pub none_waiting : (ts : List (Option Trial)) (t : ℕ) → job_at ts t ≡ None → is_queued (held_at ts t) ≡ false
 none_waiting ts t h = unqueued_so (held_at ts t) h
 
-pub undone_at : (o : Option Trial) (s : State) → is_undone s ≡ true → IsAt o s → IfSome o (λ x. is_undone x.state ≡ true)
+pub undone_at : (o : Option Trial) (s : TrialState) → is_undone s ≡ true → IsAt o s → IfSome o (λ x. is_undone x.state ≡ true)
 undone_at o s h a = subst (λ (o : Option Trial). IfSome o (λ x. is_undone x.state ≡ true)) (sym a.is) (ap is_undone a.state ∙ h)
 
 -- ---- a trial whose state is set
 
-state_set : (ts : List (Option Trial)) (t : ℕ) (x : Trial) (f : Job → State) → held_at ts t ≡ Some x → with_state ts t f ≡ with_held ts t (Some (in_state f x))
+state_set : (ts : List (Option Trial)) (t : ℕ) (x : Trial) (f : Job → TrialState) → held_at ts t ≡ Some x → with_state ts t f ≡ with_held ts t (Some (in_state f x))
 state_set ts t x f h = ap (λ (o : Option Trial). with_held ts t (option_map (in_state f) o)) h
 
 -- ---- how many run
 
-abbrev pub ran : State → ℕ
+abbrev pub ran : TrialState → ℕ
 ran s = cond (is_running_state s) 1 0
 
 abbrev pub runs : Trial → ℕ
@@ -134,10 +134,10 @@ running_written ts t x y h =
       sum_around runs a.before a.after x,
     )
 
-pub running_set : (ts : List (Option Trial)) (t : ℕ) (s s' : State) → IsAt (held_at ts t) s → running_among (with_state ts t (λ j. s')) + ran s ≡ running_among ts + ran s'
+pub running_set : (ts : List (Option Trial)) (t : ℕ) (s s' : TrialState) → IsAt (held_at ts t) s → running_among (with_state ts t (λ j. s')) + ran s ≡ running_among ts + ran s'
 running_set ts t s s' a =
     ap (λ (l : List (Option Trial)). running_among l + ran s) (state_set ts t a.trial (λ j. s') a.is)
-    ∙ ap (λ (k : State). running_among (with_held ts t (Some (in_state (λ j. s') a.trial))) + ran k) (sym a.state)
+    ∙ ap (λ (k : TrialState). running_among (with_held ts t (Some (in_state (λ j. s') a.trial))) + ran k) (sym a.state)
     ∙ running_written ts t a.trial (in_state (λ j. s') a.trial) a.is
 
 -- a trial that runs is one of those
@@ -148,7 +148,7 @@ some_run ts t h =
 
 -- ---- what a desk keeps, where the trial of a ticket was given a state, and that is noted
 
-module _ (b b' : Inside) (t : ℕ) (s s' : State) (e : desk.Entry) (a : IsAt (held_at b.trials.items t) s) (of : OfWork e)
+module _ (b b' : Inside) (t : ℕ) (s s' : TrialState) (e : desk.Entry) (a : IsAt (held_at b.trials.items t) s) (of : OfWork e)
     (edition : b'.edition ≡ b.edition) (modules : b'.modules.items ≡ b.modules.items) (trials : b'.trials.items ≡ with_state b.trials.items t (λ j. s'))
     (history : map view_of_entry b'.history.items ≡ map view_of_entry b.history.items ++ e ∷ []) (users : b'.users.items ≡ b.users.items) (usage : b'.usage ≡ b.usage) where
   abbrev now : Trial
@@ -195,19 +195,19 @@ module _ (d d' : Desk) (t : ℕ) where
   pub claim_is : is_queued (held_at d.trials t) ≡ true → d' ≡ after_claim d t → claim_step d t ≡ Some d'
   claim_is waits is = ap (λ (b : Bool). if b then Some (after_claim d t) else None) waits ∙ ap Some (sym is)
 
-  pub back_is : is_running (held_at d.trials t) ≡ true → d' ≡ after_back d t → back_step d t ≡ Some d'
-  back_is runs is = ap (λ (b : Bool). if b then Some (after_back d t) else None) runs ∙ ap Some (sym is)
+  pub back_is : is_running (held_at d.trials t) ≡ true → d' ≡ after_hand_back d t → hand_back_step d t ≡ Some d'
+  back_is runs is = ap (λ (b : Bool). if b then Some (after_hand_back d t) else None) runs ∙ ap Some (sym is)
 
   -- only what is running is handed back
-  pub taken_runs : back_step d t ≡ Some d' → (is_running (held_at d.trials t) ≡ true) × (d' ≡ after_back d t)
+  pub taken_runs : hand_back_step d t ≡ Some d' → (is_running (held_at d.trials t) ≡ true) × (d' ≡ after_hand_back d t)
   taken_runs h = by (is_running (held_at d.trials t)) refl h
     where
-      by : (b : Bool) → is_running (held_at d.trials t) ≡ b → (if b then Some (after_back d t) else None) ≡ Some d' → (b ≡ true) × (d' ≡ after_back d t)
+      by : (b : Bool) → is_running (held_at d.trials t) ≡ b → (if b then Some (after_hand_back d t) else None) ≡ Some d' → (b ≡ true) × (d' ≡ after_hand_back d t)
       by true e h = (refl, cc)
       by false e h = absurd (cc)
 
   -- what is filed is what the mark puts, for the trial's own job
-  pub file_is : (p : Profile) (m : Mark) (r : Result) (j : Job) → is_running (held_at d.trials t) ≡ true → JobAt d.trials t j → result_marked p m j ≡ r
+  pub file_is : (p : Profile) (m : FileMark) (r : Result) (j : Job) → is_running (held_at d.trials t) ≡ true → JobAt d.trials t j → result_marked p m j ≡ r
       → d' ≡ with_entry (record d { trials = with_state d.trials t (λ j. done r) }) (filed t m) → file_step p d t m ≡ Some d'
   file_is p m r j runs own puts is =
       let a = running_at (held_at d.trials t) runs in

@@ -2,21 +2,21 @@
 use Rattle.std.specs.Prelude.{◌≡◌, ℕ, Bool, true, false, Option, Some, None, Result, Ok, Err, if◌then◌else◌}
 use Rattle.std.specs.declared.alloc.Global.{Global}
 use Rattle.std.specs.declared.sync.Arc.{Arc}
-use Rattle.pf_fault.specs.declared.memory.NoMemory.{NoMemory}
+use Rattle.pf_errors.specs.declared.memory.NoMemory.{NoMemory}
 use Rattle.pf_model.specs.Shrinking as shrinking
 use Rattle.pf_request.specs.Calls.{Call}
 use Rattle.pf_request.specs.Job.{Job}
 use Rattle.pf_desks.specs.Desk as desk
 use Rattle.pf_desks.specs.Desk.{held_at, filed}
 use Rattle.pf_desks.specs.Calls.{HasRoom, reply_to, after_call, with_entry}
-use Rattle.pf_desks.specs.Work.{is_queued, is_running, with_state, claim_step, file_step, back_step}
-use Rattle.pf_desks.specs.World.{World, Answer, replied, work_done, not_now, desk_at, step, client, worked}
+use Rattle.pf_desks.specs.Work.{is_queued, is_running, with_state, claim_step, file_step, hand_back_step}
+use Rattle.pf_desks.specs.Desks.{Desks, Answer, replied, work_done, not_now, desk_at, step, client, worked}
 use Rattle.pf_sched.specs.Views.{FinishedView}
 use Rattle.pf_book.specs.declared.claimed.Claimed.{Claimed}
 use Rattle.pf_book.specs.declared.reply.Reply.{Reply}
 use Rattle.pf_book.specs.Profile.{ForRight}
 use Rattle.pf_book.specs.Queued.{job_at}
-use Rattle.pf_book.specs.Trials.{IsStray}
+use Rattle.pf_book.specs.Trials.{IsStrayJob}
 use Rattle.pf_book.specs.View.{mark_of, view_of_reply}
 
 -- ---- at one desk
@@ -43,46 +43,46 @@ with_result d t r = with_entry (record d { trials = with_state d.trials t (λ j.
 abbrev pub DeskFiles : desk.Desk → ℕ → FinishedView → Bool → desk.Desk → Type 0
 DeskFiles d t f true d' =
     (is_running (held_at d.trials t) ≡ true) × (d' ≡ with_result d t f.result) × ForRight (λ p. file_step p d t (mark_of f.result) ≡ Some d')
-DeskFiles d t f false d' = IsStray d.trials t f.job × (d' ≡ d)
+DeskFiles d t f false d' = IsStrayJob d.trials t f.job × (d' ≡ d)
 
 -- DeskTakesBack d t b d': the trial of a ticket is handed back, or it isn't running
-abbrev pub DeskTakesBack : desk.Desk → ℕ → Bool → desk.Desk → Type 0
-DeskTakesBack d t true d' = back_step d t ≡ Some d'
-DeskTakesBack d t false d' = (is_running (held_at d.trials t) ≡ false) × (d' ≡ d)
+abbrev pub DeskHandsBack : desk.Desk → ℕ → Bool → desk.Desk → Type 0
+DeskHandsBack d t true d' = hand_back_step d t ≡ Some d'
+DeskHandsBack d t false d' = (is_running (held_at d.trials t) ≡ false) × (d' ≡ d)
 
 -- ---- in the world
 
 -- what a worker is answered: its work is done, or it can't be done now
-abbrev pub work_told : Bool → Answer
-work_told b = if b then work_done else not_now
+abbrev pub work_answer : Bool → Answer
+work_answer b = if b then work_done else not_now
 
--- Answers w q c r w': a project's call is answered so, as the world's step says, and leads to the next world; memory
+-- AnswersCall w q c r w': a project's call is answered so, as the world's step says, and leads to the next world; memory
 -- runs out only where the project's log has room for the call, and leaves the world as it was
-abbrev pub Answers : World → ℕ → Call → Result Reply NoMemory → World → Type 0
-Answers w q c (Ok r) w' = ForRight (λ p. ◌≡◌ {A = World × Answer} (step p w (client q c)) (w', replied (view_of_reply r)))
-Answers w q c (Err e) w' = HasRoom (desk_at q w) × (w' ≡ w)
+abbrev pub AnswersCall : Desks → ℕ → Call → Result Reply NoMemory → Desks → Type 0
+AnswersCall w q c (Ok r) w' = ForRight (λ p. ◌≡◌ {A = Desks × Answer} (step p w (client q c)) (w', replied (view_of_reply r)))
+AnswersCall w q c (Err e) w' = HasRoom (desk_at q w) × (w' ≡ w)
 
 -- ClaimsAt w q t r w': the trial of a project's ticket is claimed, and this is its job; or there is none, since it
 -- isn't queued; memory runs out only where it is, and the world is as it was then
-abbrev pub ClaimsAt : World → ℕ → ℕ → Result (Option (Arc Job Global)) NoMemory → World → Type 0
+abbrev pub ClaimsAt : Desks → ℕ → ℕ → Result (Option (Arc Job Global)) NoMemory → Desks → Type 0
 ClaimsAt w q t (Ok (Some j)) w' =
-    (job_at (desk_at q w).trials t ≡ Some j.value) × ◌≡◌ {A = World × Answer} (worked q w (claim_step (desk_at q w) t)) (w', work_done)
-ClaimsAt w q t (Ok None) w' = ◌≡◌ {A = World × Answer} (worked q w (claim_step (desk_at q w) t)) (w', not_now)
+    (job_at (desk_at q w).trials t ≡ Some j.value) × ◌≡◌ {A = Desks × Answer} (worked q w (claim_step (desk_at q w) t)) (w', work_done)
+ClaimsAt w q t (Ok None) w' = ◌≡◌ {A = Desks × Answer} (worked q w (claim_step (desk_at q w) t)) (w', not_now)
 ClaimsAt w q t (Err e) w' = (is_queued (held_at (desk_at q w).trials t) ≡ true) × (w' ≡ w)
 
 -- Claims w r w': some trial that is queued is claimed; or there is none, since no trial of any desk is queued; memory
 -- runs out only where one is, and the world is as it was then
-abbrev pub Claims : World → Result (Option Claimed) NoMemory → World → Type 0
+abbrev pub Claims : Desks → Result (Option Claimed) NoMemory → Desks → Type 0
 Claims w (Ok (Some c)) w' = ClaimsAt w c.project c.ticket (Ok (Some c.job)) w'
 Claims w (Ok None) w' = ((q t : ℕ) → is_queued (held_at (desk_at q w).trials t) ≡ false) × (w' ≡ w)
 Claims w (Err e) w' = ((q : ℕ) × (t : ℕ) × (is_queued (held_at (desk_at q w).trials t) ≡ true)) × (w' ≡ w)
 
 -- Files w q t f b w': the result of a project's ticket is filed under its mark, or the trial isn't running or is of
 -- another job
-abbrev pub Files : World → ℕ → ℕ → FinishedView → Bool → World → Type 0
-Files w q t f true w' = ForRight (λ p. ◌≡◌ {A = World × Answer} (worked q w (file_step p (desk_at q w) t (mark_of f.result))) (w', work_done))
-Files w q t f false w' = IsStray (desk_at q w).trials t f.job × (w' ≡ w)
+abbrev pub Files : Desks → ℕ → ℕ → FinishedView → Bool → Desks → Type 0
+Files w q t f true w' = ForRight (λ p. ◌≡◌ {A = Desks × Answer} (worked q w (file_step p (desk_at q w) t (mark_of f.result))) (w', work_done))
+Files w q t f false w' = IsStrayJob (desk_at q w).trials t f.job × (w' ≡ w)
 
 -- TakesBack w q t b w': the trial of a project's ticket is handed back, or it isn't running
-abbrev pub TakesBack : World → ℕ → ℕ → Bool → World → Type 0
-TakesBack w q t b w' = ◌≡◌ {A = World × Answer} (worked q w (back_step (desk_at q w) t)) (w', work_told b)
+abbrev pub HandsBack : Desks → ℕ → ℕ → Bool → Desks → Type 0
+HandsBack w q t b w' = ◌≡◌ {A = Desks × Answer} (worked q w (hand_back_step (desk_at q w) t)) (w', work_answer b)

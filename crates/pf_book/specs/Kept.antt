@@ -6,7 +6,7 @@ use Rattle.pf_store.specs.Sources.{Kept, holders}
 use Rattle.pf_model.specs.Limits.{IsEdition}
 use Rattle.pf_desks.specs.Desk.{Desk, held_at, all_held}
 use Rattle.pf_desks.specs.Calls.{usage_in, users_of}
-use Rattle.pf_desks.specs.World.{World}
+use Rattle.pf_desks.specs.Desks.{Desks}
 use Rattle.pf_desks.specs.History.{IsLegalDesk}
 use Rattle.pf_book.specs.Profile.{ForRight}
 use Rattle.pf_book.specs.Running.{running_in}
@@ -36,7 +36,7 @@ abbrev pub modules_of : List ℕ → Desk → ℕ
 modules_of source d = count_by (λ m. bytes_eq source m.source) (all_held d.modules)
 
 -- of each source the store counts as many holders as there are modules of it at all desks
-abbrev pub CountsAll : Kept → World → Type 0
+abbrev pub CountsAll : Kept → Desks → Type 0
 CountsAll kept w = (source : List ℕ) → holders kept source ≡ sum_by (λ e. modules_of source e.1) w
 
 -- the store counts at least the modules of a desk

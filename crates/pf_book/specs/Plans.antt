@@ -6,18 +6,18 @@ use Rattle.pf_quota.specs.Usage.{charged}
 use Rattle.pf_model.specs.Limits.{IsEdition}
 use Rattle.pf_request.specs.Calls.{Call}
 use Rattle.pf_desks.specs.Desk as desk
-use Rattle.pf_fault.specs.declared.memory.NoMemory.{NoMemory}
-use Rattle.pf_desks.specs.Calls.{answered, usage_in, users_of, with_job}
+use Rattle.pf_errors.specs.declared.memory.NoMemory.{NoMemory}
+use Rattle.pf_desks.specs.Calls.{answer_of_call, usage_in, users_of, with_job}
 use Rattle.pf_store.specs.Sources.{Kept}
-use Rattle.pf_book.specs.declared.plan.Change.{Change}
-use Rattle.pf_book.specs.declared.plan.Change.TheVariants as change
+use Rattle.pf_book.specs.declared.plan.DeskChange.{DeskChange}
+use Rattle.pf_book.specs.declared.plan.DeskChange.TheVariants as change
 use Rattle.pf_book.specs.declared.plan.Plan.{Plan}
 use Rattle.pf_book.specs.Kept.{FollowsDesk}
 use Rattle.pf_book.specs.Profile.{ForRight}
 use Rattle.pf_book.specs.View.{view_of_entry, view_of_reply}
 
 -- the desk with what a call changes
-abbrev pub with_change : desk.Desk → Change → desk.Desk
+abbrev pub with_change : desk.Desk → DeskChange → desk.Desk
 with_change d change.Nothing = d
 with_change d (change.Module m) = record d { modules = d.modules ++ Some m ∷ [] }
 with_change d (change.Trial n j) = with_job d n j.value
@@ -28,7 +28,7 @@ with_change d (change.Edition e) = record d { edition = e }
 -- the result of a call to a desk is what it is answered with, which is noted so; and what is used then, with the call
 -- itself
 pub record IsPlan (d : desk.Desk) (c : Call) (plan : Plan) : Type 0 where
-  pub answers : ForRight (λ p. ◌≡◌ {A = desk.Desk × desk.Reply} (with_change d plan.change, view_of_reply plan.reply) (answered p d c))
+  pub answers : ForRight (λ p. ◌≡◌ {A = desk.Desk × desk.Reply} (with_change d plan.change, view_of_reply plan.reply) (answer_of_call p d c))
   pub notes : view_of_entry plan.noted ≡ desk.called c (view_of_reply plan.reply)
   pub usage : plan.usage ≡ charged (usage_in (with_change d plan.change)) charge.Call
 
@@ -38,7 +38,7 @@ IsCharged d u = u ≡ charged (usage_in d) charge.Call
 
 -- a change can be carried out: a trial is of a module that is held, no held trial uses a module that is given up, and
 -- there is the edition
-abbrev pub CanChange : desk.Desk → Change → Type 0
+abbrev pub CanChange : desk.Desk → DeskChange → Type 0
 CanChange d change.Nothing = Unit {0}
 CanChange d (change.Module m) = Unit {0}
 CanChange d (change.Trial n j) = IsSome (desk.held_at d.modules n)
@@ -47,7 +47,7 @@ CanChange d (change.Withdraw n) = users_of d n ≡ 0
 CanChange d (change.Edition e) = IsEdition e
 
 -- the modules stay as they are
-abbrev pub KeepsModules : Change → Type 0
+abbrev pub KeepsModules : DeskChange → Type 0
 KeepsModules change.Nothing = Unit {0}
 KeepsModules (change.Module m) = ⊥
 KeepsModules (change.Trial n j) = Unit {0}

@@ -1,14 +1,14 @@
 -- The jobs that wait for a worker.
 use Rattle.std.specs.Prelude.{ℕ, Bool, true, false, List, Option, Some, None}
 use Rattle.pf_request.specs.Job.{Job}
-use Rattle.pf_desks.specs.Desk.{State, queued, done, Trial, held_at}
+use Rattle.pf_desks.specs.Desk.{TrialState, queued, done, Trial, held_at}
 
 -- nothing is filed yet
-abbrev pub is_undone : State → Bool
+abbrev pub is_undone : TrialState → Bool
 is_undone (done r) = false
 is_undone s = true
 
-abbrev pub job_in_state : Job → State → Option Job
+abbrev pub job_in_state : Job → TrialState → Option Job
 job_in_state j queued = Some j
 job_in_state j s = None
 

@@ -13,5 +13,5 @@ abbrev pub AnotherJobAt : List (Option Trial) → ℕ → Job → Type 0
 AnotherJobAt ts t j = JobAt ts t j → ⊥
 
 -- a job's result can't be filed: the trial of the ticket isn't running, or is of another job
-abbrev pub IsStray : List (Option Trial) → ℕ → Job → Type 0
-IsStray ts t j = (is_running (held_at ts t) ≡ false) ⊎ AnotherJobAt ts t j
+abbrev pub IsStrayJob : List (Option Trial) → ℕ → Job → Type 0
+IsStrayJob ts t j = (is_running (held_at ts t) ≡ false) ⊎ AnotherJobAt ts t j

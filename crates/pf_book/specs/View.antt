@@ -1,7 +1,7 @@
 -- What the code's replies, notes and trials stand for.
 use Rattle.std.specs.Prelude.{Bool, true, false}
-use Rattle.pf_fault.specs.declared.code.Code.{Code}
-use Rattle.pf_fault.specs.declared.code.Code.TheVariants as code
+use Rattle.pf_errors.specs.declared.code.Code.{Code}
+use Rattle.pf_errors.specs.declared.code.Code.TheVariants as code
 use Rattle.pf_quota.specs.Refusals as quota
 use Rattle.pf_model.specs.Properties.{Outcome, memory}
 use Rattle.pf_model.specs.Shrinking.{Result, report, shrunk_to, nothing_fails}
@@ -10,20 +10,20 @@ use Rattle.pf_request.specs.Calls as calls
 use Rattle.pf_request.specs.Job.{Job}
 use Rattle.pf_request.specs.View.{view_of_order}
 use Rattle.pf_sched.specs.Views.{without_memory}
-use Rattle.pf_book.specs.declared.refusal.Refusal.{Refusal}
-use Rattle.pf_book.specs.declared.refusal.Refusal.TheVariants as refusal
-use Rattle.pf_book.specs.declared.reply.Stage.{Stage}
-use Rattle.pf_book.specs.declared.reply.Stage.TheVariants as stage
+use Rattle.pf_book.specs.declared.refusal.CallRefusal.{CallRefusal}
+use Rattle.pf_book.specs.declared.refusal.CallRefusal.TheVariants as refusal
+use Rattle.pf_book.specs.declared.reply.TrialStage.{TrialStage}
+use Rattle.pf_book.specs.declared.reply.TrialStage.TheVariants as stage
 use Rattle.pf_book.specs.declared.reply.Reply.{Reply}
 use Rattle.pf_book.specs.declared.reply.Reply.TheVariants as reply
 use Rattle.pf_book.specs.declared.entry.Entry.{Entry}
 use Rattle.pf_book.specs.declared.entry.Entry.TheVariants as entry
-use Rattle.pf_book.specs.declared.entry.Mark.{Mark}
-use Rattle.pf_book.specs.declared.entry.Mark.TheVariants as mark
-use Rattle.pf_book.specs.declared.trial.State.{State}
-use Rattle.pf_book.specs.declared.trial.State.TheVariants as state
+use Rattle.pf_book.specs.declared.entry.FileMark.{FileMark}
+use Rattle.pf_book.specs.declared.entry.FileMark.TheVariants as mark
+use Rattle.pf_book.specs.declared.trial.TrialState.{TrialState}
+use Rattle.pf_book.specs.declared.trial.TrialState.TheVariants as state
 
-abbrev pub code_of : Refusal → Code
+abbrev pub code_of : CallRefusal → Code
 code_of (refusal.Source c) = c
 code_of refusal.NoModule = code.NoModule
 code_of refusal.NoRoot = code.NoRoot
@@ -37,7 +37,7 @@ code_of refusal.NoEdition = code.NoEdition
 code_of refusal.EditionTooLow = code.EditionTooLow
 code_of (refusal.PastLimit q) = quota.code_of q
 
-abbrev pub view_of_stage : Stage → desk.Stage
+abbrev pub view_of_stage : TrialStage → desk.TrialStage
 view_of_stage stage.Queued = desk.at_queue
 view_of_stage stage.Running = desk.at_work
 view_of_stage stage.Done = desk.at_end
@@ -55,16 +55,16 @@ view_of_reply (reply.Refused e) = desk.refused (code_of e)
 
 -- ---- marks
 
-abbrev pub view_of_mark : Mark → desk.Mark
+abbrev pub view_of_mark : FileMark → desk.FileMark
 view_of_mark mark.Whole = desk.marked_whole
 view_of_mark mark.Memory = desk.marked_memory
 
-abbrev pub mark_by : Outcome → desk.Mark
+abbrev pub mark_by : Outcome → desk.FileMark
 mark_by memory = desk.marked_memory
 mark_by _ = desk.marked_whole
 
 -- the mark under which a job's result is filed
-abbrev pub mark_of : Result → desk.Mark
+abbrev pub mark_of : Result → desk.FileMark
 mark_of (report r) = mark_by r.outcome
 mark_of (shrunk_to f r) = desk.marked_whole
 mark_of nothing_fails = desk.marked_whole
@@ -94,17 +94,17 @@ view_of_entry (entry.Filed t m) = desk.filed t (view_of_mark m)
 view_of_entry (entry.HandedBack t) = desk.handed_back t
 
 -- a worker has it, or it waits for one
-abbrev pub state_running : Bool → desk.State
+abbrev pub state_running : Bool → desk.TrialState
 state_running true = desk.running
 state_running false = desk.queued
 
-abbrev pub view_of_state : State → desk.State
+abbrev pub view_of_state : TrialState → desk.TrialState
 view_of_state (state.Undone running job) = state_running running
 view_of_state (state.Done w) = desk.done w.result
 view_of_state (state.WithoutMemory job) = desk.done without_memory
 
 -- the job of a trial, however far it is
-abbrev pub job_within : State → Job
+abbrev pub job_within : TrialState → Job
 job_within (state.Undone running job) = job.value
 job_within (state.Done w) = w.job
 job_within (state.WithoutMemory job) = job.value

@@ -9,8 +9,8 @@ ghost use Rattle.pf_desks.specs.Calls.{calls_in, stage_of};
 ghost use Rattle.pf_desks.specs.Desk.{held_at};
 ghost use Rattle.pf_desks.specs.History.{IsLegalDesk};
 ghost use Rattle.pf_desks.specs.Jobs.{KeepsAllTickets};
-ghost use Rattle.pf_desks.specs.World.{desk_at};
-ghost use Rattle.pf_book.specs.Answers.{Answers, Claims, ClaimsAt, Files, TakesBack};
+ghost use Rattle.pf_desks.specs.Desks.{desk_at};
+ghost use Rattle.pf_book.specs.Answers.{AnswersCall, Claims, ClaimsAt, Files, HandsBack};
 ghost use Rattle.pf_book.specs.Profile.{ForRight};
 ghost use Rattle.pf_book.specs.Queued.{job_at};
 ghost use Rattle.pf_book.specs.Queues.{FrontIsQueued, QueuesAll};
@@ -20,8 +20,8 @@ ghost use Rattle.pf_request.specs.View.{view_of_call, view_of_order};
 
 use crate::claimed::Claimed;
 use crate::desk::Desk;
-use crate::queue::Queue;
-use crate::reply::{Reply, Stage};
+use crate::queue::TrialQueue;
+use crate::reply::{Reply, TrialStage};
 use indexmap::IndexMap;
 use pf_request::{Call, Order, Source};
 use pf_sched::{Finished, Job};
@@ -43,16 +43,16 @@ pub struct Book {
     desks: IndexMap<u32, Desk, RandomState>,
     last: usize,
     store: Store,
-    queue: Queue,
+    queue: TrialQueue,
 }
 
 impl Model for Book {
-    ghost use Rattle.pf_desks.specs.World.{World};
-    ghost use Rattle.pf_desks.specs.Encoding.{coded_world};
+    ghost use Rattle.pf_desks.specs.Desks.{Desks};
+    ghost use Rattle.pf_desks.specs.Encoding.{coded_desks};
 
-    ghost Value = { World };
+    ghost Value = { Desks };
 
-    ghost coded = { coded_world };
+    ghost coded = { coded_desks };
 
     ghost use Rattle.pf_book.specs.Kept.{CountsAll};
     ghost use Rattle.pf_book.specs.Queues.{QueuesAll};
@@ -72,7 +72,7 @@ impl Book {
             desks: IndexMap::with_hasher(alloc, keys),
             last: 0,
             store: Store::new(alloc, keys),
-            queue: Queue::new(alloc),
+            queue: TrialQueue::new(alloc),
         }
     }
 
@@ -99,7 +99,7 @@ impl Book {
     }
 
     /// How far the trial of a project's ticket is, if it is held. Nothing is noted.
-    pub fn stage(&self, project: u32, ticket: u64) -> Option<Stage>
+    pub fn stage(&self, project: u32, ticket: u64) -> Option<TrialStage>
         ensures { option_map view_of_stage result
             ≡ option_map (λ t. stage_of t.state) (held_at (desk_at project self.now).trials ticket) }
     {
@@ -111,7 +111,7 @@ impl Book {
 
     /// Asks for a number for the module that a source is.
     pub fn submit(&mut self, alloc: Global, project: u32, source: Source) -> Result<Reply, NoMemory>
-        ensures answer { Answers self.old project (calls.submit source) result self.new }
+        ensures answer { AnswersCall self.old project (calls.submit source) result self.new }
         ensures tickets { KeepsAllTickets self.old self.new }
     {
         self.call(alloc, project, Call::Submit(source))
@@ -119,7 +119,7 @@ impl Book {
 
     /// Asks for a ticket for what is requested of a module: a trial, or a shrinking.
     pub fn order(&mut self, alloc: Global, project: u32, order: Order) -> Result<Reply, NoMemory>
-        ensures answer { Answers self.old project (view_of_order order) result self.new }
+        ensures answer { AnswersCall self.old project (view_of_order order) result self.new }
         ensures tickets { KeepsAllTickets self.old self.new }
     {
         self.call(alloc, project, Call::Order(order))
@@ -127,7 +127,7 @@ impl Book {
 
     /// Asks for the result of the trial of a ticket.
     pub fn fetch(&mut self, alloc: Global, project: u32, ticket: u64) -> Result<Reply, NoMemory>
-        ensures answer { Answers self.old project (calls.fetch ticket) result self.new }
+        ensures answer { AnswersCall self.old project (calls.fetch ticket) result self.new }
         ensures tickets { KeepsAllTickets self.old self.new }
     {
         self.call(alloc, project, Call::Fetch(ticket))
@@ -135,7 +135,7 @@ impl Book {
 
     /// Asks how far the trial of a ticket is.
     pub fn status(&mut self, alloc: Global, project: u32, ticket: u64) -> Result<Reply, NoMemory>
-        ensures answer { Answers self.old project (calls.status ticket) result self.new }
+        ensures answer { AnswersCall self.old project (calls.status ticket) result self.new }
         ensures tickets { KeepsAllTickets self.old self.new }
     {
         self.call(alloc, project, Call::Status(ticket))
@@ -148,7 +148,7 @@ impl Book {
         project: u32,
         ticket: u64,
     ) -> Result<Reply, NoMemory>
-        ensures answer { Answers self.old project (calls.drop_trial ticket) result self.new }
+        ensures answer { AnswersCall self.old project (calls.drop_trial ticket) result self.new }
         ensures tickets { KeepsAllTickets self.old self.new }
     {
         self.call(alloc, project, Call::DropTrial(ticket))
@@ -156,7 +156,7 @@ impl Book {
 
     /// Withdraws the module of a number if no trial that the project holds uses it. Its bytes no longer count.
     pub fn withdraw(&mut self, alloc: Global, project: u32, number: u64) -> Result<Reply, NoMemory>
-        ensures answer { Answers self.old project (calls.withdraw number) result self.new }
+        ensures answer { AnswersCall self.old project (calls.withdraw number) result self.new }
         ensures tickets { KeepsAllTickets self.old self.new }
     {
         self.call(alloc, project, Call::Withdraw(number))
@@ -164,7 +164,7 @@ impl Book {
 
     /// Asks how many calls the project logged.
     pub fn log(&mut self, alloc: Global, project: u32) -> Result<Reply, NoMemory>
-        ensures answer { Answers self.old project calls.log result self.new }
+        ensures answer { AnswersCall self.old project calls.log result self.new }
         ensures tickets { KeepsAllTickets self.old self.new }
     {
         self.call(alloc, project, Call::Log)
@@ -172,7 +172,7 @@ impl Book {
 
     /// Asks for what the project uses.
     pub fn usage(&mut self, alloc: Global, project: u32) -> Result<Reply, NoMemory>
-        ensures answer { Answers self.old project calls.usage result self.new }
+        ensures answer { AnswersCall self.old project calls.usage result self.new }
         ensures tickets { KeepsAllTickets self.old self.new }
     {
         self.call(alloc, project, Call::Usage)
@@ -181,7 +181,7 @@ impl Book {
     /// Asks that the project's desk has this edition from now on, which isn't below the one that it has. What the
     /// project holds stays.
     pub fn edition(&mut self, alloc: Global, project: u32, edition: u32) -> Result<Reply, NoMemory>
-        ensures answer { Answers self.old project (calls.edition edition) result self.new }
+        ensures answer { AnswersCall self.old project (calls.edition edition) result self.new }
         ensures tickets { KeepsAllTickets self.old self.new }
     {
         self.call(alloc, project, Call::Edition(edition))
@@ -191,7 +191,7 @@ impl Book {
     /// memory nothing has changed and nothing is noted. A new desk is put among the others before its first call, which
     /// the store then counts.
     pub fn call(&mut self, alloc: Global, project: u32, call: Call) -> Result<Reply, NoMemory>
-        ensures answer { Answers self.old project (view_of_call call) result self.new }
+        ensures answer { AnswersCall self.old project (view_of_call call) result self.new }
         ensures tickets { KeepsAllTickets self.old self.new }
     {
         if let Some(index) = index_of(&self.desks, self.last, project) {
@@ -263,12 +263,12 @@ impl Book {
     /// Hands the trial of a project's ticket back, which is queued again; returns false if it isn't running, and
     /// changes nothing then. It takes no memory.
     pub fn hand_back(&mut self, project: u32, ticket: u64) -> bool
-        ensures { TakesBack self.old project ticket result self.new }
+        ensures { HandsBack self.old project ticket result self.new }
     {
         let Some(index) = index_of(&self.desks, self.last, project) else {
             return false;
         };
-        let taken = self.desks[index].take_back(ticket);
+        let taken = self.desks[index].hand_back(ticket);
         if taken {
             self.queue.end(1);
             self.queue.push(project, ticket);
@@ -327,7 +327,7 @@ fn claim_in(
 
 /// Lets the front of the queue go as long as it isn't queued: a trial that was claimed by its ticket, or dropped. Each
 /// leaves the queue once; those after one that is queued stay until it goes.
-fn let_pass(desks: &IndexMap<u32, Desk, RandomState>, last: usize, queue: &mut Queue)
+fn let_pass(desks: &IndexMap<u32, Desk, RandomState>, last: usize, queue: &mut TrialQueue)
     requires { QueuesAll queue.old desks.now.entries }
     ensures queue { QueuesAll queue.new desks.now.entries }
     ensures front { FrontIsQueued queue.new.waiting.items desks.now.entries }
@@ -344,7 +344,7 @@ fn let_pass(desks: &IndexMap<u32, Desk, RandomState>, last: usize, queue: &mut Q
 fn claim_first(
     desks: &mut IndexMap<u32, Desk, RandomState>,
     last: usize,
-    queue: &mut Queue,
+    queue: &mut TrialQueue,
 ) -> Result<Option<Claimed>, NoMemory>
     requires { QueuesAll queue.old desks.old.entries }
     ensures claim { Claims desks.old.entries result desks.new.entries }

@@ -7,9 +7,9 @@ ghost use Rattle.pf_book.specs.Plans.{with_change, CanChange};
 ghost use Rattle.pf_book.specs.Users.{holding, CountUsers};
 
 use crate::numbers::give_up;
-use crate::plan::Change;
+use crate::plan::DeskChange;
 use crate::trial::Trial;
-use pf_module::ReadModule;
+use pf_check::ReadModule;
 
 /// Changes what a desk holds, with the counts of the held trials that use each module, or its edition.
 pub(crate) fn carry_out(
@@ -17,7 +17,7 @@ pub(crate) fn carry_out(
     modules: &mut Vec<Option<ReadModule>>,
     trials: &mut Vec<Option<Trial>>,
     users: &mut Vec<u64>,
-    change: Change,
+    change: DeskChange,
 )
     requires modules { vec_len modules.old < vec_capacity modules.old }
     requires trials { vec_len trials.old < vec_capacity trials.old }
@@ -31,24 +31,24 @@ pub(crate) fn carry_out(
     ensures counts { CountUsers users.new.items modules.new.items trials.new.items }
 {
     match change {
-        Change::Nothing => {}
-        Change::Module(module) => {
+        DeskChange::Nothing => {}
+        DeskChange::Module(module) => {
             modules.push_reserved(Some(module));
             users.push_reserved(0);
         }
-        Change::Trial(number, job) => {
+        DeskChange::Trial(number, job) => {
             trials.push_reserved(Some(Trial::new(number, job)));
             one_more(users, number);
         }
-        Change::DropTrial(ticket) => {
+        DeskChange::DropTrial(ticket) => {
             if let Some(trial) = give_up(trials, ticket) {
                 one_less(users, trial.module_number());
             }
         }
-        Change::Withdraw(number) => {
+        DeskChange::Withdraw(number) => {
             give_up(modules, number);
         }
-        Change::Edition(new) => *edition = new,
+        DeskChange::Edition(new) => *edition = new,
     }
 }
 

@@ -13,26 +13,26 @@ ghost use Rattle.pf_desks.specs.History.{IsLegalDesk};
 ghost use Rattle.pf_desks.specs.Jobs.{KeepsTickets};
 ghost use Rattle.pf_book.specs.Profile.{ForRight};
 ghost use Rattle.pf_request.specs.View.{view_of_call};
-ghost use Rattle.pf_book.specs.Answers.{DeskAnswers, DeskClaims, DeskFiles, DeskTakesBack};
+ghost use Rattle.pf_book.specs.Answers.{DeskAnswers, DeskClaims, DeskFiles, DeskHandsBack};
 ghost use Rattle.pf_book.specs.Kept.{Counts, FollowsDesk};
 ghost use Rattle.pf_book.specs.Plans.{IsPlan, IsCharged, CanChange, FollowsPlan};
 ghost use Rattle.pf_book.specs.Queued.{is_undone, job_at};
-ghost use Rattle.pf_book.specs.Queues.{ended_by, FollowsQueue, HoldsRoom};
+ghost use Rattle.pf_book.specs.Queues.{trials_dropped_by, FollowsQueue, HoldsRoom};
 ghost use Rattle.pf_book.specs.Running.{running_in};
-ghost use Rattle.pf_book.specs.Trials.{JobAt, IsStray};
+ghost use Rattle.pf_book.specs.Trials.{JobAt, IsStrayJob};
 ghost use Rattle.pf_book.specs.View.{state_running, view_of_stage};
 
 mod planning;
 
 use crate::change::carry_out;
-use crate::entry::{Entry, Mark};
+use crate::entry::{Entry, FileMark};
 use crate::numbers::{make_room, numbered};
-use crate::plan::{Change, Plan};
-use crate::queue::Queue;
-use crate::refusal::Refusal;
-use crate::reply::{Reply, Stage};
+use crate::plan::{DeskChange, Plan};
+use crate::queue::TrialQueue;
+use crate::refusal::CallRefusal;
+use crate::reply::{Reply, TrialStage};
 use crate::trial::Trial;
-use pf_module::ReadModule;
+use pf_check::ReadModule;
 use pf_quota::{Charge, Usage};
 use pf_request::Call;
 use pf_sched::{Finished, Job};
@@ -104,7 +104,7 @@ impl Desk {
     }
 
     /// How far the trial of a ticket is, if it is held.
-    pub fn stage(&self, ticket: u64) -> Option<Stage>
+    pub fn stage(&self, ticket: u64) -> Option<TrialStage>
         ensures { option_map view_of_stage result
             ≡ option_map (λ t. stage_of t.state) (held_at self.now.trials ticket) }
     {
@@ -129,7 +129,7 @@ impl Desk {
         &mut self,
         alloc: Global,
         store: &mut Store,
-        queue: &mut Queue,
+        queue: &mut TrialQueue,
         project: u32,
         call: Call,
     ) -> Result<Reply, NoMemory>
@@ -143,7 +143,7 @@ impl Desk {
     {
         let mut usage = self.usage;
         if let Err(limit) = usage.charge(self.edition, Charge::Call) {
-            return Ok(Reply::Refused(Refusal::PastLimit(limit)));
+            return Ok(Reply::Refused(CallRefusal::PastLimit(limit)));
         }
         queue.make_room()?;
         make_call_room(
@@ -236,7 +236,7 @@ impl Desk {
         if !runs_job(&self.trials, ticket, finished.job()) {
             return false;
         }
-        let mark = Mark::of(&finished);
+        let mark = FileMark::of(&finished);
         file(&mut self.trials, ticket, finished);
         self.running -= 1;
         self.history.push_reserved(Entry::Filed(ticket, mark));
@@ -244,8 +244,8 @@ impl Desk {
     }
 
     /// Hands the trial of a ticket back, if it is running, by the room that its claim made: it waits again.
-    pub fn take_back(&mut self, ticket: u64) -> bool
-        ensures back { DeskTakesBack self.old ticket result self.new }
+    pub fn hand_back(&mut self, ticket: u64) -> bool
+        ensures back { DeskHandsBack self.old ticket result self.new }
         ensures modules { self.new.modules ≡ self.old.modules }
     {
         if !is_running(&self.trials, ticket) {
@@ -279,7 +279,7 @@ fn is_running(trials: &[Option<Trial>], ticket: u64) -> bool
 fn runs_job(trials: &[Option<Trial>], ticket: u64, job: &Job) -> bool
     ensures { MatchBool result
         ((is_running (held_at trials.now ticket) ≡ true) × JobAt trials.now ticket job.now)
-        (IsStray trials.now ticket job.now) }
+        (IsStrayJob trials.now ticket job.now) }
 {
     let Some(trial) = numbered(trials, ticket) else {
         return false;
@@ -288,11 +288,11 @@ fn runs_job(trials: &[Option<Trial>], ticket: u64, job: &Job) -> bool
 }
 
 /// How many running trials a change gives up.
-fn ended_by(trials: &[Option<Trial>], change: &Change) -> usize
-    ensures { result ≡ ended_by trials.now change.now }
+fn ended_by(trials: &[Option<Trial>], change: &DeskChange) -> usize
+    ensures { result ≡ trials_dropped_by trials.now change.now }
 {
     match change {
-        Change::DropTrial(ticket) => { if is_running(trials, *ticket) { 1 } else { 0 } }
+        DeskChange::DropTrial(ticket) => { if is_running(trials, *ticket) { 1 } else { 0 } }
         _ => 0,
     }
 }

@@ -7,31 +7,31 @@ ghost use Rattle.pf_request.specs.Calls as calls;
 ghost use Rattle.pf_book.specs.Profile.{ForRight};
 ghost use Rattle.pf_book.specs.View.{mark_of, view_of_entry, view_of_mark};
 
-use crate::refusal::Refusal;
-use crate::reply::Stage;
+use crate::refusal::CallRefusal;
+use crate::reply::TrialStage;
 use pf_quota::Usage;
 use pf_request::{Order, Source};
-use pf_sched::{Ending, Finished, Job, Whole};
+use pf_sched::{Finished, Job, JobEnd, Whole};
 use std::sync::Arc;
 
 /// What a file bears: the whole result of the job, or that memory ran out.
 #[derive(Clone, Copy, Debug, PartialEq, Eq)]
-pub(crate) enum Mark {
+pub(crate) enum FileMark {
     Whole,
     Memory,
 }
 
-impl Mark {
+impl FileMark {
     /// The mark of a job's result.
-    pub fn of(finished: &Finished) -> Mark
+    pub fn of(finished: &Finished) -> FileMark
         ensures mark { view_of_mark result ≡ mark_of finished.now.result }
         ensures puts { ForRight (λ p.
             result_marked p (view_of_mark result) finished.now.job ≡ finished.now.result) }
     {
         if finished.is_whole() {
-            Mark::Whole
+            FileMark::Whole
         } else {
-            Mark::Memory
+            FileMark::Memory
         }
     }
 }
@@ -43,29 +43,29 @@ pub(crate) enum Entry {
     /// A source was submitted, and given this number.
     Submitted(Source, u64),
     /// A source was submitted, and refused.
-    SubmitRefused(Source, Refusal),
+    SubmitRefused(Source, CallRefusal),
     /// A trial was ordered, and given this ticket.
     Ordered(Box<Order>, u64),
     /// A trial was ordered, and refused.
-    OrderRefused(Box<Order>, Refusal),
+    OrderRefused(Box<Order>, CallRefusal),
     /// The whole result of the trial of a ticket was handed out.
     Fetched(u64, Whole),
     /// The reply was that memory ran out for the job of the trial of a ticket.
     ToldMemory(u64, Arc<Job>),
     /// The result of the trial of a ticket was refused.
-    FetchRefused(u64, Refusal),
+    FetchRefused(u64, CallRefusal),
     /// The trial of a ticket was at this stage.
-    Stood(u64, Stage),
+    Stood(u64, TrialStage),
     /// How far the trial of a ticket is was refused.
-    StatusRefused(u64, Refusal),
+    StatusRefused(u64, CallRefusal),
     /// The trial of a ticket was dropped.
     Dropped(u64),
     /// To drop the trial of a ticket was refused.
-    DropRefused(u64, Refusal),
+    DropRefused(u64, CallRefusal),
     /// The module of a number was withdrawn.
     Withdrawn(u64),
     /// To withdraw the module of a number was refused.
-    WithdrawRefused(u64, Refusal),
+    WithdrawRefused(u64, CallRefusal),
     /// What the project uses was handed out.
     Used(Box<Usage>),
     /// How many calls were logged was handed out.
@@ -73,10 +73,10 @@ pub(crate) enum Entry {
     /// The desk has this edition.
     Moved(u32),
     /// This edition was refused.
-    MoveRefused(u32, Refusal),
+    MoveRefused(u32, CallRefusal),
     Claimed(u64),
     /// The result of the trial of a ticket was filed under a mark.
-    Filed(u64, Mark),
+    Filed(u64, FileMark),
     HandedBack(u64),
 }
 
@@ -87,8 +87,8 @@ impl Entry {
             ≡ desk.called (calls.fetch ticket) (desk.result finished.job.asked.code.atoms finished.result) }
     {
         match finished.into_ending() {
-            Ending::Whole(whole) => Entry::Fetched(ticket, whole),
-            Ending::Memory(job) => Entry::ToldMemory(ticket, job),
+            JobEnd::Whole(whole) => Entry::Fetched(ticket, whole),
+            JobEnd::Memory(job) => Entry::ToldMemory(ticket, job),
         }
     }
 }

@@ -16,5 +16,5 @@ mod trial;
 
 pub use book::Book;
 pub use claimed::Claimed;
-pub use refusal::Refusal;
-pub use reply::{Reply, Stage};
+pub use refusal::CallRefusal;
+pub use reply::{Reply, TrialStage};

@@ -4,14 +4,14 @@ ghost use Rattle.std.specs.Prelude.{◌≡◌};
 
 use crate::entry::Entry;
 use crate::reply::Reply;
-use pf_module::ReadModule;
+use pf_check::ReadModule;
 use pf_quota::Usage;
 use pf_sched::Job;
 use std::sync::Arc;
 
 /// What a call changes of what its desk holds.
 #[derive(Drop)]
-pub(crate) enum Change {
+pub(crate) enum DeskChange {
     Nothing,
     /// One module more.
     Module(ReadModule),
@@ -28,7 +28,7 @@ pub(crate) enum Change {
 /// The result of a call: what it changes, what is noted of it, its reply, and what is used then.
 #[derive(Drop)]
 pub(crate) struct Plan {
-    pub change: Change,
+    pub change: DeskChange,
     pub noted: Entry,
     pub reply: Reply,
     pub usage: Usage,
@@ -40,7 +40,7 @@ impl Plan {
         ensures { result ≡ record { change = Change.Nothing; noted = noted; reply = reply; usage = usage } }
     {
         Plan {
-            change: Change::Nothing,
+            change: DeskChange::Nothing,
             noted,
             reply,
             usage,

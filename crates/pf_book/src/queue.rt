@@ -4,7 +4,7 @@ ghost use Rattle.std.specs.Prelude.{◌≡◌, ◌≤◌, ◌+◌, ◌++◌, [],
 ghost use Rattle.std.specs.VecDeque.{deque_len};
 ghost use Rattle.pf_book.specs.Queues.{lined_up, HoldsRoom};
 
-use crate::plan::Change;
+use crate::plan::DeskChange;
 use pf_terms::NoMemory;
 use std::alloc::Global;
 use std::collections::VecDeque;
@@ -13,18 +13,18 @@ use std::collections::VecDeque;
 /// how many trials run. There is room for those to wait again. A trial that was dropped, or claimed by its ticket, may
 /// be here still, after one that is queued: it leaves once it is at the front.
 #[derive(Drop)]
-pub(crate) struct Queue {
+pub(crate) struct TrialQueue {
     pub waiting: VecDeque<(u32, u64)>,
     pub running: usize,
 }
 
-impl Queue {
-    pub fn new(alloc: Global) -> Queue
+impl TrialQueue {
+    pub fn new(alloc: Global) -> TrialQueue
         ensures waiting { result.waiting.items ≡ [] }
         ensures len { deque_len result.waiting ≡ 0 }
         ensures running { result.running ≡ 0 }
     {
-        Queue {
+        TrialQueue {
             waiting: VecDeque::new(alloc),
             running: 0,
         }
@@ -73,7 +73,7 @@ impl Queue {
     }
 
     /// Follows the change of a project's desk whose next ticket is this, by which this number of running trials end.
-    pub fn follow(&mut self, project: u32, next: u64, ended: usize, change: &Change)
+    pub fn follow(&mut self, project: u32, next: u64, ended: usize, change: &DeskChange)
         requires room { HoldsRoom self.old 1 }
         requires ended { ended ≤ self.old.running }
         ensures waiting { self.new.waiting.items
@@ -82,7 +82,7 @@ impl Queue {
         ensures room { HoldsRoom self.new 0 }
     {
         self.running -= ended;
-        if let Change::Trial(_, _) = change {
+        if let DeskChange::Trial(_, _) = change {
             self.waiting.push_back_reserved((project, next));
         }
     }

@@ -3,14 +3,14 @@
 ghost use Rattle.std.specs.Prelude.{◌≡◌};
 ghost use Rattle.pf_book.specs.View.{code_of};
 
-use pf_fault::Code;
+use pf_errors::Code;
 use pf_quota as quota;
 use pf_sched::JobRefusal;
 use std::fmt;
 
 /// Why a call is refused. It prints as its code.
 #[derive(Clone, Copy, Debug, PartialEq, Eq)]
-pub enum Refusal {
+pub enum CallRefusal {
     /// `E1` to `E12`: the source is no module.
     Source(Code),
     /// `B1`: the project has no module of this number.
@@ -35,49 +35,49 @@ pub enum Refusal {
     /// `B9`: the project's desk has a later edition.
     EditionTooLow,
     /// `Q1` to `Q5`: the project would pass a limit.
-    PastLimit(quota::Refusal),
+    PastLimit(quota::LimitRefusal),
 }
 
-impl Refusal {
+impl CallRefusal {
     /// Its code.
     pub fn code(self) -> Code
         ensures { result ≡ code_of self }
     {
         match self {
-            Refusal::Source(code) => code,
-            Refusal::NoModule => Code::NoModule,
-            Refusal::NoRoot => Code::NoRoot,
-            Refusal::NoProperty => Code::NoProperty,
-            Refusal::NoTrial => Code::NoTrial,
-            Refusal::ModuleInUse => Code::ModuleInUse,
-            Refusal::NotDone => Code::NotDone,
-            Refusal::OutOfRange => Code::OutOfRange,
-            Refusal::WeightsOutOfRange => Code::WeightsOutOfRange,
-            Refusal::NoEdition => Code::NoEdition,
-            Refusal::EditionTooLow => Code::EditionTooLow,
-            Refusal::PastLimit(limit) => limit.code(),
+            CallRefusal::Source(code) => code,
+            CallRefusal::NoModule => Code::NoModule,
+            CallRefusal::NoRoot => Code::NoRoot,
+            CallRefusal::NoProperty => Code::NoProperty,
+            CallRefusal::NoTrial => Code::NoTrial,
+            CallRefusal::ModuleInUse => Code::ModuleInUse,
+            CallRefusal::NotDone => Code::NotDone,
+            CallRefusal::OutOfRange => Code::OutOfRange,
+            CallRefusal::WeightsOutOfRange => Code::WeightsOutOfRange,
+            CallRefusal::NoEdition => Code::NoEdition,
+            CallRefusal::EditionTooLow => Code::EditionTooLow,
+            CallRefusal::PastLimit(limit) => limit.code(),
         }
     }
 }
 
-impl From<JobRefusal> for Refusal {
+impl From<JobRefusal> for CallRefusal {
     ghost use Rattle.pf_sched.specs.Views as job;
 
     ghost from_gives = { λ refusal same. code_of same ≡ job.code_of refusal };
 
-    fn from(refusal: JobRefusal) -> Refusal {
+    fn from(refusal: JobRefusal) -> CallRefusal {
         match refusal {
-            JobRefusal::NoRoot => Refusal::NoRoot,
-            JobRefusal::NoProperty => Refusal::NoProperty,
-            JobRefusal::OutOfRange => Refusal::OutOfRange,
-            JobRefusal::WeightsOutOfRange => Refusal::WeightsOutOfRange,
+            JobRefusal::NoRoot => CallRefusal::NoRoot,
+            JobRefusal::NoProperty => CallRefusal::NoProperty,
+            JobRefusal::OutOfRange => CallRefusal::OutOfRange,
+            JobRefusal::WeightsOutOfRange => CallRefusal::WeightsOutOfRange,
         }
     }
 }
 
-impl fmt::Display for Refusal {
+impl fmt::Display for CallRefusal {
     ghost use Rattle.std.specs.Prelude.{Some};
-    ghost use Rattle.pf_fault.specs.Codes.{code_text};
+    ghost use Rattle.pf_errors.specs.Codes.{code_text};
 
     ghost output = { λ r. Some (code_text (code_of r)) };
 

@@ -1,12 +1,12 @@
 //! What a client is answered.
 
-use crate::refusal::Refusal;
+use crate::refusal::CallRefusal;
 use pf_quota::Usage;
 use pf_sched::Finished;
 
 /// How far a trial is.
 #[derive(Clone, Copy, Debug, PartialEq, Eq)]
-pub enum Stage {
+pub enum TrialStage {
     /// It waits for a worker.
     Queued,
     /// A worker has it.
@@ -25,7 +25,7 @@ pub enum Reply {
     /// The result of the job of a trial.
     Result(Finished),
     /// How far a trial is.
-    Stage(Stage),
+    Stage(TrialStage),
     /// What was held is given up.
     GivenUp,
     /// What the project uses.
@@ -34,5 +34,5 @@ pub enum Reply {
     Logged(u64),
     /// The project's desk has the edition.
     HasEdition,
-    Refused(Refusal),
+    Refused(CallRefusal),
 }

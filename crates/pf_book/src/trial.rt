@@ -10,17 +10,17 @@ ghost use Rattle.pf_book.specs.Orders.{IsRefusal};
 ghost use Rattle.pf_book.specs.View.{code_of, state_running, view_of_stage};
 ghost use Rattle.pf_book.specs.Queued.{is_undone, queued_job};
 
-use crate::refusal::Refusal;
-use crate::reply::Stage;
-use pf_fault::OrNoMemory;
-use pf_quota::{Held, trial_steps};
-use pf_sched::{Ending, Finished, Job, Whole};
+use crate::refusal::CallRefusal;
+use crate::reply::TrialStage;
+use pf_errors::OrNoMemory;
+use pf_quota::{Holding, trial_steps};
+use pf_sched::{Finished, Job, JobEnd, Whole};
 use std::marker::Model;
 use std::sync::Arc;
 
 /// How far a trial is.
 #[derive(Drop)]
-pub(crate) enum State {
+pub(crate) enum TrialState {
     /// Its job waits for a worker, or a worker runs it.
     Undone { running: bool, job: Arc<Job> },
     /// The whole result of its job is filed.
@@ -33,7 +33,7 @@ pub(crate) enum State {
 #[derive(Drop)]
 pub(crate) struct Trial {
     module_number: u64,
-    state: State,
+    state: TrialState,
 }
 
 impl Model for Trial {
@@ -55,7 +55,7 @@ impl Trial {
     {
         Trial {
             module_number,
-            state: State::Undone {
+            state: TrialState::Undone {
                 running: false,
                 job,
             },
@@ -74,35 +74,35 @@ impl Trial {
         ensures { result.now ≡ self.now.job }
     {
         match &self.state {
-            State::Undone { job, .. } => job,
-            State::Done(whole) => whole.job(),
-            State::WithoutMemory(job) => job,
+            TrialState::Undone { job, .. } => job,
+            TrialState::Done(whole) => whole.job(),
+            TrialState::WithoutMemory(job) => job,
         }
     }
 
     /// What it counts as, until it is given up.
-    pub fn held(&self) -> Held
+    pub fn held(&self) -> Holding
         ensures { result ≡ Held.Trial (steps_of_trial self.now.job.asked.limit self.now.job.asked.runs) }
     {
         let job = self.job();
-        Held::Trial {
+        Holding::Trial {
             steps: trial_steps(job.limit(), job.runs()),
         }
     }
 
     /// How far it is.
-    pub fn stage(&self) -> Stage
+    pub fn stage(&self) -> TrialStage
         ensures { view_of_stage result ≡ stage_of self.now.state }
     {
         match &self.state {
-            State::Undone { running, .. } => {
+            TrialState::Undone { running, .. } => {
                 if *running {
-                    Stage::Running
+                    TrialStage::Running
                 } else {
-                    Stage::Queued
+                    TrialStage::Queued
                 }
             }
-            State::Done(_) | State::WithoutMemory(_) => Stage::Done,
+            TrialState::Done(_) | TrialState::WithoutMemory(_) => TrialStage::Done,
         }
     }
 
@@ -111,8 +111,8 @@ impl Trial {
         ensures { option_map (λ j. j.now.value) result ≡ queued_job self.now }
     {
         match &self.state {
-            State::Undone { running, job } => { if *running { None } else { Some(job) } }
-            State::Done(_) | State::WithoutMemory(_) => None,
+            TrialState::Undone { running, job } => { if *running { None } else { Some(job) } }
+            TrialState::Done(_) | TrialState::WithoutMemory(_) => None,
         }
     }
 
@@ -121,8 +121,8 @@ impl Trial {
         ensures { result ≡ is_running_state self.now.state }
     {
         match &self.state {
-            State::Undone { running, .. } => *running,
-            State::Done(_) | State::WithoutMemory(_) => false,
+            TrialState::Undone { running, .. } => *running,
+            TrialState::Done(_) | TrialState::WithoutMemory(_) => false,
         }
     }
 
@@ -131,7 +131,7 @@ impl Trial {
         requires { is_undone self.old.state ≡ true }
         ensures { self.new ≡ record self.old { state = state_running running } }
     {
-        if let State::Undone { running: now, .. } = &mut self.state {
+        if let TrialState::Undone { running: now, .. } = &mut self.state {
             *now = running;
         }
     }
@@ -142,21 +142,21 @@ impl Trial {
         ensures { self.new ≡ record self.old { state = desk.done finished.result } }
     {
         self.state = match finished.into_ending() {
-            Ending::Whole(whole) => State::Done(whole),
-            Ending::Memory(job) => State::WithoutMemory(job),
+            JobEnd::Whole(whole) => TrialState::Done(whole),
+            JobEnd::Memory(job) => TrialState::WithoutMemory(job),
         };
     }
 
     /// Its job's result once more, if that is filed. It takes no memory.
-    pub fn filed(&self) -> Result<Finished, OrNoMemory<Refusal>>
+    pub fn filed(&self) -> Result<Finished, OrNoMemory<CallRefusal>>
         ensures { MatchResult result
             (λ f. result_in self.now.job.asked.code.atoms self.now.state ≡ desk.result f.job.asked.code.atoms f.result)
             (IsRefusal (λ e. result_in self.now.job.asked.code.atoms self.now.state ≡ desk.refused (code_of e))) }
     {
         let ending = match &self.state {
-            State::Undone { .. } => return Err(OrNoMemory::Fault(Refusal::NotDone)),
-            State::Done(whole) => Ending::Whole(whole.share()?),
-            State::WithoutMemory(job) => Ending::Memory(Arc::try_clone(job)?),
+            TrialState::Undone { .. } => return Err(OrNoMemory::Fault(CallRefusal::NotDone)),
+            TrialState::Done(whole) => JobEnd::Whole(whole.share()?),
+            TrialState::WithoutMemory(job) => JobEnd::Memory(Arc::try_clone(job)?),
         };
         Ok(Finished::from_ending(ending))
     }

@@ -4,7 +4,7 @@ use Rattle.std.proofs.Crossing as heap
 use Rattle.pf_model.proofs.Crossing as signals
 use Rattle.pf_channels.specs.contracts.channels.Channels as Channels
 use Rattle.pf_channels.specs.contracts.queue.Queue as Queue
-use Rattle.pf_channels.specs.contracts.row.Row as Row
+use Rattle.pf_channels.specs.contracts.row.SenderRow as Row
 
 pub queue_send : IsSend Queue.the_row
 queue_send = search (signals.signal_field_send, signals.signal_send, heap.crosses, sendable) depth 30

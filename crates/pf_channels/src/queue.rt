@@ -4,7 +4,7 @@ ghost use Rattle.std.specs.Prelude.{◌≡◌, [], ◌∷◌, Some, None, IfOk, 
 ghost use Rattle.pf_model.specs.Channels.{with_last};
 ghost use Rattle.pf_model.specs.Signals.{signal_of};
 
-use pf_fault::NoMemory;
+use pf_errors::NoMemory;
 use pf_model::Signal;
 use std::alloc::Global;
 use std::collections::VecDeque;
@@ -18,12 +18,12 @@ const MOST_SPARE: usize = 64;
 /// others come and go beside it.
 #[derive(Drop)]
 pub(crate) struct Queue {
-    waiting: Box<Waiting>,
+    waiting: Box<QueuedSignals>,
 }
 
 /// The oldest signal, and those after it. One signal alone takes no further memory.
 #[derive(Drop)]
-struct Waiting {
+struct QueuedSignals {
     first: Signal,
     rest: VecDeque<Signal>,
 }
@@ -55,7 +55,7 @@ impl Queue {
             queue.waiting.rest.clear();
             return Ok(queue);
         }
-        let alone = Waiting {
+        let alone = QueuedSignals {
             first: signal,
             rest: VecDeque::new(alloc),
         };

@@ -7,7 +7,7 @@ ghost use Rattle.pf_model.specs.Signals.{signal_of};
 ghost use Rattle.pf_channels.specs.Rows.{taken_in};
 
 use crate::queue::Queue;
-use pf_fault::NoMemory;
+use pf_errors::NoMemory;
 use pf_model::Signal;
 use pf_sorted::SortedMap;
 use std::alloc::Global;
@@ -16,13 +16,13 @@ use std::marker::Model;
 /// The queues of one sender, by rising receiver; and a queue that was emptied, for the next, whose signals are none of
 /// the row's.
 #[derive(Drop)]
-pub(crate) struct Row {
+pub(crate) struct SenderRow {
     queues: SortedMap<Queue>,
     spare: Option<Queue>,
 }
 
-impl Model for Row {
-    ghost use Rattle.pf_model.specs.Channels.{Row as Queues};
+impl Model for SenderRow {
+    ghost use Rattle.pf_model.specs.Channels.{SenderRow as Queues};
     ghost use Rattle.pf_channels.specs.Encoding.{coded_row};
     ghost use Rattle.pf_channels.specs.Rows.{AreReceivers};
 
@@ -35,12 +35,12 @@ impl Model for Row {
     ghost invariant = { λ r. AreReceivers r.queues };
 }
 
-impl Row {
+impl SenderRow {
     /// The row of a sender that has nothing on its way.
-    pub(crate) fn new(alloc: Global) -> Row
+    pub(crate) fn new(alloc: Global) -> SenderRow
         ensures { result ≡ [] }
     {
-        Row {
+        SenderRow {
             queues: SortedMap::new(alloc),
             spare: None,
         }

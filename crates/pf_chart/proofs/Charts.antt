@@ -11,33 +11,33 @@ use Rattle.std.proofs.lemmas.Grind.{common_steps}
 use Rattle.pf_model.specs.declared.report.Event.{Event}
 use Rattle.pf_model.specs.declared.report.Report.{Report}
 use Rattle.pf_model.specs.Meaning as meaning
-use Rattle.pf_model.specs.Reports.{event_of, outcome_of, report_of}
+use Rattle.pf_model.specs.Reports.{view_of_event, view_of_outcome, view_of_report}
 use Rattle.pf_model.specs.Text.{outcome_text}
 use Rattle.pf_chart.specs.declared.columns.Column.{Column}
 use Rattle.pf_chart.specs.declared.manner.Manner.{Manner}
-use Rattle.pf_chart.specs.declared.rows.Row.{Row}
-use Rattle.pf_chart.specs.Chart.{AreColumns, IsChart, ShowsSignals, chart, choice_labels, choice_text, copies, event_labels, first_row, has_row, page_of, process_labels, rows_from, shown, twice}
+use Rattle.pf_chart.specs.declared.rows.EventRow.{EventRow}
+use Rattle.pf_chart.specs.Chart.{AreColumns, IsChart, ShowsSignals, chart, choice_labels, choice_text, copies, event_labels, first_row, has_row, page_of, process_labels, rows_from, shown_events, twice}
 use Rattle.pf_chart.specs.Origins.{process_of}
 use Rattle.pf_chart.specs.Pages.{page_in}
 use Rattle.pf_chart.specs.Sheets.{Page}
 use Rattle.pf_chart.specs.declared.sheet.Sheet.{Sheet}
-use Rattle.pf_chart.specs.Words.{Draws}
-use Rattle.pf_svg.specs.Document.{end_text, start_text}
+use Rattle.pf_chart.specs.Words.{DrawsInChart}
+use Rattle.pf_svg.specs.Document.{document_end, start_text}
 use Rattle.pf_svg.proofs.Drawn.{elsewhere, renamed, whole}
 use Rattle.pf_chart.proofs.Lined.{holds_elsewhere}
 use Rattle.pf_chart.proofs.Placed.{place_next}
 
-abbrev pub told : Row → meaning.Event
-told row = event_of row.event.now
+abbrev pub told : EventRow → meaning.Event
+told row = view_of_event row.event.now
 
 abbrev pub of_columns : (rows : ℕ) → List ℕ → List (List ℕ) → List Column → List (List ℕ)
 of_columns n root names cs = flat_map (λ c. process_labels n root names (process_of c)) cs
 
-abbrev pub of_choices : List Row → List (List ℕ)
-of_choices rows = flat_map (λ row. choice_labels (event_of row.event.now)) rows
+abbrev pub of_choices : List EventRow → List (List ℕ)
+of_choices rows = flat_map (λ row. choice_labels (view_of_event row.event.now)) rows
 
-abbrev pub of_rows : (ℕ → List ℕ) → List Row → List (List ℕ)
-of_rows name rows = flat_map (λ row. event_labels name (event_of row.event.now)) rows
+abbrev pub of_rows : (ℕ → List ℕ) → List EventRow → List (List ℕ)
+of_rows name rows = flat_map (λ row. event_labels name (view_of_event row.event.now)) rows
 
 -- ---- choices
 
@@ -55,7 +55,7 @@ pub copies_more : (n : ℕ) (labels : List (List ℕ)) → copies n labels ++ la
 copies_more n labels = ap (λ (k : ℕ). copies k labels) (sym (add-one n))
 
 -- at most 500 rows from a first on
-pub cut : (rows : List Row) (first end : ℕ) → first ≤ length rows → end ≡ min (length rows) (first + 500)
+pub cut : (rows : List EventRow) (first end : ℕ) → first ≤ length rows → end ≡ min (length rows) (first + 500)
     → take (end - first) (drop first rows) ≡ take 500 (drop first rows)
 cut rows first end within is = elim (cases_lt (length rows) (first + 500)) [
   | inl h ↦ take_all (end - first) (drop first rows) (omega (arith, is, length-drop first rows))
@@ -65,11 +65,11 @@ cut rows first end within is = elim (cases_lt (length rows) (first + 500)) [
 
 -- one event more
 pub rows_more : (compact : Bool) (es : List Event) (i : ℕ) (e : Event) → i < length es → e ≡ get_or es i e
-    → filter (has_row compact) (map event_of (take i es)) ++ filter (has_row compact) (event_of e ∷ []) ≡ filter (has_row compact) (map event_of (take (i + 1) es))
+    → filter (has_row compact) (map view_of_event (take i es)) ++ filter (has_row compact) (view_of_event e ∷ []) ≡ filter (has_row compact) (map view_of_event (take (i + 1) es))
 rows_more compact es i e lt is =
     let all : take (i + 1) es ≡ take i es ++ e ∷ [] = take_more es i e lt ∙ ap (λ (x : Event). take i es ++ x ∷ []) (sym is) in
-    let events : map event_of (take (i + 1) es) ≡ map event_of (take i es) ++ event_of e ∷ [] = ap (map event_of) all ∙ grind (arith, common_steps) in
-    sym (ap (filter (has_row compact)) events ∙ filter-append (has_row compact) (map event_of (take i es)) (event_of e ∷ []))
+    let events : map view_of_event (take (i + 1) es) ≡ map view_of_event (take i es) ++ view_of_event e ∷ [] = ap (map view_of_event) all ∙ grind (arith, common_steps) in
+    sym (ap (filter (has_row compact)) events ∙ filter-append (has_row compact) (map view_of_event (take i es)) (view_of_event e ∷ []))
 
 pub row_kept : (compact : Bool) (e : meaning.Event) → has_row compact e ≡ true → e ∷ [] ≡ filter (has_row compact) (e ∷ [])
 row_kept compact e is = rw is refl
@@ -78,33 +78,33 @@ pub row_left : (compact : Bool) (e : meaning.Event) → has_row compact e ≡ fa
 row_left compact e is = rw is refl
 
 -- the row of one event more, if it has one
-pub row_next : (compact : Bool) (es : List Event) (i : ℕ) (e : Event) (xs ys : List Row) (row : Row) (has : Bool) → i < length es → e ≡ get_or es i e
-    → row.index ≡ i → row.event.now ≡ e → has ≡ has_row compact (event_of e) → ys ≡ xs ++ (if has then row ∷ [] else [])
-    → map told xs ≡ filter (has_row compact) (map event_of (take i es)) → map (λ r. r.index) xs ≡ rows_from compact 0 (map event_of (take i es))
-    → (map told ys ≡ filter (has_row compact) (map event_of (take (i + 1) es))) × (map (λ r. r.index) ys ≡ rows_from compact 0 (map event_of (take (i + 1) es)))
+pub row_next : (compact : Bool) (es : List Event) (i : ℕ) (e : Event) (xs ys : List EventRow) (row : EventRow) (has : Bool) → i < length es → e ≡ get_or es i e
+    → row.index ≡ i → row.event.now ≡ e → has ≡ has_row compact (view_of_event e) → ys ≡ xs ++ (if has then row ∷ [] else [])
+    → map told xs ≡ filter (has_row compact) (map view_of_event (take i es)) → map (λ r. r.index) xs ≡ rows_from compact 0 (map view_of_event (take i es))
+    → (map told ys ≡ filter (has_row compact) (map view_of_event (take (i + 1) es))) × (map (λ r. r.index) ys ≡ rows_from compact 0 (map view_of_event (take (i + 1) es)))
 row_next compact es i e xs ys row true low read index event is put events places =
-    let kept : has_row compact (event_of e) ≡ true = sym is in
-    let next = place_next event_of compact es i e low ∙ ap (λ (b : Bool). rows_from compact 0 (map event_of (take i es)) ++ (if b then i ∷ [] else [])) (ap (λ (x : Event). has_row compact (event_of x)) (sym read) ∙ kept) in (
+    let kept : has_row compact (view_of_event e) ≡ true = sym is in
+    let next = place_next view_of_event compact es i e low ∙ ap (λ (b : Bool). rows_from compact 0 (map view_of_event (take i es)) ++ (if b then i ∷ [] else [])) (ap (λ (x : Event). has_row compact (view_of_event x)) (sym read) ∙ kept) in (
       ap (map told) put ∙ map-append told xs (row ∷ []) ∙ ap (λ t. t ++ told row ∷ []) events
-          ∙ ap (λ (x : Event). filter (has_row compact) (map event_of (take i es)) ++ event_of x ∷ []) event
-          ∙ ap (λ t. filter (has_row compact) (map event_of (take i es)) ++ t) (row_kept compact (event_of e) kept) ∙ rows_more compact es i e low read,
+          ∙ ap (λ (x : Event). filter (has_row compact) (map view_of_event (take i es)) ++ view_of_event x ∷ []) event
+          ∙ ap (λ t. filter (has_row compact) (map view_of_event (take i es)) ++ t) (row_kept compact (view_of_event e) kept) ∙ rows_more compact es i e low read,
       ap (map (λ r. r.index)) put ∙ map-append (λ r. r.index) xs (row ∷ []) ∙ ap (λ t. t ++ row.index ∷ []) places
-          ∙ ap (λ (n : ℕ). rows_from compact 0 (map event_of (take i es)) ++ n ∷ []) index ∙ sym next,
+          ∙ ap (λ (n : ℕ). rows_from compact 0 (map view_of_event (take i es)) ++ n ∷ []) index ∙ sym next,
     )
 row_next compact es i e xs ys row false low read index event is put events places =
-    let left : has_row compact (event_of e) ≡ false = sym is in
-    let next = place_next event_of compact es i e low ∙ ap (λ (b : Bool). rows_from compact 0 (map event_of (take i es)) ++ (if b then i ∷ [] else [])) (ap (λ (x : Event). has_row compact (event_of x)) (sym read) ∙ left) in (
+    let left : has_row compact (view_of_event e) ≡ false = sym is in
+    let next = place_next view_of_event compact es i e low ∙ ap (λ (b : Bool). rows_from compact 0 (map view_of_event (take i es)) ++ (if b then i ∷ [] else [])) (ap (λ (x : Event). has_row compact (view_of_event x)) (sym read) ∙ left) in (
       ap (map told) put ∙ map-append told xs [] ∙ ap (λ t. t ++ []) events
-          ∙ ap (λ t. filter (has_row compact) (map event_of (take i es)) ++ t) (row_left compact (event_of e) left) ∙ rows_more compact es i e low read,
+          ∙ ap (λ t. filter (has_row compact) (map view_of_event (take i es)) ++ t) (row_left compact (view_of_event e) left) ∙ rows_more compact es i e low read,
       ap (map (λ r. r.index)) put ∙ map-append (λ r. r.index) xs [] ∙ ap (λ t. t ++ []) places ∙ sym next,
     )
 
-pub length_told : (rows : List Row) → length (map told rows) ≡ length rows
+pub length_told : (rows : List EventRow) → length (map told rows) ≡ length rows
 length_told [] = refl
 length_told (row ∷ rows) = ap suc (length_told rows)
 
 -- a page of the events is that of the rows
-pub paged : (page : ℕ) (rows : List Row) → map told (page_of page rows) ≡ page_of page (map told rows)
+pub paged : (page : ℕ) (rows : List EventRow) → map told (page_of page rows) ≡ page_of page (map told rows)
 paged page rows =
     let first = first_row page (length rows) in
     sym (take-map told 500 (drop first rows))
@@ -126,16 +126,16 @@ page_is s pitch events above count a b c d =
 -- ---- the whole
 
 -- the document is a chart of the report
-pub chart_of : (name : ℕ → List ℕ) (root : List ℕ) (names : List (List ℕ)) (m : Manner) (r : Report) (cs : List Column) (rows : List Row) (n : ℕ) (o p : List ℕ) (width height : ℕ) {x y z w : List ℕ}
-    → AreColumns (report_of r) (map process_of cs) → ShowsSignals m (report_of r) (map process_of cs) x w → map told rows ≡ shown m (report_of r) → n ≡ length rows
-    → o ≡ outcome_text name (outcome_of r.outcome) → p ≡ outcome_text name (outcome_of r.outcome)
+pub chart_of : (name : ℕ → List ℕ) (root : List ℕ) (names : List (List ℕ)) (m : Manner) (r : Report) (cs : List Column) (rows : List EventRow) (n : ℕ) (o p : List ℕ) (width height : ℕ) {x y z w : List ℕ}
+    → AreColumns (view_of_report r) (map process_of cs) → ShowsSignals m (view_of_report r) (map process_of cs) x w → map told rows ≡ shown_events m (view_of_report r) → n ≡ length rows
+    → o ≡ outcome_text name (view_of_outcome r.outcome) → p ≡ outcome_text name (view_of_outcome r.outcome)
     → y ≡ x ++ start_text width height
-    → Draws ((root ∷ root ∷ o ∷ []) ++ ((of_columns n root names cs ++ (of_choices rows ++ of_rows name rows)) ++ twice p)) y z
-    → w ≡ z ++ end_text
-    → IsChart name root names m (report_of r) x w
+    → DrawsInChart ((root ∷ root ∷ o ∷ []) ++ ((of_columns n root names cs ++ (of_choices rows ++ of_rows name rows)) ++ twice p)) y z
+    → w ≡ z ++ document_end
+    → IsChart name root names m (view_of_report r) x w
 chart_of name root names m r cs rows n o p width height all shows are count e e' begins d ends =
-    let outcome = outcome_text name (outcome_of r.outcome) in
-    let events = shown m (report_of r) in
+    let outcome = outcome_text name (view_of_outcome r.outcome) in
+    let events = shown_events m (view_of_report r) in
     let processes = map process_of cs in
     let number : n ≡ length events = count ∙ sym (length_told rows) ∙ ap length are in
     let labels_of_processes : of_columns n root names cs ≡ flat_map (process_labels (length events) root names) processes =

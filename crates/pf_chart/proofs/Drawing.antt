@@ -9,13 +9,13 @@ use Rattle.pf_model.specs.Meaning.{Event}
 use Rattle.pf_model.specs.Runs.{channel}
 use Rattle.pf_chart.specs.Processes.{Process}
 use Rattle.pf_chart.specs.Signals.{AreArrows, BeginsIn, Delivers, EndsIn, HasPid, IsArrow, IsDeliveredIn, marked}
-use Rattle.pf_chart.specs.Traffic.{AreOnWay, AreSentIn, AreWaiting, IsDelivered, IsOnWay, Sends, Way, kind_of, number_of, reach_of, sent, untold, way_of}
+use Rattle.pf_chart.specs.Traffic.{AreOnWay, AreSentIn, AreWaiting, IsDelivered, IsOnWay, Sends, Way, kind_of, signal_kind_number, reach_of, open_arrow, untold, way_of}
 use Rattle.pf_chart.specs.declared.arrows.Arrow.{Arrow}
-use Rattle.pf_chart.specs.declared.arrows.Reach.TheVariants as reach
+use Rattle.pf_chart.specs.declared.arrows.ArrowEnd.TheVariants as reach
 use Rattle.pf_chart.specs.declared.arrows.SignalKind.{SignalKind}
 use Rattle.pf_chart.specs.declared.arrows.SignalKind.TheVariants as kind
-use Rattle.pf_chart.specs.declared.arrows.Start.{Start}
-use Rattle.pf_chart.specs.declared.arrows.Start.TheVariants as start
+use Rattle.pf_chart.specs.declared.arrows.ArrowStart.{ArrowStart}
+use Rattle.pf_chart.specs.declared.arrows.ArrowStart.TheVariants as start
 use Rattle.pf_chart.specs.declared.traffic.Traffic.{Traffic}
 use Rattle.pf_chart.proofs.Sending.{Tells, at_seam, one_ends, other_stays, stays_in}
 
@@ -32,7 +32,7 @@ kind_at n =
     else (if n == 5 then kind.Down
     else kind.Exit)))))
 
-number_back : (k : SignalKind) → kind_at (number_of k) ≡ k
+number_back : (k : SignalKind) → kind_at (signal_kind_number k) ≡ k
 number_back kind.Message = refl
 number_back kind.Link = refl
 number_back kind.Unlink = refl
@@ -57,7 +57,7 @@ alike ps a b x e kinds froms tos d = record {
   receiver = subst (λ (i : ℕ). HasPid ps i d.to) (sym tos) d.receiver;
 }
 
-begins_alike : (es : List Event) (ps : List Process) (a b : Arrow) (s : Start) → b.kind ≡ a.kind → b.from ≡ a.from → b.to ≡ a.to → BeginsIn es ps a s → BeginsIn es ps b s
+begins_alike : (es : List Event) (ps : List Process) (a b : Arrow) (s : ArrowStart) → b.kind ≡ a.kind → b.from ≡ a.from → b.to ≡ a.to → BeginsIn es ps a s → BeginsIn es ps b s
 begins_alike es ps a b (start.In n) kinds froms tos (e, at, has) = (e, at, subst (λ (i : ℕ). HasPid ps i (marked e.actor)) (sym froms) has)
 begins_alike es ps a b (start.Above n) kinds froms tos (x, d) = (x, (d.0, d.1, alike ps a b x d.0 kinds froms tos d.2))
 
@@ -96,7 +96,7 @@ module _ (es : List Event) (ps : List Process) where
       → (i : ℕ) (x : Arrow) → slice_get more i ≡ Some x → IsArrow es ps x
   sent_is n a e at has [] h i x is = absurd (cc)
   sent_is n a e at has (y ∷ more) ((b, k, same), rest) zero x is =
-      let one : x ≡ sent n a b k = sym (same_Some y x is) ∙ same in
+      let one : x ≡ open_arrow n a b k = sym (same_Some y x is) ∙ same in
       subst (λ (z : Arrow). IsArrow es ps z) (sym one) (record { begins = (e, at, has); ends = refl })
   sent_is n a e at has (y ∷ more) (one, rest) (suc i) x is = sent_is n a e at has more rest i x is
 

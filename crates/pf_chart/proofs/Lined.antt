@@ -6,7 +6,7 @@ use Rattle.std.proofs.lemmas.Option.{same_Some, slice_get-get_or, slice_get_with
 use Rattle.pf_svg.specs.Document.{DrawsFrom, drawn, part_text}
 use Rattle.pf_chart.specs.Lines.{HaveLines, Holds}
 use Rattle.pf_chart.specs.Sheets.{Page, is_here, line_of}
-use Rattle.pf_chart.specs.Words.{Closes, Draws, Opens}
+use Rattle.pf_chart.specs.Words.{ClosesGroup, DrawsInChart, OpensGroup}
 use Rattle.pf_chart.specs.declared.arrows.Arrow.{Arrow}
 use Rattle.pf_chart.proofs.Sending.{Tells}
 
@@ -21,13 +21,13 @@ grows_by x y more e = record { more = more; is = e }
 grows_from : {own ls : List (List ℕ)} {p q : _} {x y : List ℕ} → DrawsFrom own p ls q x y → Grows x y
 grows_from (drawn parts e f l w) = record { more = flat_map part_text parts; is = e }
 
-pub drawn_grows : (ls : List (List ℕ)) (x y : List ℕ) → Draws ls x y → Grows x y
+pub drawn_grows : (ls : List (List ℕ)) (x y : List ℕ) → DrawsInChart ls x y → Grows x y
 drawn_grows ls x y d = grows_from (d [])
 
-pub opened_grows : (ls : List (List ℕ)) (x y : List ℕ) → Opens ls x y → Grows x y
+pub opened_grows : (ls : List (List ℕ)) (x y : List ℕ) → OpensGroup ls x y → Grows x y
 opened_grows ls x y d = grows_from (d [])
 
-pub closed_grows : (ls : List (List ℕ)) (x y : List ℕ) → Closes ls x y → Grows x y
+pub closed_grows : (ls : List (List ℕ)) (x y : List ℕ) → ClosesGroup ls x y → Grows x y
 closed_grows ls x y d = grows_from (d [])
 
 pub grown_on : {x y z : List ℕ} → Grows x y → Grows y z → Grows x z

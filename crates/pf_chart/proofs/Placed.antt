@@ -8,9 +8,9 @@ use Rattle.std.proofs.Math.ListN.{get_or-map}
 use Rattle.pf_model.specs.Meaning.{Event}
 use Rattle.pf_chart.specs.Chart.{has_row, rows_from}
 use Rattle.pf_chart.specs.Sheets.{rows_before}
-use Rattle.pf_chart.specs.declared.rows.Row.{Row}
+use Rattle.pf_chart.specs.declared.rows.EventRow.{EventRow}
 
-abbrev places : List Row → List ℕ
+abbrev places : List EventRow → List ℕ
 places rows = map (λ r. r.index) rows
 
 -- ---- how many are before an event
@@ -18,7 +18,7 @@ places rows = map (λ r. r.index) rows
 next : (n e : ℕ) (ns : List ℕ) → rows_before (n ∷ ns) e ≡ cond (nat_lt n e) 1 0 + rows_before ns e
 next n e ns = sum_by-cons (λ k. cond (nat_lt k e) 1 0) n ns
 
-pub counted : (rows : List Row) (e i : ℕ) → i ≤ length rows
+pub counted : (rows : List EventRow) (e i : ℕ) → i ≤ length rows
     → IsPartitionPoint (λ r. nat_lt r.index e ≡ true) (λ r. nat_lt r.index e ≡ false) rows i → i ≡ rows_before (places rows) e
 counted [] e i within h = let none : i ≡ 0 = omega (arith, within) in none
 counted (r ∷ rows) e zero within h =
@@ -58,14 +58,14 @@ rise : (compact : Bool) (n : ℕ) (es : List Event) → AreFrom n (rows_from com
 rise compact n [] = record { least = λ i d low. absurd (omega arith); order = λ i j d le low. absurd (omega arith) }
 rise compact n (e ∷ es) = one_more n (has_row compact e) (rows_from compact (suc n) es) (rise compact (suc n) es)
 
-pub in_order : (compact : Bool) (rows : List Row) (es : List Event) → places rows ≡ rows_from compact 0 es → IsNonDecreasingBy (λ r. r.index) rows
+pub in_order : (compact : Bool) (rows : List EventRow) (es : List Event) → places rows ≡ rows_from compact 0 es → IsNonDecreasingBy (λ r. r.index) rows
 in_order compact rows es are i j d le low =
     let count : length (rows_from compact 0 es) ≡ length rows = ap length (sym are) ∙ length-map rows (λ r. r.index) in
     let rises = (rise compact 0 es).order i j d.index le (omega (arith, count)) in
     let told : get_or (places rows) i d.index ≤ get_or (places rows) j d.index =
     subst (λ ns. get_or ns i d.index ≤ get_or ns j d.index) (sym are) rises in
-    let one = get_or-map (λ (r : Row). r.index) rows i d in
-    let other = get_or-map (λ (r : Row). r.index) rows j d in
+    let one = get_or-map (λ (r : EventRow). r.index) rows i d in
+    let other = get_or-map (λ (r : EventRow). r.index) rows j d in
     omega (arith, told, one, other)
 
 -- ---- one event more

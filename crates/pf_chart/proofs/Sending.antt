@@ -8,10 +8,10 @@ use Rattle.std.specs.Cmp.{nat_cmp_is}
 use Rattle.std.proofs.lemmas.Bool.Decides.{eqb_tells}
 use Rattle.std.proofs.lemmas.Map.Lookups.{exact_unsigned}
 use Rattle.std.proofs.lemmas.Option.{same_Some, slice_get-get_or, slice_get_within}
-use Rattle.pf_chart.specs.Traffic.{AllAbove, AreOnWay, AreSentIn, AreWaiting, IsDelivered, IsEnded, IsOnWay, KeepsOthers, Sends, Way, is_way, sent, waiting, way_of}
+use Rattle.pf_chart.specs.Traffic.{AllAbove, AreOnWay, AreSentIn, AreWaiting, IsDelivered, IsEnded, IsOnWay, KeepsOthers, Sends, Way, is_way, open_arrow, waiting_signals, way_of}
 use Rattle.pf_chart.specs.declared.arrows.Arrow.{Arrow}
-use Rattle.pf_chart.specs.declared.arrows.Reach.{Reach}
-use Rattle.pf_chart.specs.declared.arrows.Reach.TheVariants as reach
+use Rattle.pf_chart.specs.declared.arrows.ArrowEnd.{ArrowEnd}
+use Rattle.pf_chart.specs.declared.arrows.ArrowEnd.TheVariants as reach
 use Rattle.pf_chart.specs.declared.arrows.SignalKind.{SignalKind}
 use Rattle.pf_chart.specs.declared.traffic.Traffic.{Traffic}
 
@@ -63,7 +63,7 @@ at_seam [] x more = refl
 at_seam (y ∷ xs) x more = at_seam xs x more
 
 -- all but the arrow that ends stay
-pub other_stays : (j : ℕ) (r : Reach) (xs ys : List Arrow) → IsEnded j r xs ys → (i : ℕ) (x : Arrow) → slice_get xs i ≡ Some x → (i ≡ j → ⊥) → slice_get ys i ≡ Some x
+pub other_stays : (j : ℕ) (r : ArrowEnd) (xs ys : List Arrow) → IsEnded j r xs ys → (i : ℕ) (x : Arrow) → slice_get xs i ≡ Some x → (i ≡ j → ⊥) → slice_get ys i ≡ Some x
 other_stays j r xs ys h i x at other =
     let within : i < length ys = omega (arith, h.0, slice_get_within xs i x at) in
     let is = slice_get-get_or ys i x within in
@@ -74,7 +74,7 @@ other_stays j r xs ys h i x at other =
       | inr n ↦ is ∙ ap Some (from.2 ∙ ap (λ (b : Bool). if b then record from.0 { reach = r } else from.0) n.0 ∙ same)
     ]
 
-pub one_ends : (j : ℕ) (r : Reach) (xs ys : List Arrow) → IsEnded j r xs ys → (x : Arrow) → slice_get xs j ≡ Some x → slice_get ys j ≡ Some (record x { reach = r })
+pub one_ends : (j : ℕ) (r : ArrowEnd) (xs ys : List Arrow) → IsEnded j r xs ys → (x : Arrow) → slice_get xs j ≡ Some x → slice_get ys j ≡ Some (record x { reach = r })
 one_ends j r xs ys h x at =
     let within : j < length ys = omega (arith, h.0, slice_get_within xs j x at) in
     let is = slice_get-get_or ys j x within in
@@ -106,13 +106,13 @@ on_way_push xs x w (i ∷ is) way ends (one, above, rest) = (
 )
 
 -- none of them ends
-on_way_besides : (j : ℕ) (r : Reach) (xs ys : List Arrow) → IsEnded j r xs ys → (w : Way) (is : List ℕ) → AreOnWay xs w is
+on_way_besides : (j : ℕ) (r : ArrowEnd) (xs ys : List Arrow) → IsEnded j r xs ys → (w : Way) (is : List ℕ) → AreOnWay xs w is
     → ((i : ℕ) → IsOnWay xs w i → i ≡ j → ⊥) → AreOnWay ys w is
 on_way_besides j r xs ys h w [] are others = tt
 on_way_besides j r xs ys h w (i ∷ is) (one, above, rest) others =
     ((one.0, other_stays j r xs ys h i one.0 one.1 (others i one), one.2, one.3), above, on_way_besides j r xs ys h w is rest others)
 
-on_way_behind : (j : ℕ) (r : Reach) (xs ys : List Arrow) → IsEnded j r xs ys → (w : Way) (is : List ℕ) → AreOnWay xs w is → AllAbove j is → AreOnWay ys w is
+on_way_behind : (j : ℕ) (r : ArrowEnd) (xs ys : List Arrow) → IsEnded j r xs ys → (w : Way) (is : List ℕ) → AreOnWay xs w is → AllAbove j is → AreOnWay ys w is
 on_way_behind j r xs ys h w [] are low = tt
 on_way_behind j r xs ys h w (i ∷ is) (one, above, rest) (first, low) =
     ((one.0, other_stays j r xs ys h i one.0 one.1 (λ e. omega (arith, first, e)), one.2, one.3), above, on_way_behind j r xs ys h w is rest low)
@@ -129,8 +129,8 @@ sends_none n a s t arrows ways = record {
   more = [];
   after = arrows ∙ sym (append-nil s.arrows.items);
   are_sent = tt;
-  wait = λ h w. subst (λ (xs : List Arrow). AreOnWay xs w (waiting t.on_way w)) (sym arrows)
-      (subst (λ o. AreOnWay s.arrows.items w (waiting o w)) (sym ways) (h w));
+  wait = λ h w. subst (λ (xs : List Arrow). AreOnWay xs w (waiting_signals t.on_way w)) (sym arrows)
+      (subst (λ o. AreOnWay s.arrows.items w (waiting_signals o w)) (sym ways) (h w));
 }
 
 pub sends_both : (n a : ℕ) (s t u : Traffic) → Sends n a s t → Sends n a t u → Sends n a s u
@@ -142,13 +142,13 @@ sends_both n a s t u h k = record {
 }
 
 -- one goes out
-pub sends_one : (n a b : ℕ) (k : SignalKind) (s t : Traffic) → t.arrows.items ≡ s.arrows.items ++ sent n a b k ∷ []
-    → waiting t.on_way (way_of a b k) ≡ waiting s.on_way (way_of a b k) ++ length s.arrows.items ∷ [] → KeepsOthers (way_of a b k) s.on_way t.on_way → Sends n a s t
+pub sends_one : (n a b : ℕ) (k : SignalKind) (s t : Traffic) → t.arrows.items ≡ s.arrows.items ++ open_arrow n a b k ∷ []
+    → waiting_signals t.on_way (way_of a b k) ≡ waiting_signals s.on_way (way_of a b k) ++ length s.arrows.items ∷ [] → KeepsOthers (way_of a b k) s.on_way t.on_way → Sends n a s t
 sends_one n a b k s t arrow last others = record {
-  more = sent n a b k ∷ [];
+  more = open_arrow n a b k ∷ [];
   after = arrow;
   are_sent = ((b, k, refl), tt);
-  wait = λ h v. subst (λ (xs : List Arrow). AreOnWay xs v (waiting t.on_way v)) (sym arrow) (goes h v (is_way w v) refl);
+  wait = λ h v. subst (λ (xs : List Arrow). AreOnWay xs v (waiting_signals t.on_way v)) (sym arrow) (goes h v (is_way w v) refl);
 }
   where
     w : Way
@@ -157,39 +157,39 @@ sends_one n a b k s t arrow last others = record {
     xs : List Arrow
     xs = s.arrows.items
 
-    goes : AreWaiting s → (v : Way) (own : Bool) → is_way w v ≡ own → AreOnWay (xs ++ sent n a b k ∷ []) v (waiting t.on_way v)
+    goes : AreWaiting s → (v : Way) (own : Bool) → is_way w v ≡ own → AreOnWay (xs ++ open_arrow n a b k ∷ []) v (waiting_signals t.on_way v)
     goes h v true is =
-        subst (λ (u : Way). AreOnWay (xs ++ sent n a b k ∷ []) u (waiting t.on_way u)) (same_way w v is)
-        (subst (AreOnWay (xs ++ sent n a b k ∷ []) w) (sym last) (on_way_push xs (sent n a b k) w (waiting s.on_way w) refl refl (h w)))
+        subst (λ (u : Way). AreOnWay (xs ++ open_arrow n a b k ∷ []) u (waiting_signals t.on_way u)) (same_way w v is)
+        (subst (AreOnWay (xs ++ open_arrow n a b k ∷ []) w) (sym last) (on_way_push xs (open_arrow n a b k) w (waiting_signals s.on_way w) refl refl (h w)))
     goes h v false is =
-        subst (AreOnWay (xs ++ sent n a b k ∷ []) v) (sym (others v is)) (on_way_more xs (sent n a b k ∷ []) v (waiting s.on_way v) (h v))
+        subst (AreOnWay (xs ++ open_arrow n a b k ∷ []) v) (sym (others v is)) (on_way_more xs (open_arrow n a b k ∷ []) v (waiting_signals s.on_way v) (h v))
 
 -- ---- what is delivered
 
 -- the rest of those that wait are still arrows of their ways
 pub arrived_wait : (w : Way) (alone : Arrow) (s t : Traffic) → IsDelivered w alone s t → AreWaiting s → AreWaiting t
 arrived_wait w alone s t (None, first, others, arrows) h v =
-    subst (λ (xs : List Arrow). AreOnWay xs v (waiting t.on_way v)) (sym arrows)
-    (on_way_more s.arrows.items (alone ∷ []) v (waiting t.on_way v) (old v (is_way w v) refl))
+    subst (λ (xs : List Arrow). AreOnWay xs v (waiting_signals t.on_way v)) (sym arrows)
+    (on_way_more s.arrows.items (alone ∷ []) v (waiting_signals t.on_way v) (old v (is_way w v) refl))
   where
-    old : (v : Way) (own : Bool) → is_way w v ≡ own → AreOnWay s.arrows.items v (waiting t.on_way v)
-    old v true is = subst (λ (u : Way). AreOnWay s.arrows.items u (waiting t.on_way u)) (same_way w v is) (subst (AreOnWay s.arrows.items w) first (h w))
+    old : (v : Way) (own : Bool) → is_way w v ≡ own → AreOnWay s.arrows.items v (waiting_signals t.on_way v)
+    old v true is = subst (λ (u : Way). AreOnWay s.arrows.items u (waiting_signals t.on_way u)) (same_way w v is) (subst (AreOnWay s.arrows.items w) first (h w))
     old v false is = subst (AreOnWay s.arrows.items v) (sym (others v is)) (h v)
 arrived_wait w alone s t (Some j, first, others, ended) h v = rest v (is_way w v) refl
   where
     xs : List Arrow
     xs = s.arrows.items
 
-    all : AreOnWay xs w (j ∷ waiting t.on_way w)
+    all : AreOnWay xs w (j ∷ waiting_signals t.on_way w)
     all = subst (AreOnWay xs w) first (h w)
 
-    rest : (v : Way) (own : Bool) → is_way w v ≡ own → AreOnWay t.arrows.items v (waiting t.on_way v)
+    rest : (v : Way) (own : Bool) → is_way w v ≡ own → AreOnWay t.arrows.items v (waiting_signals t.on_way v)
     rest v true is =
-        subst (λ (u : Way). AreOnWay t.arrows.items u (waiting t.on_way u)) (same_way w v is)
-        (on_way_behind j alone.reach xs t.arrows.items ended w (waiting t.on_way w) all.2 all.1)
+        subst (λ (u : Way). AreOnWay t.arrows.items u (waiting_signals t.on_way u)) (same_way w v is)
+        (on_way_behind j alone.reach xs t.arrows.items ended w (waiting_signals t.on_way w) all.2 all.1)
     rest v false is =
         subst (AreOnWay t.arrows.items v) (sym (others v is))
-        (on_way_besides j alone.reach xs t.arrows.items ended v (waiting s.on_way v) (h v)
+        (on_way_besides j alone.reach xs t.arrows.items ended v (waiting_signals s.on_way v) (h v)
         (λ i on e. absurd (apart v is i on e)))
       where
         apart : (v : Way) → is_way w v ≡ false → (i : ℕ) → IsOnWay xs v i → i ≡ j → ⊥

@@ -40,8 +40,8 @@ rows_from compact n [] = []
 rows_from compact n (e ∷ es) = if has_row compact e then n ∷ rows_from compact (suc n) es else rows_from compact (suc n) es
 
 -- the events that have a row on the page
-abbrev pub shown : Manner → Report → List Event
-shown m r = page_of m.page (filter (has_row m.compact) r.events)
+abbrev pub shown_events : Manner → Report → List Event
+shown_events m r = page_of m.page (filter (has_row m.compact) r.events)
 
 -- ---- labels
 
@@ -102,7 +102,7 @@ page_drawn m r n = record {
   pitch = pitch_of n;
   events = rows_from m.compact 0 r.events;
   above = first_row m.page (length (filter (has_row m.compact) r.events));
-  count = length (shown m r);
+  count = length (shown_events m r);
 }
 
 -- the signals of the run have their arrows, and these their lines on the page
@@ -117,6 +117,6 @@ pub record ShowsSignals (m : Manner) (r : Report) (processes : List Process) (be
 -- have these names
 pub data IsChart (name : ℕ → List ℕ) (root : List ℕ) (names : List (List ℕ)) (m : Manner) (r : Report) (before after : List ℕ) : Type 0 where
   chart : (processes : List Process) → AreColumns r processes
-      → IsDocument (chart_labels name root names (outcome_text name r.outcome) (shown m r) processes) before after
+      → IsDocument (chart_labels name root names (outcome_text name r.outcome) (shown_events m r) processes) before after
       → ShowsSignals m r processes before after
       → IsChart name root names m r before after

@@ -4,7 +4,7 @@ use Rattle.pf_chart.specs.Origins.{IsColumnOf}
 use Rattle.pf_chart.specs.Sheets.{Page, side_of}
 use Rattle.pf_chart.specs.declared.columns.Column.{Column}
 use Rattle.pf_chart.specs.declared.sheet.Sheet.{Sheet}
-use Rattle.pf_chart.specs.declared.sheet.Side.TheVariants as side
+use Rattle.pf_chart.specs.declared.sheet.PageSide.TheVariants as side
 
 -- the page of a sheet
 abbrev pub page_in : Sheet → Page

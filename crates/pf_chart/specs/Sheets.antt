@@ -3,12 +3,12 @@ use Rattle.std.specs.Prelude.{◌+◌, ◌-◌, ◌*◌, ◌/◌, ◌^◌, ◌==
 use Rattle.std.specs.List.{count_by}
 use Rattle.pf_svg.specs.Document.{curve_text, stroke_text}
 use Rattle.pf_chart.specs.declared.arrows.Arrow.{Arrow}
-use Rattle.pf_chart.specs.declared.arrows.Reach.{Reach}
-use Rattle.pf_chart.specs.declared.arrows.Reach.TheVariants as reach
-use Rattle.pf_chart.specs.declared.arrows.Start.{Start}
-use Rattle.pf_chart.specs.declared.arrows.Start.TheVariants as start
-use Rattle.pf_chart.specs.declared.sheet.Side.{Side}
-use Rattle.pf_chart.specs.declared.sheet.Side.TheVariants as side
+use Rattle.pf_chart.specs.declared.arrows.ArrowEnd.{ArrowEnd}
+use Rattle.pf_chart.specs.declared.arrows.ArrowEnd.TheVariants as reach
+use Rattle.pf_chart.specs.declared.arrows.ArrowStart.{ArrowStart}
+use Rattle.pf_chart.specs.declared.arrows.ArrowStart.TheVariants as start
+use Rattle.pf_chart.specs.declared.sheet.PageSide.{PageSide}
+use Rattle.pf_chart.specs.declared.sheet.PageSide.TheVariants as side
 
 -- ---- columns and rows
 
@@ -71,14 +71,14 @@ abbrev pub rows_before : (events : List ℕ) → (event : ℕ) → ℕ
 rows_before events e = count_by (λ n. nat_lt n e) events
 
 -- an event before which so many rows are is on the page, or on one side of it
-abbrev pub side_at : (above count n : ℕ) → Side
+abbrev pub side_at : (above count n : ℕ) → PageSide
 side_at above count n = if nat_lt n above then side.Above else (if nat_lt (n - above) count then side.Here else side.Below)
 
-abbrev pub side_of : Page → (event : ℕ) → Side
+abbrev pub side_of : Page → (event : ℕ) → PageSide
 side_of p e = side_at p.above p.count (rows_before p.events e)
 
 -- it is in the middle of its row, or at the edge of the rows if it is on another page
-abbrev pub y_on : (above count n : ℕ) → Side → ℕ
+abbrev pub y_on : (above count n : ℕ) → PageSide → ℕ
 y_on above count n side.Above = 64
 y_on above count n side.Here = row_y (n - above)
 y_on above count n side.Below = rows_end count
@@ -101,11 +101,11 @@ life_end p (Some n) = event_y p n
 -- ---- arrows
 
 -- the event in which an arrow begins, and the one in which it ends
-abbrev pub event_of_start : Start → ℕ
+abbrev pub event_of_start : ArrowStart → ℕ
 event_of_start (start.In n) = n
 event_of_start (start.Above n) = n
 
-abbrev pub event_of_reach : Reach → Option ℕ
+abbrev pub event_of_reach : ArrowEnd → Option ℕ
 event_of_reach reach.Nowhere = None
 event_of_reach (reach.Taken n) = Some n
 event_of_reach (reach.Dropped n) = Some n
@@ -113,7 +113,7 @@ event_of_reach (reach.Received n) = Some n
 event_of_reach reach.Unread = None
 
 -- an arrow begins in the column of its sender, in the row of its event or half a row above it
-abbrev pub beginning_by : Page → (column : ℕ) → Start → ℕ × ℕ
+abbrev pub beginning_by : Page → (column : ℕ) → ArrowStart → ℕ × ℕ
 beginning_by p c (start.In n) = point_of p c n
 beginning_by p c (start.Above n) = (column_x p.pitch c, event_y p n - 13)
 
@@ -135,12 +135,12 @@ abbrev pub end_of : Page → Arrow → ℕ × ℕ
 end_of p a = end_by p a (event_of_reach a.reach)
 
 -- something of an arrow is on the page: an end, or one end on each side of it
-abbrev pub is_across : Side → Side → Bool
+abbrev pub is_across : PageSide → PageSide → Bool
 is_across side.Above side.Above = false
 is_across side.Below side.Below = false
 is_across x y = true
 
-abbrev pub is_here_by : Page → Side → Option ℕ → Bool
+abbrev pub is_here_by : Page → PageSide → Option ℕ → Bool
 is_here_by p side.Here o = true
 is_here_by p x None = false
 is_here_by p x (Some n) = is_across x (side_of p n)

@@ -8,12 +8,12 @@ use Rattle.pf_model.specs.Runs.{Actor, channel, process}
 use Rattle.pf_chart.specs.Processes.{Process}
 use Rattle.pf_chart.specs.Traffic.{kind_of, reach_of}
 use Rattle.pf_chart.specs.declared.arrows.Arrow.{Arrow}
-use Rattle.pf_chart.specs.declared.arrows.Reach.{Reach}
-use Rattle.pf_chart.specs.declared.arrows.Reach.TheVariants as reach
+use Rattle.pf_chart.specs.declared.arrows.ArrowEnd.{ArrowEnd}
+use Rattle.pf_chart.specs.declared.arrows.ArrowEnd.TheVariants as reach
 use Rattle.pf_chart.specs.declared.arrows.SignalKind.{SignalKind}
 use Rattle.pf_chart.specs.declared.arrows.SignalKind.TheVariants as kind
-use Rattle.pf_chart.specs.declared.arrows.Start.{Start}
-use Rattle.pf_chart.specs.declared.arrows.Start.TheVariants as start
+use Rattle.pf_chart.specs.declared.arrows.ArrowStart.{ArrowStart}
+use Rattle.pf_chart.specs.declared.arrows.ArrowStart.TheVariants as start
 
 -- the process of a column has this pid
 abbrev pub HasPid : List Process → (column pid : ℕ) → Type 0
@@ -40,12 +40,12 @@ abbrev pub IsDeliveredIn : List Event → List Process → Arrow → Suffix → 
 IsDeliveredIn es ps a x n = (e : Event) × (slice_get es n ≡ Some e) × Delivers ps a x e
 
 -- an arrow begins at the mark of its sender's event, or above that of its delivery
-abbrev pub BeginsIn : List Event → List Process → Arrow → Start → Type 0
+abbrev pub BeginsIn : List Event → List Process → Arrow → ArrowStart → Type 0
 BeginsIn es ps a (start.In n) = (e : Event) × (slice_get es n ≡ Some e) × HasPid ps a.from (marked e.actor)
 BeginsIn es ps a (start.Above n) = (x : Suffix) × IsDeliveredIn es ps a x n
 
 -- it ends at the mark of its delivery, if it does
-abbrev pub EndsIn : List Event → List Process → Arrow → Reach → Type 0
+abbrev pub EndsIn : List Event → List Process → Arrow → ArrowEnd → Type 0
 EndsIn es ps a (reach.Taken n) = (x : Suffix) × IsDeliveredIn es ps a x n × (reach.Taken n ≡ reach_of x n)
 EndsIn es ps a (reach.Dropped n) = (x : Suffix) × IsDeliveredIn es ps a x n × (reach.Dropped n ≡ reach_of x n)
 EndsIn es ps a r = r ≡ reach.Nowhere
@@ -62,15 +62,15 @@ pub record AreArrows (es : List Event) (ps : List Process) (count : ℕ) (arrows
       → (k : ℕ) × (a : Arrow) × (slice_get arrows k ≡ Some a) × Delivers ps a x e × (a.reach ≡ reach_of x n)
 
 -- what a message that was delivered in this event becomes, where these are the events that take messages
-abbrev pub reach_by : Option (Option ℕ) → Reach
+abbrev pub reach_by : Option (Option ℕ) → ArrowEnd
 reach_by (Some (Some n)) = reach.Received n
 reach_by o = reach.Unread
 
-abbrev pub receipt_at : (receipts : List (Option ℕ)) → (delivery : ℕ) → Reach
+abbrev pub receipt_at : (receipts : List (Option ℕ)) → (delivery : ℕ) → ArrowEnd
 receipt_at receipts n = reach_by (slice_get receipts n)
 
 -- a message that came into a mailbox goes on to the event that takes it, or to none; all other arrows stay
-abbrev pub IsJoinedBy : (receipts : List (Option ℕ)) → SignalKind → Reach → (old new : Arrow) → Type 0
+abbrev pub IsJoinedBy : (receipts : List (Option ℕ)) → SignalKind → ArrowEnd → (old new : Arrow) → Type 0
 IsJoinedBy receipts kind.Message (reach.Taken n) a b = (chosen : Bool) × (b ≡ record a { reach = receipt_at receipts n; chosen = chosen })
 IsJoinedBy receipts k r a b = b ≡ a
 

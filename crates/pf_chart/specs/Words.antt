@@ -1,6 +1,6 @@
 -- The words of a chart: with those of each document in SVG, all that a chart is made of, but for numbers and labels.
 use Rattle.std.specs.Prelude.{ℕ, Bool, List, [], ◌∷◌, ◌++◌, codes}
-use Rattle.pf_svg.specs.Document.{Closes as ClosesIn, Draws as DrawsIn, IsDocument as IsDocumentIn, Opens as OpensIn}
+use Rattle.pf_svg.specs.Document.{ClosesElement as ClosesIn, DrawsDocument as DrawsIn, IsDocument as IsDocumentIn, OpensElement as OpensIn}
 use Rattle.pf_svg.specs.Words.{is_phrase as is_phrase_of}
 use Rattle.pf_chart.specs.declared.marks.TheConstants.{LINKED, UNLINKED}
 use Rattle.pf_chart.specs.declared.style.TheConstants.{DEFINITIONS, LEGEND, LEGEND_OF_CHOICES, LEGEND_OF_RECEIPTS, LEGEND_OF_SPAWNS, STYLE}
@@ -56,15 +56,15 @@ is_phrase w = is_phrase_of words w
 
 -- after what was there comes what has these labels in their order, each escaped, and for the rest words of a chart and
 -- numbers
-abbrev pub Draws : (labels : List (List ℕ)) (before after : List ℕ) → Type 0
-Draws labels before after = DrawsIn words labels before after
+abbrev pub DrawsInChart : (labels : List (List ℕ)) (before after : List ℕ) → Type 0
+DrawsInChart labels before after = DrawsIn words labels before after
 
 -- the same, and after it a group is open, or closed
-abbrev pub Opens : (labels : List (List ℕ)) (before after : List ℕ) → Type 0
-Opens labels before after = OpensIn words (codes "g") labels before after
+abbrev pub OpensGroup : (labels : List (List ℕ)) (before after : List ℕ) → Type 0
+OpensGroup labels before after = OpensIn words (codes "g") labels before after
 
-abbrev pub Closes : (labels : List (List ℕ)) (before after : List ℕ) → Type 0
-Closes labels before after = ClosesIn words (codes "g") labels before after
+abbrev pub ClosesGroup : (labels : List (List ℕ)) (before after : List ℕ) → Type 0
+ClosesGroup labels before after = ClosesIn words (codes "g") labels before after
 
 -- after what was there comes a whole document with these labels
 abbrev pub IsDocument : (labels : List (List ℕ)) (before after : List ℕ) → Type 0

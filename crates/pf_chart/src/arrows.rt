@@ -3,7 +3,7 @@
 ghost use Rattle.std.specs.Prelude.{◌≡◌, IsTrue};
 ghost use Rattle.pf_model.specs.Signals.{signal_of};
 ghost use Rattle.pf_chart.specs.Sheets.{event_of_reach, event_of_start};
-ghost use Rattle.pf_chart.specs.Traffic.{kind_of, number_of};
+ghost use Rattle.pf_chart.specs.Traffic.{kind_of, signal_kind_number};
 ghost use Rattle.pf_chart.specs.Words.{is_phrase};
 
 use pf_model::Signal;
@@ -37,7 +37,7 @@ impl SignalKind {
 
     /// Which kind it is, as a number.
     pub(crate) fn number(self) -> u8
-        ensures { result ≡ number_of self }
+        ensures { result ≡ signal_kind_number self }
     {
         match self {
             SignalKind::Message => 0,
@@ -68,7 +68,7 @@ impl SignalKind {
 /// Where an arrow begins: in the row of the event that sent the signal, or, if no event shows it, just above its
 /// delivery.
 #[derive(Clone, Copy)]
-pub(crate) enum Start {
+pub(crate) enum ArrowStart {
     In(usize),
     Above(usize),
 }
@@ -76,7 +76,7 @@ pub(crate) enum Start {
 /// Where an arrow ends: nowhere, or at the delivery, at which the signal may have been dropped. In a compact chart a
 /// message that comes into a mailbox ends at the event that takes it, or nowhere if none does.
 #[derive(Clone, Copy)]
-pub(crate) enum Reach {
+pub(crate) enum ArrowEnd {
     Nowhere,
     Taken(usize),
     Dropped(usize),
@@ -90,8 +90,8 @@ pub(crate) struct Arrow {
     pub(crate) kind: SignalKind,
     pub(crate) from: usize,
     pub(crate) to: usize,
-    pub(crate) start: Start,
-    pub(crate) reach: Reach,
+    pub(crate) start: ArrowStart,
+    pub(crate) reach: ArrowEnd,
     /// Whether a delivery that has no row of its own was a choice above 0.
     pub(crate) chosen: bool,
 }
@@ -101,7 +101,7 @@ impl Arrow {
     pub(crate) fn beginning(&self) -> usize
         ensures { result ≡ event_of_start self.now.start }
     {
-        let (Start::In(event) | Start::Above(event)) = self.start;
+        let (ArrowStart::In(event) | ArrowStart::Above(event)) = self.start;
         event
     }
 
@@ -110,8 +110,10 @@ impl Arrow {
         ensures { result ≡ event_of_reach self.now.reach }
     {
         match self.reach {
-            Reach::Taken(event) | Reach::Dropped(event) | Reach::Received(event) => Some(event),
-            Reach::Nowhere | Reach::Unread => None,
+            ArrowEnd::Taken(event) | ArrowEnd::Dropped(event) | ArrowEnd::Received(event) => Some(
+                event,
+            ),
+            ArrowEnd::Nowhere | ArrowEnd::Unread => None,
         }
     }
 }

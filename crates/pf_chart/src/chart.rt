@@ -2,27 +2,27 @@
 
 ghost use Rattle.std.specs.Prelude.{◌≡◌, ◌++◌, ◌∷◌, [], ℕ, List, IfOk, OnErr, OnOk, IsTrue, flat_map, length};
 ghost use Rattle.pf_terms.specs.Atoms.{name_of};
-ghost use Rattle.pf_model.specs.Reports.{event_of, outcome_of, report_of};
+ghost use Rattle.pf_model.specs.Reports.{view_of_event, view_of_outcome, view_of_report};
 ghost use Rattle.pf_model.specs.Text.{outcome_text};
 ghost use Rattle.pf_chart.specs.Chart.{IsChart, choice_labels, event_labels, process_labels, twice};
 ghost use Rattle.pf_chart.specs.Lines.{HaveLines};
 ghost use Rattle.pf_chart.specs.Origins.{process_of, texts};
 ghost use Rattle.pf_chart.specs.Pages.{page_in};
-ghost use Rattle.pf_chart.specs.Words.{Draws, is_phrase};
+ghost use Rattle.pf_chart.specs.Words.{DrawsInChart, is_phrase};
 
 use crate::events::{put_events, put_numbers};
 use crate::heads::{put_columns, put_spawns};
 use crate::layout::{Layout, layout_of};
 use crate::manner::Manner;
-use crate::origin::Names;
-use crate::rows::{PAGE, Row, first_row, page_of, rows_of};
+use crate::origin::ProcessNames;
+use crate::rows::{EventRow, PAGE, first_row, page_of, rows_of};
 use crate::sheet::{GUTTER, Sheet, TOP};
 use crate::strokes::put_arrows;
 use crate::style::{
     DEFINITIONS, LEGEND, LEGEND_OF_CHOICES, LEGEND_OF_RECEIPTS, LEGEND_OF_SPAWNS, STYLE,
 };
-use crate::words::Svg;
-use pf_svg::Part::{Attribute, Class, Label, Markup, Number, Phrase, Short};
+use crate::words::ChartSvg;
+use pf_svg::DocumentPart::{Attribute, Class, Label, Markup, Number, Phrase, Short};
 use pf_terms::{AtomTable, NoMemory};
 use pf_text::put;
 use pf_trace::{Report, put_outcome};
@@ -34,7 +34,7 @@ const LETTER: u64 = 9;
 /// The outcome as it prints, without its line end.
 fn text_of_outcome(alloc: Global, atoms: &AtomTable, report: &Report) -> Result<Vec<u8>, NoMemory>
     ensures { IfOk result (λ text. text.items
-        ≡ outcome_text (name_of atoms.now) (outcome_of report.now.outcome)) }
+        ≡ outcome_text (name_of atoms.now) (view_of_outcome report.now.outcome)) }
 {
     let mut text = Vec::new(alloc);
     put_outcome(&mut text, atoms, &report.outcome)?;
@@ -44,13 +44,13 @@ fn text_of_outcome(alloc: Global, atoms: &AtomTable, report: &Report) -> Result<
 
 /// Puts the title of the document, and what it shows in words.
 fn put_words<'a>(
-    svg: &mut Svg,
+    svg: &mut ChartSvg,
     root: &'a [u8],
     outcome: &'a [u8],
     processes: usize,
     events: usize,
 ) -> Result<(), NoMemory>
-    ensures { OnOk result (Draws (root.now ∷ root.now ∷ outcome.now ∷ []) svg.old svg.new) }
+    ensures { OnOk result (DrawsInChart (root.now ∷ root.now ∷ outcome.now ∷ []) svg.old svg.new) }
 {
     svg.put(&[
         Markup("<title>Run of "),
@@ -68,8 +68,8 @@ fn put_words<'a>(
 }
 
 /// Puts the sheet, and bands behind the rows.
-fn put_ground(svg: &mut Svg, sheet: Sheet) -> Result<(), NoMemory>
-    ensures { OnOk result (Draws [] svg.old svg.new) }
+fn put_ground(svg: &mut ChartSvg, sheet: Sheet) -> Result<(), NoMemory>
+    ensures { OnOk result (DrawsInChart [] svg.old svg.new) }
 {
     svg.put(&[Markup("<rect class=\"sheet\" width=\"100%\" height=\"100%\"/>\n")])?;
     svg.rect(&[
@@ -82,17 +82,17 @@ fn put_ground(svg: &mut Svg, sheet: Sheet) -> Result<(), NoMemory>
 }
 
 /// Puts a line of the legend.
-fn put_legend(svg: &mut Svg, line: &'static str, y: u64) -> Result<(), NoMemory>
+fn put_legend(svg: &mut ChartSvg, line: &'static str, y: u64) -> Result<(), NoMemory>
     requires { IsTrue (is_phrase line.now) }
-    ensures { OnOk result (Draws [] svg.old svg.new) }
+    ensures { OnOk result (DrawsInChart [] svg.old svg.new) }
 {
     svg.text("legend", (GUTTER, y), &[Phrase(line)])?;
     svg.end_line()
 }
 
 /// Puts the outcome, whole in a tooltip and as long as the sheet is wide.
-fn put_result(svg: &mut Svg, outcome: &[u8], y: u64, sheet: Sheet) -> Result<(), NoMemory>
-    ensures { OnOk result (Draws (twice outcome.now) svg.old svg.new) }
+fn put_result(svg: &mut ChartSvg, outcome: &[u8], y: u64, sheet: Sheet) -> Result<(), NoMemory>
+    ensures { OnOk result (DrawsInChart (twice outcome.now) svg.old svg.new) }
 {
     let most = (sheet.width().saturating_sub(2 * GUTTER) / LETTER) as usize;
     svg.plain_group()?;
@@ -102,8 +102,8 @@ fn put_result(svg: &mut Svg, outcome: &[u8], y: u64, sheet: Sheet) -> Result<(),
 }
 
 /// Puts which page it is, if there are several.
-fn put_page(svg: &mut Svg, y: u64, sheet: Sheet) -> Result<(), NoMemory>
-    ensures { OnOk result (Draws [] svg.old svg.new) }
+fn put_page(svg: &mut ChartSvg, y: u64, sheet: Sheet) -> Result<(), NoMemory>
+    ensures { OnOk result (DrawsInChart [] svg.old svg.new) }
 {
     if sheet.all_rows() <= PAGE {
         return Ok(());
@@ -125,8 +125,8 @@ fn put_page(svg: &mut Svg, y: u64, sheet: Sheet) -> Result<(), NoMemory>
 }
 
 /// Puts how to read the chart.
-fn put_legends(svg: &mut Svg, y: u64, compact: bool) -> Result<(), NoMemory>
-    ensures { OnOk result (Draws [] svg.old svg.new) }
+fn put_legends(svg: &mut ChartSvg, y: u64, compact: bool) -> Result<(), NoMemory>
+    ensures { OnOk result (DrawsInChart [] svg.old svg.new) }
 {
     let ends = if compact { LEGEND_OF_RECEIPTS } else { LEGEND };
     put_legend(svg, ends, y)?;
@@ -135,8 +135,13 @@ fn put_legends(svg: &mut Svg, y: u64, compact: bool) -> Result<(), NoMemory>
 }
 
 /// Puts the outcome, the page and the legend below all.
-fn put_bottom(svg: &mut Svg, outcome: &[u8], compact: bool, sheet: Sheet) -> Result<(), NoMemory>
-    ensures { OnOk result (Draws (twice outcome.now) svg.old svg.new) }
+fn put_bottom(
+    svg: &mut ChartSvg,
+    outcome: &[u8],
+    compact: bool,
+    sheet: Sheet,
+) -> Result<(), NoMemory>
+    ensures { OnOk result (DrawsInChart (twice outcome.now) svg.old svg.new) }
 {
     let y = sheet.bottom().saturating_add(84);
     put_result(svg, outcome, y, sheet)?;
@@ -147,18 +152,18 @@ fn put_bottom(svg: &mut Svg, outcome: &[u8], compact: bool, sheet: Sheet) -> Res
 /// Puts what was laid out, from the back to the front.
 fn put_layout(
     alloc: Global,
-    svg: &mut Svg,
+    svg: &mut ChartSvg,
     atoms: &AtomTable,
-    names: Names,
-    rows: &[Row],
+    names: ProcessNames,
+    rows: &[EventRow],
     layout: &Layout,
     sheet: Sheet,
 ) -> Result<(), NoMemory>
-    ensures drawn { OnOk result (Draws
+    ensures drawn { OnOk result (DrawsInChart
         (flat_map (λ c. process_labels sheet.entry.count names.entry.root.now (texts names.entry.known.now) (process_of c))
         layout.now.columns.items
-        ++ (flat_map (λ r. choice_labels (event_of r.event.now)) rows.now
-        ++ flat_map (λ r. event_labels (name_of atoms.now) (event_of r.event.now)) rows.now))
+        ++ (flat_map (λ r. choice_labels (view_of_event r.event.now)) rows.now
+        ++ flat_map (λ r. event_labels (name_of atoms.now) (view_of_event r.event.now)) rows.now))
         svg.old svg.new) }
     ensures lines { OnOk result (HaveLines (page_in sheet.entry) (length layout.now.columns.items)
         layout.now.traffic.arrows.items svg.old svg.new) }
@@ -174,14 +179,14 @@ fn put_layout(
 /// Puts the whole document.
 fn put_document(
     alloc: Global,
-    svg: &mut Svg,
+    svg: &mut ChartSvg,
     atoms: &AtomTable,
-    names: Names,
+    names: ProcessNames,
     report: &Report,
     manner: Manner,
 ) -> Result<(), NoMemory>
     ensures { OnOk result (IsChart (name_of atoms.now) names.entry.root.now (texts names.entry.known.now) manner
-        (report_of report.now) svg.old svg.new) }
+        (view_of_report report.now) svg.old svg.new) }
 {
     let layout = layout_of(alloc, report, manner.compact)?;
     let all_rows = rows_of(alloc, &report.events, manner.compact)?;
@@ -211,11 +216,11 @@ pub fn put_chart(
     manner: Manner,
 ) -> Result<(), NoMemory>
     ensures put { OnOk result (IsChart (name_of atoms.now) root.now (texts names.now) manner
-        (report_of report.now) out.old.items out.new.items) }
+        (view_of_report report.now) out.old.items out.new.items) }
     ensures err { OnErr result (out.new.items ≡ out.old.items) }
 {
-    let mut svg = Svg::new(alloc);
-    let names = Names { root, known: names };
+    let mut svg = ChartSvg::new(alloc);
+    let names = ProcessNames { root, known: names };
     put_document(alloc, &mut svg, atoms, names, report, manner)?;
     put(out, svg.as_bytes())
 }

@@ -17,7 +17,7 @@ ghost use Rattle.std.specs.Prelude.{
 };
 ghost use Rattle.std.specs.List.{HoldsAt};
 ghost use Rattle.std.specs.List.Sorted.{IsNonDecreasingBy, IsPermutation};
-ghost use Rattle.pf_model.specs.Reports.{actor_of, event_of, label_of, report_of};
+ghost use Rattle.pf_model.specs.Reports.{actor_of, view_of_event, label_of, view_of_report};
 ghost use Rattle.pf_model.specs.Runs.{process};
 ghost use Rattle.pf_chart.specs.Processes.{child_in, processes_of, spawned_by};
 ghost use Rattle.pf_chart.specs.Origins.{AreAlike, SameProcesses, process_of};
@@ -101,7 +101,7 @@ fn put(columns: &mut Vec<Column>, column: Option<Column>) -> Result<(), NoMemory
 
 /// The root and all that were spawned, in the order of the events.
 fn spawned_in(alloc: Global, events: &[Event]) -> Result<Vec<Column>, NoMemory>
-    ensures { IfOk result (λ v. map process_of v.items ≡ processes_of (map event_of events.now)) }
+    ensures { IfOk result (λ v. map process_of v.items ≡ processes_of (map view_of_event events.now)) }
 {
     let mut columns = Vec::new(alloc);
     columns.push(made_column(0, None))?;
@@ -158,7 +158,7 @@ fn mark_outcome(columns: &mut Vec<Column>, outcome: &Outcome)
 
 /// The columns of a report, by pid.
 pub(crate) fn columns_of(alloc: Global, report: &Report) -> Result<Vec<Column>, NoMemory>
-    ensures all { IfOk result (λ v. IsPermutation (processes_of (report_of report.now).events) (map process_of v.items)) }
+    ensures all { IfOk result (λ v. IsPermutation (processes_of (view_of_report report.now).events) (map process_of v.items)) }
     ensures by_pid { IfOk result (λ v. IsNonDecreasingBy (λ p. p.pid) (map process_of v.items)) }
 {
     let mut columns = spawned_in(alloc, &report.events)?;

@@ -2,20 +2,20 @@
 
 ghost use Rattle.std.specs.Prelude.{◌≡◌, ◌++◌, ◌∷◌, [], IsTrue, OnOk, flat_map};
 ghost use Rattle.pf_terms.specs.Atoms.{name_of};
-ghost use Rattle.pf_model.specs.Reports.{actor_of, event_of, label_of};
+ghost use Rattle.pf_model.specs.Reports.{actor_of, view_of_event, label_of};
 ghost use Rattle.pf_model.specs.Text.{label_text};
 ghost use Rattle.pf_chart.specs.Chart.{choice_labels, choice_text, event_labels, twice};
 ghost use Rattle.pf_chart.specs.Origins.{IsMarkedIn};
 ghost use Rattle.pf_chart.specs.Signals.{marked};
-ghost use Rattle.pf_chart.specs.Words.{Closes, Draws, Opens, is_phrase};
+ghost use Rattle.pf_chart.specs.Words.{ClosesGroup, DrawsInChart, OpensGroup, is_phrase};
 
 use crate::columns::{Column, column_of};
 use crate::marks::mark_of;
-use crate::rows::Row;
+use crate::rows::EventRow;
 use crate::sheet::{GUTTER, Sheet, event_number};
-use crate::words::Svg;
+use crate::words::ChartSvg;
 use pf_model::report::{Actor, Event};
-use pf_svg::Part::{Attribute, Label, Markup, Moved, Number, Phrase, Short};
+use pf_svg::DocumentPart::{Attribute, Label, Markup, Moved, Number, Phrase, Short};
 use pf_terms::{AtomTable, NoMemory};
 use pf_text::{put, put_number};
 use pf_trace::put_label;
@@ -26,7 +26,7 @@ const MOST_OF_LABEL: usize = 32;
 
 /// Puts the mark of a choice above 0, as `*2/3`.
 fn put_star(out: &mut Vec<u8>, event: &Event) -> Result<(), NoMemory>
-    ensures { OnOk result (out.new.items ≡ out.old.items ++ choice_text (event_of event.now)) }
+    ensures { OnOk result (out.new.items ≡ out.old.items ++ choice_text (view_of_event event.now)) }
 {
     put(out, b"*")?;
     put_number(out, u64::from(event.choice))?;
@@ -35,8 +35,8 @@ fn put_star(out: &mut Vec<u8>, event: &Event) -> Result<(), NoMemory>
 }
 
 /// Puts the number of an event, and before it its choice if that is above 0.
-fn put_number_of(alloc: Global, svg: &mut Svg, row: &Row, y: u64) -> Result<(), NoMemory>
-    ensures { OnOk result (Draws (choice_labels (event_of row.now.event.now)) svg.old svg.new) }
+fn put_number_of(alloc: Global, svg: &mut ChartSvg, row: &EventRow, y: u64) -> Result<(), NoMemory>
+    ensures { OnOk result (DrawsInChart (choice_labels (view_of_event row.now.event.now)) svg.old svg.new) }
 {
     let number = Number(event_number(row.index));
     if row.event.choice == 0 {
@@ -53,11 +53,11 @@ fn put_number_of(alloc: Global, svg: &mut Svg, row: &Row, y: u64) -> Result<(), 
 /// Puts the numbers and the choices of all rows.
 pub(crate) fn put_numbers(
     alloc: Global,
-    svg: &mut Svg,
-    rows: &[Row],
+    svg: &mut ChartSvg,
+    rows: &[EventRow],
     sheet: Sheet,
 ) -> Result<(), NoMemory>
-    ensures { OnOk result (Draws (flat_map (λ r. choice_labels (event_of r.event.now)) rows.now)
+    ensures { OnOk result (DrawsInChart (flat_map (λ r. choice_labels (view_of_event r.event.now)) rows.now)
         svg.old svg.new) }
 {
     for (place, row) in rows.iter().enumerate() {
@@ -84,9 +84,14 @@ fn class_of_choice(event: &Event) -> &'static str
 }
 
 /// Puts the beginning of an event of a kind, which is at a point.
-fn put_opening(svg: &mut Svg, row: &Row, at: (u64, u64), kind: &'static str) -> Result<(), NoMemory>
+fn put_opening(
+    svg: &mut ChartSvg,
+    row: &EventRow,
+    at: (u64, u64),
+    kind: &'static str,
+) -> Result<(), NoMemory>
     requires { IsTrue (is_phrase kind.now) }
-    ensures { OnOk result (Opens [] svg.old svg.new) }
+    ensures { OnOk result (OpensGroup [] svg.old svg.new) }
 {
     svg.group(
         &[
@@ -102,9 +107,9 @@ fn put_opening(svg: &mut Svg, row: &Row, at: (u64, u64), kind: &'static str) -> 
 }
 
 /// Puts a mark with the label of its event beside it, shortened, and whole in its tooltip, and the end of its event.
-fn put_mark(svg: &mut Svg, outline: &'static str, label: &[u8]) -> Result<(), NoMemory>
+fn put_mark(svg: &mut ChartSvg, outline: &'static str, label: &[u8]) -> Result<(), NoMemory>
     requires { IsTrue (is_phrase outline.now) }
-    ensures { OnOk result (Closes (twice label.now) svg.old svg.new) }
+    ensures { OnOk result (ClosesGroup (twice label.now) svg.old svg.new) }
 {
     svg.title(&[Label(label)])?;
     svg.path(outline)?;
@@ -119,12 +124,12 @@ fn put_mark(svg: &mut Svg, outline: &'static str, label: &[u8]) -> Result<(), No
 /// Puts an event at a point.
 fn put_event(
     alloc: Global,
-    svg: &mut Svg,
+    svg: &mut ChartSvg,
     atoms: &AtomTable,
-    row: &Row,
+    row: &EventRow,
     at: (u64, u64),
 ) -> Result<(), NoMemory>
-    ensures { OnOk result (Draws (event_labels (name_of atoms.now) (event_of row.now.event.now))
+    ensures { OnOk result (DrawsInChart (event_labels (name_of atoms.now) (view_of_event row.now.event.now))
         svg.old svg.new) }
 {
     let mut label = Vec::new(alloc);
@@ -137,14 +142,14 @@ fn put_event(
 /// Puts the events of all rows.
 pub(crate) fn put_events(
     alloc: Global,
-    svg: &mut Svg,
+    svg: &mut ChartSvg,
     atoms: &AtomTable,
-    rows: &[Row],
+    rows: &[EventRow],
     columns: &[Column],
     sheet: Sheet,
 ) -> Result<(), NoMemory>
-    ensures { OnOk result (Draws
-        (flat_map (λ r. event_labels (name_of atoms.now) (event_of r.event.now)) rows.now)
+    ensures { OnOk result (DrawsInChart
+        (flat_map (λ r. event_labels (name_of atoms.now) (view_of_event r.event.now)) rows.now)
         svg.old svg.new) }
 {
     for (place, row) in rows.iter().enumerate() {

@@ -5,21 +5,21 @@ ghost use Rattle.pf_chart.specs.Chart.{copies, process_labels};
 ghost use Rattle.pf_chart.specs.Origins.{labels_of_origin, process_of, texts};
 ghost use Rattle.pf_chart.specs.Pages.{IsParent, page_in};
 ghost use Rattle.pf_chart.specs.Sheets.{head_rows, life_end};
-ghost use Rattle.pf_chart.specs.Words.{Draws, is_phrase};
+ghost use Rattle.pf_chart.specs.Words.{DrawsInChart, is_phrase};
 
 use crate::columns::{Column, column_of};
-use crate::origin::{Names, Origin};
-use crate::sheet::{HEAD_HEIGHT, Sheet, Side, event_number};
-use crate::words::Svg;
-use pf_svg::Part::{Attribute, Label, Number, Phrase, Pid, Short};
+use crate::origin::{Origin, ProcessNames};
+use crate::sheet::{HEAD_HEIGHT, PageSide, Sheet, event_number};
+use crate::words::ChartSvg;
+use pf_svg::DocumentPart::{Attribute, Label, Number, Phrase, Pid, Short};
 use pf_terms::NoMemory;
 
 /// How much of a name goes into the narrowest head.
 const LEAST_OF_NAME: usize = 6;
 
 /// Puts the box of a head that begins at y, with the pid.
-fn put_box(svg: &mut Svg, pid: u32, x: u64, y: u64, pitch: u64) -> Result<(), NoMemory>
-    ensures { OnOk result (Draws [] svg.old svg.new) }
+fn put_box(svg: &mut ChartSvg, pid: u32, x: u64, y: u64, pitch: u64) -> Result<(), NoMemory>
+    ensures { OnOk result (DrawsInChart [] svg.old svg.new) }
 {
     let width = pitch.saturating_sub(8);
     svg.rect(&[
@@ -33,16 +33,22 @@ fn put_box(svg: &mut Svg, pid: u32, x: u64, y: u64, pitch: u64) -> Result<(), No
 }
 
 /// Puts as much of a name as a head of this pitch has room for.
-fn put_name(svg: &mut Svg, name: &[u8], at: (u64, u64), pitch: u64) -> Result<(), NoMemory>
-    ensures { OnOk result (Draws (name.now ∷ []) svg.old svg.new) }
+fn put_name(svg: &mut ChartSvg, name: &[u8], at: (u64, u64), pitch: u64) -> Result<(), NoMemory>
+    ensures { OnOk result (DrawsInChart (name.now ∷ []) svg.old svg.new) }
 {
     let most = LEAST_OF_NAME.saturating_add((pitch.saturating_sub(64) / 6) as usize);
     svg.text("of", at, &[Short(name, most)])
 }
 
 /// Puts how a process began, below the pid of its head: its function, or who spawned it where that isn't known.
-fn put_origin(svg: &mut Svg, origin: Origin, x: u64, y: u64, pitch: u64) -> Result<(), NoMemory>
-    ensures { OnOk result (Draws (labels_of_origin origin.entry) svg.old svg.new) }
+fn put_origin(
+    svg: &mut ChartSvg,
+    origin: Origin,
+    x: u64,
+    y: u64,
+    pitch: u64,
+) -> Result<(), NoMemory>
+    ensures { OnOk result (DrawsInChart (labels_of_origin origin.entry) svg.old svg.new) }
 {
     let at = (x, y.saturating_add(33));
     match origin {
@@ -54,22 +60,28 @@ fn put_origin(svg: &mut Svg, origin: Origin, x: u64, y: u64, pitch: u64) -> Resu
 
 /// Puts a head that begins at y.
 fn put_head(
-    svg: &mut Svg,
+    svg: &mut ChartSvg,
     pid: u32,
     origin: Origin,
     x: u64,
     y: u64,
     pitch: u64,
 ) -> Result<(), NoMemory>
-    ensures { OnOk result (Draws (labels_of_origin origin.entry) svg.old svg.new) }
+    ensures { OnOk result (DrawsInChart (labels_of_origin origin.entry) svg.old svg.new) }
 {
     put_box(svg, pid, x, y, pitch)?;
     put_origin(svg, origin, x, y, pitch)
 }
 
 /// Puts all heads of a process, above the rows, between them and below.
-fn put_heads(svg: &mut Svg, pid: u32, origin: Origin, sheet: Sheet, x: u64) -> Result<(), NoMemory>
-    ensures { OnOk result (Draws
+fn put_heads(
+    svg: &mut ChartSvg,
+    pid: u32,
+    origin: Origin,
+    sheet: Sheet,
+    x: u64,
+) -> Result<(), NoMemory>
+    ensures { OnOk result (DrawsInChart
         (copies (head_rows sheet.entry.count) (labels_of_origin origin.entry)) svg.old svg.new) }
 {
     for index in 0..sheet.head_rows() {
@@ -90,8 +102,8 @@ fn end(column: &Column, sheet: Sheet) -> u64
 
 /// Puts the dotted line from the head to where a process was spawned, and returns where that is: there its lifeline
 /// begins.
-fn put_before(svg: &mut Svg, column: &Column, sheet: Sheet, x: u64) -> Result<u64, NoMemory>
-    ensures { OnOk result (Draws [] svg.old svg.new) }
+fn put_before(svg: &mut ChartSvg, column: &Column, sheet: Sheet, x: u64) -> Result<u64, NoMemory>
+    ensures { OnOk result (DrawsInChart [] svg.old svg.new) }
 {
     let head = sheet.head_y(0).saturating_add(HEAD_HEIGHT);
     match column.spawned {
@@ -104,8 +116,8 @@ fn put_before(svg: &mut Svg, column: &Column, sheet: Sheet, x: u64) -> Result<u6
 }
 
 /// Puts the lifeline; that of a process in a deadlock is thick from where it waits.
-fn put_life(svg: &mut Svg, column: &Column, sheet: Sheet, x: u64) -> Result<(), NoMemory>
-    ensures { OnOk result (Draws [] svg.old svg.new) }
+fn put_life(svg: &mut ChartSvg, column: &Column, sheet: Sheet, x: u64) -> Result<(), NoMemory>
+    ensures { OnOk result (DrawsInChart [] svg.old svg.new) }
 {
     let from = put_before(svg, column, sheet, x)?;
     let to = end(column, sheet);
@@ -119,8 +131,8 @@ fn put_life(svg: &mut Svg, column: &Column, sheet: Sheet, x: u64) -> Result<(), 
 }
 
 /// Puts below the last head whether the process waits in a deadlock.
-fn put_foot(svg: &mut Svg, column: &Column, sheet: Sheet, x: u64) -> Result<(), NoMemory>
-    ensures { OnOk result (Draws [] svg.old svg.new) }
+fn put_foot(svg: &mut ChartSvg, column: &Column, sheet: Sheet, x: u64) -> Result<(), NoMemory>
+    ensures { OnOk result (DrawsInChart [] svg.old svg.new) }
 {
     if !column.deadlocked {
         return Ok(());
@@ -130,8 +142,8 @@ fn put_foot(svg: &mut Svg, column: &Column, sheet: Sheet, x: u64) -> Result<(), 
 }
 
 /// Puts the tooltip of a process: its pid and how it began.
-fn put_tooltip(svg: &mut Svg, pid: u32, origin: Origin) -> Result<(), NoMemory>
-    ensures { OnOk result (Draws (labels_of_origin origin.entry) svg.old svg.new) }
+fn put_tooltip(svg: &mut ChartSvg, pid: u32, origin: Origin) -> Result<(), NoMemory>
+    ensures { OnOk result (DrawsInChart (labels_of_origin origin.entry) svg.old svg.new) }
 {
     match origin {
         Origin::Root(name) => svg.title(&[Pid(pid), Phrase(" from "), Label(name)]),
@@ -166,13 +178,13 @@ fn class_of(column: &Column) -> &'static str
 }
 
 fn put_column(
-    svg: &mut Svg,
+    svg: &mut ChartSvg,
     column: &Column,
-    names: Names,
+    names: ProcessNames,
     sheet: Sheet,
     x: u64,
 ) -> Result<(), NoMemory>
-    ensures { OnOk result (Draws
+    ensures { OnOk result (DrawsInChart
         (process_labels sheet.entry.count names.entry.root.now (texts names.entry.known.now) (process_of column.now))
         svg.old svg.new) }
 {
@@ -188,12 +200,12 @@ fn put_column(
 
 /// Puts all processes.
 pub(crate) fn put_columns(
-    svg: &mut Svg,
+    svg: &mut ChartSvg,
     columns: &[Column],
-    names: Names,
+    names: ProcessNames,
     sheet: Sheet,
 ) -> Result<(), NoMemory>
-    ensures { OnOk result (Draws (flat_map
+    ensures { OnOk result (DrawsInChart (flat_map
         (λ c. process_labels sheet.entry.count names.entry.root.now (texts names.entry.known.now) (process_of c)) columns.now)
         svg.old svg.new) }
 {
@@ -208,7 +220,7 @@ fn parent_of(columns: &[Column], column: &Column, sheet: Sheet) -> Option<(usize
     ensures { IfSome result (IsParent (page_in sheet.entry) columns.now column.now.spawned) }
 {
     let (parent, event) = column.spawned?;
-    if sheet.side(event) != Side::Here {
+    if sheet.side(event) != PageSide::Here {
         return None;
     }
     Some((column_of(columns, parent)?, event))
@@ -216,13 +228,13 @@ fn parent_of(columns: &[Column], column: &Column, sheet: Sheet) -> Option<(usize
 
 /// Puts an arrow from who spawns to the beginning of a lifeline, unless it is that of the root.
 fn put_spawn(
-    svg: &mut Svg,
+    svg: &mut ChartSvg,
     columns: &[Column],
     column: &Column,
     to: u64,
     sheet: Sheet,
 ) -> Result<(), NoMemory>
-    ensures { OnOk result (Draws [] svg.old svg.new) }
+    ensures { OnOk result (DrawsInChart [] svg.old svg.new) }
 {
     let Some((from, row)) = parent_of(columns, column, sheet) else {
         return Ok(());
@@ -234,8 +246,12 @@ fn put_spawn(
 }
 
 /// Puts an arrow to the beginning of each lifeline that begins on the page, but to that of the root.
-pub(crate) fn put_spawns(svg: &mut Svg, columns: &[Column], sheet: Sheet) -> Result<(), NoMemory>
-    ensures { OnOk result (Draws [] svg.old svg.new) }
+pub(crate) fn put_spawns(
+    svg: &mut ChartSvg,
+    columns: &[Column],
+    sheet: Sheet,
+) -> Result<(), NoMemory>
+    ensures { OnOk result (DrawsInChart [] svg.old svg.new) }
 {
     for (index, column) in columns.iter().enumerate() {
         put_spawn(svg, columns, column, sheet.x(index), sheet)?;

@@ -3,7 +3,7 @@
 ghost use Rattle.std.specs.Prelude.{◌≡◌, ◌+◌, IfOk, List, OnOk, Some, map, option_map, slice_get};
 ghost use Rattle.std.specs.List.Sorted.{IsPermutation};
 ghost use Rattle.pf_model.specs.Meaning as meaning;
-ghost use Rattle.pf_model.specs.Reports.{event_of, label_of, report_of, suffix_of};
+ghost use Rattle.pf_model.specs.Reports.{view_of_event, label_of, view_of_report, suffix_of};
 ghost use Rattle.pf_model.specs.Signals.{signal_of};
 ghost use Rattle.pf_chart.specs.Laid.{IsCarried, IsLaid, IsLayout, delivery_in, other_in};
 ghost use Rattle.pf_chart.specs.Origins.{SameProcesses, process_of};
@@ -11,7 +11,7 @@ ghost use Rattle.pf_chart.specs.Processes.{processes_of};
 ghost use Rattle.pf_chart.specs.Signals.{AreJoined, IsJoinedBy, IsManner, receipt_at};
 ghost use Rattle.pf_chart.specs.Traffic.{Sends};
 
-use crate::arrows::{Arrow, Reach, SignalKind};
+use crate::arrows::{Arrow, ArrowEnd, SignalKind};
 use crate::columns::{Column, column_of, columns_of, end_in, wait_in};
 use crate::receipts::receipts_of;
 use crate::traffic::Traffic;
@@ -138,7 +138,7 @@ impl Layout {
     /// An event, if its processes are there.
     fn event(&mut self, alloc: Global, row: usize, event: &Event) -> Result<(), NoMemory>
         ensures processes { SameProcesses self.old.columns.items self.new.columns.items }
-        ensures laid { OnOk result ((es : List meaning.Event) → slice_get es row ≡ Some (event_of event.now)
+        ensures laid { OnOk result ((es : List meaning.Event) → slice_get es row ≡ Some (view_of_event event.now)
             → IsLaid es row self.old → IsLaid es (row + 1) self.new) }
     {
         match event.actor {
@@ -162,12 +162,12 @@ fn is_chosen(events: &[Event], index: usize) -> bool {
 }
 
 /// What a message that was delivered in an event becomes in a compact chart.
-fn receipt_of(receipts: &[Option<usize>], delivery: usize) -> Reach
+fn receipt_of(receipts: &[Option<usize>], delivery: usize) -> ArrowEnd
     ensures { result ≡ receipt_at receipts.now delivery }
 {
     match receipts.get(delivery) {
-        Some(Some(row)) => Reach::Received(*row),
-        _ => Reach::Unread,
+        Some(Some(row)) => ArrowEnd::Received(*row),
+        _ => ArrowEnd::Unread,
     }
 }
 
@@ -176,7 +176,7 @@ fn joined(arrow: Arrow, events: &[Event], receipts: &[Option<usize>]) -> Arrow
     ensures { IsJoinedBy receipts.now arrow.kind arrow.reach arrow result }
 {
     match (arrow.kind, arrow.reach) {
-        (SignalKind::Message, Reach::Taken(delivery)) => Arrow {
+        (SignalKind::Message, ArrowEnd::Taken(delivery)) => Arrow {
             reach: receipt_of(receipts, delivery),
             chosen: is_chosen(events, delivery),
             ..arrow
@@ -220,9 +220,9 @@ fn in_manner(
 
 /// What is drawn of a report, in a compact chart or in another.
 pub(crate) fn layout_of(alloc: Global, report: &Report, compact: bool) -> Result<Layout, NoMemory>
-    ensures processes { IfOk result (λ l. IsPermutation (processes_of (report_of report.now).events)
+    ensures processes { IfOk result (λ l. IsPermutation (processes_of (view_of_report report.now).events)
         (map process_of l.columns.items)) }
-    ensures laid { IfOk result (IsLayout (report_of report.now).events compact) }
+    ensures laid { IfOk result (IsLayout (view_of_report report.now).events compact) }
 {
     let columns = columns_of(alloc, report)?;
     let traffic = Traffic::new(alloc, columns.len())?;

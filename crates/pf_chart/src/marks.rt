@@ -7,19 +7,19 @@ use pf_model::report::{Label, Suffix};
 
 /// What kind of event it marks, in a word, and its outline about the place where it is.
 #[derive(Clone, Copy)]
-pub(crate) struct Mark {
+pub(crate) struct EventMark {
     pub(crate) kind: &'static str,
     pub(crate) outline: &'static str,
 }
 
-impl Mark {
-    fn new(kind: &'static str, outline: &'static str) -> Mark
+impl EventMark {
+    fn new(kind: &'static str, outline: &'static str) -> EventMark
         requires kind { IsTrue (is_phrase kind.now) }
         requires outline { IsTrue (is_phrase outline.now) }
         ensures kind { IsTrue (is_phrase result.kind.now) }
         ensures outline { IsTrue (is_phrase result.outline.now) }
     {
-        Mark { kind, outline }
+        EventMark { kind, outline }
     }
 }
 
@@ -28,64 +28,73 @@ const LINKED: &str = "M-6 0a4 4 0 1 0 8 0a4 4 0 1 0 -8 0M-2 0a4 4 0 1 0 8 0a4 4 
 /// Two rings apart.
 const UNLINKED: &str = "M-8 0a3 3 0 1 0 6 0a3 3 0 1 0 -6 0M2 0a3 3 0 1 0 6 0a3 3 0 1 0 -6 0";
 
-fn mark_of_delivery(suffix: &Suffix) -> Mark
+fn mark_of_delivery(suffix: &Suffix) -> EventMark
     ensures kind { IsTrue (is_phrase result.kind.now) }
     ensures outline { IsTrue (is_phrase result.outline.now) }
 {
     match suffix {
         // A small ring.
         Suffix::TookEffect | Suffix::AsMessage => {
-            Mark::new("delivery", "M-2 0a2 2 0 1 0 4 0a2 2 0 1 0 -4 0z")
+            EventMark::new("delivery", "M-2 0a2 2 0 1 0 4 0a2 2 0 1 0 -4 0z")
         }
         // A cross.
-        Suffix::NoProcess | Suffix::Dropped => Mark::new("dropped", "M-6 -6l12 12M-6 6l12 -12"),
+        Suffix::NoProcess | Suffix::Dropped => EventMark::new(
+            "dropped",
+            "M-6 -6l12 12M-6 6l12 -12",
+        ),
         // A bar with a cross above it.
-        Suffix::EndingWith(_) => Mark::new("ending", "M-9 -2h18v4h-18zM-5 -10l10 8M-5 -2l10 -8"),
+        Suffix::EndingWith(_) => EventMark::new(
+            "ending",
+            "M-9 -2h18v4h-18zM-5 -10l10 8M-5 -2l10 -8",
+        ),
     }
 }
 
 /// The mark of an event.
-pub(crate) fn mark_of(label: &Label) -> Mark
+pub(crate) fn mark_of(label: &Label) -> EventMark
     ensures kind { IsTrue (is_phrase result.kind.now) }
     ensures outline { IsTrue (is_phrase result.outline.now) }
 {
     match label {
         // A dot.
-        Label::Sends { .. } => Mark::new("send", "M-3 0a3 3 0 1 0 6 0a3 3 0 1 0 -6 0z"),
+        Label::Sends { .. } => EventMark::new("send", "M-3 0a3 3 0 1 0 6 0a3 3 0 1 0 -6 0z"),
         // A plus in a square.
-        Label::Spawns { .. } => Mark::new("spawn", "M-5 -5h10v10h-10zM-3 0h6M0 -3v6"),
+        Label::Spawns { .. } => EventMark::new("spawn", "M-5 -5h10v10h-10zM-3 0h6M0 -3v6"),
         // A plus in an eye.
         Label::SpawnsWatched { .. } => {
-            Mark::new("watched", "M-9 0q9 -11 18 0q-9 11 -18 0zM-3 0h6M0 -3v6")
+            EventMark::new("watched", "M-9 0q9 -11 18 0q-9 11 -18 0zM-3 0h6M0 -3v6")
         }
-        Label::Links(_) => Mark::new("link", LINKED),
-        Label::Unlinks(_) => Mark::new("unlink", UNLINKED),
+        Label::Links(_) => EventMark::new("link", LINKED),
+        Label::Unlinks(_) => EventMark::new("unlink", UNLINKED),
         // An eye, and one struck through.
-        Label::Monitors { .. } => Mark::new("monitor", "M-7 0q7 -9 14 0q-7 9 -14 0zM-1 0h2"),
-        Label::Demonitors { .. } => Mark::new(
+        Label::Monitors { .. } => EventMark::new("monitor", "M-7 0q7 -9 14 0q-7 9 -14 0zM-1 0h2"),
+        Label::Demonitors { .. } => EventMark::new(
             "demonitor",
             "M-7 0q7 -9 14 0q-7 9 -14 0zM-6 6l12 -12",
         ),
         // A diamond.
-        Label::Exits { .. } => Mark::new("exit", "M0 -6l6 6l-6 6l-6 -6z"),
+        Label::Exits { .. } => EventMark::new("exit", "M0 -6l6 6l-6 6l-6 -6z"),
         // A flag on its pole.
-        Label::SetsFlag(_) => Mark::new("flag", "M-4 7v-14l9 4l-9 4"),
+        Label::SetsFlag(_) => EventMark::new("flag", "M-4 7v-14l9 4l-9 4"),
         // A label with a corner.
         Label::Registers { .. } | Label::Unregisters(_) | Label::LooksUp(_) => {
-            Mark::new("name", "M-6 -4h8l4 4l-4 4h-8z")
+            EventMark::new("name", "M-6 -4h8l4 4l-4 4h-8z")
         }
         // A hash.
-        Label::MakesReference(_) => Mark::new("reference", "M-2 -6v12M2 -6v12M-6 -2h12M-6 2h12"),
+        Label::MakesReference(_) => EventMark::new(
+            "reference",
+            "M-2 -6v12M2 -6v12M-6 -2h12M-6 2h12",
+        ),
         // A square.
-        Label::Takes(_) => Mark::new("receive", "M-4 -4h8v8h-8z"),
+        Label::Takes(_) => EventMark::new("receive", "M-4 -4h8v8h-8z"),
         // An hourglass.
-        Label::Waits => Mark::new("wait", "M-4 -6h8l-8 12h8z"),
+        Label::Waits => EventMark::new("wait", "M-4 -6h8l-8 12h8z"),
         // A triangle.
-        Label::Raises(_) => Mark::new("raise", "M0 -6l6 11h-12z"),
+        Label::Raises(_) => EventMark::new("raise", "M0 -6l6 11h-12z"),
         // A bar.
-        Label::Ends(_) => Mark::new("end", "M-9 -2h18v4h-18z"),
+        Label::Ends(_) => EventMark::new("end", "M-9 -2h18v4h-18z"),
         // Two strokes.
-        Label::Cut => Mark::new("cut", "M-7 3l8 -6M-1 3l8 -6"),
+        Label::Cut => EventMark::new("cut", "M-7 3l8 -6M-1 3l8 -6"),
         Label::Delivers(_, suffix) => mark_of_delivery(suffix),
     }
 }

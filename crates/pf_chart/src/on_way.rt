@@ -1,7 +1,7 @@
 //! The signals that are on their way, the oldest of each way first.
 
 ghost use Rattle.std.specs.Prelude.{◌≡◌, ◌++◌, ◌∷◌, [], ℕ, OnOk, option_to_list};
-ghost use Rattle.pf_chart.specs.Traffic.{KeepsOthers, waiting};
+ghost use Rattle.pf_chart.specs.Traffic.{KeepsOthers, waiting_signals};
 
 use pf_terms::NoMemory;
 use std::alloc::Global;
@@ -19,7 +19,7 @@ pub(crate) struct OnWay {
 
 impl OnWay {
     pub(crate) fn new(alloc: Global) -> OnWay
-        ensures { (way : ℕ × ℕ × ℕ) → waiting result way ≡ [] }
+        ensures { (way : ℕ × ℕ × ℕ) → waiting_signals result way ≡ [] }
     {
         OnWay {
             alloc,
@@ -29,7 +29,7 @@ impl OnWay {
 
     /// The first signal of a way goes out.
     fn open(&mut self, way: Way, signal: usize) -> Result<(), NoMemory>
-        ensures only { OnOk result (waiting self.new way ≡ signal ∷ []) }
+        ensures only { OnOk result (waiting_signals self.new way ≡ signal ∷ []) }
         ensures others { OnOk result (KeepsOthers way self.old self.new) }
     {
         let mut queue = VecDeque::new(self.alloc);
@@ -40,7 +40,7 @@ impl OnWay {
 
     /// A signal goes out, after those of its way.
     pub(crate) fn put(&mut self, way: Way, signal: usize) -> Result<(), NoMemory>
-        ensures last { OnOk result (waiting self.new way ≡ waiting self.old way ++ signal ∷ []) }
+        ensures last { OnOk result (waiting_signals self.new way ≡ waiting_signals self.old way ++ signal ∷ []) }
         ensures others { OnOk result (KeepsOthers way self.old self.new) }
     {
         match self.ways.get_mut(&way) {
@@ -54,7 +54,7 @@ impl OnWay {
 
     /// The oldest signal of a way, if one waits, which goes.
     pub(crate) fn take(&mut self, way: Way) -> Option<usize>
-        ensures first { waiting self.old way ≡ option_to_list result ++ waiting self.new way }
+        ensures first { waiting_signals self.old way ≡ option_to_list result ++ waiting_signals self.new way }
         ensures others { KeepsOthers way self.old self.new }
     {
         match self.ways.get_mut(&way) {

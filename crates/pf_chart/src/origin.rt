@@ -8,7 +8,7 @@ use crate::columns::Column;
 
 /// The names of the functions in whose calls the processes began.
 #[derive(Clone, Copy)]
-pub(crate) struct Names<'a> {
+pub(crate) struct ProcessNames<'a> {
     pub(crate) root: &'a [u8],
     /// By pid; empty, or not there, where it isn't known.
     pub(crate) known: &'a [Vec<u8>],
@@ -25,7 +25,7 @@ pub(crate) enum Origin<'a> {
     Unnamed(u32, usize),
 }
 
-impl<'a> Names<'a> {
+impl<'a> ProcessNames<'a> {
     /// The name of the function in whose call a process began; empty where it isn't known.
     fn of_start(self, pid: u32) -> &'a [u8]
         ensures { result.now ≡ name_of_start (texts self.entry.known.now) pid }

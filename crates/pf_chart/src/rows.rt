@@ -2,7 +2,7 @@
 
 ghost use Rattle.std.specs.Prelude.{◌≡◌, ◌≤◌, ◌++◌, ◌∷◌, [], IfOk, OnOk, if◌then◌else◌, map};
 ghost use Rattle.std.specs.List.{filter};
-ghost use Rattle.pf_model.specs.Reports.{event_of, label_of};
+ghost use Rattle.pf_model.specs.Reports.{view_of_event, label_of};
 ghost use Rattle.pf_chart.specs.Chart.{first_row, has_row, is_quiet, page_of, rows_from};
 
 use pf_model::Signal;
@@ -15,7 +15,7 @@ pub(crate) const PAGE: usize = 500;
 
 /// An event that has a row, with its place among all events.
 #[derive(Drop, Clone, Copy)]
-pub(crate) struct Row<'e> {
+pub(crate) struct EventRow<'e> {
     pub(crate) index: usize,
     pub(crate) event: &'e Event,
 }
@@ -32,13 +32,17 @@ fn is_quiet(label: &Label) -> bool
 
 /// Whether an event has a row: in a compact chart what is quiet has none.
 fn has_row(compact: bool, event: &Event) -> bool
-    ensures { result ≡ has_row compact (event_of event.now) }
+    ensures { result ≡ has_row compact (view_of_event event.now) }
 {
     !(compact && is_quiet(&event.label))
 }
 
 /// Puts a row after the others, if so.
-fn put_row<'e>(rows: &mut Vec<Row<'e>>, has_row: bool, row: Row<'e>) -> Result<(), NoMemory>
+fn put_row<'e>(
+    rows: &mut Vec<EventRow<'e>>,
+    has_row: bool,
+    row: EventRow<'e>,
+) -> Result<(), NoMemory>
     ensures { OnOk result (rows.new.items ≡ rows.old.items ++ (if has_row then row.entry ∷ [] else [])) }
 {
     if has_row {
@@ -52,16 +56,16 @@ pub(crate) fn rows_of<'e>(
     alloc: Global,
     events: &'e [Event],
     compact: bool,
-) -> Result<Vec<Row<'e>>, NoMemory>
-    ensures events { IfOk result (λ rows. map (λ r. event_of r.event.now) rows.items
-        ≡ filter (has_row compact) (map event_of events.now)) }
+) -> Result<Vec<EventRow<'e>>, NoMemory>
+    ensures events { IfOk result (λ rows. map (λ r. view_of_event r.event.now) rows.items
+        ≡ filter (has_row compact) (map view_of_event events.now)) }
     ensures places { IfOk result (λ rows. map (λ r. r.index) rows.items
-        ≡ rows_from compact 0 (map event_of events.now)) }
+        ≡ rows_from compact 0 (map view_of_event events.now)) }
 {
     let mut rows = Vec::new(alloc);
     for (index, event) in events.iter().enumerate() {
         let has_row = has_row(compact, event);
-        put_row(&mut rows, has_row, Row { index, event })?;
+        put_row(&mut rows, has_row, EventRow { index, event })?;
     }
     Ok(rows)
 }
@@ -76,7 +80,7 @@ pub(crate) fn first_row(page: u32, rows: usize) -> usize
 }
 
 /// The rows of a page.
-pub(crate) fn page_of<'r, 'e>(rows: &'r [Row<'e>], page: u32) -> &'r [Row<'e>]
+pub(crate) fn page_of<'r, 'e>(rows: &'r [EventRow<'e>], page: u32) -> &'r [EventRow<'e>]
     ensures { result.now ≡ page_of page rows.now }
 {
     let first = first_row(page, rows.len());

@@ -20,7 +20,7 @@ ghost use Rattle.pf_chart.specs.Sheets.{
   side_of,
 };
 
-use crate::rows::Row;
+use crate::rows::EventRow;
 
 /// What one row takes, and half of it.
 const ROW: u64 = 26;
@@ -55,7 +55,7 @@ const NARROWEST_SHEET: u64 = 760;
 
 /// On which side of the rows of a page an event is, if it isn't among them.
 #[derive(Clone, Copy, PartialEq, Eq)]
-pub(crate) enum Side {
+pub(crate) enum PageSide {
     Above,
     Here,
     Below,
@@ -67,7 +67,7 @@ pub(crate) struct Sheet<'r> {
     columns: u64,
     pitch: u64,
     /// The rows of all pages.
-    rows: &'r [Row<'r>],
+    rows: &'r [EventRow<'r>],
     /// How many of them are above the page, and how many on it.
     pub(crate) above: usize,
     pub(crate) count: usize,
@@ -95,7 +95,12 @@ impl<'r> Sheet<'r> {
     ghost use Rattle.pf_chart.specs.Pages.{page_in};
 
     /// The sheet of a page that has so many rows below those of the pages above it.
-    pub(crate) fn new(columns: usize, rows: &'r [Row<'r>], above: usize, count: usize) -> Sheet<'r>
+    pub(crate) fn new(
+        columns: usize,
+        rows: &'r [EventRow<'r>],
+        above: usize,
+        count: usize,
+    ) -> Sheet<'r>
         requires { IsNonDecreasingBy (λ r. r.index) rows.now }
         ensures pitch { result.pitch ≡ pitch_of columns }
         ensures rows { result.rows.now ≡ rows.now }
@@ -151,20 +156,20 @@ impl<'r> Sheet<'r> {
     }
 
     /// Where an event is above which there are so many rows.
-    fn side_at(&self, before: usize) -> Side
+    fn side_at(&self, before: usize) -> PageSide
         ensures { result ≡ side_at self.now.above self.now.count before }
     {
         if before < self.above {
-            Side::Above
+            PageSide::Above
         } else if before - self.above < self.count {
-            Side::Here
+            PageSide::Here
         } else {
-            Side::Below
+            PageSide::Below
         }
     }
 
     /// Whether an event is on the page, or on which side of it.
-    pub(crate) fn side(&self, event: usize) -> Side
+    pub(crate) fn side(&self, event: usize) -> PageSide
         ensures { result ≡ side_of (page_in self.now) event }
     {
         self.side_at(self.rows_before(event))
@@ -177,9 +182,9 @@ impl<'r> Sheet<'r> {
     {
         let before = self.rows_before(event);
         match self.side_at(before) {
-            Side::Above => TOP,
-            Side::Here => self.row_y(before.saturating_sub(self.above)),
-            Side::Below => self.rows_end(),
+            PageSide::Above => TOP,
+            PageSide::Here => self.row_y(before.saturating_sub(self.above)),
+            PageSide::Below => self.rows_end(),
         }
     }
 

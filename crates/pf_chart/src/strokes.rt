@@ -12,13 +12,13 @@ ghost use Rattle.pf_chart.specs.Sheets.{
   path_text,
 };
 ghost use Rattle.pf_chart.specs.Lines.{HaveLines, Holds};
-ghost use Rattle.pf_chart.specs.Words.{Draws, Opens, is_phrase};
+ghost use Rattle.pf_chart.specs.Words.{DrawsInChart, OpensGroup, is_phrase};
 
-use crate::arrows::{Arrow, Reach, Start};
+use crate::arrows::{Arrow, ArrowEnd, ArrowStart};
 use crate::columns::Column;
-use crate::sheet::{HALF_ROW, Sheet, Side, event_number};
-use crate::words::Svg;
-use pf_svg::Part::{Attribute, Phrase, Pid};
+use crate::sheet::{HALF_ROW, PageSide, Sheet, event_number};
+use crate::words::ChartSvg;
+use pf_svg::DocumentPart::{Attribute, Phrase, Pid};
 use pf_terms::NoMemory;
 
 /// How far a signal to oneself swings out, and how far one goes down that is never delivered.
@@ -27,9 +27,9 @@ const SWING: u64 = 22;
 const FALL: u64 = 20;
 
 /// Puts a line from point to point; one that ends in its own column swings out.
-fn put_path(svg: &mut Svg, from: (u64, u64), to: (u64, u64)) -> Result<(), NoMemory>
+fn put_path(svg: &mut ChartSvg, from: (u64, u64), to: (u64, u64)) -> Result<(), NoMemory>
     ensures text { OnOk result (svg.new ≡ svg.old ++ path_text from to) }
-    ensures drawn { OnOk result (Draws [] svg.old svg.new) }
+    ensures drawn { OnOk result (DrawsInChart [] svg.old svg.new) }
 {
     if from.0 != to.0 {
         return svg.stroke(from, to);
@@ -55,15 +55,15 @@ fn in_the_air(from: (u64, u64), to: u64, pitch: u64) -> (u64, u64)
 }
 
 /// What the end of an arrow adds to its class, and how it is said in words.
-fn end_in_words(reach: Reach) -> (&'static str, &'static str)
+fn end_in_words(reach: ArrowEnd) -> (&'static str, &'static str)
     ensures class { IsTrue (is_phrase result.0.now) }
     ensures words { IsTrue (is_phrase result.1.now) }
 {
     match reach {
-        Reach::Nowhere => (" lost", ", never delivered"),
-        Reach::Taken(_) | Reach::Received(_) => ("", ""),
-        Reach::Dropped(_) => (" dropped", ", dropped"),
-        Reach::Unread => (" lost", ", never received"),
+        ArrowEnd::Nowhere => (" lost", ", never delivered"),
+        ArrowEnd::Taken(_) | ArrowEnd::Received(_) => ("", ""),
+        ArrowEnd::Dropped(_) => (" dropped", ", dropped"),
+        ArrowEnd::Unread => (" lost", ", never received"),
     }
 }
 
@@ -81,9 +81,9 @@ fn choice_in_words(chosen: bool) -> (&'static str, &'static str)
 }
 
 /// Puts the beginning of an arrow: its class, and which events are its ends.
-fn put_opening(svg: &mut Svg, arrow: &Arrow, end: &'static str) -> Result<(), NoMemory>
+fn put_opening(svg: &mut ChartSvg, arrow: &Arrow, end: &'static str) -> Result<(), NoMemory>
     requires { IsTrue (is_phrase end.now) }
-    ensures { OnOk result (Opens [] svg.old svg.new) }
+    ensures { OnOk result (OpensGroup [] svg.old svg.new) }
 {
     let (chosen, _) = choice_in_words(arrow.chosen);
     let class = [
@@ -94,14 +94,14 @@ fn put_opening(svg: &mut Svg, arrow: &Arrow, end: &'static str) -> Result<(), No
     ];
     let event = Attribute("data-event", event_number(arrow.beginning()));
     match arrow.reach {
-        Reach::Nowhere | Reach::Unread => svg.group(&class, &[event]),
-        Reach::Taken(row) | Reach::Dropped(row) => {
+        ArrowEnd::Nowhere | ArrowEnd::Unread => svg.group(&class, &[event]),
+        ArrowEnd::Taken(row) | ArrowEnd::Dropped(row) => {
             svg.group(
                 &class,
                 &[event, Attribute("data-delivery", event_number(row))],
             )
         }
-        Reach::Received(row) => {
+        ArrowEnd::Received(row) => {
             svg.group(
                 &class,
                 &[event, Attribute("data-receive", event_number(row))],
@@ -115,8 +115,8 @@ fn beginning(arrow: &Arrow, sheet: Sheet) -> (u64, u64)
     ensures { result ≡ beginning_of (page_in sheet.entry) arrow.now }
 {
     match arrow.start {
-        Start::In(row) => sheet.at(arrow.from, row),
-        Start::Above(row) => (sheet.x(arrow.from), sheet.y(row).saturating_sub(HALF_ROW)),
+        ArrowStart::In(row) => sheet.at(arrow.from, row),
+        ArrowStart::Above(row) => (sheet.x(arrow.from), sheet.y(row).saturating_sub(HALF_ROW)),
     }
 }
 
@@ -131,12 +131,12 @@ fn end(arrow: &Arrow, sheet: Sheet) -> (u64, u64)
 }
 
 /// Whether two ends have some of the page between them.
-fn is_across(beginning: Side, end: Side) -> bool
+fn is_across(beginning: PageSide, end: PageSide) -> bool
     ensures { result ≡ is_across beginning end }
 {
     !matches!(
         (beginning, end),
-        (Side::Above, Side::Above) | (Side::Below, Side::Below)
+        (PageSide::Above, PageSide::Above) | (PageSide::Below, PageSide::Below)
     )
 }
 
@@ -145,7 +145,7 @@ fn is_here(arrow: &Arrow, sheet: Sheet) -> bool
     ensures { result ≡ is_here (page_in sheet.entry) arrow.now }
 {
     match (sheet.side(arrow.beginning()), arrow.end()) {
-        (Side::Here, _) => true,
+        (PageSide::Here, _) => true,
         (_, None) => false,
         (side, Some(event)) => is_across(side, sheet.side(event)),
     }
@@ -153,8 +153,14 @@ fn is_here(arrow: &Arrow, sheet: Sheet) -> bool
 
 /// Puts an arrow between the processes of these pids, with its kind, its processes and its end in words, if something
 /// of it is on the page.
-fn put_arrow(svg: &mut Svg, arrow: &Arrow, from: u32, to: u32, sheet: Sheet) -> Result<(), NoMemory>
-    ensures drawn { OnOk result (Draws [] svg.old svg.new) }
+fn put_arrow(
+    svg: &mut ChartSvg,
+    arrow: &Arrow,
+    from: u32,
+    to: u32,
+    sheet: Sheet,
+) -> Result<(), NoMemory>
+    ensures drawn { OnOk result (DrawsInChart [] svg.old svg.new) }
     ensures line { OnOk result (is_here (page_in sheet.entry) arrow.now ≡ true
         → Holds (line_of (page_in sheet.entry) arrow.now) svg.old svg.new) }
 {
@@ -179,12 +185,12 @@ fn put_arrow(svg: &mut Svg, arrow: &Arrow, from: u32, to: u32, sheet: Sheet) -> 
 
 /// Puts a signal that has both of its columns.
 fn put_signal(
-    svg: &mut Svg,
+    svg: &mut ChartSvg,
     arrow: &Arrow,
     columns: &[Column],
     sheet: Sheet,
 ) -> Result<(), NoMemory>
-    ensures drawn { OnOk result (Draws [] svg.old svg.new) }
+    ensures drawn { OnOk result (DrawsInChart [] svg.old svg.new) }
     ensures line { OnOk result (arrow.now.from < length columns.now → arrow.now.to < length columns.now
         → is_here (page_in sheet.entry) arrow.now ≡ true → Holds (line_of (page_in sheet.entry) arrow.now) svg.old svg.new) }
 {
@@ -200,12 +206,12 @@ fn put_signal(
 
 /// Puts all signals that have both of their columns.
 pub(crate) fn put_arrows(
-    svg: &mut Svg,
+    svg: &mut ChartSvg,
     arrows: &[Arrow],
     columns: &[Column],
     sheet: Sheet,
 ) -> Result<(), NoMemory>
-    ensures drawn { OnOk result (Draws [] svg.old svg.new) }
+    ensures drawn { OnOk result (DrawsInChart [] svg.old svg.new) }
     ensures lines { OnOk result (HaveLines (page_in sheet.entry) (length columns.now) arrows.now svg.old svg.new) }
 {
     for arrow in arrows {

@@ -14,17 +14,17 @@ ghost use Rattle.pf_chart.specs.Traffic.{
   KeepsOthers,
   Sends,
   answer_to,
-  answered,
+  with_return_arrow,
   kind_of,
   reach_of,
-  sent,
+  open_arrow,
   untold,
-  waiting,
+  waiting_signals,
   way_of,
 };
 ghost use Rattle.pf_chart.specs.declared.traffic.Traffic.{Traffic};
 
-use crate::arrows::{Arrow, Reach, SignalKind, Start};
+use crate::arrows::{Arrow, ArrowEnd, ArrowStart, SignalKind};
 use crate::on_way::OnWay;
 use crate::peers::Peers;
 use pf_model::Signal;
@@ -42,12 +42,12 @@ pub(crate) struct Traffic {
 }
 
 /// How a signal ends that is delivered in this row.
-fn reach_of(suffix: &Suffix, row: usize) -> Reach
+fn reach_of(suffix: &Suffix, row: usize) -> ArrowEnd
     ensures { result ≡ reach_of (suffix_of suffix.now) row }
 {
     match suffix {
-        Suffix::NoProcess | Suffix::Dropped => Reach::Dropped(row),
-        Suffix::TookEffect | Suffix::AsMessage | Suffix::EndingWith(_) => Reach::Taken(row),
+        Suffix::NoProcess | Suffix::Dropped => ArrowEnd::Dropped(row),
+        Suffix::TookEffect | Suffix::AsMessage | Suffix::EndingWith(_) => ArrowEnd::Taken(row),
     }
 }
 
@@ -65,7 +65,7 @@ fn answer_to(signal: &Signal, suffix: &Suffix) -> Option<SignalKind>
 impl Traffic {
     pub(crate) fn new(alloc: Global, columns: usize) -> Result<Traffic, NoMemory>
         ensures arrows { IfOk result (λ t. t.arrows.items ≡ []) }
-        ensures waiting { IfOk result AreWaiting }
+        ensures waiting_signals { IfOk result AreWaiting }
     {
         Ok(Traffic {
             arrows: Vec::new(alloc),
@@ -76,9 +76,9 @@ impl Traffic {
 
     /// A signal goes out.
     fn send(&mut self, row: usize, from: usize, to: usize, kind: SignalKind) -> Result<(), NoMemory>
-        ensures arrow { OnOk result (self.new.arrows.items ≡ self.old.arrows.items ++ sent row from to kind ∷ []) }
-        ensures last { OnOk result (waiting self.new.on_way (way_of from to kind)
-            ≡ waiting self.old.on_way (way_of from to kind) ++ length self.old.arrows.items ∷ []) }
+        ensures arrow { OnOk result (self.new.arrows.items ≡ self.old.arrows.items ++ open_arrow row from to kind ∷ []) }
+        ensures last { OnOk result (waiting_signals self.new.on_way (way_of from to kind)
+            ≡ waiting_signals self.old.on_way (way_of from to kind) ++ length self.old.arrows.items ∷ []) }
         ensures others { OnOk result (KeepsOthers (way_of from to kind) self.old.on_way self.new.on_way) }
         ensures sends { OnOk result (Sends row from self.old self.new) }
     {
@@ -87,8 +87,8 @@ impl Traffic {
             kind,
             from,
             to,
-            start: Start::In(row),
-            reach: Reach::Nowhere,
+            start: ArrowStart::In(row),
+            reach: ArrowEnd::Nowhere,
             chosen: false,
         })?;
         self.on_way.put((from, to, kind.number()), index)
@@ -174,7 +174,7 @@ impl Traffic {
     }
 
     /// An arrow ends.
-    fn reach(&mut self, index: usize, reach: Reach)
+    fn reach(&mut self, index: usize, reach: ArrowEnd)
         ensures arrows { IsEnded index reach self.old.arrows.items self.new.arrows.items }
         ensures on_way { self.new.on_way ≡ self.old.on_way }
     {
@@ -190,7 +190,7 @@ impl Traffic {
         from: usize,
         to: usize,
         kind: SignalKind,
-        reach: Reach,
+        reach: ArrowEnd,
     ) -> Result<(), NoMemory>
         ensures { OnOk result ((self.new.arrows.items ≡ self.old.arrows.items ++ untold row from to kind reach ∷ [])
             × (self.new.on_way ≡ self.old.on_way)) }
@@ -199,7 +199,7 @@ impl Traffic {
             kind,
             from,
             to,
-            start: Start::Above(row),
+            start: ArrowStart::Above(row),
             reach,
             chosen: false,
         })?;
@@ -213,7 +213,7 @@ impl Traffic {
         from: usize,
         to: usize,
         kind: SignalKind,
-        reach: Reach,
+        reach: ArrowEnd,
     ) -> Result<(), NoMemory>
         ensures { OnOk result (IsDelivered (way_of from to kind) (untold row from to kind reach) self.old self.new) }
     {
@@ -235,8 +235,8 @@ impl Traffic {
         signal: &Signal,
         suffix: &Suffix,
     ) -> Result<(), NoMemory>
-        ensures answered { OnOk result (self.new.arrows.items
-            ≡ answered row to from (answer_to (signal_of signal.now) (suffix_of suffix.now)) self.old.arrows.items) }
+        ensures with_return_arrow { OnOk result (self.new.arrows.items
+            ≡ with_return_arrow row to from (answer_to (signal_of signal.now) (suffix_of suffix.now)) self.old.arrows.items) }
         ensures sends { OnOk result (Sends row to self.old self.new) }
     {
         match answer_to(signal, suffix) {
@@ -259,7 +259,7 @@ impl Traffic {
     ) -> Result<(), NoMemory>
         ensures { OnOk result ((t : Traffic) × IsDelivered (way_of from to (kind_of (signal_of signal.now)))
             (untold row from to (kind_of (signal_of signal.now)) (reach_of (suffix_of suffix.now) row)) self.old t
-            × (self.new.arrows.items ≡ answered row to from (answer_to (signal_of signal.now) (suffix_of suffix.now)) t.arrows.items)
+            × (self.new.arrows.items ≡ with_return_arrow row to from (answer_to (signal_of signal.now) (suffix_of suffix.now)) t.arrows.items)
             × Sends row to t self.new) }
     {
         self.arrive(row, from, to, SignalKind::of(signal), reach_of(suffix, row))?;

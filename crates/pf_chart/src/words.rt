@@ -6,11 +6,11 @@ use pf_svg::Vocabulary;
 
 /// What the words of a chart are in the type of its document.
 #[derive(Drop)]
-pub(crate) struct Words;
+pub(crate) struct ChartWords;
 
-impl Vocabulary for Words {
+impl Vocabulary for ChartWords {
     ghost words = { words };
 }
 
 /// A document in the words of a chart.
-pub(crate) type Svg = pf_svg::Svg<Words>;
+pub(crate) type ChartSvg = pf_svg::Svg<ChartWords>;

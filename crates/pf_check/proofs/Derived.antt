@@ -10,9 +10,9 @@ use Rattle.pf_syntax.specs.Expr as p
 use Rattle.pf_syntax.specs.Expr.{Expr, Exprs, Condition, Branches, no_exprs, expr, no_tests, tests, no_branches, branch}
 use Rattle.pf_syntax.specs.SyntaxTree.{Head}
 use Rattle.pf_syntax.specs.Naming.{characters, string}
-use Rattle.pf_intern.specs.declared.limits.TheConstants.{MOST_TEXT_CHARACTERS}
-use Rattle.pf_intern.specs.NumberedTokens.{NumberedToken}
-use Rattle.pf_grammar.specs.Grammar.{Names, Infix, operator, and_also, or_else, send, Grouping, leftwards, rightwards, alone, binding_of, left_in, right_in, level_of, left_level, right_level, top, element, Guarded, FrontIs}
+use Rattle.pf_tokens.specs.declared.limits.TheConstants.{MOST_TEXT_CHARACTERS}
+use Rattle.pf_tokens.specs.NumberedTokens.{NumberedToken}
+use Rattle.pf_grammar.specs.Grammar.{TokenNames, Infix, operator, and_also, or_else, send, Grouping, leftwards, rightwards, alone, binding_of, greatest_left, greatest_right, level_of, left_level, right_level, top, element, Guarded, FrontIs}
 use Rattle.pf_grammar.specs.Grammar.{DerivesExprPattern, DerivesExprPatterns, Derives, DerivesAll, DerivesBody, DerivesGuard, DerivesBranches, DerivesHead, DerivesHeads, DerivesFunction, DerivesFunctions, DerivesTree}
 use Rattle.pf_syntax.specs.ExprModule.{unguarded, Tree}
 use Rattle.pf_rules.specs.Formed.{ExprPatternFormed, ExprPatternsFormed, ExprFormed, ExprsFormed, ConditionFormed, BranchesFormed, HasFirst, HasAlternative, HeadFormed, FunctionFormed, AreFormed}
@@ -51,12 +51,12 @@ tight and_also = omega arith
 tight or_else = omega arith
 tight send = omega arith
 
-left_most : (g : Grouping) (level : ℕ) → left_in g level ≤ level
+left_most : (g : Grouping) (level : ℕ) → greatest_left g level ≤ level
 left_most leftwards level = omega arith
 left_most rightwards level = omega arith
 left_most alone level = omega arith
 
-right_most : (g : Grouping) (level : ℕ) → right_in g level ≤ level
+right_most : (g : Grouping) (level : ℕ) → greatest_right g level ≤ level
 right_most leftwards level = omega arith
 right_most rightwards level = omega arith
 right_most alone level = omega arith
@@ -74,7 +74,7 @@ whole_tight h = absurd (omega (arith, h))
 zero_tight : element ≤ 0 → IsTrue false
 zero_tight h = absurd (omega (arith, h))
 
-module _ (n : Names) where
+module _ (n : TokenNames) where
   -- ---- patterns
 
   mutual

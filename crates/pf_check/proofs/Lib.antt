@@ -7,3 +7,5 @@ pub mod Apart
 pub mod AnyOutcome
 pub mod Outcomes
 pub mod Within
+pub mod Crossing
+pub mod One

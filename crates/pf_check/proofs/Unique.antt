@@ -11,7 +11,7 @@ use Rattle.pf_syntax.specs.Tree.{Operator, Builtin, Tree, Trees, Clauses, Guard,
 use Rattle.pf_syntax.specs.SyntaxTree.{Head}
 use Rattle.pf_syntax.specs.Scope.{Scope, no_scope, is_new, after_expr_pattern, after_expr_patterns, after, after_all}
 use Rattle.pf_syntax.specs.Naming as w
-use Rattle.pf_syntax.specs.Naming.{Names, ExprPatternIs, ExprPatternsAre, ExprIs, ExprsAre, ElementIs, BodyIs, GuardIs, BranchesAre, HeadIs, IsSlotOf, arity_of, behind, ending, conses, conses_of, empty_list, string}
+use Rattle.pf_syntax.specs.Naming.{Names, ExprPatternIs, ExprPatternsAre, ExprIs, ExprsAre, ElementIs, BodyIs, GuardIs, BranchesAre, HeadIs, IsSlotOf, arity_of, with_pattern, ending, conses, conses_of, empty_list, string}
 use Rattle.pf_check.proofs.Once.{SeenOnce, one_offset, none_seen, new_has_no_offset, once_expr_pattern, once_expr_patterns, once_expr, once_exprs}
 
 module _ (n : Names) where
@@ -163,7 +163,7 @@ module _ (n : Names) where
   plain_element g _ x a _ _ (w.match _ q e _ _ _ _ _) = absurd (no_match_expr g q e x a)
 
   match_element : (g : Scope) (q : ExprPattern) (e : Expr) (zs : Patterns) (x : Tree) → ElementIs n g (p.match q e) zs x
-      → (ys : Patterns) × (y : Pattern) × ElementIs n g e ys x × ExprPatternIs n (after g e) q y × (behind ys y ≡ zs)
+      → (ys : Patterns) × (y : Pattern) × ElementIs n g e ys x × ExprPatternIs n (after g e) q y × (with_pattern ys y ≡ zs)
   match_element g q e _ x (w.plain _ _ _ h) = absurd (no_match_expr g q e x h)
   match_element _ _ _ _ _ (w.match _ _ _ ys y _ h k) = (ys, y, h, k, refl)
 
@@ -251,7 +251,7 @@ module _ (n : Names) where
       one_element _ _ _ zs _ z once (w.match g q e ys y x h k) b =
           let i = match_element g q e zs z b in
           let inner = one_element g e ys i.0 x z once h i.2 in
-          (ap₂ behind inner.0 (one_expr_pattern (after g e) q y i.1 (once_expr g e once) k i.3) ∙ i.4, inner.1)
+          (ap₂ with_pattern inner.0 (one_expr_pattern (after g e) q y i.1 (once_expr g e once) k i.3) ∙ i.4, inner.1)
 
       pub one_body : (g : Scope) (es : Exprs) (x z : Tree) → SeenOnce g → BodyIs n g es x → BodyIs n g es z → x ≡ z
       one_body _ _ _ z once (w.last g e ys x h) b =

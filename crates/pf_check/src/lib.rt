@@ -1,4 +1,5 @@
 //! The reading of a source as a whole: its tokens, its grammar, its static rules and its checked module.
+//! Modules with the sources that they were read from.
 #![tactic(auto)]
 
 mod laws;
@@ -6,3 +7,7 @@ mod reading;
 
 pub use laws::{offsets_are_within, one_outcome, some_outcome};
 pub use reading::read;
+
+mod read_module;
+
+pub use read_module::ReadModule;

@@ -3,7 +3,7 @@ use Rattle.std.proofs.Common.{◌≡◌, ℕ, ◌+◌, ◌-◌, ◌*◌, ◌/◌
 use Rattle.std.proofs.Math.Nat.{le-mul_of_pos_right, lt_of_mul-lt-mul_right, div-mul-le_self, mul-one, div-one}
 use Rattle.std.proofs.lemmas.Nat.{mod_below}
 use Rattle.std.proofs.lemmas.Bool.Decides.{nat_tests}
-use Rattle.pf_choice.specs.Chosen.{Profile, alike, weighted, IsProfile, at_index, chosen, WeightsOne}
+use Rattle.pf_choice.specs.Chosen.{Weighting, alike, weighted, IsProfile, at_index, chosen, WeightsOne}
 
 -- n things take at least n indices
 pub grows : (n k : ℕ) → 1 ≤ k → n ≤ n * k
@@ -30,7 +30,7 @@ at_index_below a b r d index h = by (nat_lt index (a * r)) refl
         omega arith
 
 -- what a word chooses is one of the things
-pub chosen_below : (p : Profile) (word a b : ℕ) → IsProfile p → 0 < a + b → chosen p word a b < a + b
+pub chosen_below : (p : Weighting) (word a b : ℕ) → IsProfile p → 0 < a + b → chosen p word a b < a + b
 chosen_below alike word a b h l = mod_below word (a + b) l
 chosen_below (weighted r d) word a b h l =
     at_index_below a b r d (word % (a * r + b * d)) (mod_below word (a * r + b * d) (has_index a b r d h.run_least h.deliver_least l))

@@ -5,10 +5,10 @@ use Rattle.std.specs.Str.{bytes_eq}
 use Rattle.clap.specs.Words.{Text, Row, fault_of, first_of, subcommand_of}
 use Rattle.pf_model.specs.Meaning.{Choices, schedule}
 use Rattle.pf_text.specs.Numbers.{schedule_of}
-use Rattle.pf_cli.specs.Args.{RunArgs, asked, bounds_in, chart_asked, chart_of, choices_named, file_at, guided_in, is_given, number_in, numbers_of, of_command, of_one_file, page_named, placed, property_named, pulsefarm, root_named, run_asked, run_of, schedule_file_of, shrink_of, shrinking_asked, unless_refused, wanted_as, wanted_by, Work, work_of, explain_of, format_in, run, chart, shrink}
+use Rattle.pf_cli.specs.Args.{RunArgs, words_asked, bounds_in, chart_asked, chart_of, choices_named, file_at, guided_in, is_given, option_number, schedule_numbers, of_command, of_one_file, page_named, file_placed, property_named, pulsefarm, root_named, run_asked, run_args_of, schedule_file_of, shrink_of, shrinking_asked, unless_refused, wanted_as, wanted_by, CommandWork, work_of, explain_of, format_in, run, chart, shrink}
 
-alone_word : (text word : Text) → file_at word ≡ None → numbers_of (Some text) word ≡ numbers_of None word
-alone_word text word e = ap (λ (f : Option Text). schedule_of (placed text word f)) e
+alone_word : (text word : Text) → file_at word ≡ None → schedule_numbers (Some text) word ≡ schedule_numbers None word
+alone_word text word e = ap (λ (f : Option Text). schedule_of (file_placed text word f)) e
 
 alone_choices : (text : Text) (s w t : Option Text) → option_and_then file_at t ≡ None → choices_named (Some text) s w t ≡ choices_named None s w t
 alone_choices text None None None e = refl
@@ -18,18 +18,18 @@ alone_choices text None None (Some word) e = ap (option_map schedule) (alone_wor
 alone_choices text None (Some v) (Some word) e = refl
 alone_choices text (Some a) w (Some word) e = refl
 
-alone_schedule : (text : Text) (t : Option Text) → option_and_then file_at t ≡ None → option_and_then (numbers_of (Some text)) t ≡ option_and_then (numbers_of None) t
+alone_schedule : (text : Text) (t : Option Text) → option_and_then file_at t ≡ None → option_and_then (schedule_numbers (Some text)) t ≡ option_and_then (schedule_numbers None) t
 alone_schedule text None e = refl
 alone_schedule text (Some word) e = alone_word text word e
 
-alone_run : (text : Text) (rows : List Row) → option_and_then file_at (first_of (codes "schedule") rows) ≡ None → run_of (Some text) rows ≡ run_of None rows
+alone_run : (text : Text) (rows : List Row) → option_and_then file_at (first_of (codes "schedule") rows) ≡ None → run_args_of (Some text) rows ≡ run_args_of None rows
 alone_run text rows e =
     ap (λ (cs : Option Choices). run_asked (root_named (first_of (codes "root") rows)) (bounds_in rows) cs (guided_in cs rows) (property_named (first_of (codes "property") rows)))
     (alone_choices text (first_of (codes "seed") rows) (first_of (codes "weights") rows) (first_of (codes "schedule") rows) e)
 
 alone_shrink : (text : Text) (rows : List Row) → option_and_then file_at (first_of (codes "schedule") rows) ≡ None → shrink_of (Some text) rows ≡ shrink_of None rows
 alone_shrink text rows e =
-    ap (shrinking_asked (root_named (first_of (codes "root") rows)) (first_of (codes "property") rows) (bounds_in rows) (number_in (codes "runs") rows))
+    ap (shrinking_asked (root_named (first_of (codes "root") rows)) (first_of (codes "property") rows) (bounds_in rows) (option_number (codes "runs") rows))
     (alone_schedule text (first_of (codes "schedule") rows) e)
 
 alone_chart : (text : Text) (rows : List Row) → option_and_then file_at (first_of (codes "schedule") rows) ≡ None → chart_of (Some text) rows ≡ chart_of None rows
@@ -52,10 +52,10 @@ alone_work : (text name : Text) (rows : List Row) → option_and_then file_at (f
 alone_work text name rows e = alike_either (bytes_eq name (codes "farm")) _ _ _ _ refl (alone_one_file text name rows e)
 
 alone_command : (text name : Text) (rows : List Row) → option_and_then file_at (first_of (codes "schedule") rows) ≡ None → of_command (Some text) name rows ≡ of_command None name rows
-alone_command text name rows e = ap (λ (w : Option Work). wanted_as (format_in rows) (explain_of rows) w) (alone_work text name rows e)
+alone_command text name rows e = ap (λ (w : Option CommandWork). wanted_as (format_in rows) (explain_of rows) w) (alone_work text name rows e)
 
-alone_asked : (text : Text) (o : Option (Text × List Row)) → asked (λ name rows. option_and_then file_at (first_of (codes "schedule") rows)) o ≡ None
-    → asked (of_command (Some text)) o ≡ asked (of_command None) o
+alone_asked : (text : Text) (o : Option (Text × List Row)) → words_asked (λ name rows. option_and_then file_at (first_of (codes "schedule") rows)) o ≡ None
+    → words_asked (of_command (Some text)) o ≡ words_asked (of_command None) o
 alone_asked text None e = refl
 alone_asked text (Some p) e = alone_command text p.0 p.1 e
 

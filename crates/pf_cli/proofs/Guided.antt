@@ -4,7 +4,7 @@ use Rattle.clap.specs.Words.{Text, Row, first_of}
 use Rattle.clap.specs.declared.error.kind.ErrorKind.TheVariants as kind
 use Rattle.std.specs.Prelude.{Bool, codes, ℕ}
 use Rattle.pf_model.specs.Meaning.{Choices}
-use Rattle.pf_cli.specs.Args.{RunArgs, bounds_in, chart_asked, choices_in, choices_named, guided_in, property_named, root_named, run_asked, run_fault, run_of, values_fault}
+use Rattle.pf_cli.specs.Args.{RunArgs, bounds_in, chart_asked, choices_in, choices_named, guided_in, property_named, root_named, run_asked, run_fault, run_args_of, values_fault}
 
 -- where a seed or a schedule is read the fault is a value's
 pub values_chosen : (text s w t : Option Text) (cs : Choices) → choices_named text s w t ≡ Some cs → values_fault s w t ≡ kind.InvalidValue
@@ -20,7 +20,7 @@ unasked root None property a e = absurd cc
 unasked root (Some b) property a e = absurd cc
 
 -- a run that is asked for has choices
-pub run_chosen : (text : Option Text) (rows : List Row) (a : RunArgs) → run_of text rows ≡ Some a → run_fault rows ≡ kind.InvalidValue
+pub run_chosen : (text : Option Text) (rows : List Row) (a : RunArgs) → run_args_of text rows ≡ Some a → run_fault rows ≡ kind.InvalidValue
 run_chosen text rows a e = by (choices_in text rows) refl e
   where
     by : (cs : Option Choices) → choices_in text rows ≡ cs
@@ -39,7 +39,7 @@ none_asked root None cs property = refl
 none_asked root (Some b) cs property = refl
 
 -- nothing is asked for
-pub none_guided : (text : Option Text) (rows : List Row) (cs : Choices) → choices_in text rows ≡ Some cs → guided_in (Some cs) rows ≡ None → run_of text rows ≡ None
+pub none_guided : (text : Option Text) (rows : List Row) (cs : Choices) → choices_in text rows ≡ Some cs → guided_in (Some cs) rows ≡ None → run_args_of text rows ≡ None
 none_guided text rows cs e h =
     let root = root_named (first_of (codes "root") rows) in
     let property = property_named (first_of (codes "property") rows) in

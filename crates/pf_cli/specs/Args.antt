@@ -8,32 +8,32 @@ use Rattle.clap.specs.declared.builder.action.ArgAction.TheVariants.{SetTrue}
 use Rattle.clap.specs.declared.error.kind.ErrorKind.{ErrorKind}
 use Rattle.clap.specs.declared.error.kind.ErrorKind.TheVariants as kind
 use Rattle.pf_model.specs.Meaning.{Choices, seed, schedule, weighted_seed}
-use Rattle.pf_text.specs.Numbers.{number_of, long_number_of, schedule_of}
+use Rattle.pf_text.specs.Numbers.{number_of_digits, long_number_of, schedule_of}
 use Rattle.pf_cli.specs.Seeds.{seeds_named}
 use Rattle.pf_cli.specs.Span.{time_named}
 use Rattle.pf_cli.specs.Form.{format_named}
-use Rattle.pf_cli.specs.Reach.{Reach, clashes, more_named, names_given, reach_asked, roots_named}
+use Rattle.pf_cli.specs.Reach.{HuntScope, clashes, more_named, names_given, reach_asked, roots_named}
 use Rattle.pf_request.specs.Request as requests
-use Rattle.pf_request.specs.Request.{Request, Kind}
+use Rattle.pf_request.specs.Request.{Request, RequestKind}
 use Rattle.pf_request.specs.View.{view_of_request}
 use Rattle.pf_strategy.specs.declared.strategy.Strategy.{Strategy}
 use Rattle.pf_strategy.specs.declared.strategy.Strategy.TheVariants.{Uniform, Priorities}
 use Rattle.pf_cli.specs.declared.args.Edition.{Edition}
 use Rattle.pf_cli.specs.declared.args.Edition.TheVariants.{First, Second}
 use Rattle.pf_cli.specs.declared.args.Format.{Format}
-use Rattle.pf_cli.specs.declared.args.Weights.{Weights}
+use Rattle.pf_cli.specs.declared.args.WeightArgs.{WeightArgs}
 use Rattle.pf_cli.specs.declared.args.Roots.{Roots}
 use Rattle.pf_cli.specs.declared.args.RunArgs as run_code
 use Rattle.pf_cli.specs.declared.args.ChartArgs as chart_code
 use Rattle.pf_cli.specs.declared.args.HuntArgs as hunt_code
 use Rattle.pf_cli.specs.declared.args.FarmArgs as farm_code
-use Rattle.pf_cli.specs.declared.args.Sought as sought_code
-use Rattle.pf_cli.specs.declared.args.Sought.TheVariants.{Failure, Outcomes}
+use Rattle.pf_cli.specs.declared.args.HuntGoal as sought_code
+use Rattle.pf_cli.specs.declared.args.HuntGoal.TheVariants.{Failure, Outcomes}
 use Rattle.pf_cli.specs.declared.args.Args as args_code
 use Rattle.pf_cli.specs.declared.args.Args.TheVariants.{Run, Hunt, Shrink, Chart, Check, Steps, Farm}
-use Rattle.pf_cli.specs.declared.args.Asked as asked_code
-use Rattle.pf_cli.specs.declared.reading.Reading as reading_code
-use Rattle.pf_cli.specs.declared.reading.Reading.TheVariants as read
+use Rattle.pf_cli.specs.declared.args.CliCommand as asked_code
+use Rattle.pf_cli.specs.declared.reading.ReadWords as reading_code
+use Rattle.pf_cli.specs.declared.reading.ReadWords.TheVariants as read
 
 -- ---- the words that are taken
 
@@ -189,9 +189,9 @@ pub record ChartArgs : Type 0 where
 
 -- what is sought among seeds: the least that fails, with its schedule shrunk within n runs where that is asked for; or
 -- each outcome
-pub data Sought : Type 0 where
-  failure : (runs : Option ℕ) → Sought
-  outcomes : Sought
+pub data HuntGoal : Type 0 where
+  failure : (runs : Option ℕ) → HuntGoal
+  outcomes : HuntGoal
 
 -- a hunt is asked for: the request is the run by the seed 0, in whose place the seeds from a first to before an end go,
 -- by a strategy; for so many seconds if a time is named, and by n workers if these are; and what it goes over
@@ -206,7 +206,7 @@ pub record HuntArgs : Type 0 where
   pub seeds : ℕ × ℕ
   pub time : Option ℕ
   pub workers : Option ℕ
-  pub sought : Sought
+  pub sought : HuntGoal
 
 -- a farm is asked for: of n workers, and of the clients whose files these are, that of project 1 first; and whether
 -- what each worker did is reported
@@ -215,21 +215,21 @@ pub record FarmArgs : Type 0 where
   pub files : List Text
   pub summary : Bool
 
-abbrev pub request_by : (root property : Text) → Kind → (limit : ℕ) → Request
+abbrev pub request_by : (root property : Text) → RequestKind → (limit : ℕ) → Request
 request_by root property kind limit = record { root = root; property = property; kind = kind; limit = limit }
 
 -- a request and an edition, by the limit and the edition that are named; and the seed of priorities, if any
-abbrev pub args_by : (root property : Text) → Kind → (bounds : ℕ × ℕ) → (priorities : Option ℕ) → RunArgs
+abbrev pub args_by : (root property : Text) → RequestKind → (bounds : ℕ × ℕ) → (priorities : Option ℕ) → RunArgs
 args_by root property kind bounds priorities =
     record { request = request_by root property kind bounds.0; edition = bounds.1; priorities = priorities }
 
 -- the value of an option as a number
-abbrev pub number_in : Text → List Row → Option ℕ
-number_in name rows = option_and_then number_of (first_of name rows)
+abbrev pub option_number : Text → List Row → Option ℕ
+option_number name rows = option_and_then number_of_digits (first_of name rows)
 
-abbrev pub both : Option ℕ → Option ℕ → Option (ℕ × ℕ)
-both (Some a) (Some b) = Some (a, b)
-both _ _ = None
+abbrev pub both_numbers : Option ℕ → Option ℕ → Option (ℕ × ℕ)
+both_numbers (Some a) (Some b) = Some (a, b)
+both_numbers _ _ = None
 
 -- the edition is 1 or 2
 abbrev pub as_edition : ℕ → Option ℕ
@@ -238,7 +238,7 @@ as_edition n = if n == 1 || n == 2 then Some n else None
 -- where none is named it is 1
 abbrev pub edition_named : Option Text → Option ℕ
 edition_named None = Some 1
-edition_named (Some word) = option_and_then as_edition (number_of word)
+edition_named (Some word) = option_and_then as_edition (number_of_digits word)
 
 -- a flag that is given has the value `true`
 abbrev pub is_given : Option Text → Bool
@@ -253,25 +253,25 @@ root_named (Some word) = word
 -- where no limit is named it is the largest
 abbrev pub limit_named : Option Text → Option ℕ
 limit_named None = Some 100000
-limit_named (Some word) = number_of word
+limit_named (Some word) = number_of_digits word
 
 -- the limit and the edition
 abbrev pub bounds_in : List Row → Option (ℕ × ℕ)
-bounds_in rows = both (limit_named (first_of (codes "limit") rows)) (edition_named (first_of (codes "edition") rows))
+bounds_in rows = both_numbers (limit_named (first_of (codes "limit") rows)) (edition_named (first_of (codes "edition") rows))
 
 -- a weight is 1 to 9
 abbrev pub as_weight : ℕ → Option ℕ
 as_weight n = if nat_le 1 n && nat_le n 9 then Some n else None
 
-abbrev pub weight_of : Text → Option ℕ
-weight_of text = option_and_then as_weight (number_of text)
+abbrev pub weight_of_word : Text → Option ℕ
+weight_of_word text = option_and_then as_weight (number_of_digits text)
 
 -- weights are R:D: that of a process is before the first colon, that of a channel after it
 abbrev pub is_colon : ℕ → Bool
 is_colon c = c == 58
 
 abbrev pub weights_of : Text → Option (ℕ × ℕ)
-weights_of text = both (weight_of (before_first is_colon text)) (weight_of (after_first is_colon text))
+weights_of text = both_numbers (weight_of_word (before_first is_colon text)) (weight_of_word (after_first is_colon text))
 
 -- where none are named it is left open which they are
 abbrev pub weights_named : Option Text → Option (Option (ℕ × ℕ))
@@ -292,22 +292,22 @@ abbrev pub file_at : Text → Option Text
 file_at [] = None
 file_at (c ∷ name) = if c == 64 then Some name else None
 
-abbrev pub placed : (text word : Text) → (file : Option Text) → Text
-placed text word None = word
-placed text word (Some file) = text
+abbrev pub file_placed : (text word : Text) → (file : Option Text) → Text
+file_placed text word None = word
+file_placed text word (Some file) = text
 
 -- where the text of the file is known, it takes the place of the word that names the file
 abbrev pub in_place : (text : Option Text) → (word : Text) → Text
 in_place None word = word
-in_place (Some text) word = placed text word (file_at word)
+in_place (Some text) word = file_placed text word (file_at word)
 
-abbrev pub numbers_of : (text : Option Text) → (word : Text) → Option (List ℕ)
-numbers_of text word = schedule_of (in_place text word)
+abbrev pub schedule_numbers : (text : Option Text) → (word : Text) → Option (List ℕ)
+schedule_numbers text word = schedule_of (in_place text word)
 
 -- the choices of a seed or of a schedule; one of the two is given, and not both; weights are given beside a seed alone
 abbrev pub choices_named : (text seeded weighted scheduled : Option Text) → Option Choices
 choices_named text (Some word) weights None = seeded_by (weights_named weights) (long_number_of word)
-choices_named text None None (Some word) = option_map schedule (numbers_of text word)
+choices_named text None None (Some word) = option_map schedule (schedule_numbers text word)
 choices_named text _ _ _ = None
 
 -- a strategy is `pos`, by priorities, or `uniform`
@@ -347,8 +347,8 @@ choices_in text rows =
 abbrev pub guided_in : Option Choices → List Row → Option (Option ℕ)
 guided_in choices rows = guided (strategy_named Uniform (first_of (codes "strategy") rows)) choices
 
-abbrev pub run_of : (text : Option Text) → List Row → Option RunArgs
-run_of text rows =
+abbrev pub run_args_of : (text : Option Text) → List Row → Option RunArgs
+run_args_of text rows =
     run_asked (root_named (first_of (codes "root") rows)) (bounds_in rows) (choices_in text rows) (guided_in (choices_in text rows) rows)
     (property_named (first_of (codes "property") rows))
 
@@ -359,15 +359,15 @@ as_page n = if nat_le 1 n then Some n else None
 -- where none is named it is the first
 abbrev pub page_named : Option Text → Option ℕ
 page_named None = Some 1
-page_named (Some word) = option_and_then as_page (number_of word)
+page_named (Some word) = option_and_then as_page (number_of_digits word)
 
 abbrev pub chart_asked : Option RunArgs → (compact : Bool) → (page : Option ℕ) → Option ChartArgs
-chart_asked (Some asked) compact (Some page) = Some (record { run = asked; compact = compact; page = page })
+chart_asked (Some words_asked) compact (Some page) = Some (record { run = words_asked; compact = compact; page = page })
 chart_asked _ compact _ = None
 
 abbrev pub chart_of : (text : Option Text) → List Row → Option ChartArgs
 chart_of text rows =
-    chart_asked (run_of text rows) (is_given (first_of (codes "compact") rows)) (page_named (first_of (codes "page") rows))
+    chart_asked (run_args_of text rows) (is_given (first_of (codes "compact") rows)) (page_named (first_of (codes "page") rows))
 
 abbrev pub shrinking_asked : (root : Text) → (property : Option Text) → (bounds : Option (ℕ × ℕ)) → (runs : Option ℕ) → (schedule : Option (List ℕ)) → Option RunArgs
 shrinking_asked root (Some property) (Some bounds) (Some runs) (Some numbers) =
@@ -376,11 +376,11 @@ shrinking_asked root _ _ _ _ = None
 
 -- the numbers of the schedule
 abbrev pub schedule_in : (text : Option Text) → List Row → Option (List ℕ)
-schedule_in text rows = option_and_then (numbers_of text) (first_of (codes "schedule") rows)
+schedule_in text rows = option_and_then (schedule_numbers text) (first_of (codes "schedule") rows)
 
 abbrev pub shrink_of : (text : Option Text) → List Row → Option RunArgs
 shrink_of text rows =
-    shrinking_asked (root_named (first_of (codes "root") rows)) (first_of (codes "property") rows) (bounds_in rows) (number_in (codes "runs") rows)
+    shrinking_asked (root_named (first_of (codes "root") rows)) (first_of (codes "property") rows) (bounds_in rows) (option_number (codes "runs") rows)
     (schedule_in text rows)
 
 -- workers are 1 to 64
@@ -390,15 +390,15 @@ as_workers n = if nat_le 1 n && nat_le n 64 then Some n else None
 -- where none are named it is left open how many there are
 abbrev pub workers_named : Option Text → Option (Option ℕ)
 workers_named None = Some None
-workers_named (Some word) = option_map Some (option_and_then as_workers (number_of word))
+workers_named (Some word) = option_map Some (option_and_then as_workers (number_of_digits word))
 
 -- each outcome is sought, or the least seed that fails
-abbrev pub sought_named : (all : Bool) → (shrink : Option Text) → Option Sought
+abbrev pub sought_named : (all : Bool) → (shrink : Option Text) → Option HuntGoal
 sought_named true shrink = Some outcomes
 sought_named false None = Some (failure None)
-sought_named false (Some word) = option_map (λ n. failure (Some n)) (number_of word)
+sought_named false (Some word) = option_map (λ n. failure (Some n)) (number_of_digits word)
 
-abbrev pub sought_in : List Row → Option Sought
+abbrev pub sought_in : List Row → Option HuntGoal
 sought_in rows = sought_named (is_given (first_of (codes "all") rows)) (first_of (codes "shrink") rows)
 
 -- without a word for it a hunt goes by priorities, or by the weights where there are any; with weights no other
@@ -411,7 +411,7 @@ abbrev pub hunt_strategy : (weights : Option (ℕ × ℕ)) → Option Text → O
 hunt_strategy None word = strategy_named Priorities word
 hunt_strategy (Some weights) word = unless_guided (strategy_named Uniform word)
 
-abbrev pub hunt_by : Reach → (root property : Text) → Choices → Strategy → (bounds seeds : ℕ × ℕ) → (time workers : Option ℕ) → Sought → HuntArgs
+abbrev pub hunt_by : HuntScope → (root property : Text) → Choices → Strategy → (bounds seeds : ℕ × ℕ) → (time workers : Option ℕ) → HuntGoal → HuntArgs
 hunt_by reach root property choices strategy bounds seeds time workers sought =
     record {
       more = reach.more;
@@ -427,7 +427,7 @@ hunt_by reach root property choices strategy bounds seeds time workers sought =
       sought = sought;
     }
 
-abbrev pub hunt_asked : Option Reach → Option Sought → (root property : Text) → (bounds seeds : Option (ℕ × ℕ)) → (time : Option (Option ℕ)) → (weights : Option (Option (ℕ × ℕ))) → Option Strategy → (workers : Option (Option ℕ)) → Option HuntArgs
+abbrev pub hunt_asked : Option HuntScope → Option HuntGoal → (root property : Text) → (bounds seeds : Option (ℕ × ℕ)) → (time : Option (Option ℕ)) → (weights : Option (Option (ℕ × ℕ))) → Option Strategy → (workers : Option (Option ℕ)) → Option HuntArgs
 hunt_asked (Some reach) (Some sought) root property (Some bounds) (Some seeds) (Some time) (Some weights) (Some strategy) (Some workers) =
     Some (hunt_by reach root property (seeded weights 0) strategy bounds seeds time workers sought)
 hunt_asked _ _ root property _ _ _ _ _ _ = None
@@ -449,18 +449,18 @@ abbrev pub strategy_in : List Row → Option Strategy
 strategy_in rows = option_and_then (λ weights. hunt_strategy weights (first_of (codes "strategy") rows)) (weights_in rows)
 
 -- the names of the sources
-abbrev pub names_in : List Row → List Text
-names_in rows = names_given (all_of (codes "file") rows)
+abbrev pub source_names : List Row → List Text
+source_names rows = names_given (all_of (codes "file") rows)
 
-abbrev pub reach_in : List Row → Option Reach
+abbrev pub reach_in : List Row → Option HuntScope
 reach_in rows =
-    reach_asked (more_named (names_in rows)) (roots_named (is_given (first_of (codes "all-roots") rows)) (first_of (codes "root") rows))
+    reach_asked (more_named (source_names rows)) (roots_named (is_given (first_of (codes "all-roots") rows)) (first_of (codes "root") rows))
     (is_given (first_of (codes "fail-fast") rows)) (is_given (first_of (codes "leaks") rows))
 
 -- whether there are words that exclude each other
 abbrev pub clashes_in : List Row → Bool
 clashes_in rows =
-    clashes (is_given (first_of (codes "all-roots") rows)) (is_given (first_of (codes "leaks") rows)) (nat_lt 1 (length (names_in rows)))
+    clashes (is_given (first_of (codes "all-roots") rows)) (is_given (first_of (codes "leaks") rows)) (nat_lt 1 (length (source_names rows)))
     (is_given (first_of (codes "all") rows)) (first_of (codes "root") rows) (first_of (codes "shrink") rows)
 
 -- what a hunt's words ask for where they go together
@@ -482,7 +482,7 @@ farm_asked _ _ summary = None
 
 abbrev pub farm_of : List Row → Option FarmArgs
 farm_of rows =
-    farm_asked (option_and_then as_workers (number_in (codes "workers") rows)) (option_and_then as_files (all_of (codes "files") rows))
+    farm_asked (option_and_then as_workers (option_number (codes "workers") rows)) (option_and_then as_files (all_of (codes "files") rows))
     (is_given (first_of (codes "summary") rows))
 
 -- whether more is to be explained
@@ -491,42 +491,42 @@ explain_of rows = is_given (first_of (codes "explain") rows)
 
 -- a command asks for a run, for a hunt over seeds, for the shrinking of a schedule, for the chart of a run, for a check
 -- that may explain what it refuses, for the steps that a file lists, or for a farm
-pub data Work : Type 0 where
-  run : RunArgs → Work
-  hunt : HuntArgs → Work
-  shrink : RunArgs → Work
-  chart : ChartArgs → Work
-  check : (explain : Bool) → Work
-  steps : Work
-  farm : FarmArgs → Work
+pub data CommandWork : Type 0 where
+  run : RunArgs → CommandWork
+  hunt : HuntArgs → CommandWork
+  shrink : RunArgs → CommandWork
+  chart : ChartArgs → CommandWork
+  check : (explain : Bool) → CommandWork
+  steps : CommandWork
+  farm : FarmArgs → CommandWork
 
 -- what a command without runs of its own asks for
-abbrev pub of_other : Text → List Row → Option Work
+abbrev pub of_other : Text → List Row → Option CommandWork
 of_other name rows =
     if bytes_eq name (codes "check") then Some (check (explain_of rows))
     else (if bytes_eq name (codes "steps") then Some steps else None)
 
 -- what a command of one file asks for by the values of its options, and by the text of its schedule's file where it is
 -- known
-abbrev pub of_one_file : (text : Option Text) → (name : Text) → List Row → Option Work
+abbrev pub of_one_file : (text : Option Text) → (name : Text) → List Row → Option CommandWork
 of_one_file text name rows =
-    if bytes_eq name (codes "run") then option_map run (run_of text rows)
+    if bytes_eq name (codes "run") then option_map run (run_args_of text rows)
     else (if bytes_eq name (codes "chart") then option_map chart (chart_of text rows)
     else (if bytes_eq name (codes "hunt") then option_map hunt (hunt_of rows)
     else (if bytes_eq name (codes "shrink") then option_map shrink (shrink_of text rows) else of_other name rows)))
 
 -- the work that the command of this name asks for
-abbrev pub work_of : (text : Option Text) → (name : Text) → List Row → Option Work
+abbrev pub work_of : (text : Option Text) → (name : Text) → List Row → Option CommandWork
 work_of text name rows =
     if bytes_eq name (codes "farm") then option_map farm (farm_of rows) else of_one_file text name rows
 
 -- words ask for work that is reported in a form, and maybe explained: the report of a run, or the refusal of a check
 pub record Wanted : Type 0 where
-  pub work : Work
+  pub work : CommandWork
   pub format : Format
   pub explain : Bool
 
-abbrev pub wanted_as : Option Format → (explain : Bool) → Option Work → Option Wanted
+abbrev pub wanted_as : Option Format → (explain : Bool) → Option CommandWork → Option Wanted
 wanted_as None explain work = None
 wanted_as (Some format) explain None = None
 wanted_as (Some format) explain (Some work) = Some (record { work = work; format = format; explain = explain })
@@ -538,9 +538,9 @@ format_in rows = format_named (first_of (codes "format") rows)
 abbrev pub of_command : (text : Option Text) → (name : Text) → List Row → Option Wanted
 of_command text name rows = wanted_as (format_in rows) (explain_of rows) (work_of text name rows)
 
-abbrev pub asked : {T : Type 0} → (Text → List Row → Option T) → Option (Text × List Row) → Option T
-asked read None = None
-asked read (Some p) = read p.0 p.1
+abbrev pub words_asked : {T : Type 0} → (Text → List Row → Option T) → Option (Text × List Row) → Option T
+words_asked read None = None
+words_asked read (Some p) = read p.0 p.1
 
 abbrev pub unless_refused : {T : Type 0} → Kinds → Option T → Option T
 unless_refused [] r = r
@@ -549,7 +549,7 @@ unless_refused (k ∷ ks) r = None
 -- what the words ask for, the first of which names the program, with a text in place of the file that they name for a
 -- schedule; nothing where they are refused, or ask for help or the version
 unfoldable pub wanted_by : (text : Option Text) → List Text → Option Wanted
-wanted_by text words = unless_refused (fault_of pulsefarm words) (asked (of_command text) (subcommand_of pulsefarm words))
+wanted_by text words = unless_refused (fault_of pulsefarm words) (words_asked (of_command text) (subcommand_of pulsefarm words))
 
 -- what the words ask for as they are given
 abbrev pub wanted_of : List Text → Option Wanted
@@ -566,11 +566,11 @@ file_under name rows = if bytes_eq name (codes "farm") then None else file_named
 
 -- the file of the source or of the steps; none where it is the standard input, or the words ask for a farm
 unfoldable pub file_of : List Text → Option Text
-file_of words = asked file_under (subcommand_of pulsefarm words)
+file_of words = words_asked file_under (subcommand_of pulsefarm words)
 
 -- the file that the words name for a schedule
 unfoldable pub schedule_file_of : List Text → Option Text
-schedule_file_of words = asked (λ name rows. option_and_then file_at (first_of (codes "schedule") rows)) (subcommand_of pulsefarm words)
+schedule_file_of words = words_asked (λ name rows. option_and_then file_at (first_of (codes "schedule") rows)) (subcommand_of pulsefarm words)
 
 -- the number of an edition
 abbrev pub edition_number : Edition → ℕ
@@ -579,10 +579,10 @@ edition_number Second = 2
 
 -- ---- what the code's own stand for
 
-abbrev pub weights_by : Weights → ℕ × ℕ
+abbrev pub weights_by : WeightArgs → ℕ × ℕ
 weights_by w = (w.run, w.deliver)
 
-abbrev pub sought_by : sought_code.Sought → Sought
+abbrev pub sought_by : sought_code.HuntGoal → HuntGoal
 sought_by (Failure runs) = failure runs
 sought_by Outcomes = outcomes
 
@@ -612,7 +612,7 @@ view_of_hunt_args a =
 abbrev pub view_of_farm_args : farm_code.FarmArgs → FarmArgs
 view_of_farm_args a = record { workers = a.workers; files = map (λ s. s.now) a.files.items; summary = a.summary }
 
-abbrev pub view_of_args : args_code.Args → Work
+abbrev pub view_of_args : args_code.Args → CommandWork
 view_of_args (Run a) = run (view_of_run_args a)
 view_of_args (Hunt a) = hunt (view_of_hunt_args a)
 view_of_args (Chart a) = chart (view_of_chart_args a)
@@ -621,8 +621,8 @@ view_of_args (Check a) = check a.explain
 view_of_args (Steps a) = steps
 view_of_args (Farm a) = farm (view_of_farm_args a)
 
-abbrev pub view_of_asked : asked_code.Asked → Wanted
-view_of_asked a = record { work = view_of_args a.args; format = a.format; explain = a.explain }
+abbrev pub view_of_command : asked_code.CliCommand → Wanted
+view_of_command a = record { work = view_of_args a.args; format = a.format; explain = a.explain }
 
 abbrev pub named_file : args_code.Args → Option Text
 named_file (Run a) = option_map (λ s. s.now) a.file
@@ -682,8 +682,8 @@ IsFaultBy text k words =
     (wanted_by text words ≡ None)
     × (IsAmong k (fault_of pulsefarm words) ⊎ ((fault_of pulsefarm words ≡ []) × (k ≡ own_fault (subcommand_of pulsefarm words))))
 
-abbrev pub IsFaultOf : ErrorKind → List Text → Type 0
-IsFaultOf k words = IsFaultBy None k words
+abbrev pub IsFaultOfWords : ErrorKind → List Text → Type 0
+IsFaultOfWords k words = IsFaultBy None k words
 
 -- the status of words that ask for no work: 0 where they ask for help or the version, else 2
 unfoldable pub words_status : List Text → ℕ
@@ -691,37 +691,37 @@ words_status words = if list_any is_shown (fault_of pulsefarm words) then 0 else
 
 -- words that ask for nothing have the status of each kind that they may fail by
 abbrev pub StatusesAgree : Type 0
-StatusesAgree = (words : List Text) (k : ErrorKind) → IsFaultOf k words → status_of_kind k ≡ words_status words
+StatusesAgree = (words : List Text) (k : ErrorKind) → IsFaultOfWords k words → status_of_kind k ≡ words_status words
 
 -- ---- how words are read
 
 -- work, on this file; a schedule to be read first, from this file; or a text, with the status that the program ends
 -- with, which shows a fault or doesn't
-pub data Reading : Type 0 where
-  works : Wanted → (file : Option Text) → Reading
-  reads : (file : Text) → Reading
-  tells : (status : ℕ) → (is_fault : Bool) → Reading
+pub data ReadWords : Type 0 where
+  works : Wanted → (file : Option Text) → ReadWords
+  reads : (file : Text) → ReadWords
+  tells : (status : ℕ) → (is_fault : Bool) → ReadWords
 
-abbrev pub told : (status : ℕ) → Reading
-told status = tells status (not (status == 0))
+abbrev pub text_answered : (status : ℕ) → ReadWords
+text_answered status = tells status (not (status == 0))
 
-abbrev pub works_by : Wanted → (file schedule_file : Option Text) → Reading
+abbrev pub works_by : Wanted → (file schedule_file : Option Text) → ReadWords
 works_by wanted file None = works wanted file
 works_by wanted file (Some schedule_file) = reads schedule_file
 
 -- without work a text is printed; with it the file of the schedule is read first, where there is one
-abbrev pub reading_by : Option Wanted → (file schedule_file : Option Text) → (status : ℕ) → Reading
-reading_by None file schedule_file status = told status
+abbrev pub reading_by : Option Wanted → (file schedule_file : Option Text) → (status : ℕ) → ReadWords
+reading_by None file schedule_file status = text_answered status
 reading_by (Some wanted) file schedule_file status = works_by wanted file schedule_file
 
 -- how the words are read, with a text in place of the file of the schedule; where the text isn't known yet, whether
 -- they ask for work is decided by a schedule of no numbers
-abbrev pub reading_of : (text : Option Text) → List Text → Reading
+abbrev pub reading_of : (text : Option Text) → List Text → ReadWords
 reading_of None words = reading_by (wanted_by (Some (codes "none")) words) (file_of words) (schedule_file_of words) (words_status words)
 reading_of (Some text) words = reading_by (wanted_by (Some text) words) (file_of words) None (words_status words)
 
-abbrev pub view_of_reading : reading_code.Reading → Reading
-view_of_reading (read.Asked asked) = works (view_of_asked asked) (named_file asked.args)
+abbrev pub view_of_reading : reading_code.ReadWords → ReadWords
+view_of_reading (read.Asked words_asked) = works (view_of_command words_asked) (named_file words_asked.args)
 view_of_reading (read.ScheduleIn file) = reads file.now
 view_of_reading (read.Text text status is_fault) = tells status is_fault
 

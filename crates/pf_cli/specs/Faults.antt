@@ -3,9 +3,9 @@ use Rattle.std.specs.Prelude.{ℕ, List, ◌++◌, Option, Some, None, is_some, 
 use Rattle.std.specs.Str.{bytes_eq}
 use Rattle.std.specs.String.{string_bytes}
 use Rattle.clap.specs.Words.{App, Row, first_of}
-use Rattle.pf_cli.specs.Args.{chart_app, check_app, farm_app, hunt_app, is_given, names_in, run_app, shrink_app}
-use Rattle.pf_cli.specs.declared.reading.Reading as reading_code
-use Rattle.pf_cli.specs.declared.reading.Reading.TheVariants as read
+use Rattle.pf_cli.specs.Args.{chart_app, check_app, farm_app, hunt_app, is_given, source_names, run_app, shrink_app}
+use Rattle.pf_cli.specs.declared.reading.ReadWords as reading_code
+use Rattle.pf_cli.specs.declared.reading.ReadWords.TheVariants as read
 use Rattle.pf_cli.specs.declared.refusals.Valued.{Valued}
 use Rattle.pf_cli.specs.declared.refusals.Valued.TheVariants.{Run, Hunt, Shrink, Chart, Check, Farm}
 
@@ -29,7 +29,7 @@ abbrev pub clash_text : (first second : List ℕ) → List ℕ
 clash_text first second = codes "the argument '" ++ (first ++ (codes "' cannot be used with " ++ second))
 
 -- what is printed for words that ask for no work
-abbrev pub text_in : reading_code.Reading → Option (List ℕ)
+abbrev pub text_in : reading_code.ReadWords → Option (List ℕ)
 text_in (read.Asked asked) = None
 text_in (read.ScheduleIn file) = None
 text_in (read.Text text status is_fault) = Some (string_bytes text)
@@ -52,7 +52,7 @@ clash_told every leaks several all root shrink =
 
 abbrev pub clash_told_in : List Row → Option (List ℕ × List ℕ)
 clash_told_in rows =
-    clash_told (is_given (first_of (codes "all-roots") rows)) (is_given (first_of (codes "leaks") rows)) (nat_lt 1 (length (names_in rows)))
+    clash_told (is_given (first_of (codes "all-roots") rows)) (is_given (first_of (codes "leaks") rows)) (nat_lt 1 (length (source_names rows)))
     (is_given (first_of (codes "all") rows)) (first_of (codes "root") rows) (first_of (codes "shrink") rows)
 
 -- ---- of which command the usage is shown

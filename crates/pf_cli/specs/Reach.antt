@@ -2,11 +2,11 @@
 use Rattle.std.specs.Prelude.{ℕ, List, [], Option, Some, None, is_some, length, drop, map, Bool, true, false, ◌&&◌, ◌||◌, nat_le, if◌then◌else◌}
 use Rattle.pf_cli.specs.declared.args.Roots.{Roots}
 use Rattle.pf_cli.specs.declared.args.Roots.TheVariants.{Main, Named, Every}
-use Rattle.pf_cli.specs.declared.reach.Reach as reach_code
+use Rattle.pf_cli.specs.declared.reach.HuntScope as reach_code
 
 -- what a hunt goes over: the sources whose names come after the first, and which roots of each; whether it ends after
 -- the first root that fails; and whether a seed also fails if its root returned while processes still wait
-pub record Reach : Type 0 where
+pub record HuntScope : Type 0 where
   pub more : List (List ℕ)
   pub roots : Roots
   pub fail_fast : Bool
@@ -27,7 +27,7 @@ roots_named true root = Every
 roots_named false None = Main
 roots_named false (Some name) = Named
 
-abbrev pub reach_asked : (more : Option (List (List ℕ))) → Roots → (fail_fast leaks : Bool) → Option Reach
+abbrev pub reach_asked : (more : Option (List (List ℕ))) → Roots → (fail_fast leaks : Bool) → Option HuntScope
 reach_asked None roots fail_fast leaks = None
 reach_asked (Some more) roots fail_fast leaks = Some (record { more = more; roots = roots; fail_fast = fail_fast; leaks = leaks })
 
@@ -38,6 +38,6 @@ clashes every leaks several all root shrink =
     (every && is_some root) || ((all && is_some shrink) || ((all || is_some shrink) && (leaks || (every || several))))
 
 -- what the code's own stands for
-abbrev pub view_of_reach : reach_code.Reach → Reach
+abbrev pub view_of_reach : reach_code.HuntScope → HuntScope
 view_of_reach r =
     record { more = map (λ s. s.now) r.more.items; roots = r.roots; fail_fast = r.fail_fast; leaks = r.leaks }

@@ -1,6 +1,6 @@
 -- For how long a hunt goes on at most, by its words.
 use Rattle.std.specs.Prelude.{ℕ, ◌-◌, ◌*◌, List, [], ◌∷◌, Option, Some, None, option_map, length, take, drop, ◌==◌, nat_le, if◌then◌else◌}
-use Rattle.pf_text.specs.Numbers.{number_of}
+use Rattle.pf_text.specs.Numbers.{number_of_digits}
 
 -- how many seconds a unit of time has: s, m or h
 abbrev pub unit_of : List ℕ → Option ℕ
@@ -13,7 +13,7 @@ seconds_of _ _ = None
 
 -- a time is a number above 0 with its unit after it, as 90s, 5m or 2h
 abbrev pub time_of : List ℕ → Option ℕ
-time_of text = seconds_of (number_of (take (length text - 1) text)) (unit_of (drop (length text - 1) text))
+time_of text = seconds_of (number_of_digits (take (length text - 1) text)) (unit_of (drop (length text - 1) text))
 
 -- where none is named a hunt goes on to its end
 abbrev pub time_named : Option (List ℕ) → Option (Option ℕ)

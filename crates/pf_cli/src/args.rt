@@ -43,25 +43,25 @@ pub enum Format {
 
 /// The weight of a process and that of a channel, each from 1 to 9.
 #[derive(Drop, Clone, Copy)]
-pub(crate) struct Weights {
+pub(crate) struct WeightArgs {
     pub run: u32,
     pub deliver: u32,
     ghost within: { may_weigh (weighted_seed 0 run deliver) ≡ true },
 }
 
-impl Weights {
+impl WeightArgs {
     ghost use Rattle.std.specs.Prelude.{◌≡◌, true, option_map};
     ghost use Rattle.pf_request.specs.Request.{may_weigh};
     ghost use Rattle.pf_request.specs.View.{view_of_choices};
     ghost use Rattle.pf_cli.specs.Args.{seeded, weights_by};
 
     /// The choices of a seed, by weights where there are any.
-    pub(crate) fn seeded(weights: Option<Weights>, seed: u64) -> RunChoices
+    pub(crate) fn seeded(weights: Option<WeightArgs>, seed: u64) -> RunChoices
         ensures choices { view_of_choices result ≡ seeded (option_map weights_by weights) seed }
         ensures weighs { may_weigh (view_of_choices result) ≡ true }
     {
         match weights {
-            Some(Weights { run, deliver }) => RunChoices::Weighted { seed, run, deliver },
+            Some(WeightArgs { run, deliver }) => RunChoices::Weighted { seed, run, deliver },
             None => RunChoices::Seed(seed),
         }
     }
@@ -93,7 +93,7 @@ pub struct ChartArgs<'a> {
 
 /// What is sought among seeds.
 #[derive(Drop, Clone, Copy)]
-pub enum Sought {
+pub enum HuntGoal {
     /// The least seed whose run fails; with a number of runs its schedule is shrunk too.
     Failure { runs: Option<u32> },
     /// Each outcome that is met.
@@ -137,7 +137,7 @@ pub struct HuntArgs<'a> {
     pub time: Option<u64>,
     /// How many threads run seeds, from 1 to 64, where it is named.
     pub workers: Option<u32>,
-    pub sought: Sought,
+    pub sought: HuntGoal,
     ghost weighs: { may_weigh (choices_in (view_of_kind request.kind)) ≡ true },
 }
 
@@ -203,7 +203,7 @@ impl<'a> Args<'a> {
 
 /// What the words ask for, and the form of its report.
 #[derive(Drop)]
-pub struct Asked<'a> {
+pub struct CliCommand<'a> {
     pub args: Args<'a>,
     /// In what form it goes out.
     pub format: Format,

@@ -2,7 +2,7 @@
 
 ghost use Rattle.std.specs.Prelude.{◌≡◌, ◌≤◌, ◌⊎◌, IfOk, IfErr, Some, None, codes, map, option_and_then, vec_len};
 ghost use Rattle.clap.specs.Words.{all_of, kind_of, rows_of, found_of};
-ghost use Rattle.pf_cli.specs.Args.{as_files, as_workers, farm_of, number_in, view_of_farm_args};
+ghost use Rattle.pf_cli.specs.Args.{as_files, as_workers, farm_of, option_number, view_of_farm_args};
 
 use crate::args::FarmArgs;
 use crate::refusals::{Valued, mistake, refuse_file, refuse_number};
@@ -17,11 +17,11 @@ const FILES: &str = "'<FILE>...': it wants at most 64 files, and this is the 65t
 /// How many workers there are.
 fn workers(alloc: Global, rows: &ArgMatches) -> Result<u32, Error>
     ensures ok { IfOk result (λ n.
-        option_and_then as_workers (number_in (codes "workers") (rows_of (found_of rows.now))) ≡ Some n) }
+        option_and_then as_workers (option_number (codes "workers") (rows_of (found_of rows.now))) ≡ Some n) }
     ensures within { IfOk result (λ n. (1 ≤ n) × (n ≤ 64)) }
     ensures err { IfErr result (λ e. (kind_of e ≡ ErrorKind.OutOfMemory)
         ⊎ ((kind_of e ≡ ErrorKind.InvalidValue)
-        × (option_and_then as_workers (number_in (codes "workers") (rows_of (found_of rows.now))) ≡ None))) }
+        × (option_and_then as_workers (option_number (codes "workers") (rows_of (found_of rows.now))) ≡ None))) }
 {
     let Some(word) = value(rows, "workers") else {
         return Err(mistake(alloc, "--workers is missing"));

@@ -15,9 +15,9 @@ mod span;
 mod values;
 
 pub use args::{
-    Args, Asked, ChartArgs, CheckArgs, Edition, FarmArgs, Format, HuntArgs, Roots, RunArgs, Sought,
-    StepsArgs,
+    Args, ChartArgs, CheckArgs, CliCommand, Edition, FarmArgs, Format, HuntArgs, HuntGoal, Roots,
+    RunArgs, StepsArgs,
 };
 pub use laws::{stands_alone, statuses_agree};
 pub use parse::{read_args, status_of_kind};
-pub use reading::{Reading, read};
+pub use reading::{ReadWords, read};

@@ -4,9 +4,11 @@ ghost use Rattle.std.specs.Prelude.{◌≡◌, ◌⊎◌, true, IfOk, IfErr, map
 ghost use Rattle.clap.specs.Words.{FailsBy, fault_of, subcommand_of, subcommand_rows_of, kind_of, first_of, rows_of, found_of};
 ghost use Rattle.pf_request.specs.Request.{choices_in, may_weigh};
 ghost use Rattle.pf_request.specs.View.{view_of_kind, view_of_request};
-ghost use Rattle.pf_cli.specs.Args.{IsFaultBy, IsFaultOf, chart_of, fault_under, file_named, file_of, file_under, hunt_fault, hunt_of, hunt_of_values, named_file, of_command, of_one_file, of_other, one_file_fault, pulsefarm, request_by, run_fault, run_of, schedule_file_of, shrink_of, status_of_kind, view_of_args, view_of_asked, view_of_chart_args, view_of_hunt_args, view_of_run_args, wanted_by, wanted_of, work_fault, work_of};
+ghost use Rattle.pf_cli.specs.Args.{IsFaultBy, IsFaultOfWords, chart_of, fault_under, file_named, file_of, file_under, hunt_fault, hunt_of, hunt_of_values, named_file, of_command, of_one_file, of_other, one_file_fault, pulsefarm, request_by, run_fault, run_args_of, schedule_file_of, shrink_of, status_of_kind, view_of_args, view_of_command, view_of_chart_args, view_of_hunt_args, view_of_run_args, wanted_by, wanted_of, work_fault, work_of};
 
-use crate::args::{Args, Asked, ChartArgs, CheckArgs, HuntArgs, RunArgs, StepsArgs, Weights};
+use crate::args::{
+    Args, ChartArgs, CheckArgs, CliCommand, HuntArgs, RunArgs, StepsArgs, WeightArgs,
+};
 use crate::commands::command;
 use crate::farm::farm_args;
 use crate::form::format;
@@ -20,7 +22,7 @@ use crate::values::{
 };
 use clap::error::ErrorKind;
 use clap::{ArgMatches, Error};
-use pf_request::{Kind, Request, ShortBytes};
+use pf_request::{Request, RequestKind, ShortBytes};
 use std::alloc::Global;
 
 fn matches<'a>(alloc: Global, words: &'a [&'a str]) -> Result<ArgMatches<'a>, Error>
@@ -47,7 +49,7 @@ fn request(
     alloc: Global,
     root: &str,
     property: &str,
-    kind: Kind,
+    kind: RequestKind,
     limit: u32,
 ) -> Result<Request, Error>
     ensures ok { IfOk result (λ r.
@@ -78,13 +80,13 @@ fn run_args<'a>(
     text: Option<&str>,
 ) -> Result<RunArgs<'a>, Error>
     ensures ok { IfOk result (λ a.
-        run_of (option_map (λ s. s.now) text.entry) (rows_of (found_of rows.now))
+        run_args_of (option_map (λ s. s.now) text.entry) (rows_of (found_of rows.now))
         ≡ Some (view_of_run_args a)) }
     ensures file { IfOk result (λ a. option_map (λ s. s.now) a.file
         ≡ file_named (first_of (codes "file") (rows_of (found_of rows.now)))) }
     ensures err { IfErr result (λ e. (kind_of e ≡ ErrorKind.OutOfMemory)
         ⊎ ((kind_of e ≡ run_fault (rows_of (found_of rows.now)))
-        × (run_of (option_map (λ s. s.now) text.entry) (rows_of (found_of rows.now)) ≡ None))) }
+        × (run_args_of (option_map (λ s. s.now) text.entry) (rows_of (found_of rows.now)) ≡ None))) }
 {
     let choices = match choices(alloc, valued, rows, text) {
         Ok(choices) => choices,
@@ -100,7 +102,7 @@ fn run_args<'a>(
     };
     let root = named_root(rows);
     let property = named_property(rows);
-    match request(alloc, root, property, Kind::Run(choices), limit) {
+    match request(alloc, root, property, RequestKind::Run(choices), limit) {
         Ok(request) => Ok(RunArgs {
             file: named_file(rows),
             request,
@@ -182,7 +184,7 @@ fn hunt_values<'a>(alloc: Global, rows: &ArgMatches<'a>) -> Result<HuntArgs<'a>,
     };
     let root = named_root(rows);
     let property = named_property(rows);
-    let kind = Kind::Run(Weights::seeded(weights, 0));
+    let kind = RequestKind::Run(WeightArgs::seeded(weights, 0));
     match request(alloc, root, property, kind, limit) {
         Ok(request) => Ok(HuntArgs {
             file: named_file(rows),
@@ -253,7 +255,7 @@ fn shrink_args<'a>(
         alloc,
         root,
         property,
-        Kind::Shrink { schedule, runs },
+        RequestKind::Shrink { schedule, runs },
         limit,
     ) {
         Ok(request) => Ok(RunArgs {
@@ -374,10 +376,10 @@ fn command_args<'a>(
     name: &str,
     rows: &ArgMatches<'a>,
     text: Option<&str>,
-) -> Result<Asked<'a>, Error>
+) -> Result<CliCommand<'a>, Error>
     ensures ok { IfOk result (λ a.
         of_command (option_map (λ s. s.now) text.entry) name.now (rows_of (found_of rows.now))
-        ≡ Some (view_of_asked a)) }
+        ≡ Some (view_of_command a)) }
     ensures file { IfOk result (λ a. named_file a.args ≡ file_under name.now (rows_of (found_of rows.now))) }
     ensures err { IfErr result (λ e. (kind_of e ≡ ErrorKind.OutOfMemory)
         ⊎ ((kind_of e ≡ fault_under name.now (rows_of (found_of rows.now)))
@@ -389,7 +391,7 @@ fn command_args<'a>(
         Err(e) => return Err(e),
     };
     match work_args(alloc, name, rows, text) {
-        Ok(args) => Ok(Asked {
+        Ok(args) => Ok(CliCommand {
             args,
             format,
             explain: is_given(rows, "explain"),
@@ -400,8 +402,8 @@ fn command_args<'a>(
 
 /// What words ask for, and the file that they name for a schedule.
 #[derive(Drop)]
-pub(crate) struct Found<'a> {
-    pub asked: Asked<'a>,
+pub(crate) struct ParsedWords<'a> {
+    pub asked: CliCommand<'a>,
     pub schedule: Option<&'a str>,
 }
 
@@ -410,9 +412,9 @@ pub(crate) fn read_by<'a>(
     alloc: Global,
     words: &'a [&'a str],
     text: Option<&str>,
-) -> Result<Found<'a>, Error>
+) -> Result<ParsedWords<'a>, Error>
     ensures ok { IfOk result (λ f. wanted_by (option_map (λ s. s.now) text.entry) (map (λ w. w.now) words.now)
-        ≡ Some (view_of_asked f.asked)) }
+        ≡ Some (view_of_command f.asked)) }
     ensures file { IfOk result (λ f. named_file f.asked.args ≡ file_of (map (λ w. w.now) words.now)) }
     ensures schedule { IfOk result (λ f. option_map (λ s. s.now) f.schedule
         ≡ schedule_file_of (map (λ w. w.now) words.now)) }
@@ -428,18 +430,18 @@ pub(crate) fn read_by<'a>(
     };
     let schedule = named_schedule(rows);
     match command_args(alloc, name, rows, text) {
-        Ok(asked) => Ok(Found { asked, schedule }),
+        Ok(asked) => Ok(ParsedWords { asked, schedule }),
         Err(e) => Err(e),
     }
 }
 
 /// What the words ask for as they are given, the first of which names the program. Words that are refused or ask for
 /// help or the version are an error, which prints its text.
-pub fn read_args<'a>(alloc: Global, words: &'a [&'a str]) -> Result<Asked<'a>, Error>
-    ensures ok { IfOk result (λ a. wanted_of (map (λ w. w.now) words.now) ≡ Some (view_of_asked a)) }
+pub fn read_args<'a>(alloc: Global, words: &'a [&'a str]) -> Result<CliCommand<'a>, Error>
+    ensures ok { IfOk result (λ a. wanted_of (map (λ w. w.now) words.now) ≡ Some (view_of_command a)) }
     ensures file { IfOk result (λ a. named_file a.args ≡ file_of (map (λ w. w.now) words.now)) }
     ensures err { IfErr result (λ e. (kind_of e ≡ ErrorKind.OutOfMemory)
-        ⊎ IsFaultOf (kind_of e) (map (λ w. w.now) words.now)) }
+        ⊎ IsFaultOfWords (kind_of e) (map (λ w. w.now) words.now)) }
 {
     match read_by(alloc, words, None) {
         Ok(found) => Ok(found.asked),

@@ -3,7 +3,7 @@
 ghost use Rattle.std.specs.Prelude.{◌≡◌, ◌⊎◌, IfOk, IfErr, Some, None, codes, is_some, length, map, nat_lt, option_map};
 ghost use Rattle.clap.specs.Words.{first_of, kind_of, rows_of, found_of};
 ghost use Rattle.pf_cli.specs.Faults.{clash_told_in};
-ghost use Rattle.pf_cli.specs.Args.{clashes_in, is_given, names_in, reach_in};
+ghost use Rattle.pf_cli.specs.Args.{clashes_in, is_given, source_names, reach_in};
 ghost use Rattle.pf_cli.specs.Reach.{more_named, roots_named, view_of_reach};
 
 use crate::args::Roots;
@@ -18,7 +18,7 @@ const NAMES: &str = "'[FILE]...': it wants at most 4,096 files, and this is the 
 
 /// What a hunt goes over.
 #[derive(Drop)]
-pub(crate) struct Reach<'a> {
+pub(crate) struct HuntScope<'a> {
     /// The names of the sources after the first.
     pub more: Vec<&'a str>,
     pub roots: Roots,
@@ -49,10 +49,10 @@ fn behind_first<'a>(alloc: Global, names: &[&'a str]) -> Result<Vec<&'a str>, Er
 /// The names of the sources after the first.
 fn more<'a>(alloc: Global, rows: &ArgMatches<'a>) -> Result<Vec<&'a str>, Error>
     ensures ok { IfOk result (λ v.
-        more_named (names_in (rows_of (found_of rows.now))) ≡ Some (map (λ s. s.now) v.items)) }
+        more_named (source_names (rows_of (found_of rows.now))) ≡ Some (map (λ s. s.now) v.items)) }
     ensures err { IfErr result (λ e. (kind_of e ≡ ErrorKind.OutOfMemory)
         ⊎ ((kind_of e ≡ ErrorKind.InvalidValue)
-        × (more_named (names_in (rows_of (found_of rows.now))) ≡ None))) }
+        × (more_named (source_names (rows_of (found_of rows.now))) ≡ None))) }
 {
     match values(rows, "file") {
         Some(names) => behind_first(alloc, names),
@@ -62,7 +62,7 @@ fn more<'a>(alloc: Global, rows: &ArgMatches<'a>) -> Result<Vec<&'a str>, Error>
 
 /// Whether several sources are named.
 fn are_several(rows: &ArgMatches) -> bool
-    ensures { result ≡ nat_lt 1 (length (names_in (rows_of (found_of rows.now)))) }
+    ensures { result ≡ nat_lt 1 (length (source_names (rows_of (found_of rows.now)))) }
 {
     match values(rows, "file") {
         Some(names) => names.len() > 1,
@@ -83,13 +83,13 @@ fn roots(rows: &ArgMatches) -> Roots
 }
 
 /// What the hunt goes over.
-pub(crate) fn reach_of<'a>(alloc: Global, rows: &ArgMatches<'a>) -> Result<Reach<'a>, Error>
+pub(crate) fn reach_of<'a>(alloc: Global, rows: &ArgMatches<'a>) -> Result<HuntScope<'a>, Error>
     ensures ok { IfOk result (λ r. reach_in (rows_of (found_of rows.now)) ≡ Some (view_of_reach r)) }
     ensures err { IfErr result (λ e. (kind_of e ≡ ErrorKind.OutOfMemory)
         ⊎ ((kind_of e ≡ ErrorKind.InvalidValue) × (reach_in (rows_of (found_of rows.now)) ≡ None))) }
 {
     match more(alloc, rows) {
-        Ok(more) => Ok(Reach {
+        Ok(more) => Ok(HuntScope {
             more,
             roots: roots(rows),
             fail_fast: is_given(rows, "fail-fast"),

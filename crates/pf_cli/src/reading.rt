@@ -1,10 +1,10 @@
 //! What the program does with words.
 
 ghost use Rattle.std.specs.Prelude.{◌≡◌, ◌≢◌, IfOk, IfSome, Some, map, option_map};
-ghost use Rattle.pf_cli.specs.Args.{reading_of, status_of_kind, told, view_of_reading};
+ghost use Rattle.pf_cli.specs.Args.{reading_of, status_of_kind, text_answered, view_of_reading};
 ghost use Rattle.pf_cli.specs.Faults.{text_in};
 
-use crate::args::Asked;
+use crate::args::CliCommand;
 use crate::parse::{read_by, status_of_kind};
 use clap::error::ErrorKind;
 use pf_terms::NoMemory;
@@ -13,9 +13,9 @@ use std::fmt::Display;
 
 /// How words are read.
 #[derive(Drop)]
-pub enum Reading<'a> {
+pub enum ReadWords<'a> {
     /// They ask for this.
-    Asked(Asked<'a>),
+    Asked(CliCommand<'a>),
     /// They ask for work by the schedule in this file, `--schedule @FILE`: its text is read, and then the words once
     /// more with it.
     ScheduleIn(&'a str),
@@ -29,8 +29,12 @@ pub enum Reading<'a> {
 }
 
 /// The text of words that ask for no work: what their error of this kind prints.
-fn told<'a, E: Display>(alloc: Global, kind: ErrorKind, error: &E) -> Result<Reading<'a>, NoMemory>
-    ensures told { IfOk result (λ r. view_of_reading r ≡ told (status_of_kind kind)) }
+fn told<'a, E: Display>(
+    alloc: Global,
+    kind: ErrorKind,
+    error: &E,
+) -> Result<ReadWords<'a>, NoMemory>
+    ensures text_answered { IfOk result (λ r. view_of_reading r ≡ text_answered (status_of_kind kind)) }
     ensures text { IfOk result (λ r. IfSome (E.output error.now) (λ printed. text_in r ≡ Some printed)) }
     ensures memory { IfOk result (λ r. kind ≢ ErrorKind.OutOfMemory) }
 {
@@ -39,7 +43,7 @@ fn told<'a, E: Display>(alloc: Global, kind: ErrorKind, error: &E) -> Result<Rea
     }
     let status = status_of_kind(kind);
     match format!(in alloc; "{error}") {
-        Ok(text) => Ok(Reading::Text {
+        Ok(text) => Ok(ReadWords::Text {
             text,
             status,
             is_fault: status != 0,
@@ -54,7 +58,7 @@ pub fn read<'a>(
     alloc: Global,
     words: &'a [&'a str],
     schedule: Option<&str>,
-) -> Result<Reading<'a>, NoMemory>
+) -> Result<ReadWords<'a>, NoMemory>
     ensures { IfOk result (λ r. view_of_reading r
         ≡ reading_of (option_map (λ s. s.now) schedule.entry) (map (λ w. w.now) words.now)) }
 {
@@ -67,7 +71,7 @@ pub fn read<'a>(
         Err(error) => return told(alloc, error.kind(), &error),
     };
     match (schedule, found.schedule) {
-        (None, Some(file)) => Ok(Reading::ScheduleIn(file)),
-        _ => Ok(Reading::Asked(found.asked)),
+        (None, Some(file)) => Ok(ReadWords::ScheduleIn(file)),
+        _ => Ok(ReadWords::Asked(found.asked)),
     }
 }

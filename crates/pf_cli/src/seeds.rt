@@ -3,7 +3,7 @@
 ghost use Rattle.std.specs.Prelude.{◌≡◌, ◌⊎◌, IfOk, IfErr, Some, None};
 ghost use Rattle.clap.specs.Words.{kind_of, rows_of, found_of};
 ghost use Rattle.pf_cli.specs.Args.{seeds_in};
-ghost use Rattle.pf_cli.specs.Seeds.{after_dot, end_of, seeds_between, seeds_of};
+ghost use Rattle.pf_cli.specs.Seeds.{after_dot, range_end, seeds_between, seeds_of};
 
 use crate::refusals::{Valued, refuse_value};
 use crate::values::value;
@@ -28,7 +28,7 @@ fn seeds_between(first: Option<u64>, end: Option<u64>) -> Option<(u64, u64)>
 
 /// The end of seeds that is written `B`, or `=B`, which has B before it.
 fn end_of(text: &[u8]) -> Option<u64>
-    ensures { result ≡ end_of text.now }
+    ensures { result ≡ range_end text.now }
 {
     match text {
         [b'=', last @ ..] => long_number_of(last)?.checked_add(1),

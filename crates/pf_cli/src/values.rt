@@ -3,12 +3,12 @@
 ghost use Rattle.std.specs.Prelude.{◌≡◌, ◌≤◌, ◌⊎◌, true, IfOk, IfErr, IfSome, Some, None, codes, map, option_map, option_and_then};
 ghost use Rattle.clap.specs.Words.{all_of, kind_of, first_of, rows_of, found_of};
 ghost use Rattle.pf_model.specs.Meaning.{schedule};
-ghost use Rattle.pf_text.specs.Numbers.{long_number_of, number_of, schedule_of};
+ghost use Rattle.pf_text.specs.Numbers.{long_number_of, number_of_digits, schedule_of};
 ghost use Rattle.pf_request.specs.Request.{may_weigh};
 ghost use Rattle.pf_request.specs.View.{view_of_choices};
-ghost use Rattle.pf_cli.specs.Args.{as_edition, as_workers, bounds_in, choices_in, edition_named, edition_number, file_at, file_named, guided_by, guided_in, hunt_strategy, in_place, is_given, limit_named, number_in, numbers_of, page_named, property_named, root_named, run_fault, schedule_in, seeded_by, sought_by, sought_in, strategy_named, strategy_of, weight_of, weights_by, weights_in, weights_of, workers_in};
+ghost use Rattle.pf_cli.specs.Args.{as_edition, as_workers, bounds_in, choices_in, edition_named, edition_number, file_at, file_named, guided_by, guided_in, hunt_strategy, in_place, is_given, limit_named, option_number, schedule_numbers, page_named, property_named, root_named, run_fault, schedule_in, seeded_by, sought_by, sought_in, strategy_named, strategy_of, weight_of_word, weights_by, weights_in, weights_of, workers_in};
 
-use crate::args::{Edition, Sought, Weights};
+use crate::args::{Edition, HuntGoal, WeightArgs};
 use crate::refusals::{Valued, mistake, refuse, refuse_number, refuse_value};
 use clap::error::ErrorKind;
 use clap::{ArgMatches, Error};
@@ -83,10 +83,10 @@ pub(crate) fn number(
     name: &str,
     wants: &str,
 ) -> Result<u32, Error>
-    ensures ok { IfOk result (λ n. number_in name.now (rows_of (found_of rows.now)) ≡ Some n) }
+    ensures ok { IfOk result (λ n. option_number name.now (rows_of (found_of rows.now)) ≡ Some n) }
     ensures err { IfErr result (λ e. (kind_of e ≡ ErrorKind.OutOfMemory)
         ⊎ ((kind_of e ≡ ErrorKind.InvalidValue)
-        × (number_in name.now (rows_of (found_of rows.now)) ≡ None))) }
+        × (option_number name.now (rows_of (found_of rows.now)) ≡ None))) }
 {
     let Some(word) = value(rows, name) else {
         return Err(mistake(alloc, "an option is missing"));
@@ -99,7 +99,7 @@ pub(crate) fn number(
 
 /// The edition that a word names.
 fn as_edition(word: &str) -> Option<Edition>
-    ensures { option_map edition_number result ≡ option_and_then as_edition (number_of word.now) }
+    ensures { option_map edition_number result ≡ option_and_then as_edition (number_of_digits word.now) }
 {
     match number_of(word.as_bytes()) {
         Some(1) => Some(Edition::First),
@@ -164,7 +164,7 @@ pub(crate) fn bounds(
 
 /// The weight that a word names.
 fn weight_of(word: &str) -> Option<u32>
-    ensures { result ≡ weight_of word.now }
+    ensures { result ≡ weight_of_word word.now }
 {
     match number_of(word.as_bytes()) {
         Some(number @ 1..=9) => Some(number),
@@ -173,13 +173,13 @@ fn weight_of(word: &str) -> Option<u32>
 }
 
 /// The weights that a text names: that of a process and that of a channel.
-fn weights_of(text: &str) -> Option<Weights>
+fn weights_of(text: &str) -> Option<WeightArgs>
     ensures { option_map weights_by result ≡ weights_of text.now }
 {
     let (front, back) = text.split_once(':')?;
     let run = weight_of(front)?;
     let deliver = weight_of(back)?;
-    Some(Weights { run, deliver })
+    Some(WeightArgs { run, deliver })
 }
 
 /// The weights that are named, if any are.
@@ -187,7 +187,7 @@ pub(crate) fn weights(
     alloc: Global,
     valued: Valued,
     rows: &ArgMatches,
-) -> Result<Option<Weights>, Error>
+) -> Result<Option<WeightArgs>, Error>
     ensures ok { IfOk result (λ w.
         weights_in (rows_of (found_of rows.now)) ≡ Some (option_map weights_by w)) }
     ensures err { IfErr result (λ e. (kind_of e ≡ ErrorKind.OutOfMemory)
@@ -221,7 +221,7 @@ fn choices_by_seed(
         Err(e) => return Err(e),
     };
     match long_number_of(word.as_bytes()) {
-        Some(seed) => Ok(Weights::seeded(weights, seed)),
+        Some(seed) => Ok(WeightArgs::seeded(weights, seed)),
         None => {
             let wants = "a number from 0 to 18446744073709551615, without leading zeros";
             Err(refuse_value(alloc, valued, "seed <N>", word, wants))
@@ -259,10 +259,10 @@ fn in_place<'a>(text: Option<&'a str>, word: &'a str) -> &'a str
 
 /// The numbers of the schedule that a word names, with a text in place of the file that it names.
 fn numbers(alloc: Global, valued: Valued, text: Option<&str>, word: &str) -> Result<Vec<u32>, Error>
-    ensures ok { IfOk result (λ v. numbers_of (option_map (λ s. s.now) text.entry) word.now ≡ Some v.items) }
+    ensures ok { IfOk result (λ v. schedule_numbers (option_map (λ s. s.now) text.entry) word.now ≡ Some v.items) }
     ensures err { IfErr result (λ e. (kind_of e ≡ ErrorKind.OutOfMemory)
         ⊎ ((kind_of e ≡ ErrorKind.InvalidValue)
-        × (numbers_of (option_map (λ s. s.now) text.entry) word.now ≡ None))) }
+        × (schedule_numbers (option_map (λ s. s.now) text.entry) word.now ≡ None))) }
 {
     match schedule_of(alloc, in_place(text, word).as_bytes()) {
         Ok(Some(numbers)) => Ok(numbers),
@@ -282,12 +282,12 @@ fn choices_by_schedule(
     word: &str,
 ) -> Result<RunChoices, Error>
     ensures ok { IfOk result (λ cs.
-        option_map schedule (numbers_of (option_map (λ s. s.now) text.entry) word.now)
+        option_map schedule (schedule_numbers (option_map (λ s. s.now) text.entry) word.now)
         ≡ Some (view_of_choices cs)) }
     ensures weighs { IfOk result (λ cs. may_weigh (view_of_choices cs) ≡ true) }
     ensures err { IfErr result (λ e. (kind_of e ≡ ErrorKind.OutOfMemory)
         ⊎ ((kind_of e ≡ ErrorKind.InvalidValue)
-        × (numbers_of (option_map (λ s. s.now) text.entry) word.now ≡ None))) }
+        × (schedule_numbers (option_map (λ s. s.now) text.entry) word.now ≡ None))) }
 {
     let numbers = match numbers(alloc, valued, text, word) {
         Ok(numbers) => numbers,
@@ -398,7 +398,7 @@ pub(crate) fn guided(
 }
 
 /// The strategy of a hunt with these weights, if any are named.
-fn hunt_strategy(weights: Option<Weights>, word: Option<&str>) -> Option<Strategy>
+fn hunt_strategy(weights: Option<WeightArgs>, word: Option<&str>) -> Option<Strategy>
     ensures { result ≡ hunt_strategy (option_map weights_by weights) (option_map (λ s. s.now) word.entry) }
 {
     if weights.is_none() {
@@ -414,7 +414,7 @@ fn hunt_strategy(weights: Option<Weights>, word: Option<&str>) -> Option<Strateg
 pub(crate) fn strategy(
     alloc: Global,
     rows: &ArgMatches,
-    weights: Option<Weights>,
+    weights: Option<WeightArgs>,
 ) -> Result<Strategy, Error>
     ensures ok { IfOk result (λ s.
         hunt_strategy (option_map weights_by weights) (first_of (codes "strategy") (rows_of (found_of rows.now)))
@@ -502,7 +502,7 @@ pub(crate) fn page(alloc: Global, rows: &ArgMatches) -> Result<u32, Error>
 
 /// The number of workers that a word names.
 pub(crate) fn as_workers(word: &str) -> Option<u32>
-    ensures number { result ≡ option_and_then as_workers (number_of word.now) }
+    ensures number { result ≡ option_and_then as_workers (number_of_digits word.now) }
     ensures within { IfSome result (λ n. (1 ≤ n) × (n ≤ 64)) }
 {
     match number_of(word.as_bytes()) {
@@ -527,16 +527,16 @@ pub(crate) fn workers(alloc: Global, rows: &ArgMatches) -> Result<Option<u32>, E
 }
 
 /// What is sought: each outcome, or the least seed that fails, whose schedule may be shrunk.
-pub(crate) fn sought(alloc: Global, rows: &ArgMatches) -> Result<Sought, Error>
+pub(crate) fn sought(alloc: Global, rows: &ArgMatches) -> Result<HuntGoal, Error>
     ensures ok { IfOk result (λ s. sought_in (rows_of (found_of rows.now)) ≡ Some (sought_by s)) }
     ensures err { IfErr result (λ e. (kind_of e ≡ ErrorKind.OutOfMemory)
         ⊎ ((kind_of e ≡ ErrorKind.InvalidValue) × (sought_in (rows_of (found_of rows.now)) ≡ None))) }
 {
     match (is_given(rows, "all"), value(rows, "shrink")) {
-        (true, _) => Ok(Sought::Outcomes),
-        (false, None) => Ok(Sought::Failure { runs: None }),
+        (true, _) => Ok(HuntGoal::Outcomes),
+        (false, None) => Ok(HuntGoal::Failure { runs: None }),
         (false, Some(word)) => match number_of(word.as_bytes()) {
-            Some(runs) => Ok(Sought::Failure { runs: Some(runs) }),
+            Some(runs) => Ok(HuntGoal::Failure { runs: Some(runs) }),
             None => Err(refuse_number(alloc, Valued::Hunt, "shrink", word, RUNS)),
         },
     }

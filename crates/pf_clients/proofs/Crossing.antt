@@ -11,15 +11,15 @@ use denote.Param.Send.{AllSend, IsSend, IsSync, arg_send, mut_slice_send, param_
 use denote.Struct.Declared.{shape}
 use Rattle.std.proofs.Crossing as heap
 use Rattle.std.proofs.io.Error.TheSendSync as error
-use Rattle.pf_farm_names.specs.declared.names.FarmNames as names
+use Rattle.pf_farm_accounts.specs.declared.names.FarmNames as names
 use Rattle.pf_sched.proofs.Crossing as sched
-use Rattle.pf_hall.proofs.Crossing as hall
-use Rattle.pf_wire.specs.contracts.told.Told as Told
+use Rattle.pf_farm_state.proofs.Crossing as hall
+use Rattle.pf_wire.specs.contracts.told.WrittenAnswer as Told
 use Rattle.pf_wire.specs.contracts.told.ToldReport as Report
-use Rattle.pf_clients.specs.contracts.client.Ended as Ended
-use Rattle.pf_clients.proofs.start.Stage.TheSendSync as stage
+use Rattle.pf_clients.specs.contracts.client.FileEnd as Ended
+use Rattle.pf_clients.proofs.start.StartStage.TheSendSync as stage
 use Rattle.pf_clients.specs.contracts.client.Client as Client
-use Rattle.pf_clients.specs.contracts.start.Start as Start
+use Rattle.pf_clients.specs.contracts.start.FarmStart as Start
 use Rattle.std.specs.contracts.alloc.Global as Global
 
 report_field_send : IsSend (Report.the_field).row

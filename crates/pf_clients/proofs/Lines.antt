@@ -1,27 +1,27 @@
 -- The lines of a client's file, answered one after another.
 use Rattle.std.proofs.Common.{◌≡◌, ◌⊎◌, ◌==◌, ◌<◌, ℕ, ◌+◌, Bool, true, false, not, List, [], ◌∷◌, ◌++◌, length, Option, Some, None, refl, sym, ap, ◌∙◌, subst, inl, inr, append-nil, append_assoc, length-append, eqb-true, arith}
 use Rattle.std.specs.Prelude.{Result, Ok, Err, IfOk, OnErr, take}
-use Rattle.pf_fault.specs.declared.fault.OrNoMemory.{OrNoMemory}
-use Rattle.pf_fault.specs.declared.fault.OrNoMemory.TheVariants as stop
-use Rattle.pf_fault.specs.declared.memory.NoMemory.{NoMemory}
+use Rattle.pf_errors.specs.declared.fault.OrNoMemory.{OrNoMemory}
+use Rattle.pf_errors.specs.declared.fault.OrNoMemory.TheVariants as stop
+use Rattle.pf_errors.specs.declared.memory.NoMemory.{NoMemory}
 use Rattle.pf_terms.specs.declared.stream.StreamFault.{StreamFault}
 use Rattle.pf_terms.specs.declared.stream.StreamFault.TheVariants.{Read, Write}
 use Rattle.pf_request.specs.declared.call.Call as call_code
 use Rattle.pf_request.specs.View.{view_of_call}
 use Rattle.pf_request.specs.Calls.{Call}
 use Rattle.pf_desks.specs.Told.{reply_text}
-use Rattle.pf_worlds.specs.Steps.{client_calls}
-use Rattle.pf_worlds.specs.Told.{outcome_text}
+use Rattle.pf_world.specs.Steps.{client_calls}
+use Rattle.pf_world.specs.Told.{step_text}
 use Rattle.pf_book.specs.declared.reply.Reply.{Reply}
-use Rattle.pf_receipts.specs.Receipts.{receipt_of}
-use Rattle.pf_hall.specs.Clients.{ClientView, empty_client, full_seat, GetsReceipt, StaysFull}
-use Rattle.pf_lines.specs.Clients.{ClientLine, calls, awaits, client_line_at}
-use Rattle.pf_lines.specs.Complete.{is_due}
-use Rattle.pf_lines.proofs.Shorter.{client_line_shorter}
+use Rattle.pf_farm_accounts.specs.Receipts.{receipt_of}
+use Rattle.pf_farm_state.specs.Clients.{ClientView, empty_client, full_seat, GetsReceipt, StaysFull}
+use Rattle.pf_protocol.specs.Clients.{ClientLine, calls, awaits, client_line_at}
+use Rattle.pf_protocol.specs.Complete.{is_due}
+use Rattle.pf_protocol.proofs.Shorter.{client_line_shorter}
 use Rattle.pf_wire.specs.Steps.{AreRead, last_text}
 use Rattle.pf_wire.specs.declared.steps.TheConstants.{MOST_BYTES}
-use Rattle.pf_clients.specs.declared.client.Ended.{Ended}
-use Rattle.pf_clients.specs.declared.client.Ended.TheVariants.{Answered, NoCommand, NoMemory as OutOfMemory}
+use Rattle.pf_clients.specs.declared.client.FileEnd.{FileEnd}
+use Rattle.pf_clients.specs.declared.client.FileEnd.TheVariants.{Answered, NoCommand, NoMemory as OutOfMemory}
 use Rattle.pf_clients.specs.Faults.{ended_by}
 use Rattle.pf_clients.specs.Lines.{Line, logged, one_too_many, without_memory, waited, answer_in, asked_in, call_text, line_text, lines_text, Leaves, AnswersLine, CutsLine, AnswersFront, IsCut, CutsFront, AnswersLines, EndsAt, AnswersBytes, AnswersFile}
 
@@ -59,7 +59,7 @@ pub waits : (t : ℕ) (s : ClientView) (text : List ℕ) → AnswersLine (awaits
 waits t s text = (waited t, refl, refl, sym (append-nil text))
 
 -- the text of the result of a project's call, however the step is written
-pub outcome_of_call : (q : ℕ) (c : Call) (r : Result Reply NoMemory) → outcome_text (client_calls q c) (answer_in r) ≡ call_text q r
+pub outcome_of_call : (q : ℕ) (c : Call) (r : Result Reply NoMemory) → step_text (client_calls q c) (answer_in r) ≡ call_text q r
 outcome_of_call q c (Ok a) = refl
 outcome_of_call q c (Err e) = refl
 
@@ -198,12 +198,12 @@ is_unread q input e =
     )
 
 module _ (q : ℕ) (input : Option (List ℕ)) (s : ClientView) (t : List ℕ) (new : s ≡ empty_client q) (none : t ≡ []) where
-  pub file_answered : (bytes : List ℕ) (s' : ClientView) (t' : List ℕ) (e : Ended) → AreRead input bytes → AnswersBytes bytes s s' t t' e → AnswersFile q input s' t' e
+  pub file_answered : (bytes : List ℕ) (s' : ClientView) (t' : List ℕ) (e : FileEnd) → AreRead input bytes → AnswersBytes bytes s s' t t' e → AnswersFile q input s' t' e
   file_answered bytes s' t' e read h =
       let P : ClientView × List ℕ → Type 0 = λ x. AnswersBytes bytes x.0 s' x.1 t' e in
       (bytes, read, subst P (λ i. (new i, none i)) h)
 
-  pub file_unread : (e : Ended) (stop : OrNoMemory StreamFault) → e ≡ ended_by stop → AnswersFile q input s t e
+  pub file_unread : (e : FileEnd) (stop : OrNoMemory StreamFault) → e ≡ ended_by stop → AnswersFile q input s t e
   file_unread e stop is =
-      let P : ClientView × List ℕ × Ended → Type 0 = λ x. AnswersFile q input x.0 x.1 x.2 in
+      let P : ClientView × List ℕ × FileEnd → Type 0 = λ x. AnswersFile q input x.0 x.1 x.2 in
       subst P (λ i. (sym new i, sym none i, sym is i)) (is_unread q input stop)

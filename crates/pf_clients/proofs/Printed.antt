@@ -5,8 +5,8 @@ use Rattle.std.specs.Global.{Vec}
 use Rattle.std.specs.Io.KnownBytes.{Appends}
 use Rattle.std.proofs.KnownBytes.{Appends-nil}
 use Rattle.std.proofs.lemmas.List.{take_more, take_all, take-append-drop}
-use Rattle.pf_fault.specs.declared.fault.OrNoMemory.{OrNoMemory}
-use Rattle.pf_fault.specs.declared.fault.OrNoMemory.TheVariants.{Fault, NoMemory}
+use Rattle.pf_errors.specs.declared.fault.OrNoMemory.{OrNoMemory}
+use Rattle.pf_errors.specs.declared.fault.OrNoMemory.TheVariants.{Fault, NoMemory}
 use Rattle.pf_terms.specs.declared.stream.StreamFault.{StreamFault}
 use Rattle.pf_terms.specs.declared.stream.StreamFault.TheVariants.{Read, Write}
 use Rattle.pf_terms.specs.Streams.{AppendsFront, CountsWrite}
@@ -15,32 +15,32 @@ use Rattle.pf_trace.proofs.Fronts.{front_of_both, front_of_more}
 use Rattle.pf_wire.proofs.Adding.{added_both, front_of_second}
 use Rattle.pf_wire.proofs.Leaving.{IsAdded}
 use Rattle.pf_wire.specs.Whole.{whole_text, with_report}
-use Rattle.pf_wire.specs.declared.told.Told.{Told}
-use Rattle.pf_clients.specs.declared.client.Ended.{Ended}
-use Rattle.pf_clients.specs.declared.client.Ended.TheVariants.{Answered, NoCommand, Unread, NoMemory as OutOfMemory}
+use Rattle.pf_wire.specs.declared.told.WrittenAnswer.{WrittenAnswer}
+use Rattle.pf_clients.specs.declared.client.FileEnd.{FileEnd}
+use Rattle.pf_clients.specs.declared.client.FileEnd.TheVariants.{Answered, NoCommand, Unread, NoMemory as OutOfMemory}
 use Rattle.pf_clients.specs.Faults.{CountsFault}
 use Rattle.pf_clients.specs.Farms.{ClientText, stop_at, or_else, first_stop, unless, printed, status_at, status_of, Prints, PrintsInPart}
 use Rattle.pf_clients.specs.Texts.{told_text}
 
-pub told_more : (ts : List Told) (t : Told) → told_text (ts ++ t ∷ []) ≡ told_text ts ++ whole_text t
+pub told_more : (ts : List WrittenAnswer) (t : WrittenAnswer) → told_text (ts ++ t ∷ []) ≡ told_text ts ++ whole_text t
 told_more [] t = append-nil (whole_text t)
 told_more (x ∷ ts) t = ap (λ (y : List ℕ). whole_text x ++ y) (told_more ts t) ∙ sym (append_assoc (whole_text x) (told_text ts) (whole_text t))
 
-pub told_both : (ts us : List Told) → told_text (ts ++ us) ≡ told_text ts ++ told_text us
+pub told_both : (ts us : List WrittenAnswer) → told_text (ts ++ us) ≡ told_text ts ++ told_text us
 told_both [] us = refl
 told_both (t ∷ ts) us = ap (λ (y : List ℕ). whole_text t ++ y) (told_both ts us) ∙ sym (append_assoc (whole_text t) (told_text ts) (told_text us))
 
 -- ---- replies that are gathered
 
-module _ (ts : List Told) (i : ℕ) (g1 g2 : List ℕ) (w0 w1 w2 : Option (List ℕ)) (so_far : IsAdded [] (told_text (take i ts)) g1 w0 w1) where
-  one_reply : (t : Told) → i < length ts → t ≡ get_or ts i t → told_text (take (i + 1) ts) ≡ told_text (take i ts) ++ whole_text t
+module _ (ts : List WrittenAnswer) (i : ℕ) (g1 g2 : List ℕ) (w0 w1 w2 : Option (List ℕ)) (so_far : IsAdded [] (told_text (take i ts)) g1 w0 w1) where
+  one_reply : (t : WrittenAnswer) → i < length ts → t ≡ get_or ts i t → told_text (take (i + 1) ts) ≡ told_text (take i ts) ++ whole_text t
   one_reply t within is = ap told_text (take_more ts i t within) ∙ told_more (take i ts) (get_or ts i t) ∙ ap (λ x. told_text (take i ts) ++ whole_text x) (sym is)
 
-  pub adds_reply : (t : Told) → i < length ts → t ≡ get_or ts i t → IsAdded g1 (whole_text t) g2 w1 w2 → IsAdded [] (told_text (take (i + 1) ts)) g2 w0 w2
+  pub adds_reply : (t : WrittenAnswer) → i < length ts → t ≡ get_or ts i t → IsAdded g1 (whole_text t) g2 w1 w2 → IsAdded [] (told_text (take (i + 1) ts)) g2 w0 w2
   adds_reply t within is h =
       added_both [] g1 g2 (told_text (take i ts)) (whole_text t) (told_text (take (i + 1) ts)) w0 w1 w2 (sym (one_reply t within is)) so_far h
 
-  pub front_at_reply : (t : Told) → i < length ts → t ≡ get_or ts i t → AppendsFront w1 w2 (g1 ++ whole_text t) → AppendsFront w0 w2 (told_text ts)
+  pub front_at_reply : (t : WrittenAnswer) → i < length ts → t ≡ get_or ts i t → AppendsFront w1 w2 (g1 ++ whole_text t) → AppendsFront w0 w2 (told_text ts)
   front_at_reply t within is h =
       let front : AppendsFront w0 w2 (told_text (take (i + 1) ts)) =
       front_of_second [] g1 (told_text (take i ts)) (whole_text t) (told_text (take (i + 1) ts)) w0 w1 w2 (sym (one_reply t within is)) so_far h in
@@ -82,7 +82,7 @@ stop_both (c ∷ cs) ds h =
     let k = goes_on c cs h in
     ap (λ (o : Option (OrNoMemory StreamFault)). or_else o (first_stop (cs ++ ds))) k.0 ∙ stop_both cs ds k.1
 
-status_apart : (a b : Ended) (n : ℕ) → status_at a (status_at b n) ≡ status_at b (status_at a n)
+status_apart : (a b : FileEnd) (n : ℕ) → status_at a (status_at b n) ≡ status_at b (status_at a n)
 status_apart Answered b n = refl
 status_apart (Unread e) b n = refl
 status_apart OutOfMemory b n = refl
@@ -147,7 +147,7 @@ in_part_by_writer cs (Read e) w0 w1 n0 n1 counts front = absurd counts
 in_part_by_writer cs (Write e) w0 w1 n0 n1 counts front = (counts, front)
 
 -- what stops a file is no fault of the writer
-pub in_part_by_stop : (cs : List ClientText) (c : Ended) (e : OrNoMemory StreamFault) (w0 w1 : Option (List ℕ)) (n0 n1 : ℕ) → stop_at c ≡ Some e → n1 ≡ n0
+pub in_part_by_stop : (cs : List ClientText) (c : FileEnd) (e : OrNoMemory StreamFault) (w0 w1 : Option (List ℕ)) (n0 n1 : ℕ) → stop_at c ≡ Some e → n1 ≡ n0
     → (first_stop cs ≡ Some e) × Appends w0 w1 (printed cs) → PrintsInPart cs e w0 w1 n0 n1
 in_part_by_stop cs Answered e w0 w1 n0 n1 is same h = absurd (cc)
 in_part_by_stop cs NoCommand e w0 w1 n0 n1 is same h = absurd (cc)
@@ -183,21 +183,21 @@ none_if_none None b is h = refl
 none_if_none (Some x) b is h = let other : true ≡ not true = is ∙ ap not h in absurd (cc)
 
 -- there is one
-pub some_last : (ts : List Told) (t : Told) → slice_get ts (length ts - 1) ≡ Some t → 0 < length ts
+pub some_last : (ts : List WrittenAnswer) (t : WrittenAnswer) → slice_get ts (length ts - 1) ≡ Some t → 0 < length ts
 some_last [] t is = absurd (cc)
 some_last (u ∷ ts) t is = omega arith
 
-pub none_in : (last t : Told) → Some last ≡ Some t → last.report ≡ None → t.report ≡ None
-none_in last t is none = let same : last ≡ t = cc in subst (λ (x : Told). x.report ≡ None) same none
+pub none_in : (last t : WrittenAnswer) → Some last ≡ Some t → last.report ≡ None → t.report ≡ None
+none_in last t is none = let same : last ≡ t = cc in subst (λ (x : WrittenAnswer). x.report ≡ None) same none
 
 -- that of two which have no report, as one
-pub joined_text : (t told : Told) (text : Vec ℕ) → t.report ≡ None → told.report ≡ None → text.items ≡ t.text.items ++ told.text.items
+pub joined_text : (t told : WrittenAnswer) (text : Vec ℕ) → t.report ≡ None → told.report ≡ None → text.items ≡ t.text.items ++ told.text.items
     → with_report text.items t.report ≡ whole_text t ++ whole_text told
 joined_text t told text none none_told both =
     ap (with_report text.items) none ∙ both ∙ sym (λ i. with_report t.text.items (none i) ++ with_report told.text.items (none_told i))
 
 -- it is longer by a text
-pub longer_last : (ts : List Told) (i : ℕ) (t x : Told) (more : List ℕ) → length ts ≡ i + 1 → slice_get ts i ≡ Some t → whole_text x ≡ whole_text t ++ more
+pub longer_last : (ts : List WrittenAnswer) (i : ℕ) (t x : WrittenAnswer) (more : List ℕ) → length ts ≡ i + 1 → slice_get ts i ≡ Some t → whole_text x ≡ whole_text t ++ more
     → told_text (set ts i x) ≡ told_text ts ++ more
 longer_last [] i t x more len is longer = absurd (cc)
 longer_last (u ∷ []) zero t x more len is longer =

@@ -3,17 +3,17 @@ use Rattle.std.proofs.Common.{◌≡◌, ℕ, zero, suc, List, [], ◌∷◌, ma
 use Rattle.std.specs.Prelude.{All}
 use Rattle.std.specs.Global.{Vec}
 use Rattle.std.proofs.lemmas.List.Elements.{All-nil, All-cons}
-use Rattle.pf_fault.specs.declared.fault.OrNoMemory.{OrNoMemory}
+use Rattle.pf_errors.specs.declared.fault.OrNoMemory.{OrNoMemory}
 use Rattle.pf_terms.specs.declared.stream.StreamFault.{StreamFault}
-use Rattle.pf_ledger.specs.Rows.{HaveEnded}
+use Rattle.pf_farm_accounts.specs.Rows.{HaveEnded}
 use Rattle.pf_book.specs.Profile.{ForRight}
-use Rattle.pf_told.specs.Told.{IsTold}
-use Rattle.pf_hall.specs.Clients.{ClientView, all_receipts, closed_as, empty_client, AreFull, AreLegal, AreTheCalls}
-use Rattle.pf_hall.specs.declared.client.ClosedSeat.{ClosedSeat}
-use Rattle.pf_hall.specs.declared.closing.Closing.{Closing}
-use Rattle.pf_wire.specs.declared.told.Told.{Told}
-use Rattle.pf_clients.specs.declared.told.Answers.{Answers}
-use Rattle.pf_clients.specs.declared.client.Ended.{Ended}
+use Rattle.pf_farm_laws.specs.Told.{AgreesWithHistories}
+use Rattle.pf_farm_state.specs.Clients.{ClientView, all_receipts, closed_as, empty_client, AreFull, AreLegal, AreTheCalls}
+use Rattle.pf_farm_state.specs.declared.client.ClosedSeat.{ClosedSeat}
+use Rattle.pf_farm_state.specs.declared.closing.Closing.{Closing}
+use Rattle.pf_wire.specs.declared.told.WrittenAnswer.{WrittenAnswer}
+use Rattle.pf_clients.specs.declared.told.ClientAnswers.{ClientAnswers}
+use Rattle.pf_clients.specs.declared.client.FileEnd.{FileEnd}
 use Rattle.pf_clients.specs.Farms.{answers_of, client_text, ClientText, AreAnswered, FarmLeaves, FarmOf, FarmPrints, Prints, PrintsInPart}
 use Rattle.pf_clients.specs.Lines.{AnswersFile, IsNew, IsServed}
 use Rattle.pf_clients.specs.Pairs.{EachTwo}
@@ -22,7 +22,7 @@ use Rattle.pf_clients.specs.Texts.{told_text}
 pub new_seat : (s : ClientView) (k : ℕ) → s ≡ empty_client k → s ≡ empty_client s.project
 new_seat s k e = e ∙ ap empty_client (sym (ap (λ (x : ClientView). x.project) e))
 
-module _ {F C : Type 0} (seat : C → ClientView) (file : C → Option F) (told : C → Vec Told) (ended : C → Ended) where
+module _ {F C : Type 0} (seat : C → ClientView) (file : C → Option F) (told : C → Vec WrittenAnswer) (ended : C → FileEnd) where
   abbrev IsSeated : ℕ → F → C → Type 0
   IsSeated k f c = (seat c ≡ empty_client k) × (file c ≡ Some f) × ((told c).items ≡ [])
 
@@ -61,18 +61,18 @@ module _ {F C : Type 0} (seat : C → ClientView) (file : C → Option F) (told 
       (file_answered remaining k f c d s seated.0 served.0 head, all_answered remaining (suc k) (suc j) fs cs ds ss seated.1 served.1 tail)
 
   -- the clients of files work on a farm that is closed after them
-  pub farm_answered : (remaining : F → Option (List ℕ)) (fs : List F) (cs ds whole : List C) (closing : Closing) (seats : List ClientView) (answers : List Answers)
+  pub farm_answered : (remaining : F → Option (List ℕ)) (fs : List F) (cs ds whole : List C) (closing : Closing) (seats : List ClientView) (answers : List ClientAnswers)
       → EachTwo IsSeated 1 fs cs → EachTwo (λ n c d. IsServed remaining (file c) (seat c).project (seat d) (told d).items (ended d)) 1 cs ds → whole ≡ ds
       → seats ≡ map seat whole → answers ≡ map (λ d. answers_of (told d) (ended d)) whole → map closed_as closing.seats.items ≡ seats
       → ForRight (λ p. AreTheCalls (all_receipts closing.seats.items) closing.book) → ForRight (λ p. AreLegal p closing.seats.items closing.book)
-      → ForRight (λ p. AreFull closing.seats.items closing.book) → HaveEnded closing.rows.items → ForRight (λ p. IsTold closing.rows.items closing.book)
+      → ForRight (λ p. AreFull closing.seats.items closing.book) → HaveEnded closing.rows.items → ForRight (λ p. AgreesWithHistories closing.rows.items closing.book)
       → FarmOf (map remaining fs) (map client_text answers)
   farm_answered remaining fs cs ds whole closing seats answers seated served all are_seats are_answers same receipts legal full over are_told =
       let same_seats = same ∙ are_seats ∙ ap (λ (xs : List C). map seat xs) all in
       let same_answers : answers ≡ map (λ d. answers_of (told d) (ended d)) ds = are_answers ∙ ap (λ (xs : List C). map (λ d. answers_of (told d) (ended d)) xs) all in
       record {
         closing = closing;
-        answered = subst (λ (a : List Answers). AreAnswered 1 (map remaining fs) closing.seats.items (map client_text a)) (sym same_answers)
+        answered = subst (λ (a : List ClientAnswers). AreAnswered 1 (map remaining fs) closing.seats.items (map client_text a)) (sym same_answers)
             (all_answered remaining 1 1 fs cs ds closing.seats.items seated served same_seats);
         receipts = receipts;
         legal = legal;

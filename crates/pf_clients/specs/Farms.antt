@@ -2,23 +2,23 @@
 use Rattle.std.specs.Prelude.{◌≡◌, ◌⊎◌, ⊤, ℕ, suc, ◌+◌, List, [], ◌∷◌, ◌++◌, Option, Some, None}
 use Rattle.std.specs.Io.KnownBytes.{Appends}
 use Rattle.std.specs.Global.{Vec}
-use Rattle.pf_wire.specs.declared.told.Told as wire
-use Rattle.pf_fault.specs.declared.fault.OrNoMemory.{OrNoMemory}
-use Rattle.pf_fault.specs.declared.fault.OrNoMemory.TheVariants.{Fault, NoMemory}
+use Rattle.pf_wire.specs.declared.told.WrittenAnswer as wire
+use Rattle.pf_errors.specs.declared.fault.OrNoMemory.{OrNoMemory}
+use Rattle.pf_errors.specs.declared.fault.OrNoMemory.TheVariants.{Fault, NoMemory}
 use Rattle.pf_terms.specs.declared.stream.StreamFault.{StreamFault}
 use Rattle.pf_terms.specs.declared.stream.StreamFault.TheVariants.{Read, Write}
 use Rattle.pf_terms.specs.Streams.{AppendsFront}
 use Rattle.pf_desks.specs.History.{IsLegalDesk}
-use Rattle.pf_desks.specs.World.{desk_at}
-use Rattle.pf_ledger.specs.Rows.{HaveEnded}
+use Rattle.pf_desks.specs.Desks.{desk_at}
+use Rattle.pf_farm_accounts.specs.Rows.{HaveEnded}
 use Rattle.pf_book.specs.Profile.{ForRight}
-use Rattle.pf_told.specs.Told.{IsTold}
-use Rattle.pf_hall.specs.Clients.{all_receipts, closed_as, AreFull, AreLegal, AreTheCalls}
-use Rattle.pf_hall.specs.declared.client.ClosedSeat.{ClosedSeat}
-use Rattle.pf_hall.specs.declared.closing.Closing.{Closing}
-use Rattle.pf_clients.specs.declared.client.Ended.{Ended}
-use Rattle.pf_clients.specs.declared.client.Ended.TheVariants.{Answered, NoCommand, Unread, NoMemory as OutOfMemory}
-use Rattle.pf_clients.specs.declared.told.Answers.{Answers}
+use Rattle.pf_farm_laws.specs.Told.{AgreesWithHistories}
+use Rattle.pf_farm_state.specs.Clients.{all_receipts, closed_as, AreFull, AreLegal, AreTheCalls}
+use Rattle.pf_farm_state.specs.declared.client.ClosedSeat.{ClosedSeat}
+use Rattle.pf_farm_state.specs.declared.closing.Closing.{Closing}
+use Rattle.pf_clients.specs.declared.client.FileEnd.{FileEnd}
+use Rattle.pf_clients.specs.declared.client.FileEnd.TheVariants.{Answered, NoCommand, Unread, NoMemory as OutOfMemory}
+use Rattle.pf_clients.specs.declared.told.ClientAnswers.{ClientAnswers}
 use Rattle.pf_clients.specs.Lines.{AnswersFile}
 use Rattle.pf_clients.specs.Texts.{told_text}
 
@@ -27,16 +27,16 @@ use Rattle.pf_clients.specs.Texts.{told_text}
 -- what a client was answered, and how its file ended
 pub record ClientText : Type 0 where
   pub text : List ℕ
-  pub ended : Ended
+  pub ended : FileEnd
 
-abbrev pub answers_of : Vec wire.Told → Ended → Answers
+abbrev pub answers_of : Vec wire.WrittenAnswer → FileEnd → ClientAnswers
 answers_of told e = record { told = told; ended = e }
 
-abbrev pub client_text : Answers → ClientText
+abbrev pub client_text : ClientAnswers → ClientText
 client_text a = record { text = told_text a.told.items; ended = a.ended }
 
 -- why no file is printed after one that ended so, if none is
-abbrev pub stop_at : Ended → Option (OrNoMemory StreamFault)
+abbrev pub stop_at : FileEnd → Option (OrNoMemory StreamFault)
 stop_at Answered = None
 stop_at NoCommand = None
 stop_at (Unread e) = Some (Fault (Read e))
@@ -60,7 +60,7 @@ printed [] = []
 printed (c ∷ cs) = c.text ++ unless (stop_at c.ended) (printed cs)
 
 -- the status: 2 if a line was no command, and else 0
-abbrev pub status_at : Ended → (others : ℕ) → ℕ
+abbrev pub status_at : FileEnd → (others : ℕ) → ℕ
 status_at NoCommand n = 2
 status_at Answered n = n
 status_at (Unread e) n = n
@@ -100,7 +100,7 @@ pub record FarmOf (inputs : List (Option (List ℕ))) (clients : List ClientText
   pub legal : ForRight (λ p. AreLegal p closing.seats.items closing.book)
   pub full : ForRight (λ p. AreFull closing.seats.items closing.book)
   pub ended : HaveEnded closing.rows.items
-  pub told : ForRight (λ p. IsTold closing.rows.items closing.book)
+  pub told : ForRight (λ p. AgreesWithHistories closing.rows.items closing.book)
 
 -- what such a farm answered its clients was printed
 abbrev pub FarmPrints : List (Option (List ℕ)) → (status : ℕ) → (written_old written_new : Option (List ℕ)) → Type 0

@@ -1,11 +1,11 @@
 -- Why a file, and a farm, end without a status.
 use Rattle.std.specs.Prelude.{◌≡◌, ℕ, ◌+◌}
-use Rattle.pf_fault.specs.declared.fault.OrNoMemory.{OrNoMemory}
-use Rattle.pf_fault.specs.declared.fault.OrNoMemory.TheVariants.{Fault, NoMemory}
+use Rattle.pf_errors.specs.declared.fault.OrNoMemory.{OrNoMemory}
+use Rattle.pf_errors.specs.declared.fault.OrNoMemory.TheVariants.{Fault, NoMemory}
 use Rattle.pf_terms.specs.declared.stream.StreamFault.{StreamFault}
 use Rattle.pf_terms.specs.declared.stream.StreamFault.TheVariants.{Read, Write}
-use Rattle.pf_clients.specs.declared.client.Ended.{Ended}
-use Rattle.pf_clients.specs.declared.client.Ended.TheVariants.{Unread, NoMemory as OutOfMemory}
+use Rattle.pf_clients.specs.declared.client.FileEnd.{FileEnd}
+use Rattle.pf_clients.specs.declared.client.FileEnd.TheVariants.{Unread, NoMemory as OutOfMemory}
 
 -- a write that failed was counted, once; a file that can't be read and running out of memory are no fault of the writer
 abbrev pub CountsFault : OrNoMemory StreamFault → (failed_old failed_new : ℕ) → Type 0
@@ -14,7 +14,7 @@ CountsFault (Fault (Read e)) m n = n ≡ m
 CountsFault NoMemory m n = n ≡ m
 
 -- how a file ends that can't be read
-abbrev pub ended_by : OrNoMemory StreamFault → Ended
+abbrev pub ended_by : OrNoMemory StreamFault → FileEnd
 ended_by (Fault (Read e)) = Unread e
 ended_by (Fault (Write e)) = Unread e
 ended_by NoMemory = OutOfMemory

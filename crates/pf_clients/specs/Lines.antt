@@ -1,23 +1,23 @@
 -- What the lines of a client's file ask for, and what the client is answered.
 use Rattle.std.specs.Prelude.{◌≡◌, ◌⊎◌, ⊤, ℕ, ◌+◌, false, List, [], ◌∷◌, ◌++◌, length, Option, Some, None, IfSome, Result, Ok, Err, codes}
-use Rattle.pf_fault.specs.Codes.{no_memory_text}
-use Rattle.pf_fault.specs.declared.code.Code.TheVariants as code
-use Rattle.pf_fault.specs.declared.memory.NoMemory.{NoMemory}
+use Rattle.pf_errors.specs.Codes.{no_memory_text}
+use Rattle.pf_errors.specs.declared.code.Code.TheVariants as code
+use Rattle.pf_errors.specs.declared.memory.NoMemory.{NoMemory}
 use Rattle.pf_request.specs.Calls.{Call}
 use Rattle.pf_request.specs.View.{view_of_call}
 use Rattle.pf_desks.specs.Desk.{Reply, refused}
 use Rattle.pf_desks.specs.Told.{reply_text, to_project}
-use Rattle.pf_desks.specs.World.{replied}
-use Rattle.pf_worlds.specs.Chores as chores
-use Rattle.pf_worlds.specs.Chores.{answer}
+use Rattle.pf_desks.specs.Desks.{replied}
+use Rattle.pf_world.specs.Chores as chores
+use Rattle.pf_world.specs.Chores.{answer}
 use Rattle.pf_book.specs.declared.reply.Reply as reply_code
 use Rattle.pf_book.specs.View.{view_of_reply}
-use Rattle.pf_hall.specs.Clients.{Told, ClientView, empty_client, full_seat, with_receipt}
-use Rattle.pf_lines.specs.Clients.{ClientLine, calls, awaits, client_line_at}
+use Rattle.pf_farm_state.specs.Clients.{ClientReplies, ClientView, empty_client, full_seat, with_receipt}
+use Rattle.pf_protocol.specs.Clients.{ClientLine, calls, awaits, client_line_at}
 use Rattle.pf_wire.specs.Steps.{AreRead, last_text}
-use Rattle.pf_wire.specs.declared.told.Told as wire
-use Rattle.pf_clients.specs.declared.client.Ended.{Ended}
-use Rattle.pf_clients.specs.declared.client.Ended.TheVariants.{Answered, NoCommand, Unread, NoMemory as OutOfMemory}
+use Rattle.pf_wire.specs.declared.told.WrittenAnswer as wire
+use Rattle.pf_clients.specs.declared.client.FileEnd.{FileEnd}
+use Rattle.pf_clients.specs.declared.client.FileEnd.TheVariants.{Answered, NoCommand, Unread, NoMemory as OutOfMemory}
 use Rattle.pf_clients.specs.Texts.{told_text}
 
 -- ---- one line
@@ -25,7 +25,7 @@ use Rattle.pf_clients.specs.Texts.{told_text}
 -- what came of a line: a call was logged, and this is its receipt; a call was one too many for the log; memory ran out
 -- in a call; a client waited for the trial of a ticket
 pub data Line : Type 0 where
-  logged : Told → Line
+  logged : ClientReplies → Line
   one_too_many : Call → Line
   without_memory : Call → Line
   waited : (ticket : ℕ) → Line
@@ -104,7 +104,7 @@ AnswersLines q bytes s (l ∷ ls) rest s' =
 -- how a file ends after so many lines, of which this rest is left, and what is answered of the end: nothing is left; or
 -- what is left begins with no command, and that is answered; or the file can't be read, and none of its lines was; or
 -- memory ran out
-abbrev pub EndsAt : Ended → (lines : ℕ) → (rest : List ℕ) → (was is : ClientView) → (told : List ℕ) → Type 0
+abbrev pub EndsAt : FileEnd → (lines : ℕ) → (rest : List ℕ) → (was is : ClientView) → (told : List ℕ) → Type 0
 EndsAt Answered n rest s s' t = (rest ≡ []) × (s' ≡ s) × (t ≡ [])
 EndsAt NoCommand n rest s s' t = (client_line_at s.project rest ≡ None) × ¬ (rest ≡ []) × (s' ≡ s) × (t ≡ last_text false (n + 1))
 EndsAt (Unread e) n rest s s' t = (n ≡ 0) × (s' ≡ s) × (t ≡ [])
@@ -112,7 +112,7 @@ EndsAt OutOfMemory n rest s s' t = IsCut rest s s' × (t ≡ [])
 
 -- AnswersBytes bytes s s' before after ended: the lines of a client's file were answered in order up to an end, and
 -- their results were added to what it was answered
-pub record AnswersBytes (bytes : List ℕ) (was is : ClientView) (before after : List ℕ) (ended : Ended) : Type 0 where
+pub record AnswersBytes (bytes : List ℕ) (was is : ClientView) (before after : List ℕ) (ended : FileEnd) : Type 0 where
   pub lines : List Line
   pub rest : List ℕ
   pub last : ClientView
@@ -123,14 +123,14 @@ pub record AnswersBytes (bytes : List ℕ) (was is : ClientView) (before after :
 
 -- the client of a project's file was answered this text: of the first 67,108,864 bytes of the file, if it is known what
 -- there is. Its seat began empty
-abbrev pub AnswersFile : (project : ℕ) → Option (List ℕ) → (seat : ClientView) → (text : List ℕ) → Ended → Type 0
+abbrev pub AnswersFile : (project : ℕ) → Option (List ℕ) → (seat : ClientView) → (text : List ℕ) → FileEnd → Type 0
 AnswersFile q input s text ended = (bytes : List ℕ) × AreRead input bytes × AnswersBytes bytes (empty_client q) s [] text ended
 
 -- a client's seat has no receipt yet, and it was answered nothing
-abbrev pub IsNew : ClientView → List wire.Told → Type 0
+abbrev pub IsNew : ClientView → List wire.WrittenAnswer → Type 0
 IsNew s told = (s ≡ empty_client s.project) × (told ≡ [])
 
 -- the lines of a client's file, if it had one, were answered: this is left of its seat, this is what it was answered,
 -- and so its file ended
-abbrev pub IsServed : {R : Type 0} → (remaining : R → Option (List ℕ)) → Option R → (project : ℕ) → (seat : ClientView) → List wire.Told → Ended → Type 0
+abbrev pub IsServed : {R : Type 0} → (remaining : R → Option (List ℕ)) → Option R → (project : ℕ) → (seat : ClientView) → List wire.WrittenAnswer → FileEnd → Type 0
 IsServed remaining file q s told ended = IfSome file (λ f. AnswersFile q (remaining f) s (told_text told) ended)

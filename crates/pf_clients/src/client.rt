@@ -3,26 +3,26 @@
 ghost use Rattle.std.specs.Prelude.{◌≡◌, ◌<◌, ◌≤◌, ◌++◌, None, length, IfOk, OnOk, OnErr, false};
 ghost use Rattle.std.specs.Bool.{OnTrue};
 ghost use Rattle.std.specs.Option.{option_copied};
-ghost use Rattle.pf_lines.specs.View.{view_of_client_line};
-ghost use Rattle.pf_lines.specs.Clients.{calls};
+ghost use Rattle.pf_protocol.specs.View.{view_of_client_line};
+ghost use Rattle.pf_protocol.specs.Clients.{calls};
 ghost use Rattle.pf_request.specs.View.{view_of_call};
 ghost use Rattle.pf_wire.specs.Steps.{last_text, AreRead};
 ghost use Rattle.pf_wire.specs.Whole.{whole_text};
 ghost use Rattle.pf_clients.specs.Faults.{ended_by};
-ghost use Rattle.pf_workshop.specs.Responses.{response_in};
+ghost use Rattle.pf_pool.specs.Responses.{response_in};
 ghost use Rattle.pf_clients.specs.Lines.{answer_in, call_text, AnswersBytes, AnswersFront, AnswersLine, CutsFront, CutsLine, IsNew, IsServed};
 ghost use Rattle.pf_clients.specs.Texts.{told_text, EndsInText};
 
 use crate::watch::Watch;
 use pf_book::Reply;
+use pf_errors::OrNoMemory;
 use pf_farm::{ClientSeat, Floor};
-use pf_farm_names::FarmNames;
-use pf_fault::OrNoMemory;
-use pf_lines::{ClientLine, NoCommand, is_due, read_client_line};
+use pf_farm_accounts::FarmNames;
+use pf_pool::Response;
+use pf_protocol::{ClientLine, NoCommand, is_due, read_client_line};
 use pf_request::Call;
 use pf_terms::{Counted, NoMemory, StreamFault};
-use pf_wire::{MOST_BYTES, Requester, Told, put_no_command, put_outcome};
-use pf_workshop::Response;
+use pf_wire::{MOST_BYTES, Requester, WrittenAnswer, put_no_command, put_outcome};
 use std::alloc::Global;
 use std::io::{Error, Read};
 use std::marker::Brand;
@@ -34,7 +34,7 @@ const MOST_TEXT: usize = 65_536;
 
 /// How the lines of a file ended.
 #[derive(Drop)]
-pub(crate) enum Ended {
+pub(crate) enum FileEnd {
     /// All were answered.
     Answered,
     /// One was no command, and none after it was read.
@@ -46,14 +46,14 @@ pub(crate) enum Ended {
 }
 
 /// How a file ended that can't be read, or for which memory ran out.
-fn stopped(stop: OrNoMemory<StreamFault>) -> Ended
+fn stopped(stop: OrNoMemory<StreamFault>) -> FileEnd
     ensures { result ≡ ended_by stop }
 {
     match stop {
         OrNoMemory::Fault(StreamFault::Read(error) | StreamFault::Write(error)) => {
-            Ended::Unread(error)
+            FileEnd::Unread(error)
         }
-        OrNoMemory::NoMemory => Ended::NoMemory,
+        OrNoMemory::NoMemory => FileEnd::NoMemory,
     }
 }
 
@@ -62,8 +62,8 @@ fn stopped(stop: OrNoMemory<StreamFault>) -> Ended
 pub(crate) struct Client<N: FarmNames, R> {
     pub seat: ClientSeat<N>,
     pub file: Option<R>,
-    pub told: Vec<Told>,
-    pub ended: Ended,
+    pub told: Vec<WrittenAnswer>,
+    pub ended: FileEnd,
 }
 
 /// What a file holds, up to 64 MiB.
@@ -93,11 +93,15 @@ fn response_of(outcome: Result<Reply, NoMemory>) -> Result<Response, NoMemory>
 }
 
 /// The text of what came of a project's call.
-fn text_of(alloc: Global, project: u32, outcome: Result<Reply, NoMemory>) -> Result<Told, NoMemory>
+fn text_of(
+    alloc: Global,
+    project: u32,
+    outcome: Result<Reply, NoMemory>,
+) -> Result<WrittenAnswer, NoMemory>
     ensures { IfOk result (λ t. whole_text t ≡ call_text project outcome) }
 {
     let response = response_of(outcome);
-    let mut told = Told {
+    let mut told = WrittenAnswer {
         text: Vec::new(alloc),
         report: None,
     };
@@ -106,16 +110,16 @@ fn text_of(alloc: Global, project: u32, outcome: Result<Reply, NoMemory>) -> Res
 }
 
 /// The text that says that the line of this number is no command.
-fn refusal(alloc: Global, number: u64) -> Result<Told, NoMemory>
+fn refusal(alloc: Global, number: u64) -> Result<WrittenAnswer, NoMemory>
     ensures { IfOk result (λ t. whole_text t ≡ last_text false number) }
 {
     let mut text = Vec::new(alloc);
     put_no_command(alloc, &mut text, number)?;
-    Ok(Told { text, report: None })
+    Ok(WrittenAnswer { text, report: None })
 }
 
 /// Whether an answer may join the last text: neither has a report, and that text isn't long.
-fn joins(all: &[Told], told: &Told) -> bool
+fn joins(all: &[WrittenAnswer], told: &WrittenAnswer) -> bool
     ensures { OnTrue result ((told.now.report ≡ None) × EndsInText all.now) }
 {
     if told.report.is_some() {
@@ -128,7 +132,7 @@ fn joins(all: &[Told], told: &Told) -> bool
 }
 
 /// Adds an answer, to the last text where it may join that.
-fn add(all: &mut Vec<Told>, told: Told) -> Result<(), NoMemory>
+fn add(all: &mut Vec<WrittenAnswer>, told: WrittenAnswer) -> Result<(), NoMemory>
     ensures added { OnOk result (told_text all.new.items ≡ told_text all.old.items ++ whole_text told) }
     ensures err { OnErr result (told_text all.new.items ≡ told_text all.old.items) }
 {
@@ -158,13 +162,13 @@ impl<N: FarmNames, R: Read + Drop> Client<N, R> {
         rt: &T,
         floor: &Floor<N>,
         watch: &G,
-    ) -> Ended
+    ) -> FileEnd
         requires { IsNew self.old.seat self.old.told.items }
         ensures { IsServed R.remaining self.old.file self.old.seat.project
             self.new.seat self.new.told.items result }
     {
         let Some(file) = self.file.take() else {
-            return Ended::Answered;
+            return FileEnd::Answered;
         };
         match contents::<R, Brand>(alloc, file, Blank::new(1)) {
             Ok(bytes) => self.answer_lines(alloc, rt, floor, watch, &bytes),
@@ -180,7 +184,7 @@ impl<N: FarmNames, R: Read + Drop> Client<N, R> {
         floor: &Floor<N>,
         watch: &G,
         bytes: &[u8],
-    ) -> Ended
+    ) -> FileEnd
         requires { length bytes.now ≤ MOST_BYTES }
         ensures { AnswersBytes bytes.now self.old.seat self.new.seat
             (told_text self.old.told.items) (told_text self.new.told.items) result }
@@ -190,15 +194,15 @@ impl<N: FarmNames, R: Read + Drop> Client<N, R> {
         'lines: while is_due(rest, true) {
             let follows = match self.answer_front(alloc, rt, floor, watch, number, rest) {
                 Ok(follows) => follows,
-                Err(NoMemory) => return Ended::NoMemory,
+                Err(NoMemory) => return FileEnd::NoMemory,
             };
             let Some(after) = follows else {
-                return Ended::NoCommand;
+                return FileEnd::NoCommand;
             };
             rest = after;
             number += 1;
         }
-        Ended::Answered
+        FileEnd::Answered
     }
 
     /// Answers the line of this number, which is first; returns what follows it, unless it is no command.

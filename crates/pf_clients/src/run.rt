@@ -2,21 +2,21 @@
 
 ghost use Rattle.std.specs.Prelude.{◌≡◌, ◌<◌, ◌≤◌, [], map, All, IfErr, IfOk, OnOk, Some, length, vec_capacity, vec_len};
 ghost use Rattle.std.specs.Bool.{OnTrue};
-ghost use Rattle.pf_hall.specs.Clients.{empty_client};
+ghost use Rattle.pf_farm_state.specs.Clients.{empty_client};
 ghost use Rattle.pf_clients.specs.Farms.{answers_of, FarmLeaves, FarmPrints};
 ghost use Rattle.pf_clients.specs.Faults.{CountsFault};
 ghost use Rattle.pf_clients.specs.Lines.{IsNew, IsServed};
 ghost use Rattle.pf_clients.specs.Pairs.{EachTwo};
-ghost use Rattle.pf_farm.specs.Farms.{farm_of};
+ghost use Rattle.pf_farm.specs.Farms.{opened_farm};
 ghost use Rattle.pf_farm.specs.Seats.{AllIdle, IsRing};
 
-use crate::client::{Client, Ended};
-use crate::start::Start;
-use crate::told::{Answers, write_all};
+use crate::client::{Client, FileEnd};
+use crate::start::FarmStart;
+use crate::told::{ClientAnswers, write_all};
 use crate::watch::Watch;
+use pf_errors::OrNoMemory;
 use pf_farm::{Blanks, ClientSeat, Farm, Floor, Gate, MOST_SEATS, NoSeat, WorkSeat, work_all};
-use pf_farm_names::FarmNames;
-use pf_fault::OrNoMemory;
+use pf_farm_accounts::FarmNames;
 use pf_terms::{Counted, NoMemory, StreamFault};
 use std::alloc::Global;
 use std::hash::RandomState;
@@ -64,15 +64,15 @@ pub fn run_farm<
 {
     let (mut farm, mut seats) = Farm::<N>::open(alloc, keys, blanks, workers)?;
     let mut clients = seated(alloc, &mut farm, files)?;
-    let room = Room {
+    let room = ClientSeats {
         seats: Vec::with_capacity(alloc, clients.len())?,
         answers: Vec::with_capacity(alloc, clients.len())?,
     };
     let floor = farm.floor();
-    let start = Start::new();
+    let start = FarmStart::new();
     let begun = serve(alloc, rt, floor, gate, &start, &mut clients, &mut seats);
     tell_work(&seats, gate);
-    let Room {
+    let ClientSeats {
         seats: told,
         answers,
     } = parted(clients, room);
@@ -97,7 +97,7 @@ fn seated<N: FarmNames, R: Drop>(
     ensures seated { IfOk result (λ v. EachTwo (λ k f c.
         (c.seat ≡ empty_client k) × (c.file ≡ Some f) × (c.told.items ≡ [])) 1 files.items v.items) }
     ensures new { IfOk result (λ v. All (λ c. IsNew c.seat c.told.items) v.items) }
-    ensures given { IfOk result (λ v. farm.new ≡ farm_of farm.old.workers (vec_len files)) }
+    ensures given { IfOk result (λ v. farm.new ≡ opened_farm farm.old.workers (vec_len files)) }
 {
     let mut clients = Vec::new(alloc);
     let mut project = 0;
@@ -112,7 +112,7 @@ fn seated<N: FarmNames, R: Drop>(
             seat,
             file: Some(file),
             told: Vec::new(alloc),
-            ended: Ended::Answered,
+            ended: FileEnd::Answered,
         })?;
     }
     Ok(clients)
@@ -131,7 +131,7 @@ fn serve<
     rt: &'a T,
     floor: &'a Floor<N>,
     gate: &'a G,
-    start: &'a Start,
+    start: &'a FarmStart,
     clients: &'a mut [Client<N, R>],
     seats: &'a mut [WorkSeat<N>],
 ) -> bool
@@ -166,7 +166,7 @@ fn farm_out<N: FarmNames + Send + Sync, T: Threads + Wait + Sync, G: Gate + Sync
     rt: &T,
     floor: &Floor<N>,
     gate: &G,
-    start: &Start,
+    start: &FarmStart,
     seats: &mut [WorkSeat<N>],
 )
     requires some { 0 < length seats.old }
@@ -191,7 +191,7 @@ fn answer_all<
     rt: &T,
     floor: &Floor<N>,
     watch: &G,
-    start: &Start,
+    start: &FarmStart,
     clients: &mut [Client<N, R>],
 ) -> bool
     requires some { 0 < length clients.old }
@@ -239,13 +239,13 @@ fn tell_work<N: FarmNames, G: Watch>(seats: &[WorkSeat<N>], watch: &G) {
 
 /// The seats of clients, and what these were answered.
 #[derive(Drop)]
-struct Room<N: FarmNames> {
+struct ClientSeats<N: FarmNames> {
     seats: Vec<ClientSeat<N>>,
-    answers: Vec<Answers>,
+    answers: Vec<ClientAnswers>,
 }
 
 /// The clients' seats apart from what they were answered, in room that was made before.
-fn parted<N: FarmNames, R: Drop>(clients: Vec<Client<N, R>>, room: Room<N>) -> Room<N>
+fn parted<N: FarmNames, R: Drop>(clients: Vec<Client<N, R>>, room: ClientSeats<N>) -> ClientSeats<N>
     requires none { (room.seats.items ≡ []) × (room.answers.items ≡ []) }
     requires seats { vec_len clients ≤ vec_capacity room.seats }
     requires answers { vec_len clients ≤ vec_capacity room.answers }
@@ -253,7 +253,7 @@ fn parted<N: FarmNames, R: Drop>(clients: Vec<Client<N, R>>, room: Room<N>) -> R
     ensures seats { result.seats.items ≡ map (λ c. c.seat) clients.items }
     ensures answers { result.answers.items ≡ map (λ c. answers_of c.told c.ended) clients.items }
 {
-    let Room {
+    let ClientSeats {
         mut seats,
         mut answers,
     } = room;
@@ -265,7 +265,7 @@ fn parted<N: FarmNames, R: Drop>(clients: Vec<Client<N, R>>, room: Room<N>) -> R
             ended,
         } = client;
         seats.push_reserved(seat);
-        answers.push_reserved(Answers { told, ended });
+        answers.push_reserved(ClientAnswers { told, ended });
     }
-    Room { seats, answers }
+    ClientSeats { seats, answers }
 }

@@ -8,7 +8,7 @@ const MOST_SECONDS: u64 = 10;
 
 /// How far the start is.
 #[derive(Clone, Copy, PartialEq, Eq)]
-enum Stage {
+enum StartStage {
     /// The workers' thread hasn't begun.
     Awaited,
     Begun,
@@ -20,15 +20,15 @@ enum Stage {
 /// other, and each would wait for the other for ever: so the clients wait for the workers only for a time, and then
 /// neither works.
 #[derive(Drop)]
-pub(crate) struct Start {
-    stage: Mutex<Stage>,
+pub(crate) struct FarmStart {
+    stage: Mutex<StartStage>,
     changed: Condvar,
 }
 
-impl Start {
-    pub(crate) fn new() -> Start {
-        Start {
-            stage: Mutex::new(Stage::Awaited),
+impl FarmStart {
+    pub(crate) fn new() -> FarmStart {
+        FarmStart {
+            stage: Mutex::new(StartStage::Awaited),
             changed: Condvar::new(),
         }
     }
@@ -36,10 +36,10 @@ impl Start {
     /// The workers begin, unless the clients have given up; whether they do.
     pub(crate) fn begin<T: Wait>(&self, rt: &T) -> bool {
         let mut stage = self.stage.lock(rt);
-        if *stage == Stage::GivenUp {
+        if *stage == StartStage::GivenUp {
             return false;
         }
-        *stage = Stage::Begun;
+        *stage = StartStage::Begun;
         self.changed.notify_all();
         true
     }
@@ -50,10 +50,10 @@ impl Start {
         let stage = self.stage.lock(rt);
         let (mut stage, _) = self
             .changed
-            .wait_timeout_while(rt, stage, longest, |stage| *stage == Stage::Awaited);
-        if *stage == Stage::Awaited {
-            *stage = Stage::GivenUp;
+            .wait_timeout_while(rt, stage, longest, |stage| *stage == StartStage::Awaited);
+        if *stage == StartStage::Awaited {
+            *stage = StartStage::GivenUp;
         }
-        *stage == Stage::Begun
+        *stage == StartStage::Begun
     }
 }

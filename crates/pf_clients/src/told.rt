@@ -7,25 +7,25 @@ ghost use Rattle.pf_clients.specs.Farms.{client_text, status_at, stop_at, Prints
 ghost use Rattle.pf_clients.specs.Faults.{CountsFault};
 ghost use Rattle.pf_clients.specs.Texts.{told_text};
 
-use crate::client::Ended;
-use pf_fault::OrNoMemory;
+use crate::client::FileEnd;
+use pf_errors::OrNoMemory;
 use pf_terms::{Counted, StreamFault};
-use pf_wire::{Gathered, Told};
+use pf_wire::{Gathered, WrittenAnswer};
 use std::alloc::Global;
 use std::io::Write;
 use std::sync::ledger::Ledger;
 
 /// What a client was answered, and how its file ended.
 #[derive(Drop)]
-pub(crate) struct Answers {
-    pub told: Vec<Told>,
-    pub ended: Ended,
+pub(crate) struct ClientAnswers {
+    pub told: Vec<WrittenAnswer>,
+    pub ended: FileEnd,
 }
 
 /// Writes what one client was answered.
 fn write_one<W: Write, M: Ledger>(
     alloc: Global,
-    told: &[Told],
+    told: &[WrittenAnswer],
     writer: &mut Counted<W, M>,
 ) -> Result<(), StreamFault>
     ensures written { OnOk result (Appends (W.contents writer.old.inner) (W.contents writer.new.inner)
@@ -44,15 +44,15 @@ fn write_one<W: Write, M: Ledger>(
 
 /// The status after a file that ended so, where this is the status before it: 2 if a line was no command. None after a
 /// file that can't be read or for which memory ran out.
-fn next_status(status: u8, ended: Ended) -> Result<u8, OrNoMemory<StreamFault>>
+fn next_status(status: u8, ended: FileEnd) -> Result<u8, OrNoMemory<StreamFault>>
     ensures next { IfOk result (λ n. (stop_at ended ≡ None) × (n ≡ status_at ended status)) }
     ensures stop { IfErr result (λ e. stop_at ended ≡ Some e) }
 {
     match ended {
-        Ended::Answered => Ok(status),
-        Ended::NoCommand => Ok(2),
-        Ended::Unread(error) => Err(OrNoMemory::Fault(StreamFault::Read(error))),
-        Ended::NoMemory => Err(OrNoMemory::NoMemory),
+        FileEnd::Answered => Ok(status),
+        FileEnd::NoCommand => Ok(2),
+        FileEnd::Unread(error) => Err(OrNoMemory::Fault(StreamFault::Read(error))),
+        FileEnd::NoMemory => Err(OrNoMemory::NoMemory),
     }
 }
 
@@ -60,7 +60,7 @@ fn next_status(status: u8, ended: Ended) -> Result<u8, OrNoMemory<StreamFault>>
 /// the status, 2 if a line was no command, and else 0.
 pub(crate) fn write_all<W: Write, M: Ledger>(
     alloc: Global,
-    answers: Vec<Answers>,
+    answers: Vec<ClientAnswers>,
     writer: &mut Counted<W, M>,
 ) -> Result<u8, OrNoMemory<StreamFault>>
     ensures printed { IfOk result (λ status. Prints (map client_text answers.items) status
@@ -73,7 +73,7 @@ pub(crate) fn write_all<W: Write, M: Ledger>(
 {
     let mut status = 0;
     'files: for answered in answers {
-        let Answers { told, ended } = answered;
+        let ClientAnswers { told, ended } = answered;
         write_one(alloc, &told, writer)?;
         status = next_status(status, ended)?;
     }

@@ -1,7 +1,7 @@
 -- What is answered of runs, by their own choices or by priorities.
 use Rattle.std.proofs.Common.{◌≡◌, ℕ, List, Ok, Err, None, Some, sym, ap, subst}
 use Rattle.std.specs.Prelude.{Result}
-use Rattle.pf_fault.specs.declared.code.Code.{Code}
+use Rattle.pf_errors.specs.declared.code.Code.{Code}
 use Rattle.pf_model.specs.Meaning.{Report}
 use Rattle.pf_request.specs.Module.{ReadModule}
 use Rattle.pf_request.specs.Request.{Request}
@@ -11,7 +11,7 @@ use Rattle.pf_strategy.specs.Runs.{MeansByPriorities}
 use Rattle.pf_chart.specs.declared.manner.Manner.{Manner}
 use Rattle.pf_cli.specs.Args.{RunArgs}
 use Rattle.pf_command.specs.Answers.{AnswersBy, IsModuleOf, source_refused, job_refused, told}
-use Rattle.pf_command.specs.Charts.{Draws}
+use Rattle.pf_command.specs.Charts.{DrawsJob}
 use Rattle.pf_command.specs.Guided.{AsksOfRun, by_own, by_priorities, with_schedule}
 use Rattle.pf_command.specs.Hunts.{choices_of}
 
@@ -41,6 +41,6 @@ asks_shared m k n e r x module_is edition_is asks = subst (λ l. Asks l e r x) m
 
 -- a schedule changes nothing of the root that a chart names
 pub draws_alike : (asks : ReadModule → Result Job Code → Type 0) (q r : Request) (m n : Manner) (numbers bytes text : List ℕ) (status : ℕ) → q ≡ with_schedule r numbers → m ≡ n
-    → AnswersBy asks (Draws q.root m) bytes text status → AnswersBy asks (Draws r.root n) bytes text status
+    → AnswersBy asks (DrawsJob q.root m) bytes text status → AnswersBy asks (DrawsJob r.root n) bytes text status
 draws_alike asks q r m n numbers bytes text status same manner answers =
-    subst (λ k. AnswersBy asks (Draws r.root k) bytes text status) manner (subst (λ root. AnswersBy asks (Draws root m) bytes text status) (ap (λ y. y.root) same) answers)
+    subst (λ k. AnswersBy asks (DrawsJob r.root k) bytes text status) manner (subst (λ root. AnswersBy asks (DrawsJob root m) bytes text status) (ap (λ y. y.root) same) answers)

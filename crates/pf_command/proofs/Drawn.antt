@@ -1,7 +1,7 @@
 -- What is reported of charts, for texts and statuses that are equal to theirs.
 use Rattle.std.proofs.Common.{◌≡◌, ◌<◌, inl, inr, ℕ, zero, List, None, arith}
-use Rattle.pf_fault.specs.Codes.{code_text}
-use Rattle.pf_fault.specs.declared.code.Code.TheVariants as code
+use Rattle.pf_errors.specs.Codes.{code_text}
+use Rattle.pf_errors.specs.declared.code.Code.TheVariants as code
 use Rattle.pf_model.specs.Meaning as meaning
 use Rattle.pf_model.specs.Meaning.{Means, Report}
 use Rattle.pf_model.specs.Shrinking.{Found, IsResult, by_schedule, report, shrunk_to, nothing_fails, plain, smaller}
@@ -9,12 +9,12 @@ use Rattle.pf_request.specs.Job.{Job}
 use Rattle.pf_chart.specs.declared.manner.Manner.{Manner}
 use Rattle.pf_command.specs.Answers.{Refuses}
 use Rattle.pf_model.specs.Configuration.{Configuration}
-use Rattle.pf_explained.specs.Explained.{IsRunOf}
-use Rattle.pf_explained.proofs.Telling.{comes_to}
-use Rattle.pf_standings.specs.Known.{ComesTo}
-use Rattle.pf_standings.specs.declared.known.KnownRun.{KnownRun}
-use Rattle.pf_command.specs.Charts.{AreNamesIn, Draws, DrawsMeaning, IsOfRun, run_drawn, found_drawn, none_drawn}
-use Rattle.pf_command.specs.declared.answer.Answer.{Answer}
+use Rattle.pf_cli_messages.specs.Explained.{IsKnownRunOf}
+use Rattle.pf_cli_messages.proofs.Telling.{comes_to}
+use Rattle.pf_process_status.specs.Known.{RunLeadsTo}
+use Rattle.pf_process_status.specs.declared.known.KnownRun.{KnownRun}
+use Rattle.pf_command.specs.Charts.{AreNamesIn, DrawsJob, DrawsMeaning, IsOfRun, run_drawn, found_drawn, none_drawn}
+use Rattle.pf_command.specs.declared.answer.Output.{Output}
 
 -- a shrinking ends in no report alone
 pub no_report : (j : meaning.Job) (r : Report) → 0 < j.runs → IsResult j (report r) → ⊥
@@ -32,20 +32,20 @@ pub rescheduled : (j : meaning.Job) (ns : List ℕ) (r : Report) (names : List (
 rescheduled j ns r names (k, h, d) = (k, record { code = h.code; root = h.root; edition = h.edition; limit = h.limit; events = h.events }, d)
 
 -- its events lead somewhere
-pub comes_there : (j : meaning.Job) (r : Report) (k : KnownRun) → IsRunOf j r k → IsOfRun j r → (d : Configuration) × ComesTo k d
+pub comes_there : (j : meaning.Job) (r : Report) (k : KnownRun) → IsKnownRunOf j r k → IsOfRun j r → (d : Configuration) × RunLeadsTo k d
 comes_there j r k h (inl means) = comes_to j r k h None means
 comes_there j r k h (inr (ns, means)) =
     comes_to (by_schedule j ns) r k (record { code = h.code; root = h.root; edition = h.edition; limit = h.limit; events = h.events }) None means
 
-module _ (root : List ℕ) (m : Manner) (j : Job) (a : Answer) where
-  pub draws_one_run : j.asked.runs ≡ zero → DrawsMeaning j.asked root m a → Draws root m j a.text.items a.status
+module _ (root : List ℕ) (m : Manner) (j : Job) (a : Output) where
+  pub draws_one_run : j.asked.runs ≡ zero → DrawsMeaning j.asked root m a → DrawsJob root m j a.text.items a.status
   draws_one_run one (r, means, drawn) = rw drawn.3 (run_drawn r drawn.0 a.text.items (plain r one means) drawn.1 drawn.2)
 
   -- the run by the schedule that was found is the one of the result
   pub draws_found : (f : Found) (r : Report) → IsResult j.asked (shrunk_to f r) → DrawsMeaning (by_schedule j.asked f.schedule) root m a
-      → Draws root m j a.text.items a.status
+      → DrawsJob root m j a.text.items a.status
   draws_found f r is (s, means, drawn) =
       rw drawn.3 (found_drawn f s drawn.0 a.text.items (found_again j.asked f r s is means) (unscheduled j.asked f.schedule s drawn.0 drawn.1) drawn.2)
 
-  pub draws_none : IsResult j.asked nothing_fails → Refuses a (code_text code.NothingFails) → Draws root m j a.text.items a.status
+  pub draws_none : IsResult j.asked nothing_fails → Refuses a (code_text code.NothingFails) → DrawsJob root m j a.text.items a.status
   draws_none is told = rw (told.0, told.1) (none_drawn is)

@@ -1,8 +1,8 @@
 -- What a source is answered with of which a run or a shrinking is asked for: the text that goes out and the status.
 use Rattle.std.specs.Prelude.{◌≡◌, ◌<◌, ℕ, zero, Bool, true, false, List, ◌++◌, Option, None, Some, Result, Ok, Err, codes}
-use Rattle.pf_fault.specs.Codes.{code_text, refusal_text}
-use Rattle.pf_fault.specs.declared.code.Code.{Code}
-use Rattle.pf_fault.specs.declared.code.Code.TheVariants as code
+use Rattle.pf_errors.specs.Codes.{code_text, refusal_text}
+use Rattle.pf_errors.specs.declared.code.Code.{Code}
+use Rattle.pf_errors.specs.declared.code.Code.TheVariants as code
 use Rattle.pf_terms.specs.Atoms.{name_of}
 use Rattle.pf_model.specs.Meaning as meaning
 use Rattle.pf_model.specs.Meaning.{Event, Means, Report}
@@ -16,12 +16,12 @@ use Rattle.pf_request.specs.Job.{Job}
 use Rattle.pf_request.specs.View.{view_of_request}
 use Rattle.pf_request.specs.declared.request.Request.{Request}
 use Rattle.pf_check.specs.Reads.{Reads, refused}
-use Rattle.pf_module.specs.Reading.{IsReadAs}
+use Rattle.pf_check.specs.Reading.{IsReadAs}
 use Rattle.pf_sched.specs.Asked.{Asks}
 use Rattle.pf_sched.specs.Waiting.{waiting_in}
 use Rattle.pf_cli.specs.Args.{RunArgs, edition_number}
 use Rattle.pf_cli.specs.declared.args.Edition.{Edition}
-use Rattle.pf_command.specs.declared.answer.Answer.{Answer}
+use Rattle.pf_command.specs.declared.answer.Output.{Output}
 
 -- a source of these bytes is this module
 abbrev pub IsModuleOf : List ℕ → ReadModule → Type 0
@@ -47,8 +47,8 @@ abbrev pub AsksOf : RunArgs → ReadModule → Result Job Code → Type 0
 AsksOf a m = Asks m a.edition a.request
 
 -- the names of the atoms of a job's module
-abbrev pub names_of : Job → ℕ → List ℕ
-names_of j = name_of j.asked.code.atoms
+abbrev pub atom_names_of : Job → ℕ → List ℕ
+atom_names_of j = name_of j.asked.code.atoms
 
 -- the status of a run: 0 if its property holds, 1 if it fails, 2 if memory ran out and nothing is known
 abbrev pub run_status : Option Bool → ℕ
@@ -73,25 +73,25 @@ abbrev pub AreFirst : meaning.Job → List Event → Type 0
 AreFirst j es = (r : Report) → Means j r → (rest : List Event) × (r.events ≡ es ++ rest)
 
 -- what is reported of a run within which memory ran out: no event, no step and no verdict
-abbrev pub no_memory_text : List ℕ
-no_memory_text = codes "memory\nsteps 0\nno verdict\n"
+abbrev pub no_memory_report : List ℕ
+no_memory_report = codes "memory\nsteps 0\nno verdict\n"
 
 abbrev pub IsNoMemory : List ℕ → ℕ → Type 0
-IsNoMemory text status = (text ≡ no_memory_text) × (status ≡ 2)
+IsNoMemory text status = (text ≡ no_memory_report) × (status ≡ 2)
 
 -- the lines of events, and that memory ran out after them
 abbrev pub cut_text : (ℕ → List ℕ) → List Event → List ℕ
-cut_text name es = lines_text name es ++ no_memory_text
+cut_text name es = lines_text name es ++ no_memory_report
 
 -- what is reported of a job: its result; or of a run that memory ran out within it, after the lines of its first events
 -- that went out by then. Nothing is reported of a shrinking without memory
-pub data Tells (j : Job) : List ℕ → ℕ → Type 0 where
-  result : (x : shrinking.Result) → IsResult j.asked x → Tells j (told_text (names_of j) x) (told_status x)
-  out_of_memory : (es : List Event) → j.asked.runs ≡ zero → AreFirst j.asked es → Tells j (cut_text (names_of j) es) 2
+pub data ReportsJob (j : Job) : List ℕ → ℕ → Type 0 where
+  result : (x : shrinking.Result) → IsResult j.asked x → ReportsJob j (told_text (atom_names_of j) x) (told_status x)
+  out_of_memory : (es : List Event) → j.asked.runs ≡ zero → AreFirst j.asked es → ReportsJob j (cut_text (atom_names_of j) es) 2
 
 -- a source of these bytes, of which a run or a shrinking is asked for, is answered with this text and this status
-abbrev pub Answers : RunArgs → (bytes text : List ℕ) → ℕ → Type 0
-Answers a = AnswersBy (AsksOf a) Tells
+abbrev pub AnswersRun : RunArgs → (bytes text : List ℕ) → ℕ → Type 0
+AnswersRun a = AnswersBy (AsksOf a) ReportsJob
 
 -- ---- who still waits
 
@@ -100,7 +100,7 @@ Answers a = AnswersBy (AsksOf a) Tells
 -- and with the status of what is refused
 pub data Counts (j : Job) (old : ℕ) : (new : ℕ) → List ℕ → ℕ → Type 0 where
   reported : (r : Report) → j.asked.runs ≡ zero → Means j.asked r
-      → Counts j old (waiting_in r) (report_text (names_of j) r) (run_status r.verdict)
+      → Counts j old (waiting_in r) (report_text (atom_names_of j) r) (run_status r.verdict)
   shrunk : (text : List ℕ) (status : ℕ) → 0 < j.asked.runs → Counts j old old text status
   unreported : (text : List ℕ) → Counts j old old text 2
 
@@ -117,9 +117,9 @@ abbrev pub run_args : Request → Edition → RunArgs
 run_args r e = record { request = view_of_request r; edition = edition_number e; priorities = None }
 
 -- the answer is these words on a line of their own, with the status of what is refused
-abbrev pub Refuses : Answer → List ℕ → Type 0
+abbrev pub Refuses : Output → List ℕ → Type 0
 Refuses a words = (a.text.items ≡ line words) × (a.status ≡ 2)
 
 -- the answer reports a result, if atoms have these names
-abbrev pub TellsResult : (atoms : List (List ℕ)) → shrinking.Result → Answer → Type 0
+abbrev pub TellsResult : (atoms : List (List ℕ)) → shrinking.Result → Output → Type 0
 TellsResult atoms x a = (a.text.items ≡ told_text (name_of atoms) x) × (a.status ≡ told_status x)

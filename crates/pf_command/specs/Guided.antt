@@ -1,6 +1,6 @@
 -- What a source is answered with of which a run is asked for, by its own choices or by the priorities of a seed.
 use Rattle.std.specs.Prelude.{◌≡◌, ℕ, List, None, Some, Result, Ok, Err}
-use Rattle.pf_fault.specs.declared.code.Code.{Code}
+use Rattle.pf_errors.specs.declared.code.Code.{Code}
 use Rattle.pf_model.specs.Meaning.{Report, schedule}
 use Rattle.pf_request.specs.Module.{ReadModule}
 use Rattle.pf_request.specs.Request.{Request, run}
@@ -9,8 +9,8 @@ use Rattle.pf_sched.specs.Asked.{Asks}
 use Rattle.pf_strategy.specs.Runs.{MeansByPriorities}
 use Rattle.pf_chart.specs.declared.manner.Manner.{Manner}
 use Rattle.pf_cli.specs.Args.{ChartArgs, RunArgs}
-use Rattle.pf_command.specs.Answers.{AnswersBy, CountsBy, IsModuleOf, Tells}
-use Rattle.pf_command.specs.Charts.{Draws}
+use Rattle.pf_command.specs.Answers.{AnswersBy, CountsBy, IsModuleOf, ReportsJob}
+use Rattle.pf_command.specs.Charts.{DrawsJob}
 use Rattle.pf_command.specs.Hunts.{choices_of}
 
 -- the run by this schedule in place of the request's own choices
@@ -28,7 +28,7 @@ pub data AsksOfRun (a : RunArgs) (m : ReadModule) : Result Job Code → Type 0 w
 
 -- a source of these bytes, of which a run is asked for, is answered with this text and this status
 abbrev pub RunAnswers : RunArgs → (bytes text : List ℕ) → ℕ → Type 0
-RunAnswers a = AnswersBy (AsksOfRun a) Tells
+RunAnswers a = AnswersBy (AsksOfRun a) ReportsJob
 
 -- and so it is counted who still waits at the end of the run that is reported
 abbrev pub RunCounts : RunArgs → (old new : ℕ) → (bytes text : List ℕ) → ℕ → Type 0
@@ -39,4 +39,4 @@ abbrev pub manner_of : ChartArgs → Manner
 manner_of a = record { compact = a.compact; page = a.page }
 
 abbrev pub DrawnAnswers : ChartArgs → (bytes text : List ℕ) → ℕ → Type 0
-DrawnAnswers a = AnswersBy (AsksOfRun a.run) (Draws a.run.request.root (manner_of a))
+DrawnAnswers a = AnswersBy (AsksOfRun a.run) (DrawsJob a.run.request.root (manner_of a))

@@ -2,7 +2,7 @@
 use Rattle.std.specs.Prelude.{◌≡◌, ◌⊎◌, ℕ, ◌-◌, ◌==◌, Bool, true, false, if◌then◌else◌, is_some, List, [], ◌++◌, map, flat_map, codes, Option, None, Some, Result, Ok, Err}
 use Rattle.std.specs.List.{list_any}
 use Rattle.std.specs.Fmt.{decimal}
-use Rattle.pf_fault.specs.declared.code.Code.{Code}
+use Rattle.pf_errors.specs.declared.code.Code.{Code}
 use Rattle.pf_model.specs.Meaning.{Event, Report}
 use Rattle.pf_model.specs.Shrinking.{is_failure}
 use Rattle.pf_model.specs.TermText.{line}
@@ -13,14 +13,14 @@ use Rattle.pf_request.specs.Job.{Job}
 use Rattle.pf_sched.specs.Asked.{Asks}
 use Rattle.pf_strategy.specs.declared.strategy.Strategy.{Strategy}
 use Rattle.pf_strategy.specs.declared.strategy.Strategy.TheVariants.{Uniform, Priorities}
-use Rattle.pf_seeds.specs.Hunts.{FirstFailing, SearchedTo, Tallies}
-use Rattle.pf_seeds.specs.Notices.{Notice, SearchNotices, TallyNotices}
-use Rattle.pf_seeds.specs.Rows.{Row}
-use Rattle.pf_seeds.specs.Views.{failure_of}
-use Rattle.pf_cli.specs.Args.{HuntArgs, RunArgs, Sought, failure, outcomes}
+use Rattle.pf_hunt.specs.Hunts.{FirstFailing, SearchedTo, Tallies}
+use Rattle.pf_hunt.specs.Notices.{Notice, SearchNotices, TallyNotices}
+use Rattle.pf_hunt.specs.Rows.{OutcomeRow}
+use Rattle.pf_hunt.specs.Views.{failure_of}
+use Rattle.pf_cli.specs.Args.{HuntArgs, RunArgs, HuntGoal, failure, outcomes}
 use Rattle.pf_command.specs.declared.ending.HuntEnd.{HuntEnd}
 use Rattle.pf_command.specs.declared.ending.HuntEnd.TheVariants.{Told, Found}
-use Rattle.pf_command.specs.Answers.{Answers, AnswersBy, AsksOf, IsModuleOf, IsNoMemory, cut_text, names_of, no_memory_text}
+use Rattle.pf_command.specs.Answers.{AnswersRun, AnswersBy, AsksOf, IsModuleOf, IsNoMemory, cut_text, atom_names_of, no_memory_report}
 
 -- ---- what is asked for
 
@@ -29,18 +29,18 @@ abbrev pub shrinking_of : HuntArgs → (numbers : List ℕ) → (runs : ℕ) →
 shrinking_of h numbers runs = record { request = record h.request { kind = shrink numbers runs }; edition = h.edition; priorities = None }
 
 -- if a schedule is to be shrunk, the shrinking of the empty one isn't refused
-abbrev pub MayShrink : HuntArgs → Sought → ReadModule → Type 0
+abbrev pub MayShrink : HuntArgs → HuntGoal → ReadModule → Type 0
 MayShrink h (failure (Some runs)) m = (j : Job) × AsksOf (shrinking_of h [] runs) m (Ok j)
 MayShrink h (failure None) m = Unit {0}
 MayShrink h outcomes m = Unit {0}
 
--- AsksFor h sought m x: the run in whose place those by the seeds go is this job, or what is asked for is refused for
+-- HuntAsksFor h sought m x: the run in whose place those by the seeds go is this job, or what is asked for is refused for
 -- this: first the shrinking of the empty schedule, if one is to be shrunk, and then the run
-pub data AsksFor (h : HuntArgs) : Sought → ReadModule → Result Job Code → Type 0 where
+pub data HuntAsksFor (h : HuntArgs) : HuntGoal → ReadModule → Result Job Code → Type 0 where
   shrinking_refused : (runs : ℕ) (m : ReadModule) (code : Code) → AsksOf (shrinking_of h [] runs) m (Err code)
-      → AsksFor h (failure (Some runs)) m (Err code)
-  run_asked : (sought : Sought) (m : ReadModule) (x : Result Job Code) → MayShrink h sought m → Asks m h.edition h.request x
-      → AsksFor h sought m x
+      → HuntAsksFor h (failure (Some runs)) m (Err code)
+  run_asked : (sought : HuntGoal) (m : ReadModule) (x : Result Job Code) → MayShrink h sought m → Asks m h.edition h.request x
+      → HuntAsksFor h sought m x
 
 -- ---- what is reported
 
@@ -78,51 +78,51 @@ verdict_text (Some false) = codes "fails "
 verdict_text None = codes "no verdict "
 
 -- whether the property holds, by how many seeds the outcome was met, the least of them, and the outcome's line
-abbrev pub row_text : (ℕ → List ℕ) → Row → List ℕ
+abbrev pub row_text : (ℕ → List ℕ) → OutcomeRow → List ℕ
 row_text name x =
     verdict_text x.verdict ++ decimal x.count ++ codes " seeds, least " ++ decimal x.least ++ codes ": " ++ line (outcome_text name x.outcome)
 
 -- 1 if the property of some run fails, else 0
-abbrev pub rows_status : List Row → ℕ
+abbrev pub rows_status : List OutcomeRow → ℕ
 rows_status rows = if list_any (λ x. is_failure x.verdict) rows then 1 else 0
 
 -- of the seeds to before c this is the least whose run fails, with the report of its run, or none; and the observer of
 -- the hunt receives these notices
-abbrev pub IsLeast : HuntArgs → Job → List Notice → (c : ℕ) → Option (ℕ × Report) → Type 0
-IsLeast h j ns c x =
+abbrev pub IsLeastFailure : HuntArgs → Job → List Notice → (c : ℕ) → Option (ℕ × Report) → Type 0
+IsLeastFailure h j ns c x =
     FirstFailing h.leaks h.strategy j.asked h.seeds.0 c x × SearchNotices h.strategy j.asked (may_stop h) h.seeds.0 h.seeds.1 c x ns
 
 -- TellsSought h bytes j notices sought text status: what is reported of the runs of a job by the seeds, by what is
 -- sought, if the source has these bytes and the observer receives these notices
-pub data TellsSought (h : HuntArgs) (bytes : List ℕ) (j : Job) (ns : List Notice) : Sought → List ℕ → ℕ → Type 0 where
+pub data TellsSought (h : HuntArgs) (bytes : List ℕ) (j : Job) (ns : List Notice) : HuntGoal → List ℕ → ℕ → Type 0 where
   -- no run fails of the seeds that it reached
-  none_fails : (runs : Option ℕ) (c : ℕ) → SearchedTo (may_stop h) h.seeds.0 h.seeds.1 c → IsLeast h j ns c None
+  none_fails : (runs : Option ℕ) (c : ℕ) → SearchedTo (may_stop h) h.seeds.0 h.seeds.1 c → IsLeastFailure h j ns c None
       → TellsSought h bytes j ns (failure runs) (front_text h c ++ none_text (c - h.seeds.0)) 0
   -- the least seed whose run fails, the choices of that run, and its report
-  seed_fails : (s : ℕ) (r : Report) → IsLeast h j ns h.seeds.1 (Some (s, r))
-      → TellsSought h bytes j ns (failure None) (seed_text s h.strategy (choices_of r) ++ report_text (names_of j) r) 1
+  seed_fails : (s : ℕ) (r : Report) → IsLeastFailure h j ns h.seeds.1 (Some (s, r))
+      → TellsSought h bytes j ns (failure None) (seed_text s h.strategy (choices_of r) ++ report_text (atom_names_of j) r) 1
   -- or, if memory ran out within the report, the lines of its first events that went out by then, and that it did
-  seed_cut : (s : ℕ) (r : Report) (es rest : List Event) → IsLeast h j ns h.seeds.1 (Some (s, r)) → r.events ≡ es ++ rest
-      → TellsSought h bytes j ns (failure None) (seed_text s h.strategy (choices_of r) ++ cut_text (names_of j) es) 2
+  seed_cut : (s : ℕ) (r : Report) (es rest : List Event) → IsLeastFailure h j ns h.seeds.1 (Some (s, r)) → r.events ≡ es ++ rest
+      → TellsSought h bytes j ns (failure None) (seed_text s h.strategy (choices_of r) ++ cut_text (atom_names_of j) es) 2
   -- or what the shrinking of these choices is answered with
-  seed_shrunk : (s : ℕ) (r : Report) (runs : ℕ) (text : List ℕ) (status : ℕ) → IsLeast h j ns h.seeds.1 (Some (s, r))
-      → Answers (shrinking_of h (choices_of r) runs) bytes text status
+  seed_shrunk : (s : ℕ) (r : Report) (runs : ℕ) (text : List ℕ) (status : ℕ) → IsLeastFailure h j ns h.seeds.1 (Some (s, r))
+      → AnswersRun (shrinking_of h (choices_of r) runs) bytes text status
       → TellsSought h bytes j ns (failure (Some runs)) (seed_text s h.strategy (choices_of r) ++ text) status
   -- or, if memory ran out within the shrinking, that it did
-  seed_alone : (s : ℕ) (r : Report) (runs : ℕ) → IsLeast h j ns h.seeds.1 (Some (s, r))
-      → TellsSought h bytes j ns (failure (Some runs)) (seed_text s h.strategy (choices_of r) ++ no_memory_text) 2
+  seed_alone : (s : ℕ) (r : Report) (runs : ℕ) → IsLeastFailure h j ns h.seeds.1 (Some (s, r))
+      → TellsSought h bytes j ns (failure (Some runs)) (seed_text s h.strategy (choices_of r) ++ no_memory_report) 2
   -- the strategy, and each outcome that is met by the seeds that it reached
-  tallied : (c : ℕ) (rows : List Row) → SearchedTo (may_stop h) h.seeds.0 h.seeds.1 c → Tallies h.strategy j.asked h.seeds.0 c rows
+  tallied : (c : ℕ) (rows : List OutcomeRow) → SearchedTo (may_stop h) h.seeds.0 h.seeds.1 c → Tallies h.strategy j.asked h.seeds.0 c rows
       → TallyNotices h.strategy j.asked (may_stop h) h.seeds.0 h.seeds.1 c ns
-      → TellsSought h bytes j ns outcomes (front_text h c ++ strategy_text h.strategy ++ flat_map (row_text (names_of j)) rows) (rows_status rows)
+      → TellsSought h bytes j ns outcomes (front_text h c ++ strategy_text h.strategy ++ flat_map (row_text (atom_names_of j)) rows) (rows_status rows)
 
 -- SoughtAnswers h sought bytes notices text status: a source of these bytes, of whose runs by many seeds this is
 -- sought, is answered with this text and this status, and the observer of the hunt receives these notices
-pub data SoughtAnswers (h : HuntArgs) (sought : Sought) (bytes : List ℕ) : List Notice → List ℕ → ℕ → Type 0 where
+pub data SoughtAnswers (h : HuntArgs) (sought : HuntGoal) (bytes : List ℕ) : List Notice → List ℕ → ℕ → Type 0 where
   -- something is refused, so that nothing is hunted
-  refused : (text : List ℕ) (status : ℕ) → AnswersBy (AsksFor h sought) (λ j t s. ⊥) bytes text status → SoughtAnswers h sought bytes [] text status
+  refused : (text : List ℕ) (status : ℕ) → AnswersBy (HuntAsksFor h sought) (λ j t s. ⊥) bytes text status → SoughtAnswers h sought bytes [] text status
   -- the job is hunted
-  hunted : (m : ReadModule) (j : Job) (ns : List Notice) (text : List ℕ) (status : ℕ) → IsModuleOf bytes m → AsksFor h sought m (Ok j)
+  hunted : (m : ReadModule) (j : Job) (ns : List Notice) (text : List ℕ) (status : ℕ) → IsModuleOf bytes m → HuntAsksFor h sought m (Ok j)
       → TellsSought h bytes j ns sought text status → SoughtAnswers h sought bytes ns text status
 
 -- a source of these bytes, whose runs by many seeds are asked for, is answered with this text and this status, while
@@ -144,16 +144,16 @@ MaySay h bytes ns (Found f) text status = TellsSought h bytes f.job ns (failure 
 -- it is a run that fails, the first of the module of the source, or an answer
 abbrev pub IsFound : HuntArgs → (bytes : List ℕ) → List Notice → HuntEnd → Type 0
 IsFound h bytes ns (Told a) = Unit {0}
-IsFound h bytes ns (Found f) = IsModuleOf bytes f.«module» × IsLeast h f.job ns h.seeds.1 (Some (failure_of f.failure))
+IsFound h bytes ns (Found f) = IsModuleOf bytes f.«module» × IsLeastFailure h f.job ns h.seeds.1 (Some (failure_of f.failure))
 
 -- whatever may be said of it is reported of the runs of this job
-abbrev pub TellsAs : HuntArgs → (bytes : List ℕ) → Job → Sought → HuntEnd → List Notice → Type 0
+abbrev pub TellsAs : HuntArgs → (bytes : List ℕ) → Job → HuntGoal → HuntEnd → List Notice → Type 0
 TellsAs h bytes j sought x ns =
     IsFound h bytes ns x × ((text : List ℕ) (status : ℕ) → MaySay h bytes ns x text status → TellsSought h bytes j ns sought text status)
 
 -- so a source of these bytes may be answered
-abbrev pub EndsAs : HuntArgs → Sought → (bytes : List ℕ) → HuntEnd → List Notice → Type 0
-EndsAs h sought bytes x ns =
+abbrev pub HuntEndsAs : HuntArgs → HuntGoal → (bytes : List ℕ) → HuntEnd → List Notice → Type 0
+HuntEndsAs h sought bytes x ns =
     IsFound h bytes ns x × ((text : List ℕ) (status : ℕ) → MaySay h bytes ns x text status → SoughtAnswers h sought bytes ns text status)
 
 -- of each source whose module this is
@@ -166,10 +166,10 @@ OfEach m so ns = (bytes : List ℕ) → IsModuleOf bytes m → so bytes ns
 -- ran out
 abbrev pub TellsReport : Job → Report → List ℕ → ℕ → Type 0
 TellsReport j r text status =
-    ((text ≡ report_text (names_of j) r) × (status ≡ 1))
-    ⊎ ((es : List Event) × (rest : List Event) × (r.events ≡ es ++ rest) × (text ≡ cut_text (names_of j) es) × (status ≡ 2))
+    ((text ≡ report_text (atom_names_of j) r) × (status ≡ 1))
+    ⊎ ((es : List Event) × (rest : List Event) × (r.events ≡ es ++ rest) × (text ≡ cut_text (atom_names_of j) es) × (status ≡ 2))
 
 -- what the shrinking of its choices is answered with; or that memory ran out within it
 abbrev pub TellsShrinking : HuntArgs → (bytes : List ℕ) → Report → (runs : ℕ) → List ℕ → ℕ → Type 0
 TellsShrinking h bytes r runs text status =
-    Answers (shrinking_of h (choices_of r) runs) bytes text status ⊎ IsNoMemory text status
+    AnswersRun (shrinking_of h (choices_of r) runs) bytes text status ⊎ IsNoMemory text status

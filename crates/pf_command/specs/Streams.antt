@@ -1,13 +1,13 @@
 -- What goes out between a reader and a writer, of which it is said what answers which bytes.
 use Rattle.std.specs.Prelude.{◌≡◌, ◌≤◌, ◌+◌, ℕ, List, length, take, Option, IfSome, Result, Ok, Err}
 use Rattle.std.specs.Io.KnownBytes.{Appends, Consumes}
-use Rattle.pf_fault.specs.declared.fault.OrNoMemory.{OrNoMemory}
-use Rattle.pf_fault.specs.declared.fault.OrNoMemory.TheVariants.{NoMemory, Fault}
+use Rattle.pf_errors.specs.declared.fault.OrNoMemory.{OrNoMemory}
+use Rattle.pf_errors.specs.declared.fault.OrNoMemory.TheVariants.{NoMemory, Fault}
 use Rattle.pf_terms.specs.Streams.{AppendsFront, CountsWrite}
 use Rattle.pf_terms.specs.declared.stream.StreamFault.{StreamFault}
 use Rattle.pf_terms.specs.declared.stream.StreamFault.TheVariants.{Read, Write}
 use Rattle.pf_model.specs.TermText.{line}
-use Rattle.pf_command.specs.declared.answer.Answer.{Answer}
+use Rattle.pf_command.specs.declared.answer.Output.{Output}
 use Rattle.pf_command.specs.declared.serving.TheConstants.{MOST_BYTES}
 
 -- a reader and a writer: what is still to be read and what was written, if it is known, and how many calls of each
@@ -31,8 +31,8 @@ abbrev pub AreRead : Streams → List ℕ → Type 0
 AreRead s bytes = IfSome s.unread (λ input. bytes ≡ take MOST_BYTES input)
 
 -- what was read is answered with the text that went out and the status
-abbrev pub Answered : Answering → (old new : Streams) → ℕ → Type 0
-Answered P old new status = (bytes : List ℕ) × (text : List ℕ) × AreRead old bytes × P bytes text status × Appends old.written new.written text
+abbrev pub IsAnsweredSo : Answering → (old new : Streams) → ℕ → Type 0
+IsAnsweredSo P old new status = (bytes : List ℕ) × (text : List ℕ) × AreRead old bytes × P bytes text status × Appends old.written new.written text
 
 -- a beginning of the text of an answer went out
 abbrev pub AnsweredInPart : Answering → (old new : Streams) → Type 0
@@ -40,8 +40,8 @@ AnsweredInPart P old new =
     (bytes : List ℕ) × (text : List ℕ) × (status : ℕ) × AreRead old bytes × P bytes text status × AppendsFront old.written new.written text
 
 -- at most MOST_BYTES bytes were read
-abbrev pub Takes : (old new : Streams) → Type 0
-Takes old new = (bytes : List ℕ) × (length bytes ≤ MOST_BYTES) × Consumes old.unread new.unread bytes
+abbrev pub TakesBytes : (old new : Streams) → Type 0
+TakesBytes old new = (bytes : List ℕ) × (length bytes ≤ MOST_BYTES) × Consumes old.unread new.unread bytes
 
 -- no call failed
 abbrev pub NoneFailed : (old new : Streams) → Type 0
@@ -57,24 +57,24 @@ Leaves (Fault (Write e)) P old new = (new.failed_reads ≡ old.failed_reads) × 
 
 -- what goes out of a text that may be printed, with its status: all of it; or a beginning, where a write failed and was
 -- counted
-abbrev pub Prints : (may : List ℕ → ℕ → Type 0) → (written_old written_new : Option (List ℕ)) → (failed_old failed_new : ℕ) → Result ℕ StreamFault → Type 0
-Prints P w0 w1 n0 n1 (Ok status) = (text : List ℕ) × P text status × Appends w0 w1 text × (n1 ≡ n0)
-Prints P w0 w1 n0 n1 (Err f) = (text : List ℕ) × (status : ℕ) × P text status × AppendsFront w0 w1 text × CountsWrite f n0 n1
+abbrev pub PrintsAnswer : (may : List ℕ → ℕ → Type 0) → (written_old written_new : Option (List ℕ)) → (failed_old failed_new : ℕ) → Result ℕ StreamFault → Type 0
+PrintsAnswer P w0 w1 n0 n1 (Ok status) = (text : List ℕ) × P text status × Appends w0 w1 text × (n1 ≡ n0)
+PrintsAnswer P w0 w1 n0 n1 (Err f) = (text : List ℕ) × (status : ℕ) × P text status × AppendsFront w0 w1 text × CountsWrite f n0 n1
 
 -- the same; or memory ran out before anything went out
 abbrev pub Sends : (may : List ℕ → ℕ → Type 0) → (written_old written_new : Option (List ℕ)) → (failed_old failed_new : ℕ) → Result ℕ (OrNoMemory StreamFault) → Type 0
-Sends P w0 w1 n0 n1 (Ok status) = Prints P w0 w1 n0 n1 (Ok status)
+Sends P w0 w1 n0 n1 (Ok status) = PrintsAnswer P w0 w1 n0 n1 (Ok status)
 Sends P w0 w1 n0 n1 (Err NoMemory) = (w1 ≡ w0) × (n1 ≡ n0)
-Sends P w0 w1 n0 n1 (Err (Fault f)) = Prints P w0 w1 n0 n1 (Err f)
+Sends P w0 w1 n0 n1 (Err (Fault f)) = PrintsAnswer P w0 w1 n0 n1 (Err f)
 
 -- this holds of the text that went out, and of the status
 abbrev pub WentOut : (P : List ℕ → ℕ → Type 0) → (written_old written_new : Option (List ℕ)) → ℕ → Type 0
 WentOut P w0 w1 status = (text : List ℕ) × P text status × Appends w0 w1 text
 
 -- this is the text of an answer, and its status
-abbrev pub IsAnswer : Answer → List ℕ → ℕ → Type 0
+abbrev pub IsAnswer : Output → List ℕ → ℕ → Type 0
 IsAnswer a text status = (text ≡ a.text.items) × (status ≡ a.status)
 
 -- and these are words on a line of their own, with the status of what is refused
-abbrev pub IsRefused : (words : List ℕ) → List ℕ → ℕ → Type 0
-IsRefused words text status = (text ≡ line words) × (status ≡ 2)
+abbrev pub IsRefusedText : (words : List ℕ) → List ℕ → ℕ → Type 0
+IsRefusedText words text status = (text ≡ line words) × (status ≡ 2)

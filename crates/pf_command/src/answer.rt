@@ -1,12 +1,12 @@
 //! What a source is answered with: a text and a status.
 
 ghost use Rattle.std.specs.Prelude.{◌≡◌, IfErr, IfOk};
-ghost use Rattle.pf_fault.specs.Codes.{code_text, refusal_text};
+ghost use Rattle.pf_errors.specs.Codes.{code_text, refusal_text};
 ghost use Rattle.pf_check.specs.Reads.{IsRefusalOf};
 ghost use Rattle.pf_command.specs.Answers.{IsModuleOf, Refuses, run_status};
 
-use pf_fault::{Code, NoMemory, OrNoMemory, Refusal};
-use pf_module::ReadModule;
+use pf_check::ReadModule;
+use pf_errors::{Code, NoMemory, OrNoMemory, SourceRefusal};
 use pf_request::Source;
 use pf_text::{put, put_byte};
 use std::alloc::Global;
@@ -19,26 +19,26 @@ pub(crate) const FAILED: u8 = 1;
 
 /// A text that goes out, and the status that the program ends with.
 #[derive(Drop)]
-pub struct Answer {
+pub struct Output {
     pub text: Vec<u8>,
     pub status: u8,
 }
 
 /// These words on a line of their own, with the status of what is refused.
-fn refused(alloc: Global, words: &str) -> Result<Answer, NoMemory>
+fn refused(alloc: Global, words: &str) -> Result<Output, NoMemory>
     ensures { IfOk result (λ a. Refuses a words.entry.now) }
 {
     let mut text = Vec::new(alloc);
     put(&mut text, words.as_bytes())?;
     put_byte(&mut text, b'\n')?;
-    Ok(Answer {
+    Ok(Output {
         text,
         status: REFUSED,
     })
 }
 
 /// A code, as `B2`.
-pub(crate) fn refused_by_code(alloc: Global, code: Code) -> Result<Answer, NoMemory>
+pub(crate) fn refused_by_code(alloc: Global, code: Code) -> Result<Output, NoMemory>
     ensures { IfOk result (λ a. Refuses a (code_text code)) }
 {
     let words = format!(in alloc; "{code}")?;
@@ -46,7 +46,7 @@ pub(crate) fn refused_by_code(alloc: Global, code: Code) -> Result<Answer, NoMem
 }
 
 /// A code with its offset, as `E6 at 41`.
-pub(crate) fn refused_at(alloc: Global, refusal: Refusal) -> Result<Answer, NoMemory>
+pub(crate) fn refused_at(alloc: Global, refusal: SourceRefusal) -> Result<Output, NoMemory>
     ensures { IfOk result (λ a. Refuses a (refusal_text refusal.code refusal.offset)) }
 {
     let words = format!(in alloc; "{refusal}")?;
@@ -65,7 +65,10 @@ pub(crate) fn run_status(verdict: Option<bool>) -> u8
 }
 
 /// The module that a source of these bytes is, or why it is none.
-pub(crate) fn read_source(alloc: Global, bytes: Vec<u8>) -> Result<ReadModule, OrNoMemory<Refusal>>
+pub(crate) fn read_source(
+    alloc: Global,
+    bytes: Vec<u8>,
+) -> Result<ReadModule, OrNoMemory<SourceRefusal>>
     ensures read { IfOk result (λ m. IsModuleOf bytes.items m) }
     ensures fault { IfErr result (IsRefusalOf bytes.items) }
 {

@@ -1,7 +1,7 @@
 //! What a source is answered with of which the chart of a run is asked for.
 
 ghost use Rattle.std.specs.Prelude.{◌≡◌, ◌<◌, List, ℕ, zero, IfOk, Some, map};
-ghost use Rattle.pf_model.specs.Reports.{report_of};
+ghost use Rattle.pf_model.specs.Reports.{view_of_report};
 ghost use Rattle.pf_model.specs.Shrinking.{IsResult, by_schedule};
 ghost use Rattle.pf_sched.specs.Views.{result_of};
 ghost use Rattle.pf_command.specs.Answers.{IsModuleOf, run_args};
@@ -9,7 +9,7 @@ ghost use Rattle.pf_cli.specs.Args.{view_of_chart_args};
 ghost use Rattle.pf_command.specs.Charts.{
   AreNamesIn,
   ChartAnswers,
-  Draws,
+  DrawsJob,
   DrawsMeaning,
   DrawsRun,
   IsOfRun,
@@ -17,19 +17,19 @@ ghost use Rattle.pf_command.specs.Charts.{
 };
 ghost use Rattle.pf_command.specs.Guided.{DrawnAnswers, manner_of};
 
-use crate::answer::{Answer, read_source, refused_at, refused_by_code, run_status};
+use crate::answer::{Output, read_source, refused_at, refused_by_code, run_status};
 use crate::guided::scheduled;
 use crate::serving::Answering;
 use pf_chart::{Manner, put_chart};
+use pf_check::ReadModule;
 use pf_cli::{ChartArgs, Edition};
-use pf_fault::{Code, NoMemory, OrNoMemory};
+use pf_errors::{Code, NoMemory, OrNoMemory};
 use pf_model::report::Report;
-use pf_module::ReadModule;
+use pf_process_status::{KnownRun, names};
 use pf_request::Request;
 use pf_sched::{
     Finished, Job, JobResult, Scratch, Silent, report_by_schedule, report_of_run, run_to_end,
 };
-use pf_standings::{KnownRun, names};
 use std::alloc::Global;
 use std::sync::Arc;
 
@@ -42,8 +42,8 @@ fn names_of(
     report: &Report,
 ) -> Result<Vec<Vec<u8>>, NoMemory>
     requires root { IsRootOf job.now root.now }
-    requires run { IsOfRun job.now.asked (report_of report.now) }
-    ensures { IfOk result (λ v. AreNamesIn job.now.asked (report_of report.now) (map (λ name. name.items) v.items)) }
+    requires run { IsOfRun job.now.asked (view_of_report report.now) }
+    ensures { IfOk result (λ v. AreNamesIn job.now.asked (view_of_report report.now) (map (λ name. name.items) v.items)) }
 {
     let module = job.module();
     let Some(root) = module.root(root) else {
@@ -66,21 +66,21 @@ fn draw_run(
     root: &[u8],
     manner: Manner,
     run: &Report,
-) -> Result<Answer, NoMemory>
+) -> Result<Output, NoMemory>
     requires root { IsRootOf job.now root.now }
-    requires run { IsOfRun job.now.asked (report_of run.now) }
-    ensures { IfOk result (DrawsRun job.now.asked root.now manner (report_of run.now)) }
+    requires run { IsOfRun job.now.asked (view_of_report run.now) }
+    ensures { IfOk result (DrawsRun job.now.asked root.now manner (view_of_report run.now)) }
 {
     let names = names_of(alloc, job, root, run)?;
     let mut text = Vec::new(alloc);
     let atoms = job.module().atoms();
     put_chart(alloc, &mut text, atoms, root, names.as_slice(), run, manner)?;
     let status = run_status(run.verdict);
-    Ok(Answer { text, status })
+    Ok(Output { text, status })
 }
 
 /// The chart of a job that is one run, which is made with its events.
-fn draw_one_run(alloc: Global, root: &[u8], manner: Manner, job: &Job) -> Result<Answer, NoMemory>
+fn draw_one_run(alloc: Global, root: &[u8], manner: Manner, job: &Job) -> Result<Output, NoMemory>
     requires runs { job.now.asked.runs ≡ zero }
     requires root { IsRootOf job.now root.now }
     ensures { IfOk result (DrawsMeaning job.now.asked root.now manner) }
@@ -96,7 +96,7 @@ fn draw_by_schedule(
     manner: Manner,
     job: &Job,
     schedule: &[u32],
-) -> Result<Answer, NoMemory>
+) -> Result<Output, NoMemory>
     requires { IsRootOf job.now root.now }
     ensures { IfOk result (DrawsMeaning (by_schedule job.now.asked schedule.now) root.now manner) }
 {
@@ -112,11 +112,11 @@ fn draw_result(
     manner: Manner,
     job: &Job,
     came: &JobResult,
-) -> Result<Answer, NoMemory>
+) -> Result<Output, NoMemory>
     requires shrinks { 0 < job.now.asked.runs }
     requires root { IsRootOf job.now root.now }
     requires result { IsResult job.now.asked (result_of came.now) }
-    ensures { IfOk result (λ a. Draws root.now manner job.now a.text.items a.status) }
+    ensures { IfOk result (λ a. DrawsJob root.now manner job.now a.text.items a.status) }
 {
     match came {
         JobResult::Report(_) => unreachable!(),
@@ -131,10 +131,10 @@ fn draw_finished(
     root: &[u8],
     manner: Manner,
     finished: &Finished,
-) -> Result<Answer, NoMemory>
+) -> Result<Output, NoMemory>
     requires shrinks { 0 < finished.now.job.asked.runs }
     requires root { IsRootOf finished.now.job root.now }
-    ensures { IfOk result (λ a. Draws root.now manner finished.now.job a.text.items a.status) }
+    ensures { IfOk result (λ a. DrawsJob root.now manner finished.now.job a.text.items a.status) }
 {
     match finished.result() {
         Some(came) => draw_result(alloc, root, manner, finished.job(), came),
@@ -143,10 +143,10 @@ fn draw_finished(
 }
 
 /// The chart of a shrinking, which is run to its end.
-fn draw_shrinking(alloc: Global, root: &[u8], manner: Manner, job: Job) -> Result<Answer, NoMemory>
+fn draw_shrinking(alloc: Global, root: &[u8], manner: Manner, job: Job) -> Result<Output, NoMemory>
     requires shrinks { 0 < job.asked.runs }
     requires root { IsRootOf job root.now }
-    ensures { IfOk result (λ a. Draws root.now manner job a.text.items a.status) }
+    ensures { IfOk result (λ a. DrawsJob root.now manner job a.text.items a.status) }
 {
     let job = Arc::new(alloc, job)?;
     let finished = run_to_end(alloc, job, &mut Scratch::new(alloc), &mut Silent)?;
@@ -154,9 +154,9 @@ fn draw_shrinking(alloc: Global, root: &[u8], manner: Manner, job: Job) -> Resul
 }
 
 /// The chart of a job.
-fn draw_job(alloc: Global, root: &[u8], manner: Manner, job: Job) -> Result<Answer, NoMemory>
+fn draw_job(alloc: Global, root: &[u8], manner: Manner, job: Job) -> Result<Output, NoMemory>
     requires { IsRootOf job root.now }
-    ensures { IfOk result (λ a. Draws root.now manner job a.text.items a.status) }
+    ensures { IfOk result (λ a. DrawsJob root.now manner job a.text.items a.status) }
 {
     if job.runs() > 0 {
         draw_shrinking(alloc, root, manner, job)
@@ -172,7 +172,7 @@ fn draw_module(
     edition: Edition,
     manner: Manner,
     module: ReadModule,
-) -> Result<Answer, NoMemory>
+) -> Result<Output, NoMemory>
     ensures { IfOk result (λ a. (bytes : List ℕ) → IsModuleOf bytes «module»
         → ChartAnswers manner (run_args request.now edition) bytes a.text.items a.status) }
 {
@@ -199,7 +199,7 @@ fn draw_guided(
     args: &ChartArgs,
     seed: u64,
     module: ReadModule,
-) -> Result<Answer, NoMemory>
+) -> Result<Output, NoMemory>
     requires { args.now.run.priorities ≡ Some seed }
     ensures { IfOk result (λ a. (bytes : List ℕ) → IsModuleOf bytes «module»
         → DrawnAnswers (view_of_chart_args args.now) bytes a.text.items a.status) }
@@ -216,7 +216,7 @@ fn draw_guided(
 }
 
 /// The answer to a module of which the chart of a run is asked for.
-fn draw_asked(alloc: Global, args: &ChartArgs, module: ReadModule) -> Result<Answer, NoMemory>
+fn draw_asked(alloc: Global, args: &ChartArgs, module: ReadModule) -> Result<Output, NoMemory>
     ensures { IfOk result (λ a. (bytes : List ℕ) → IsModuleOf bytes «module»
         → DrawnAnswers (view_of_chart_args args.now) bytes a.text.items a.status) }
 {
@@ -228,7 +228,7 @@ fn draw_asked(alloc: Global, args: &ChartArgs, module: ReadModule) -> Result<Ans
 }
 
 /// The answer to a source of these bytes: the chart of its run, or why there is none.
-fn draw_source(alloc: Global, args: &ChartArgs, bytes: Vec<u8>) -> Result<Answer, NoMemory>
+fn draw_source(alloc: Global, args: &ChartArgs, bytes: Vec<u8>) -> Result<Output, NoMemory>
     ensures { IfOk result (λ a. DrawnAnswers (view_of_chart_args args.now) bytes.items a.text.items a.status) }
 {
     match read_source(alloc, bytes) {
@@ -250,7 +250,7 @@ impl Answering for Chart<'_> {
 
     ghost answers = { λ c. DrawnAnswers (view_of_chart_args c.args.now) };
 
-    fn answer(self, alloc: Global, bytes: Vec<u8>) -> Result<Answer, NoMemory> {
+    fn answer(self, alloc: Global, bytes: Vec<u8>) -> Result<Output, NoMemory> {
         draw_source(alloc, self.args, bytes)
     }
 }

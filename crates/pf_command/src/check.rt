@@ -1,31 +1,35 @@
 //! What a source is answered with that is only checked.
 
 ghost use Rattle.std.specs.Prelude.{◌≡◌, ◌++◌, IfOk, codes, true};
-ghost use Rattle.pf_fault.specs.Codes.{refusal_text};
+ghost use Rattle.pf_errors.specs.Codes.{refusal_text};
 ghost use Rattle.pf_model.specs.TermText.{line};
-ghost use Rattle.pf_command.specs.Checks.{Checks, Explains, IsCheckRefused};
+ghost use Rattle.pf_command.specs.Checks.{Checks, ExplainsRefusal, IsCheckRefused};
 
-use crate::answer::{Answer, refused_at};
+use crate::answer::{Output, refused_at};
 use crate::serving::Answering;
 use pf_check::read;
-use pf_explain::put_explanations;
-use pf_fault::{NoMemory, OrNoMemory, Refusal};
-use pf_faults::faults;
+use pf_diagnostics::put_explanations;
+use pf_errors::{NoMemory, OrNoMemory, SourceRefusal};
+use pf_hints::faults;
 use pf_text::put;
 use std::alloc::Global;
 
 /// The answer to a source that is a module.
-fn accepted(alloc: Global) -> Result<Answer, NoMemory>
+fn accepted(alloc: Global) -> Result<Output, NoMemory>
     ensures { IfOk result (λ a. (a.text.items ≡ line (codes "ok")) × (a.status ≡ 0)) }
 {
     let mut text = Vec::new(alloc);
     put(&mut text, b"ok\n")?;
-    Ok(Answer { text, status: 0 })
+    Ok(Output { text, status: 0 })
 }
 
 /// The explanation of a refusal.
-fn explain_refusal(alloc: Global, source: &[u8], refusal: Refusal) -> Result<Vec<u8>, NoMemory>
-    ensures { IfOk result (λ t. Explains source.now refusal.code refusal.offset true t.items) }
+fn explain_refusal(
+    alloc: Global,
+    source: &[u8],
+    refusal: SourceRefusal,
+) -> Result<Vec<u8>, NoMemory>
+    ensures { IfOk result (λ t. ExplainsRefusal source.now refusal.code refusal.offset true t.items) }
 {
     let told = faults(alloc, source, refusal)?;
     let mut text = Vec::new(alloc);
@@ -38,9 +42,9 @@ fn more_of(
     alloc: Global,
     explain: bool,
     source: &[u8],
-    refusal: Refusal,
+    refusal: SourceRefusal,
 ) -> Result<Vec<u8>, NoMemory>
-    ensures { IfOk result (λ t. Explains source.now refusal.code refusal.offset explain t.items) }
+    ensures { IfOk result (λ t. ExplainsRefusal source.now refusal.code refusal.offset explain t.items) }
 {
     if explain {
         explain_refusal(alloc, source, refusal)
@@ -50,17 +54,22 @@ fn more_of(
 }
 
 /// The answer to a source that is refused, with its explanation if that is asked for.
-fn refuse(alloc: Global, explain: bool, source: &[u8], refusal: Refusal) -> Result<Answer, NoMemory>
+fn refuse(
+    alloc: Global,
+    explain: bool,
+    source: &[u8],
+    refusal: SourceRefusal,
+) -> Result<Output, NoMemory>
     ensures { IfOk result (IsCheckRefused explain source.now refusal.code refusal.offset) }
 {
-    let Answer { mut text, status } = refused_at(alloc, refusal)?;
+    let Output { mut text, status } = refused_at(alloc, refusal)?;
     let more = more_of(alloc, explain, source, refusal)?;
     text.extend_from_slice(&more)?;
-    Ok(Answer { text, status })
+    Ok(Output { text, status })
 }
 
 /// The answer to a source: `ok` if it is a module, else its first refusal.
-fn answer_check(alloc: Global, explain: bool, source: &[u8]) -> Result<Answer, NoMemory>
+fn answer_check(alloc: Global, explain: bool, source: &[u8]) -> Result<Output, NoMemory>
     ensures { IfOk result (λ a. Checks explain source.now a.text.items a.status) }
 {
     let refusal = match read(alloc, source) {
@@ -73,16 +82,16 @@ fn answer_check(alloc: Global, explain: bool, source: &[u8]) -> Result<Answer, N
 
 /// A check is asked for, and whether a refusal is explained.
 #[derive(Drop)]
-pub struct Check {
+pub struct CheckCommand {
     pub explain: bool,
 }
 
-impl Answering for Check {
+impl Answering for CheckCommand {
     ghost use Rattle.pf_command.specs.Checks.{Checks};
 
     ghost answers = { λ c. Checks c.explain };
 
-    fn answer(self, alloc: Global, bytes: Vec<u8>) -> Result<Answer, NoMemory> {
+    fn answer(self, alloc: Global, bytes: Vec<u8>) -> Result<Output, NoMemory> {
         answer_check(alloc, self.explain, &bytes)
     }
 }

@@ -5,27 +5,27 @@ ghost use Rattle.std.specs.Prelude.{◌≡◌, ◌++◌, List, ℕ, Some, OnErr,
 ghost use Rattle.std.specs.Fmt.{decimal};
 ghost use Rattle.std.specs.Io.KnownBytes.{Appends};
 ghost use Rattle.pf_terms.specs.Streams.{AppendsFront, CountsWrite};
-ghost use Rattle.pf_model.specs.Reports.{report_of};
+ghost use Rattle.pf_model.specs.Reports.{view_of_report};
 ghost use Rattle.pf_model.specs.Text.{schedule_text};
-ghost use Rattle.pf_seeds.specs.Notices.{Notice};
-ghost use Rattle.pf_seeds.specs.Views.{failure_of};
+ghost use Rattle.pf_hunt.specs.Notices.{Notice};
+ghost use Rattle.pf_hunt.specs.Views.{failure_of};
 ghost use Rattle.pf_cli.specs.Args.{failure, view_of_hunt_args};
-ghost use Rattle.pf_command.specs.Answers.{Answers, IsModuleOf};
-ghost use Rattle.pf_command.specs.Hunts.{IsFound, IsLeast, MaySay, TellsReport, TellsShrinking, TellsSought, choices_of, seed_text, shrinking_of, strategy_text};
-ghost use Rattle.pf_command.specs.Streams.{Prints};
+ghost use Rattle.pf_command.specs.Answers.{AnswersRun, IsModuleOf};
+ghost use Rattle.pf_command.specs.Hunts.{IsFound, IsLeastFailure, MaySay, TellsReport, TellsShrinking, TellsSought, choices_of, seed_text, shrinking_of, strategy_text};
+ghost use Rattle.pf_command.specs.Streams.{PrintsAnswer};
 ghost use Rattle.pf_command.specs.Waiting.{Adds, after_commas};
 
-use crate::answer::{Answer, FAILED};
+use crate::answer::{FAILED, Output};
 use crate::printing::{print_answer, print_no_memory};
 use crate::seeds::choices_of;
 use crate::seek::shrink;
-use crate::waiting::{Waiting, add, add_number};
+use crate::waiting::{OutputBuffer, add, add_number};
+use pf_check::ReadModule;
 use pf_cli::HuntArgs;
-use pf_fault::{NoMemory, OrNoMemory};
+use pf_errors::{NoMemory, OrNoMemory};
+use pf_hunt::FailingSeed;
 use pf_model::report::{Event, Report};
-use pf_module::ReadModule;
 use pf_sched::{Job, Observer};
-use pf_seeds::Failure;
 use pf_strategy::Strategy;
 use pf_terms::{Counted, StreamFault};
 use pf_trace::print_report;
@@ -36,10 +36,10 @@ use std::sync::ledger::Ledger;
 /// A run that fails: its job, the module of that, its seed and its report; and within how many runs its schedule is to
 /// be shrunk, if it is.
 #[derive(Drop)]
-pub struct Found {
+pub struct FailingRun {
     pub job: Job,
     pub module: ReadModule,
-    pub failure: Failure,
+    pub failure: FailingSeed,
     pub runs: Option<u32>,
 }
 
@@ -47,14 +47,14 @@ pub struct Found {
 #[derive(Drop)]
 pub enum HuntEnd {
     /// An answer.
-    Told(Answer),
+    Told(Output),
     /// A run that fails, which is to be reported.
-    Found(Found),
+    Found(FailingRun),
 }
 
 /// Adds a comma and a choice.
 fn add_choice<W: Write, M: Ledger>(
-    waiting: &mut Waiting,
+    waiting: &mut OutputBuffer,
     choice: u32,
     writer: &mut Counted<W, M>,
 ) -> Result<(), StreamFault>
@@ -71,7 +71,7 @@ fn add_choice<W: Write, M: Ledger>(
 
 /// Adds the choices of events, each after a comma.
 fn add_others<W: Write, M: Ledger>(
-    waiting: &mut Waiting,
+    waiting: &mut OutputBuffer,
     events: &[Event],
     writer: &mut Counted<W, M>,
 ) -> Result<(), StreamFault>
@@ -90,7 +90,7 @@ fn add_others<W: Write, M: Ledger>(
 
 /// Adds the choices of events, with commas between them, or `none`.
 fn add_choices<W: Write, M: Ledger>(
-    waiting: &mut Waiting,
+    waiting: &mut OutputBuffer,
     events: &[Event],
     writer: &mut Counted<W, M>,
 ) -> Result<(), StreamFault>
@@ -122,7 +122,7 @@ fn strategy_line(strategy: Strategy) -> &'static [u8]
 
 /// Adds the line of a seed.
 fn add_seed<W: Write, M: Ledger>(
-    waiting: &mut Waiting,
+    waiting: &mut OutputBuffer,
     seed: u64,
     writer: &mut Counted<W, M>,
 ) -> Result<(), StreamFault>
@@ -141,17 +141,17 @@ fn add_seed<W: Write, M: Ledger>(
 /// Writes the seed of a run that fails, its strategy and its choices, each on a line. It takes no memory.
 fn print_seed<W: Write, M: Ledger>(
     strategy: Strategy,
-    failure: &Failure,
+    failure: &FailingSeed,
     writer: &mut Counted<W, M>,
 ) -> Result<(), StreamFault>
     ensures written { OnOk result (Appends (W.contents writer.old.inner) (W.contents writer.new.inner)
-        (seed_text failure.now.seed strategy (choices_of (report_of failure.now.report)))) }
+        (seed_text failure.now.seed strategy (choices_of (view_of_report failure.now.report)))) }
     ensures kept { OnOk result (writer.new.failures.total ≡ writer.old.failures.total) }
     ensures front { OnErr result (AppendsFront (W.contents writer.old.inner) (W.contents writer.new.inner)
-        (seed_text failure.now.seed strategy (choices_of (report_of failure.now.report)))) }
+        (seed_text failure.now.seed strategy (choices_of (view_of_report failure.now.report)))) }
     ensures counted { IfErr result (λ e. CountsWrite e writer.old.failures.total writer.new.failures.total) }
 {
-    let mut waiting = Waiting::new();
+    let mut waiting = OutputBuffer::new();
     add_seed(&mut waiting, failure.seed, writer)?;
     add(&mut waiting, strategy_line(strategy), writer)?;
     add(&mut waiting, b"schedule ", writer)?;
@@ -167,7 +167,7 @@ fn print_failure<W: Write, M: Ledger>(
     report: &Report,
     writer: &mut Counted<W, M>,
 ) -> Result<u8, StreamFault>
-    ensures { Prints (TellsReport job.now (report_of report.now))
+    ensures { PrintsAnswer (TellsReport job.now (view_of_report report.now))
         (W.contents writer.old.inner) (W.contents writer.new.inner)
         writer.old.failures.total writer.new.failures.total result }
 {
@@ -186,9 +186,9 @@ fn shrink_report(
     report: &Report,
     runs: u32,
     observer: &mut impl Observer,
-) -> Result<Answer, NoMemory>
+) -> Result<Output, NoMemory>
     ensures { IfOk result (λ a. (bytes : List ℕ) → IsModuleOf bytes «module»
-        → Answers (shrinking_of (view_of_hunt_args args.now) (choices_of (report_of report.now)) runs) bytes
+        → AnswersRun (shrinking_of (view_of_hunt_args args.now) (choices_of (view_of_report report.now)) runs) bytes
         a.text.items a.status) }
 {
     let choices = choices_of(alloc, report)?;
@@ -206,7 +206,7 @@ fn print_shrunk<W: Write, M: Ledger>(
     writer: &mut Counted<W, M>,
 ) -> Result<u8, StreamFault>
     ensures { (bytes : List ℕ) → IsModuleOf bytes «module»
-        → Prints (TellsShrinking (view_of_hunt_args args.now) bytes (report_of report.now) runs)
+        → PrintsAnswer (TellsShrinking (view_of_hunt_args args.now) bytes (view_of_report report.now) runs)
         (W.contents writer.old.inner) (W.contents writer.new.inner)
         writer.old.failures.total writer.new.failures.total result }
 {
@@ -220,17 +220,17 @@ fn print_shrunk<W: Write, M: Ledger>(
 fn print_found<W: Write, M: Ledger>(
     alloc: Global,
     args: &HuntArgs,
-    found: Found,
+    found: FailingRun,
     observer: &mut impl Observer,
     writer: &mut Counted<W, M>,
 ) -> Result<u8, StreamFault>
     ensures { (bytes : List ℕ) (ns : List Notice) → IsModuleOf bytes found.«module»
-        → IsLeast (view_of_hunt_args args.now) found.job ns args.now.end (Some (failure_of found.failure))
-        → Prints (TellsSought (view_of_hunt_args args.now) bytes found.job ns (failure found.runs))
+        → IsLeastFailure (view_of_hunt_args args.now) found.job ns args.now.end (Some (failure_of found.failure))
+        → PrintsAnswer (TellsSought (view_of_hunt_args args.now) bytes found.job ns (failure found.runs))
         (W.contents writer.old.inner) (W.contents writer.new.inner)
         writer.old.failures.total writer.new.failures.total result }
 {
-    let Found {
+    let FailingRun {
         job,
         module,
         failure,
@@ -252,7 +252,7 @@ pub(crate) fn print_end<W: Write, M: Ledger>(
     writer: &mut Counted<W, M>,
 ) -> Result<u8, StreamFault>
     ensures { (bytes : List ℕ) (ns : List Notice) → IsFound (view_of_hunt_args args.now) bytes ns end
-        → Prints (MaySay (view_of_hunt_args args.now) bytes ns end)
+        → PrintsAnswer (MaySay (view_of_hunt_args args.now) bytes ns end)
         (W.contents writer.old.inner) (W.contents writer.new.inner)
         writer.old.failures.total writer.new.failures.total result }
 {

@@ -7,7 +7,7 @@ ghost use Rattle.pf_request.specs.View.{view_of_request};
 ghost use Rattle.pf_command.specs.Guided.{with_schedule};
 ghost use Rattle.pf_command.specs.Hunts.{choices_of};
 
-use pf_request::{Kind, Request, RunChoices, ShortBytes};
+use pf_request::{Request, RequestKind, RunChoices, ShortBytes};
 use pf_sched::{Job, Scratch, choices_by_priorities};
 use pf_terms::NoMemory;
 use std::alloc::Global;
@@ -20,7 +20,7 @@ fn by_schedule(alloc: Global, request: &Request, choices: Vec<u32>) -> Result<Re
     Ok(Request {
         root: ShortBytes::from_slice(alloc, request.root.as_slice())?,
         property: ShortBytes::from_slice(alloc, request.property.as_slice())?,
-        kind: Kind::Run(RunChoices::schedule(alloc, choices)?),
+        kind: RequestKind::Run(RunChoices::schedule(alloc, choices)?),
         limit: request.limit,
     })
 }

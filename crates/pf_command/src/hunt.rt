@@ -1,19 +1,19 @@
 //! What a source is answered with whose runs by many seeds are asked for.
 
 ghost use Rattle.std.specs.Prelude.{IfErr, IfOk, Ok, OnOk};
-ghost use Rattle.pf_seeds.specs.Notices.{HearsSome};
+ghost use Rattle.pf_hunt.specs.Notices.{HearsSome};
 ghost use Rattle.pf_cli.specs.Args.{view_of_hunt_args};
-ghost use Rattle.pf_command.specs.Hunts.{EndsAs, HuntAnswers, HuntNotifies};
-ghost use Rattle.pf_command.specs.Streams.{Answered, Leaves, NoneFailed, Prints, Sends, Takes, streams};
+ghost use Rattle.pf_command.specs.Hunts.{HuntEndsAs, HuntAnswers, HuntNotifies};
+ghost use Rattle.pf_command.specs.Streams.{IsAnsweredSo, Leaves, NoneFailed, PrintsAnswer, Sends, TakesBytes, streams};
 
 use crate::answer::{read_source, refused_at};
 use crate::ending::{HuntEnd, print_end};
 use crate::seek::hunt_module;
 use crate::serving::MOST_BYTES;
 use pf_cli::HuntArgs;
-use pf_fault::{NoMemory, OrNoMemory};
+use pf_errors::{NoMemory, OrNoMemory};
+use pf_hunt::HuntObserver;
 use pf_sched::Observer;
-use pf_seeds::HuntObserver;
 use pf_terms::{Counted, StreamFault};
 use std::alloc::Global;
 use std::io::{Read, Write};
@@ -30,7 +30,7 @@ fn end_of_hunt<T: Threads + Sync, S: HuntObserver>(
     seeds: &mut S,
 ) -> Result<HuntEnd, NoMemory>
     ensures { IfOk result (λ x. HearsSome S.Heard seeds.old
-        (EndsAs (view_of_hunt_args args.now) (view_of_hunt_args args.now).sought bytes.items x) seeds.new) }
+        (HuntEndsAs (view_of_hunt_args args.now) (view_of_hunt_args args.now).sought bytes.items x) seeds.new) }
 {
     match read_source(alloc, bytes) {
         Ok(module) => hunt_module(rt, alloc, args, module, workers, seeds),
@@ -57,7 +57,7 @@ pub fn print_hunt<W: Write, M: Ledger, T: Threads + Sync, S: HuntObserver>(
         (W.contents writer.old.inner) (W.contents writer.new.inner)
         writer.old.failures.total writer.new.failures.total result }
     ensures heard { IfOk result (λ status. HearsSome S.Heard seeds.old
-        (λ ns. Prints (HuntNotifies (view_of_hunt_args args.now) ns bytes.items)
+        (λ ns. PrintsAnswer (HuntNotifies (view_of_hunt_args args.now) ns bytes.items)
         (W.contents writer.old.inner) (W.contents writer.new.inner)
         writer.old.failures.total writer.new.failures.total (Ok status)) seeds.new) }
 {
@@ -78,13 +78,13 @@ pub fn hunt_source<R: Read, W: Write, L: Ledger, M: Ledger, T: Threads + Sync, S
     seeds: &mut S,
     observer: &mut impl Observer,
 ) -> Result<u8, OrNoMemory<StreamFault>>
-    ensures answered { IfOk result (λ status. Answered (HuntAnswers (view_of_hunt_args args.now))
+    ensures answered { IfOk result (λ status. IsAnsweredSo (HuntAnswers (view_of_hunt_args args.now))
         (streams (R.remaining reader.old.inner) (W.contents writer.old.inner)
         reader.old.failures.total writer.old.failures.total)
         (streams (R.remaining reader.new.inner) (W.contents writer.new.inner)
         reader.new.failures.total writer.new.failures.total) status) }
     ensures heard { IfOk result (λ status. HearsSome S.Heard seeds.old
-        (λ ns. Answered (HuntNotifies (view_of_hunt_args args.now) ns)
+        (λ ns. IsAnsweredSo (HuntNotifies (view_of_hunt_args args.now) ns)
         (streams (R.remaining reader.old.inner) (W.contents writer.old.inner)
         reader.old.failures.total writer.old.failures.total)
         (streams (R.remaining reader.new.inner) (W.contents writer.new.inner)
@@ -94,7 +94,7 @@ pub fn hunt_source<R: Read, W: Write, L: Ledger, M: Ledger, T: Threads + Sync, S
         reader.old.failures.total writer.old.failures.total)
         (streams (R.remaining reader.new.inner) (W.contents writer.new.inner)
         reader.new.failures.total writer.new.failures.total)) }
-    ensures taken { Takes
+    ensures taken { TakesBytes
         (streams (R.remaining reader.old.inner) (W.contents writer.old.inner)
         reader.old.failures.total writer.old.failures.total)
         (streams (R.remaining reader.new.inner) (W.contents writer.new.inner)

@@ -15,9 +15,9 @@ mod serving;
 mod stopping;
 mod waiting;
 
-pub use answer::Answer;
+pub use answer::Output;
 pub use chart::Chart;
-pub use check::Check;
+pub use check::CheckCommand;
 pub use hunt::{hunt_source, print_hunt};
 pub use printing::{print_source, run_source};
 pub use run::Shrink;

@@ -2,19 +2,19 @@
 //! than a piece.
 
 ghost use Rattle.std.specs.Prelude.{◌≡◌, List, ℕ, zero, IfErr, IfOk, OnOk, Some};
-ghost use Rattle.pf_fault.specs.Codes.{code_text, refusal_text};
+ghost use Rattle.pf_errors.specs.Codes.{code_text, refusal_text};
 ghost use Rattle.pf_cli.specs.Args.{view_of_run_args};
-ghost use Rattle.pf_command.specs.Answers.{Answers, AsksOf, Counts, CountsBy, IsModuleOf, IsNoMemory, Tells, run_args};
+ghost use Rattle.pf_command.specs.Answers.{AnswersRun, AsksOf, Counts, CountsBy, IsModuleOf, IsNoMemory, ReportsJob, run_args};
 ghost use Rattle.pf_command.specs.Guided.{RunAnswers, RunCounts};
-ghost use Rattle.pf_command.specs.Streams.{Answered, IsAnswer, IsRefused, Leaves, NoneFailed, Prints, Sends, Takes, WentOut, streams};
+ghost use Rattle.pf_command.specs.Streams.{IsAnsweredSo, IsAnswer, IsRefusedText, Leaves, NoneFailed, PrintsAnswer, Sends, TakesBytes, WentOut, streams};
 
-use crate::answer::{Answer, REFUSED, read_source, refused_at, refused_by_code, run_status};
+use crate::answer::{Output, REFUSED, read_source, refused_at, refused_by_code, run_status};
 use crate::guided::scheduled;
 use crate::run::answer_job;
 use crate::serving::MOST_BYTES;
+use pf_check::ReadModule;
 use pf_cli::{Edition, RunArgs};
-use pf_fault::{Code, OrNoMemory, Refusal};
-use pf_module::ReadModule;
+use pf_errors::{Code, OrNoMemory, SourceRefusal};
 use pf_request::Request;
 use pf_sched::{Job, Scratch, Silent, print_run};
 use pf_terms::{Counted, StreamFault};
@@ -28,7 +28,7 @@ fn print_code<W: Write, M: Ledger>(
     code: Code,
     writer: &mut Counted<W, M>,
 ) -> Result<u8, OrNoMemory<StreamFault>>
-    ensures { Sends (IsRefused (code_text code)) (W.contents writer.old.inner) (W.contents writer.new.inner)
+    ensures { Sends (IsRefusedText (code_text code)) (W.contents writer.old.inner) (W.contents writer.new.inner)
         writer.old.failures.total writer.new.failures.total result }
 {
     let answer = refused_by_code(alloc, code)?;
@@ -38,10 +38,10 @@ fn print_code<W: Write, M: Ledger>(
 /// Writes the line of a refusal with its offset, as `E6 at 41`.
 fn print_refusal<W: Write, M: Ledger>(
     alloc: Global,
-    refusal: Refusal,
+    refusal: SourceRefusal,
     writer: &mut Counted<W, M>,
 ) -> Result<u8, OrNoMemory<StreamFault>>
-    ensures { Sends (IsRefused (refusal_text refusal.code refusal.offset))
+    ensures { Sends (IsRefusedText (refusal_text refusal.code refusal.offset))
         (W.contents writer.old.inner) (W.contents writer.new.inner)
         writer.old.failures.total writer.new.failures.total result }
 {
@@ -53,7 +53,7 @@ fn print_refusal<W: Write, M: Ledger>(
 pub(crate) fn print_no_memory<W: Write, M: Ledger>(
     writer: &mut Counted<W, M>,
 ) -> Result<u8, StreamFault>
-    ensures { Prints IsNoMemory (W.contents writer.old.inner) (W.contents writer.new.inner)
+    ensures { PrintsAnswer IsNoMemory (W.contents writer.old.inner) (W.contents writer.new.inner)
         writer.old.failures.total writer.new.failures.total result }
 {
     writer.put(b"memory\nsteps 0\nno verdict\n")?;
@@ -62,10 +62,10 @@ pub(crate) fn print_no_memory<W: Write, M: Ledger>(
 
 /// Writes an answer.
 pub(crate) fn print_answer<W: Write, M: Ledger>(
-    answer: &Answer,
+    answer: &Output,
     writer: &mut Counted<W, M>,
 ) -> Result<u8, StreamFault>
-    ensures { Prints (IsAnswer answer.now) (W.contents writer.old.inner) (W.contents writer.new.inner)
+    ensures { PrintsAnswer (IsAnswer answer.now) (W.contents writer.old.inner) (W.contents writer.new.inner)
         writer.old.failures.total writer.new.failures.total result }
 {
     writer.put(&answer.text)?;
@@ -81,7 +81,7 @@ fn print_one_run<W: Write, M: Ledger>(
     waiting: &mut u32,
 ) -> Result<u8, StreamFault>
     requires { job.now.asked.runs ≡ zero }
-    ensures told { Prints (Tells job.now) (W.contents writer.old.inner) (W.contents writer.new.inner)
+    ensures told { PrintsAnswer (ReportsJob job.now) (W.contents writer.old.inner) (W.contents writer.new.inner)
         writer.old.failures.total writer.new.failures.total result }
     ensures waits { IfOk result (WentOut (Counts job.now waiting.old waiting.new)
         (W.contents writer.old.inner) (W.contents writer.new.inner)) }
@@ -104,7 +104,7 @@ fn print_job<W: Write, M: Ledger>(
     writer: &mut Counted<W, M>,
     waiting: &mut u32,
 ) -> Result<u8, OrNoMemory<StreamFault>>
-    ensures told { Sends (Tells job) (W.contents writer.old.inner) (W.contents writer.new.inner)
+    ensures told { Sends (ReportsJob job) (W.contents writer.old.inner) (W.contents writer.new.inner)
         writer.old.failures.total writer.new.failures.total result }
     ensures waits { IfOk result (WentOut (Counts job waiting.old waiting.new)
         (W.contents writer.old.inner) (W.contents writer.new.inner)) }
@@ -127,7 +127,7 @@ fn print_asked<W: Write, M: Ledger>(
     waiting: &mut u32,
 ) -> Result<u8, OrNoMemory<StreamFault>>
     ensures told { (bytes : List ℕ) → IsModuleOf bytes «module»
-        → Sends (Answers (run_args request.now edition) bytes)
+        → Sends (AnswersRun (run_args request.now edition) bytes)
         (W.contents writer.old.inner) (W.contents writer.new.inner)
         writer.old.failures.total writer.new.failures.total result }
     ensures waits { (bytes : List ℕ) → IsModuleOf bytes «module»
@@ -223,12 +223,12 @@ pub fn run_source<R: Read, W: Write, L: Ledger, M: Ledger>(
     writer: &mut Counted<W, M>,
     waiting: &mut u32,
 ) -> Result<u8, OrNoMemory<StreamFault>>
-    ensures answered { IfOk result (λ status. Answered (RunAnswers (view_of_run_args args.now))
+    ensures answered { IfOk result (λ status. IsAnsweredSo (RunAnswers (view_of_run_args args.now))
         (streams (R.remaining reader.old.inner) (W.contents writer.old.inner)
         reader.old.failures.total writer.old.failures.total)
         (streams (R.remaining reader.new.inner) (W.contents writer.new.inner)
         reader.new.failures.total writer.new.failures.total) status) }
-    ensures waits { IfOk result (λ status. Answered (RunCounts (view_of_run_args args.now) waiting.old waiting.new)
+    ensures waits { IfOk result (λ status. IsAnsweredSo (RunCounts (view_of_run_args args.now) waiting.old waiting.new)
         (streams (R.remaining reader.old.inner) (W.contents writer.old.inner)
         reader.old.failures.total writer.old.failures.total)
         (streams (R.remaining reader.new.inner) (W.contents writer.new.inner)
@@ -238,7 +238,7 @@ pub fn run_source<R: Read, W: Write, L: Ledger, M: Ledger>(
         reader.old.failures.total writer.old.failures.total)
         (streams (R.remaining reader.new.inner) (W.contents writer.new.inner)
         reader.new.failures.total writer.new.failures.total)) }
-    ensures taken { Takes
+    ensures taken { TakesBytes
         (streams (R.remaining reader.old.inner) (W.contents writer.old.inner)
         reader.old.failures.total writer.old.failures.total)
         (streams (R.remaining reader.new.inner) (W.contents writer.new.inner)

@@ -7,13 +7,13 @@ ghost use Rattle.pf_model.specs.Text.{report_text};
 ghost use Rattle.pf_request.specs.Job.{memory_report};
 ghost use Rattle.pf_trace.specs.Written.{AreWritten, report_in};
 ghost use Rattle.pf_sched.specs.Views.{IsWritten, result_of};
-ghost use Rattle.pf_command.specs.Answers.{Answers, IsModuleOf, Tells, TellsResult, run_args};
+ghost use Rattle.pf_command.specs.Answers.{AnswersRun, IsModuleOf, ReportsJob, TellsResult, run_args};
 
-use crate::answer::{Answer, FAILED, read_source, refused_at, refused_by_code, run_status};
+use crate::answer::{FAILED, Output, read_source, refused_at, refused_by_code, run_status};
 use crate::serving::Answering;
+use pf_check::ReadModule;
 use pf_cli::{Edition, RunArgs};
-use pf_fault::{Code, NoMemory, OrNoMemory};
-use pf_module::ReadModule;
+use pf_errors::{Code, NoMemory, OrNoMemory};
 use pf_request::Request;
 use pf_sched::{Finished, Job, JobResult, Observer, Scratch, memory_report, run_to_end};
 use pf_terms::AtomTable;
@@ -22,14 +22,14 @@ use std::alloc::Global;
 use std::sync::Arc;
 
 /// The answer of a run: its report, with the status of its verdict.
-fn write_run(alloc: Global, atoms: &AtomTable, told: &WrittenReport) -> Result<Answer, NoMemory>
+fn write_run(alloc: Global, atoms: &AtomTable, told: &WrittenReport) -> Result<Output, NoMemory>
     requires { AreWritten (name_of atoms.now) told.now.lines }
     ensures { IfOk result (TellsResult atoms.now (report (report_in told.now))) }
 {
     let mut text = Vec::new(alloc);
     put_written(&mut text, atoms, told)?;
     let status = run_status(told.verdict);
-    Ok(Answer { text, status })
+    Ok(Output { text, status })
 }
 
 /// The answer of a shrinking: the schedule that it found, whether no candidate of that fails, and the report of its
@@ -40,7 +40,7 @@ fn write_shrunk(
     schedule: &[u32],
     complete: bool,
     told: &WrittenReport,
-) -> Result<Answer, NoMemory>
+) -> Result<Output, NoMemory>
     requires { AreWritten (name_of atoms.now) told.now.lines }
     ensures { IfOk result (TellsResult atoms.now
         (shrunk_to (found schedule.now complete) (report_in told.now))) }
@@ -48,14 +48,14 @@ fn write_shrunk(
     let mut text = Vec::new(alloc);
     put_found(&mut text, schedule, complete)?;
     put_written(&mut text, atoms, told)?;
-    Ok(Answer {
+    Ok(Output {
         text,
         status: FAILED,
     })
 }
 
 /// The answer of a job's result. If the given schedule doesn't fail, that is refused.
-fn write_result(alloc: Global, atoms: &AtomTable, told: &JobResult) -> Result<Answer, NoMemory>
+fn write_result(alloc: Global, atoms: &AtomTable, told: &JobResult) -> Result<Output, NoMemory>
     requires { IsWritten (name_of atoms.now) told.now }
     ensures { IfOk result (TellsResult atoms.now (result_of told.now)) }
 {
@@ -71,7 +71,7 @@ fn write_result(alloc: Global, atoms: &AtomTable, told: &JobResult) -> Result<An
 }
 
 /// The answer of a job within which memory ran out: of a run that this is so, of a shrinking none.
-fn write_no_memory(alloc: Global, atoms: &AtomTable, job: &Job) -> Result<Answer, NoMemory>
+fn write_no_memory(alloc: Global, atoms: &AtomTable, job: &Job) -> Result<Output, NoMemory>
     ensures { IfOk result (λ a. (job.now.asked.runs ≡ zero)
         × TellsResult atoms.now (report memory_report) a) }
 {
@@ -82,8 +82,8 @@ fn write_no_memory(alloc: Global, atoms: &AtomTable, job: &Job) -> Result<Answer
 }
 
 /// The answer of a job whose runs are over.
-fn write_finished(alloc: Global, finished: &Finished) -> Result<Answer, NoMemory>
-    ensures { IfOk result (λ a. Tells finished.now.job a.text.items a.status) }
+fn write_finished(alloc: Global, finished: &Finished) -> Result<Output, NoMemory>
+    ensures { IfOk result (λ a. ReportsJob finished.now.job a.text.items a.status) }
 {
     let job = finished.job();
     let atoms = job.module().atoms();
@@ -98,8 +98,8 @@ pub(crate) fn answer_job(
     alloc: Global,
     job: Job,
     observer: &mut impl Observer,
-) -> Result<Answer, NoMemory>
-    ensures { IfOk result (λ a. Tells job a.text.items a.status) }
+) -> Result<Output, NoMemory>
+    ensures { IfOk result (λ a. ReportsJob job a.text.items a.status) }
 {
     let job = Arc::new(alloc, job)?;
     let finished = run_to_end(alloc, job, &mut Scratch::new(alloc), observer)?;
@@ -113,9 +113,9 @@ pub(crate) fn answer_module(
     edition: Edition,
     module: ReadModule,
     observer: &mut impl Observer,
-) -> Result<Answer, NoMemory>
+) -> Result<Output, NoMemory>
     ensures { IfOk result (λ a. (bytes : List ℕ) → IsModuleOf bytes «module»
-        → Answers (run_args request.now edition) bytes a.text.items a.status) }
+        → AnswersRun (run_args request.now edition) bytes a.text.items a.status) }
 {
     match Job::new(alloc, module, request, edition.number()) {
         Ok(job) => answer_job(alloc, job, observer),
@@ -131,8 +131,8 @@ fn answer_source(
     edition: Edition,
     bytes: Vec<u8>,
     observer: &mut impl Observer,
-) -> Result<Answer, NoMemory>
-    ensures { IfOk result (λ a. Answers (run_args request.now edition) bytes.items a.text.items a.status) }
+) -> Result<Output, NoMemory>
+    ensures { IfOk result (λ a. AnswersRun (run_args request.now edition) bytes.items a.text.items a.status) }
 {
     match read_source(alloc, bytes) {
         Ok(module) => answer_module(alloc, request, edition, module, observer),
@@ -150,11 +150,11 @@ pub struct Shrink<'a, O> {
 
 impl<O: Observer + Drop> Answering for Shrink<'_, O> {
     ghost use Rattle.pf_cli.specs.Args.{view_of_run_args};
-    ghost use Rattle.pf_command.specs.Answers.{Answers};
+    ghost use Rattle.pf_command.specs.Answers.{AnswersRun};
 
-    ghost answers = { λ c. Answers (view_of_run_args c.args.now) };
+    ghost answers = { λ c. AnswersRun (view_of_run_args c.args.now) };
 
-    fn answer(self, alloc: Global, bytes: Vec<u8>) -> Result<Answer, NoMemory> {
+    fn answer(self, alloc: Global, bytes: Vec<u8>) -> Result<Output, NoMemory> {
         let Shrink { args, mut observer } = self;
         answer_source(alloc, &args.request, args.edition, bytes, &mut observer)
     }

@@ -3,16 +3,16 @@
 ghost use Rattle.std.specs.Prelude.{◌≡◌, ◌++◌, IfOk, OnOk, flat_map, map, if◌then◌else◌};
 ghost use Rattle.std.specs.List.{list_any};
 ghost use Rattle.pf_terms.specs.Atoms.{name_of};
-ghost use Rattle.pf_model.specs.Reports.{outcome_of, report_of};
+ghost use Rattle.pf_model.specs.Reports.{view_of_outcome, view_of_report};
 ghost use Rattle.pf_model.specs.Shrinking.{is_failure};
 ghost use Rattle.pf_model.specs.TermText.{line};
 ghost use Rattle.pf_model.specs.Text.{outcome_text};
-ghost use Rattle.pf_seeds.specs.Views.{row_of};
+ghost use Rattle.pf_hunt.specs.Views.{row_of};
 ghost use Rattle.pf_command.specs.Hunts.{choices_of, none_text, row_text, strategy_text, verdict_text};
 
 use crate::answer::FAILED;
+use pf_hunt::{HashedOutcome, OutcomeRow};
 use pf_model::report::Report;
-use pf_seeds::{HashedOutcome, Row};
 use pf_strategy::Strategy;
 use pf_terms::{AtomTable, NoMemory};
 use pf_text::{put, put_number};
@@ -32,7 +32,7 @@ fn choices_in(alloc: Global, report: &Report) -> Result<Vec<u32>, NoMemory>
 
 /// The choices of a run, event by event: by them as a schedule it runs so again.
 pub(crate) fn choices_of(alloc: Global, report: &Report) -> Result<Vec<u32>, NoMemory>
-    ensures { IfOk result (λ numbers. numbers.items ≡ choices_of (report_of report.now)) }
+    ensures { IfOk result (λ numbers. numbers.items ≡ choices_of (view_of_report report.now)) }
 {
     choices_in(alloc, report)
 }
@@ -76,7 +76,7 @@ fn put_met(out: &mut Vec<u8>, atoms: &AtomTable, met: &HashedOutcome) -> Result<
 
 /// Puts a row: whether the property holds, by how many seeds the outcome was met, the least of them, and the outcome's
 /// line.
-fn put_row(out: &mut Vec<u8>, atoms: &AtomTable, row: &Row) -> Result<(), NoMemory>
+fn put_row(out: &mut Vec<u8>, atoms: &AtomTable, row: &OutcomeRow) -> Result<(), NoMemory>
     ensures { OnOk result (out.new.items ≡ out.old.items ++ row_text (name_of atoms.now) (row_of row.now)) }
 {
     put_verdict(out, row.verdict)?;
@@ -88,7 +88,11 @@ fn put_row(out: &mut Vec<u8>, atoms: &AtomTable, row: &Row) -> Result<(), NoMemo
 }
 
 /// Puts rows, each on a line.
-pub(crate) fn put_rows(out: &mut Vec<u8>, atoms: &AtomTable, rows: &[Row]) -> Result<(), NoMemory>
+pub(crate) fn put_rows(
+    out: &mut Vec<u8>,
+    atoms: &AtomTable,
+    rows: &[OutcomeRow],
+) -> Result<(), NoMemory>
     ensures { OnOk result (out.new.items
         ≡ out.old.items ++ flat_map (λ x. row_text (name_of atoms.now) (row_of x)) rows.now) }
 {
@@ -99,14 +103,14 @@ pub(crate) fn put_rows(out: &mut Vec<u8>, atoms: &AtomTable, rows: &[Row]) -> Re
 }
 
 /// Whether the property fails of the runs of a row.
-fn fails(row: &Row) -> bool
+fn fails(row: &OutcomeRow) -> bool
     ensures { result ≡ is_failure row.now.verdict }
 {
     matches!(row.verdict, Some(false))
 }
 
 /// Whether the property of some run fails.
-fn some_fails(rows: &[Row]) -> bool
+fn some_fails(rows: &[OutcomeRow]) -> bool
     ensures { result ≡ list_any (λ x. is_failure x.verdict) rows.now }
 {
     for row in rows {
@@ -118,7 +122,7 @@ fn some_fails(rows: &[Row]) -> bool
 }
 
 /// The status of rows: 1 if the property of some run fails, else 0.
-pub(crate) fn rows_status(rows: &[Row]) -> u8
+pub(crate) fn rows_status(rows: &[OutcomeRow]) -> u8
     ensures { result ≡ (if list_any (λ x. is_failure x.verdict) rows.now then 1 else 0) }
 {
     if some_fails(rows) { FAILED } else { 0 }

@@ -4,24 +4,24 @@ ghost use Rattle.std.specs.Prelude.{◌≡◌, ◌-◌, ◌++◌, [], List, ℕ,
 ghost use Rattle.std.specs.List.{list_any};
 ghost use Rattle.pf_model.specs.Shrinking.{is_failure};
 ghost use Rattle.pf_sched.specs.Asked.{IsRefusal};
-ghost use Rattle.pf_seeds.specs.Notices.{HearsSome};
-ghost use Rattle.pf_seeds.specs.Views.{row_of};
+ghost use Rattle.pf_hunt.specs.Notices.{HearsSome};
+ghost use Rattle.pf_hunt.specs.Views.{row_of};
 ghost use Rattle.pf_cli.specs.Args.{failure, outcomes, view_of_hunt_args};
-ghost use Rattle.pf_command.specs.Answers.{Answers, AsksOf, IsModuleOf, names_of, run_args};
-ghost use Rattle.pf_command.specs.Hunts.{AsksFor, EndsAs, MayShrink, OfEach, SoughtAnswers, TellsAs, TellsSought};
+ghost use Rattle.pf_command.specs.Answers.{AnswersRun, AsksOf, IsModuleOf, atom_names_of, run_args};
+ghost use Rattle.pf_command.specs.Hunts.{HuntAsksFor, HuntEndsAs, MayShrink, OfEach, SoughtAnswers, TellsAs, TellsSought};
 ghost use Rattle.pf_command.specs.Hunts.{front_text, none_text, row_text, shrinking_of, strategy_text};
 
-use crate::answer::{Answer, refused_by_code};
-use crate::ending::{Found, HuntEnd};
+use crate::answer::{Output, refused_by_code};
+use crate::ending::{FailingRun, HuntEnd};
 use crate::run::answer_module;
 use crate::seeds::{put_none, put_rows, put_strategy, rows_status};
 use crate::stopping::{may_stop, put_front};
-use pf_cli::{HuntArgs, Sought};
-use pf_fault::{NoMemory, OrNoMemory};
-use pf_module::ReadModule;
-use pf_request::{Kind, Request, ShortBytes};
+use pf_check::ReadModule;
+use pf_cli::{HuntArgs, HuntGoal};
+use pf_errors::{NoMemory, OrNoMemory};
+use pf_hunt::{Hunt, HuntObserver, Searched, Tally, first_failing, other_jobs, tally_all};
+use pf_request::{Request, RequestKind, ShortBytes};
 use pf_sched::{Job, JobRefusal, Observer};
-use pf_seeds::{Hunt, HuntObserver, Searched, Tally, first_failing, other_jobs, tally_all};
 use std::alloc::Global;
 use std::sync::Arc;
 use std::thread::Threads;
@@ -40,7 +40,7 @@ fn shrinking(
     Ok(Request {
         root: ShortBytes::from_slice(alloc, request.root.as_slice())?,
         property: ShortBytes::from_slice(alloc, request.property.as_slice())?,
-        kind: Kind::Shrink {
+        kind: RequestKind::Shrink {
             schedule: Arc::new(alloc, schedule)?,
             runs,
         },
@@ -73,7 +73,7 @@ fn may_shrink(
 ) -> Result<(), OrNoMemory<JobRefusal>>
     ensures { MatchResult result
         (λ _. MayShrink (view_of_hunt_args args.now) (failure (Some runs)) «module».now)
-        (IsRefusal (AsksFor (view_of_hunt_args args.now) (failure (Some runs)) «module».now)) }
+        (IsRefusal (HuntAsksFor (view_of_hunt_args args.now) (failure (Some runs)) «module».now)) }
 {
     match try_shrinking(alloc, args, module, runs) {
         Ok(_shrinking) => Ok(()),
@@ -90,7 +90,7 @@ fn may_seek(
 ) -> Result<(), OrNoMemory<JobRefusal>>
     ensures { MatchResult result
         (λ _. MayShrink (view_of_hunt_args args.now) (failure runs) «module».now)
-        (IsRefusal (AsksFor (view_of_hunt_args args.now) (failure runs) «module».now)) }
+        (IsRefusal (HuntAsksFor (view_of_hunt_args args.now) (failure runs) «module».now)) }
 {
     match runs {
         Some(runs) => may_shrink(alloc, args, module, runs),
@@ -106,22 +106,22 @@ fn job_of(
     runs: Option<u32>,
 ) -> Result<Job, OrNoMemory<JobRefusal>>
     ensures { MatchResult result
-        (λ job. AsksFor (view_of_hunt_args args.now) (failure runs) «module».now (Ok job))
-        (IsRefusal (AsksFor (view_of_hunt_args args.now) (failure runs) «module».now)) }
+        (λ job. HuntAsksFor (view_of_hunt_args args.now) (failure runs) «module».now (Ok job))
+        (IsRefusal (HuntAsksFor (view_of_hunt_args args.now) (failure runs) «module».now)) }
 {
     may_seek(alloc, args, module, runs)?;
     Job::new(alloc, module.share()?, &args.request, args.edition.number())
 }
 
 /// The answer if no run fails of the seeds to before an end.
-fn write_none(alloc: Global, args: &HuntArgs, end: u64) -> Result<Answer, NoMemory>
+fn write_none(alloc: Global, args: &HuntArgs, end: u64) -> Result<Output, NoMemory>
     ensures { IfOk result (λ a. (a.text.items
         ≡ front_text (view_of_hunt_args args.now) end ++ none_text (end - args.now.first)) × (a.status ≡ 0)) }
 {
     let mut text = Vec::new(alloc);
     put_front(&mut text, args, end)?;
     put_none(&mut text, end.saturating_sub(args.first))?;
-    Ok(Answer { text, status: 0 })
+    Ok(Output { text, status: 0 })
 }
 
 /// What the shrinking of a schedule that a hunt finds is answered with.
@@ -132,9 +132,9 @@ pub(crate) fn shrink(
     schedule: Vec<u32>,
     runs: u32,
     observer: &mut impl Observer,
-) -> Result<Answer, NoMemory>
+) -> Result<Output, NoMemory>
     ensures { IfOk result (λ a. (bytes : List ℕ) → IsModuleOf bytes «module»
-        → Answers (shrinking_of (view_of_hunt_args args.now) schedule.items runs) bytes a.text.items a.status) }
+        → AnswersRun (shrinking_of (view_of_hunt_args args.now) schedule.items runs) bytes a.text.items a.status) }
 {
     let request = shrinking(alloc, args, schedule, runs)?;
     answer_module(alloc, &request, args.edition, module, observer)
@@ -180,7 +180,7 @@ fn seek_failure<T: Threads + Sync, S: HuntObserver>(
     let Some(failure) = failure else {
         return Ok(HuntEnd::Told(write_none(alloc, args, end)?));
     };
-    Ok(HuntEnd::Found(Found {
+    Ok(HuntEnd::Found(FailingRun {
         job: hunt.job,
         module,
         failure,
@@ -199,7 +199,7 @@ fn hunt_failure<T: Threads + Sync, S: HuntObserver>(
     seeds: &mut S,
 ) -> Result<HuntEnd, NoMemory>
     ensures { IfOk result (λ x. HearsSome S.Heard seeds.old (OfEach «module»
-        (λ bytes. EndsAs (view_of_hunt_args args.now) (failure runs) bytes x)) seeds.new) }
+        (λ bytes. HuntEndsAs (view_of_hunt_args args.now) (failure runs) bytes x)) seeds.new) }
 {
     match job_of(alloc, args, &module, runs) {
         Ok(job) => seek_failure(rt, alloc, args, module, job, runs, workers, seeds),
@@ -219,10 +219,10 @@ fn write_rows(
     job: &Job,
     tally: &Tally,
     end: u64,
-) -> Result<Answer, NoMemory>
+) -> Result<Output, NoMemory>
     ensures { IfOk result (λ a. (a.text.items
         ≡ front_text (view_of_hunt_args args.now) end ++ strategy_text args.now.strategy
-        ++ flat_map (λ x. row_text (names_of job.now) (row_of x)) tally.now.rows.items)
+        ++ flat_map (λ x. row_text (atom_names_of job.now) (row_of x)) tally.now.rows.items)
         × (a.status ≡ (if list_any (λ x. is_failure x.verdict) tally.now.rows.items then 1 else 0))) }
 {
     let mut text = Vec::new(alloc);
@@ -230,7 +230,7 @@ fn write_rows(
     put_strategy(&mut text, args.strategy)?;
     put_rows(&mut text, job.module().atoms(), &tally.rows)?;
     let status = rows_status(&tally.rows);
-    Ok(Answer { text, status })
+    Ok(Output { text, status })
 }
 
 /// The answer if each outcome is sought, by the given number of workers.
@@ -242,7 +242,7 @@ fn seek_outcomes<T: Threads + Sync, S: HuntObserver>(
     job: Job,
     workers: u64,
     seeds: &mut S,
-) -> Result<Answer, NoMemory>
+) -> Result<Output, NoMemory>
     ensures { IfOk result (λ a. HearsSome S.Heard seeds.old (λ ns. (bytes : List ℕ)
         → TellsSought (view_of_hunt_args args.now) bytes job ns outcomes a.text.items a.status) seeds.new) }
 {
@@ -274,7 +274,7 @@ fn hunt_outcomes<T: Threads + Sync, S: HuntObserver>(
     module: ReadModule,
     workers: u64,
     seeds: &mut S,
-) -> Result<Answer, NoMemory>
+) -> Result<Output, NoMemory>
     ensures { IfOk result (λ a. HearsSome S.Heard seeds.old (OfEach «module»
         (λ bytes ns. SoughtAnswers (view_of_hunt_args args.now) outcomes bytes ns a.text.items a.status)) seeds.new) }
 {
@@ -295,11 +295,11 @@ pub(crate) fn hunt_module<T: Threads + Sync, S: HuntObserver>(
     seeds: &mut S,
 ) -> Result<HuntEnd, NoMemory>
     ensures { IfOk result (λ x. HearsSome S.Heard seeds.old (OfEach «module»
-        (λ bytes. EndsAs (view_of_hunt_args args.now) (view_of_hunt_args args.now).sought bytes x)) seeds.new) }
+        (λ bytes. HuntEndsAs (view_of_hunt_args args.now) (view_of_hunt_args args.now).sought bytes x)) seeds.new) }
 {
     match args.sought {
-        Sought::Failure { runs } => hunt_failure(rt, alloc, args, module, runs, workers, seeds),
-        Sought::Outcomes => {
+        HuntGoal::Failure { runs } => hunt_failure(rt, alloc, args, module, runs, workers, seeds),
+        HuntGoal::Outcomes => {
             let answer = hunt_outcomes(rt, alloc, args, module, workers, seeds)?;
             Ok(HuntEnd::Told(answer))
         }

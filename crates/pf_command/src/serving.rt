@@ -1,10 +1,10 @@
 //! The work of a command between a reader and a writer: it reads, answers, and writes.
 
 ghost use Rattle.std.specs.Prelude.{IfErr, IfOk, OnOk};
-ghost use Rattle.pf_command.specs.Streams.{Answered, Leaves, NoneFailed, Takes, streams};
+ghost use Rattle.pf_command.specs.Streams.{IsAnsweredSo, Leaves, NoneFailed, TakesBytes, streams};
 
-use crate::answer::Answer;
-use pf_fault::OrNoMemory;
+use crate::answer::Output;
+use pf_errors::OrNoMemory;
 use pf_terms::{Counted, NoMemory, StreamFault};
 use pf_tokens::MOST_SOURCE_BYTES;
 use std::alloc::Global;
@@ -21,7 +21,7 @@ pub trait Answering {
     ghost answers: { Self → (bytes text : List ℕ) → ℕ → Type 0 };
 
     /// The answer to a source of these bytes.
-    fn answer(self, alloc: Global, bytes: Vec<u8>) -> Result<Answer, NoMemory>
+    fn answer(self, alloc: Global, bytes: Vec<u8>) -> Result<Output, NoMemory>
         ensures { IfOk result (λ a. answers self bytes.items a.text.items a.status) };
 }
 
@@ -33,7 +33,7 @@ pub fn serve<R: Read, W: Write, L: Ledger, M: Ledger, C: Answering + Drop>(
     command: C,
     writer: &mut Counted<W, M>,
 ) -> Result<u8, OrNoMemory<StreamFault>>
-    ensures answered { IfOk result (λ status. Answered (C.answers command)
+    ensures answered { IfOk result (λ status. IsAnsweredSo (C.answers command)
         (streams (R.remaining reader.old.inner) (W.contents writer.old.inner)
         reader.old.failures.total writer.old.failures.total)
         (streams (R.remaining reader.new.inner) (W.contents writer.new.inner)
@@ -43,7 +43,7 @@ pub fn serve<R: Read, W: Write, L: Ledger, M: Ledger, C: Answering + Drop>(
         reader.old.failures.total writer.old.failures.total)
         (streams (R.remaining reader.new.inner) (W.contents writer.new.inner)
         reader.new.failures.total writer.new.failures.total)) }
-    ensures taken { Takes
+    ensures taken { TakesBytes
         (streams (R.remaining reader.old.inner) (W.contents writer.old.inner)
         reader.old.failures.total writer.old.failures.total)
         (streams (R.remaining reader.new.inner) (W.contents writer.new.inner)

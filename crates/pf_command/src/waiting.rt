@@ -15,11 +15,11 @@ use std::sync::ledger::Ledger;
 const ROOM: usize = 4_096;
 
 /// The bytes that wait to go out.
-pub(crate) type Waiting = ArrayVec<u8, ROOM>;
+pub(crate) type OutputBuffer = ArrayVec<u8, ROOM>;
 
 /// Adds a text to what waits, or has both go out if there is no room for it.
 pub(crate) fn add<W: Write, M: Ledger>(
-    waiting: &mut Waiting,
+    waiting: &mut OutputBuffer,
     text: &[u8],
     writer: &mut Counted<W, M>,
 ) -> Result<(), StreamFault>
@@ -40,7 +40,7 @@ pub(crate) fn add<W: Write, M: Ledger>(
 
 /// Adds the digits of a number.
 pub(crate) fn add_number<W: Write, M: Ledger>(
-    waiting: &mut Waiting,
+    waiting: &mut OutputBuffer,
     number: u64,
     writer: &mut Counted<W, M>,
 ) -> Result<(), StreamFault>

@@ -4,13 +4,13 @@ use Rattle.std.specs.Global.{Global}
 use Rattle.pf_deques.specs.Parts as parts
 
 -- which deque
-abbrev pub Place : Type 0
-Place = (ℕ × ℕ) × Global
+abbrev pub DequePlace : Type 0
+DequePlace = (ℕ × ℕ) × Global
 
 -- the owner's end: of which deque, whether that has no thief, what was pushed and what was popped, and whether it is
 -- known to be drained
 pub record OwnerView (T : Type 0) : Type 0 where
-  pub deque : Place
+  pub deque : DequePlace
   pub is_alone : Bool
   pub pushed : List T
   pub popped : List T
@@ -18,15 +18,15 @@ pub record OwnerView (T : Type 0) : Type 0 where
 
 -- the thief's end: of which deque, and what was stolen
 pub record ThiefView (T : Type 0) : Type 0 where
-  pub deque : Place
+  pub deque : DequePlace
   pub stolen : List T
 
 module _ {T : Type 0} where
   -- the ends of a deque through which nothing went yet
-  abbrev pub new_owner : Place → (is_alone : Bool) → OwnerView T
+  abbrev pub new_owner : DequePlace → (is_alone : Bool) → OwnerView T
   new_owner deque is_alone = record { deque = deque; is_alone = is_alone; pushed = []; popped = []; drained = true }
 
-  abbrev pub new_thief : Place → ThiefView T
+  abbrev pub new_thief : DequePlace → ThiefView T
   new_thief deque = record { deque = deque; stolen = [] }
 
   abbrev pub with_pushed : OwnerView T → T → OwnerView T

@@ -4,9 +4,9 @@ ghost use Rattle.std.specs.Prelude.{◌≡◌, ◌⊎◌, ◌∷◌, ◌++◌, [
 ghost use Rattle.pf_deques.specs.Parts.{IsDealt};
 ghost use Rattle.pf_deques.specs.Views.{FoundEmpty, IsThiefOf, TakesFirst, new_owner, new_thief, stolen_by, with_popped, with_pushed};
 
-use crate::part::{Ends, InOrder, Part, Popped, Pushed, Spent, Stolen};
+use crate::part::{HolderPart, InOrder, PartedEnds, Popped, Pushed, Spent, Stolen};
 use crossbeam_deque::{Pass, Steal, Stealer, Worker};
-use pf_fault::NoMemory;
+use pf_errors::NoMemory;
 use std::alloc::Global;
 use std::marker::Model;
 
@@ -14,7 +14,7 @@ use std::marker::Model;
 /// pushed, what was popped, and whether it is known that nothing is left.
 #[derive(Drop)]
 pub struct Owner<T: Drop> {
-    deque: Worker<Option<T>, Global, Part<T>, InOrder>,
+    deque: Worker<Option<T>, Global, HolderPart<T>, InOrder>,
     sealed: bool,
     drained: bool,
 }
@@ -44,8 +44,8 @@ impl<T: Drop> Model for Owner<T> {
 /// The end of the one worker who steals. Contracts see which deque it is of, and what was stolen.
 #[derive(Drop)]
 pub struct Thief<T: Drop> {
-    stealer: Stealer<Option<T>, Global, Part<T>, InOrder>,
-    pass: Pass<Option<T>, Part<T>>,
+    stealer: Stealer<Option<T>, Global, HolderPart<T>, InOrder>,
+    pass: Pass<Option<T>, HolderPart<T>>,
 }
 
 impl<T: Drop> Model for Thief<T> {
@@ -65,9 +65,11 @@ impl<T: Drop> Model for Thief<T> {
 pub fn open<T: Drop>(alloc: Global, capacity: usize) -> Result<(Owner<T>, Thief<T>), NoMemory>
     ensures { IfOk result (λ r. (r.0 ≡ new_owner r.0.deque false) × (r.1 ≡ new_thief r.0.deque)) }
 {
-    let mut deque: Worker<Option<T>, Global, Part<T>, InOrder> = Worker::fifo_as(alloc, capacity)?;
+    let mut deque: Worker<Option<T>, Global, HolderPart<T>, InOrder> = Worker::fifo_as(
+        alloc, capacity,
+    )?;
     let stealer = deque.stealer()?;
-    let pass = deque.another::<Ends>();
+    let pass = deque.another::<PartedEnds>();
     let owner = Owner {
         deque,
         sealed: false,
@@ -80,7 +82,9 @@ pub fn open<T: Drop>(alloc: Global, capacity: usize) -> Result<(Owner<T>, Thief<
 pub fn open_alone<T: Drop>(alloc: Global, capacity: usize) -> Result<Owner<T>, NoMemory>
     ensures { IfOk result (λ r. r ≡ new_owner r.deque true) }
 {
-    let deque: Worker<Option<T>, Global, Part<T>, InOrder> = Worker::fifo_as(alloc, capacity)?;
+    let deque: Worker<Option<T>, Global, HolderPart<T>, InOrder> = Worker::fifo_as(
+        alloc, capacity,
+    )?;
     Ok(Owner {
         deque,
         sealed: false,
@@ -153,7 +157,7 @@ impl<T: Drop> Owner<T> {
         } = self;
         if let Some(thief) = thief {
             let Thief { stealer, pass } = thief;
-            deque.absorb::<Ends>(pass);
+            deque.absorb::<PartedEnds>(pass);
             drop(stealer);
         }
         deque.len_as::<Spent>();

@@ -5,7 +5,7 @@ use std::collections::LinkedList;
 
 /// What a holder may do, whether it pushed a mark, whether it knows that nothing is left, and what it pushed, popped
 /// and stole. No value of it is made.
-pub struct Part<T> {
+pub struct HolderPart<T> {
     pub owns: bool,
     pub steals: bool,
     pub sealed: bool,
@@ -18,7 +18,7 @@ pub struct Part<T> {
 /// The rule of a deque: what was pushed is what was popped or stolen, in order, and then what is held.
 pub struct InOrder;
 
-impl<T> Protocol<Option<T>, Part<T>> for InOrder {
+impl<T> Protocol<Option<T>, HolderPart<T>> for InOrder {
     ghost use Rattle.pf_deques.specs.Parts.{first_part, no_part, IsInOrder};
 
     ghost holds = { IsInOrder };
@@ -31,7 +31,7 @@ impl<T> Protocol<Option<T>, Part<T>> for InOrder {
 /// The owner pushed an item, or a mark.
 pub struct Pushed;
 
-impl<T> Outcome<Option<T>, Part<T>> for Pushed {
+impl<T> Outcome<Option<T>, HolderPart<T>> for Pushed {
     ghost use Rattle.pf_deques.specs.Parts.{HasPushed};
 
     ghost then = { HasPushed };
@@ -40,7 +40,7 @@ impl<T> Outcome<Option<T>, Part<T>> for Pushed {
 /// The owner popped an item, or a mark, or found nothing.
 pub struct Popped;
 
-impl<T> Outcome<Option<T>, Part<T>> for Popped {
+impl<T> Outcome<Option<T>, HolderPart<T>> for Popped {
     ghost use Rattle.pf_deques.specs.Parts.{FindsNothing, HasPopped};
 
     ghost then = { HasPopped };
@@ -51,7 +51,7 @@ impl<T> Outcome<Option<T>, Part<T>> for Popped {
 /// The thief stole an item, or a mark.
 pub struct Stolen;
 
-impl<T> Outcome<Option<T>, Part<T>> for Stolen {
+impl<T> Outcome<Option<T>, HolderPart<T>> for Stolen {
     ghost use Rattle.pf_deques.specs.Parts.{HasStolen};
 
     ghost then = { HasStolen };
@@ -60,16 +60,16 @@ impl<T> Outcome<Option<T>, Part<T>> for Stolen {
 /// What whoever has both ends knows of a drained deque.
 pub struct Spent;
 
-impl<T> Lesson<Option<T>, Part<T>> for Spent {
+impl<T> Lesson<Option<T>, HolderPart<T>> for Spent {
     ghost use Rattle.pf_deques.specs.Parts.{IsSpent};
 
     ghost fact = { IsSpent };
 }
 
 /// The two ends part, or come together again.
-pub struct Ends;
+pub struct PartedEnds;
 
-impl<T> Split<Part<T>> for Ends {
+impl<T> Split<HolderPart<T>> for PartedEnds {
     ghost use Rattle.pf_deques.specs.Parts.{owner_part, thief_part};
 
     ghost left = { owner_part };
@@ -77,7 +77,7 @@ impl<T> Split<Part<T>> for Ends {
     ghost right = { λ v. thief_part v.stolen };
 }
 
-impl<T> Join<Part<T>> for Ends {
+impl<T> Join<HolderPart<T>> for PartedEnds {
     ghost use Rattle.pf_deques.specs.Parts.{no_part, both_parts};
 
     ghost both = { both_parts };

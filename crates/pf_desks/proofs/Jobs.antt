@@ -4,10 +4,10 @@ use Rattle.std.specs.Prelude.{if◌then◌else◌, IfSome, slice_get}
 use Rattle.std.specs.Option.{option_flatten}
 use Rattle.pf_request.specs.Calls.{Call}
 use Rattle.pf_request.specs.Job.{Job}
-use Rattle.pf_desks.specs.Desk.{Profile, Desk, State, Trial, held_at, with_held}
+use Rattle.pf_desks.specs.Desk.{Profile, Desk, TrialState, Trial, held_at, with_held}
 use Rattle.pf_desks.specs.Calls.{with_job, after_call}
-use Rattle.pf_desks.specs.Work.{is_queued, is_running, with_state, after_claim, after_file, after_back, Work, claim, file, hand_back, worker_step}
-use Rattle.pf_desks.specs.World.{World, Step, client, worker, desk_at, put_desk, worked, step}
+use Rattle.pf_desks.specs.Work.{is_queued, is_running, with_state, after_claim, after_file, after_hand_back, DeskWork, claim, file, hand_back, worker_step}
+use Rattle.pf_desks.specs.Desks.{Desks, DeskStep, client, worker, desk_at, put_desk, worked, step}
 use Rattle.pf_desks.specs.Legality.{after_steps}
 use Rattle.pf_desks.specs.Jobs.{IsTicketOf, KeepsTickets, KeepsAllTickets}
 use Rattle.pf_desks.proofs.Always.{where_so}
@@ -36,7 +36,7 @@ module _ (d : Desk) where
   pub tickets_dropped : (n : ℕ) → KeepsTickets d (record d { trials = with_held d.trials n None })
   tickets_dropped n t j k = given_dropped (λ x. j ≡ x.job) d t k n
 
-  pub tickets_in_state : (u : ℕ) (f : Job → State) → KeepsTickets d (record d { trials = with_state d.trials u f })
+  pub tickets_in_state : (u : ℕ) (f : Job → TrialState) → KeepsTickets d (record d { trials = with_state d.trials u f })
   tickets_in_state u f t j k = given_in_state (λ x. j ≡ x.job) d t k u f (λ e x h. h)
 
   pub tickets_called : (p : Profile) (c : Call) → KeepsTickets d (after_call p d c)
@@ -44,7 +44,7 @@ module _ (d : Desk) where
 
 -- ---- a desk in a world
 
-pub tickets_placed : (q r : ℕ) (d : Desk) (w : World) → KeepsTickets (desk_at r w) d → KeepsTickets (desk_at q w) (desk_at q (put_desk r d w))
+pub tickets_placed : (q r : ℕ) (d : Desk) (w : Desks) → KeepsTickets (desk_at r w) d → KeepsTickets (desk_at q w) (desk_at q (put_desk r d w))
 tickets_placed q r d w h = subst (KeepsTickets (desk_at q w)) (sym (desk_placed q r d w)) (by (r == q) refl)
   where
     by : (b : Bool) → (r == q) ≡ b → KeepsTickets (desk_at q w) (if b then d else desk_at q w)
@@ -64,16 +64,16 @@ module _ (p : Profile) where
   stays_file d d' t m h = stays_where d d' _ (where_so (is_running (held_at d.trials t)) (after_file p d t m) d' h) (tickets_in_state d t _)
 
   stays_back : (d d' : Desk) (t : ℕ) → worker_step p d (hand_back t) ≡ Some d' → KeepsTickets d d'
-  stays_back d d' t h = stays_where d d' _ (where_so (is_running (held_at d.trials t)) (after_back d t) d' h) (tickets_in_state d t _)
+  stays_back d d' t h = stays_where d d' _ (where_so (is_running (held_at d.trials t)) (after_hand_back d t) d' h) (tickets_in_state d t _)
 
-  pub tickets_worked : (d d' : Desk) (k : Work) → worker_step p d k ≡ Some d' → KeepsTickets d d'
+  pub tickets_worked : (d d' : Desk) (k : DeskWork) → worker_step p d k ≡ Some d' → KeepsTickets d d'
   tickets_worked d d' (claim t) h = stays_claim d d' t h
   tickets_worked d d' (file t m) h = stays_file d d' t m h
   tickets_worked d d' (hand_back t) h = stays_back d d' t h
 
   -- ---- worlds
 
-  pub tickets_stepped : (q : ℕ) (w : World) (s : Step) → KeepsTickets (desk_at q w) (desk_at q (step p w s).0)
+  pub tickets_stepped : (q : ℕ) (w : Desks) (s : DeskStep) → KeepsTickets (desk_at q w) (desk_at q (step p w s).0)
   tickets_stepped q w (client r c) = tickets_placed q r (after_call p (desk_at r w) c) w (tickets_called (desk_at r w) p c)
   tickets_stepped q w (worker r k) = by (worker_step p (desk_at r w) k) refl
     where
@@ -81,6 +81,6 @@ module _ (p : Profile) where
       by (Some d) e = tickets_placed q r d w (tickets_worked (desk_at r w) d k e)
       by None e = λ t j k. k
 
-  pub tickets_stay : (w : World) (ss : List Step) → KeepsAllTickets w (after_steps p w ss)
+  pub tickets_stay : (w : Desks) (ss : List DeskStep) → KeepsAllTickets w (after_steps p w ss)
   tickets_stay w [] = λ q t j k. k
   tickets_stay w (s ∷ ss) = λ q t j k. tickets_stay (step p w s).0 ss q t j (tickets_stepped q w s t j k)

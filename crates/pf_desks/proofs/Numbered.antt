@@ -4,18 +4,18 @@ use Rattle.std.specs.Prelude.{filter_map, Result, Ok, Err, if◌then◌else◌, 
 use Rattle.std.specs.List.{cons_option}
 use Rattle.std.proofs.lemmas.List.{length-append}
 use lib.ListN.{length-set}
-use Rattle.pf_fault.specs.declared.code.Code.{Code}
-use Rattle.pf_fault.specs.declared.code.Code.TheVariants as code
+use Rattle.pf_errors.specs.declared.code.Code.{Code}
+use Rattle.pf_errors.specs.declared.code.Code.TheVariants as code
 use Rattle.pf_quota.specs.declared.charges.Charge.TheVariants as charge
 use Rattle.pf_request.specs.Calls.{Call, submit, order, fetch, status, drop_trial, withdraw, usage, log, edition}
 use Rattle.pf_request.specs.Job.{Job}
 use Rattle.pf_request.specs.Module.{ReadModule}
-use Rattle.pf_desks.specs.Desk.{Profile, Desk, no_desk, Entry, called, claimed, filed, handed_back, State, queued, running, done, Trial, Reading, readable, faulty, Reply, ticket, has_edition, refused, job_ordered, held_at, with_held}
-use Rattle.pf_desks.specs.Calls.{within_limits, passed_by, submitted, with_job, ordered, fetched, stage_told, dropped, users_of, withdrawn, in_edition, answered, noted, after_call, reply_to}
-use Rattle.pf_desks.specs.Work.{Work, claim, file, hand_back, worker_step}
-use Rattle.pf_desks.specs.History.{Follows, IsLegal, replies_noted}
-use Rattle.pf_desks.specs.World.{Step, client, worker, all_answers, own_steps, replies_along}
-use Rattle.pf_desks.specs.Numbers.{number_in, ticket_in, CountUp, TellEachOnce, LegalHistoriesTellEachOnce, NoNumberTwice}
+use Rattle.pf_desks.specs.Desk.{Profile, Desk, no_desk, Entry, called, claimed, filed, handed_back, TrialState, queued, running, done, Trial, SourceReading, readable, faulty, Reply, ticket, has_edition, refused, job_ordered, held_at, with_held}
+use Rattle.pf_desks.specs.Calls.{within_limits, passed_by, submitted, with_job, ordered, fetched, stage_told, dropped, users_of, withdrawn, in_edition, answer_of_call, noted, after_call, reply_to}
+use Rattle.pf_desks.specs.Work.{DeskWork, claim, file, hand_back, worker_step}
+use Rattle.pf_desks.specs.History.{EntryFollows, IsLegal, replies_noted}
+use Rattle.pf_desks.specs.Desks.{DeskStep, client, worker, all_answers, own_steps, replies_along}
+use Rattle.pf_desks.specs.Numbers.{replied_number, ticket_in, CountUp, TellEachOnce, LegalHistoriesTellEachOnce, NoNumberTwice}
 use Rattle.pf_desks.proofs.Isolated.{isolated}
 use Rattle.pf_desks.proofs.Always.{OfWork, moved, moves}
 
@@ -26,7 +26,7 @@ Tells k (Some n) k' = (n ≡ k + 1) × (k' ≡ k + 1)
 
 -- which numbers a desk and a reply give where the desk was another
 abbrev TellsNext : Desk → Desk × Reply → Type 0
-TellsNext d x = Tells (length d.modules) (number_in x.1) (length x.0.modules) × Tells (length d.trials) (ticket_in x.1) (length x.0.trials)
+TellsNext d x = Tells (length d.modules) (replied_number x.1) (length x.0.modules) × Tells (length d.trials) (ticket_in x.1) (length x.0.trials)
 
 length_held : {T : Type 0} (xs : List (Option T)) (n : ℕ) (x : Option T) → length (with_held xs n x) ≡ length xs
 length_held xs zero x = refl
@@ -37,7 +37,7 @@ module _ (p : Profile) (d : Desk) where
   told_within None x h = h
   told_within (Some e) x h = (refl, refl)
 
-  submission_tells : (text : List ℕ) (r : Reading) → TellsNext d (submitted d text r)
+  submission_tells : (text : List ℕ) (r : SourceReading) → TellsNext d (submitted d text r)
   submission_tells text (readable m) = ((refl, length-append d.modules _), refl)
   submission_tells text (faulty n) = (refl, refl)
 
@@ -50,7 +50,7 @@ module _ (p : Profile) (d : Desk) where
   fetch_tells None = (refl, refl)
   fetch_tells (Some t) = by t.state
     where
-      by : (s : State) → TellsNext d (d, fetched (Some (record t { state = s })))
+      by : (s : TrialState) → TellsNext d (d, fetched (Some (record t { state = s })))
       by queued = (refl, refl)
       by running = (refl, refl)
       by (done r) = (refl, refl)
@@ -77,7 +77,7 @@ module _ (p : Profile) (d : Desk) where
       by true false = (refl, refl)
       by false f = (refl, refl)
 
-  answer_tells : (c : Call) → TellsNext d (answered p d c)
+  answer_tells : (c : Call) → TellsNext d (answer_of_call p d c)
   answer_tells (submit text) =
       told_within _ (submitted d text (p.reading text)) (submission_tells text (p.reading text))
   answer_tells (order n r) = order_tells n (job_ordered p d.edition (held_at d.modules n) r)
@@ -90,16 +90,16 @@ module _ (p : Profile) (d : Desk) where
   answer_tells (edition e) = edition_tells e
 
   call_tells : (c : Call) → TellsNext d (after_call p d c, reply_to p d c)
-  call_tells c = told_within (passed_by d charge.Call) (noted c (answered p d c)) (answer_tells c)
+  call_tells c = told_within (passed_by d charge.Call) (noted c (answer_of_call p d c)) (answer_tells c)
 
 -- k numbers of modules and t of trials were given at a desk
 abbrev Told : ℕ → ℕ → Desk → Type 0
 Told k t d = (length d.modules ≡ k) × (length d.trials ≡ t)
 
-move_tells_none : (k t : ℕ) (d : Desk) (n : ℕ) (f : Job → State) (e : Entry) → OfWork e → Told k t d → Told k t (moved d n f e)
+move_tells_none : (k t : ℕ) (d : Desk) (n : ℕ) (f : Job → TrialState) (e : Entry) → OfWork e → Told k t d → Told k t (moved d n f e)
 move_tells_none k t d n f e of h = (h.0, length_held d.trials n _ ∙ h.1)
 
-work_tells_none : (p : Profile) (d : Desk) (k : Work) → Told (length d.modules) (length d.trials) (unwrap_or (worker_step p d k) d)
+work_tells_none : (p : Profile) (d : Desk) (k : DeskWork) → Told (length d.modules) (length d.trials) (unwrap_or (worker_step p d k) d)
 work_tells_none p d k = by (worker_step p d k) refl
   where
     by : (o : Option Desk) → worker_step p d k ≡ o → Told (length d.modules) (length d.trials) (unwrap_or o d)
@@ -112,16 +112,16 @@ count_on k k' None ns h rest = subst (λ n. CountUp (n + 1) ns) h rest
 count_on k k' (Some n) ns h rest = (h.0, subst (λ x. CountUp (x + 1) ns) h.1 rest)
 
 module _ (p : Profile) where
-  pub numbers_along : (d : Desk) (ss : List Step) → CountUp (length d.modules + 1) (filter_map number_in (replies_along p d ss))
+  pub numbers_along : (d : Desk) (ss : List DeskStep) → CountUp (length d.modules + 1) (filter_map replied_number (replies_along p d ss))
   numbers_along d [] = tt
   numbers_along d (client q c ∷ ss) =
-      count_on (length d.modules) (length (after_call p d c).modules) (number_in (reply_to p d c)) (filter_map number_in (replies_along p (after_call p d c) ss))
+      count_on (length d.modules) (length (after_call p d c).modules) (replied_number (reply_to p d c)) (filter_map replied_number (replies_along p (after_call p d c) ss))
       (call_tells p d c).0 (numbers_along (after_call p d c) ss)
   numbers_along d (worker q k ∷ ss) =
       let d' : Desk = unwrap_or (worker_step p d k) d in
-      subst (λ n. CountUp (n + 1) (filter_map number_in (replies_along p d' ss))) (work_tells_none p d k).0 (numbers_along d' ss)
+      subst (λ n. CountUp (n + 1) (filter_map replied_number (replies_along p d' ss))) (work_tells_none p d k).0 (numbers_along d' ss)
 
-  pub tickets_along : (d : Desk) (ss : List Step) → CountUp (length d.trials + 1) (filter_map ticket_in (replies_along p d ss))
+  pub tickets_along : (d : Desk) (ss : List DeskStep) → CountUp (length d.trials + 1) (filter_map ticket_in (replies_along p d ss))
   tickets_along d [] = tt
   tickets_along d (client q c ∷ ss) =
       count_on (length d.trials) (length (after_call p d c).trials) (ticket_in (reply_to p d c)) (filter_map ticket_in (replies_along p (after_call p d c) ss))
@@ -131,17 +131,17 @@ module _ (p : Profile) where
       subst (λ n. CountUp (n + 1) (filter_map ticket_in (replies_along p d' ss))) (work_tells_none p d k).1 (tickets_along d' ss)
 
   -- which numbers each note gives
-  note_tells : (d k : Desk) (c : Call) (r : Reply) → Follows p d (called c r) k
-      → Tells (length d.modules) (number_in r) (length k.modules) × Tells (length d.trials) (ticket_in r) (length k.trials)
+  note_tells : (d k : Desk) (c : Call) (r : Reply) → EntryFollows p d (called c r) k
+      → Tells (length d.modules) (replied_number r) (length k.modules) × Tells (length d.trials) (ticket_in r) (length k.trials)
   note_tells d k c r h = subst (TellsNext d) (λ i. (sym h.2 i, sym h.1 i)) (call_tells p d c)
 
-  none_told : (d k : Desk) (w : Work) → worker_step p d w ≡ Some k → Told (length d.modules) (length d.trials) k
+  none_told : (d k : Desk) (w : DeskWork) → worker_step p d w ≡ Some k → Told (length d.modules) (length d.trials) k
   none_told d k w h = moves p (Told (length d.modules) (length d.trials)) (move_tells_none (length d.modules) (length d.trials)) d k w h (refl, refl)
 
   abbrev TellOn : ℕ → ℕ → List Entry → Type 0
-  TellOn n t es = CountUp (n + 1) (filter_map number_in (replies_noted es)) × CountUp (t + 1) (filter_map ticket_in (replies_noted es))
+  TellOn n t es = CountUp (n + 1) (filter_map replied_number (replies_noted es)) × CountUp (t + 1) (filter_map ticket_in (replies_noted es))
 
-  told_on : (d k : Desk) (w : Work) (es : List Entry) → worker_step p d w ≡ Some k → TellOn (length k.modules) (length k.trials) es → TellOn (length d.modules) (length d.trials) es
+  told_on : (d k : Desk) (w : DeskWork) (es : List Entry) → worker_step p d w ≡ Some k → TellOn (length k.modules) (length k.trials) es → TellOn (length d.modules) (length d.trials) es
   told_on d k w es h rest = let same = none_told d k w h in subst (λ (x : ℕ × ℕ). TellOn x.0 x.1 es) (λ i. (same.0 i, same.1 i)) rest
 
   pub history_tells : (d : Desk) (es : List Entry) (d' : Desk) → IsLegal p d es d' → TellOn (length d.modules) (length d.trials) es
@@ -149,7 +149,7 @@ module _ (p : Profile) where
   history_tells d (called c r ∷ es) d' h =
       let tells = note_tells d h.0 c r h.1 in
       let rest = history_tells h.0 es d' h.2 in (
-        count_on (length d.modules) (length h.0.modules) (number_in r) (filter_map number_in (replies_noted es)) tells.0 rest.0,
+        count_on (length d.modules) (length h.0.modules) (replied_number r) (filter_map replied_number (replies_noted es)) tells.0 rest.0,
         count_on (length d.trials) (length h.0.trials) (ticket_in r) (filter_map ticket_in (replies_noted es)) tells.1 rest.1,
       )
   history_tells d (claimed t ∷ es) d' h = told_on d h.0 (claim t) es h.1 (history_tells h.0 es d' h.2)

@@ -3,14 +3,14 @@ use Rattle.std.proofs.Common.{◌≡◌, ℕ, ◌+◌, List, [], ◌∷◌, ◌+
 use Rattle.std.specs.List.{sum_by}
 use Rattle.std.proofs.lemmas.List.Sums.{sum_by-append, sum_by-cons}
 use Rattle.pf_quota.specs.declared.usage.Usage.{Usage}
-use Rattle.pf_quota.specs.declared.charges.Held.{Held}
-use Rattle.pf_quota.specs.declared.charges.Held.TheVariants as held
+use Rattle.pf_quota.specs.declared.charges.Holding.{Holding}
+use Rattle.pf_quota.specs.declared.charges.Holding.TheVariants as held
 use Rattle.pf_quota.specs.declared.charges.Charge.TheVariants as charge
 use Rattle.pf_quota.specs.Charges.{steps_of_trial}
 use Rattle.pf_quota.specs.Usage.{usage_of, charged, refunded, Covers, charge_of, module_count, byte_count, trial_count, step_count}
 use Rattle.pf_request.specs.Calls.{Call}
 use Rattle.pf_request.specs.Module.{ReadModule}
-use Rattle.pf_desks.specs.Desk.{Trial, Mark, Desk, Entry, Reply, called, claimed, filed, handed_back, held_at, with_held, all_held}
+use Rattle.pf_desks.specs.Desk.{Trial, FileMark, Desk, Entry, Reply, called, claimed, filed, handed_back, held_at, with_held, all_held}
 use Rattle.pf_desks.specs.Calls.{calls_in, held_by, usage_in}
 use Rattle.pf_desks.proofs.Always.{OfWork, of_claim, of_file, of_back}
 use Rattle.pf_desks.proofs.Held.{OneMore, one_pushed, one_gone, Around, around}
@@ -31,7 +31,7 @@ calls_claimed (claimed x ∷ es) t = calls_claimed es t
 calls_claimed (filed x m ∷ es) t = calls_claimed es t
 calls_claimed (handed_back x ∷ es) t = calls_claimed es t
 
-pub calls_filed : (es : List Entry) (t : ℕ) (m : Mark) → calls_in (es ++ filed t m ∷ []) ≡ calls_in es
+pub calls_filed : (es : List Entry) (t : ℕ) (m : FileMark) → calls_in (es ++ filed t m ∷ []) ≡ calls_in es
 calls_filed [] t m = refl
 calls_filed (called x y ∷ es) t m = ap (λ n. 1 + n) (calls_filed es t m)
 calls_filed (claimed x ∷ es) t m = calls_filed es t m
@@ -53,14 +53,14 @@ calls_worked es (handed_back t) (of_back _) = calls_handed_back es t
 
 -- ---- a thing among things
 
-between : (f : Held → ℕ) (before after : List Held) (x : Held) → sum_by f (before ++ x ∷ after) ≡ sum_by f (before ++ after) + f x
+between : (f : Holding → ℕ) (before after : List Holding) (x : Holding) → sum_by f (before ++ x ∷ after) ≡ sum_by f (before ++ after) + f x
 between f before after x = omega (arith, sum_by-append f before (x ∷ after), sum_by-cons f x after, sum_by-append f before after)
 
 same_usage : (u v : Usage) → u.modules ≡ v.modules → u.bytes ≡ v.bytes → u.trials ≡ v.trials → u.steps ≡ v.steps → u.calls ≡ v.calls → u ≡ v
 same_usage u v a b c d e = λ i. record { modules = a i; bytes = b i; trials = c i; steps = d i; calls = e i }
 
-module _ (before after : List Held) (n : ℕ) where
-  charged_with : (x : Held) → charged (usage_of (before ++ after) n) (charge_of x) ≡ usage_of (before ++ x ∷ after) n
+module _ (before after : List Holding) (n : ℕ) where
+  charged_with : (x : Holding) → charged (usage_of (before ++ after) n) (charge_of x) ≡ usage_of (before ++ x ∷ after) n
   charged_with (held.Module bytes) =
       let x = held.Module bytes in
       same_usage _ (usage_of (before ++ x ∷ after) n)
@@ -72,7 +72,7 @@ module _ (before after : List Held) (n : ℕ) where
       (omega (arith, between module_count before after x)) (omega (arith, between byte_count before after x))
       (sym (between trial_count before after x)) (sym (between step_count before after x)) refl
 
-  covers_with : (x : Held) → Covers (usage_of (before ++ x ∷ after) n) x
+  covers_with : (x : Holding) → Covers (usage_of (before ++ x ∷ after) n) x
   covers_with (held.Module bytes) =
       let x = held.Module bytes in
       (omega (arith, between module_count before after x), omega (arith, between byte_count before after x))
@@ -80,7 +80,7 @@ module _ (before after : List Held) (n : ℕ) where
       let x = held.Trial steps in
       (omega (arith, between trial_count before after x), omega (arith, between step_count before after x))
 
-  refunded_with : (x : Held) → refunded (usage_of (before ++ x ∷ after) n) x ≡ usage_of (before ++ after) n
+  refunded_with : (x : Holding) → refunded (usage_of (before ++ x ∷ after) n) x ≡ usage_of (before ++ after) n
   refunded_with (held.Module bytes) =
       let x = held.Module bytes in
       same_usage _ (usage_of (before ++ after) n)
@@ -93,43 +93,43 @@ module _ (before after : List Held) (n : ℕ) where
       (omega (arith, between trial_count before after x)) (omega (arith, between step_count before after x)) refl
 
 -- what is used of these things, and one of them more
-record Among (n : ℕ) (less more : List Held) (x : Held) : Type 0 where
+record Among (n : ℕ) (less more : List Holding) (x : Holding) : Type 0 where
   charge : charged (usage_of less n) (charge_of x) ≡ usage_of more n
   covers : Covers (usage_of more n) x
   refund : refunded (usage_of more n) x ≡ usage_of less n
 
-among : (n : ℕ) (less more before after : List Held) (x : Held) → less ≡ before ++ after → more ≡ before ++ x ∷ after → Among n less more x
+among : (n : ℕ) (less more before after : List Holding) (x : Holding) → less ≡ before ++ after → more ≡ before ++ x ∷ after → Among n less more x
 among n less more before after x is is' = record {
-  charge = ap (λ (l : List Held). charged (usage_of l n) (charge_of x)) is ∙ charged_with before after n x ∙ ap (λ (l : List Held). usage_of l n) (sym is');
-  covers = subst (λ (l : List Held). Covers (usage_of l n) x) (sym is') (covers_with before after n x);
-  refund = ap (λ (l : List Held). refunded (usage_of l n) x) is' ∙ refunded_with before after n x ∙ ap (λ (l : List Held). usage_of l n) (sym is);
+  charge = ap (λ (l : List Holding). charged (usage_of l n) (charge_of x)) is ∙ charged_with before after n x ∙ ap (λ (l : List Holding). usage_of l n) (sym is');
+  covers = subst (λ (l : List Holding). Covers (usage_of l n) x) (sym is') (covers_with before after n x);
+  refund = ap (λ (l : List Holding). refunded (usage_of l n) x) is' ∙ refunded_with before after n x ∙ ap (λ (l : List Holding). usage_of l n) (sym is);
 }
 
 -- ---- modules and trials of a desk
 
-abbrev pub held_module : ReadModule → Held
+abbrev pub held_module : ReadModule → Holding
 held_module m = held.Module (length m.source)
 
-abbrev pub held_trial : Trial → Held
+abbrev pub held_trial : Trial → Holding
 held_trial t = held.Trial (steps_of_trial t.job.asked.limit t.job.asked.runs)
 
-split_front : {X : Type 0} (f : X → Held) (b a : List X) (x : X) (rest : List Held) → map f (b ++ x ∷ a) ++ rest ≡ map f b ++ f x ∷ (map f a ++ rest)
+split_front : {X : Type 0} (f : X → Holding) (b a : List X) (x : X) (rest : List Holding) → map f (b ++ x ∷ a) ++ rest ≡ map f b ++ f x ∷ (map f a ++ rest)
 split_front f [] a x rest = refl
-split_front f (y ∷ b) a x rest = ap (λ (l : List Held). f y ∷ l) (split_front f b a x rest)
+split_front f (y ∷ b) a x rest = ap (λ (l : List Holding). f y ∷ l) (split_front f b a x rest)
 
-join_front : {X : Type 0} (f : X → Held) (b a : List X) (rest : List Held) → map f (b ++ a) ++ rest ≡ map f b ++ (map f a ++ rest)
+join_front : {X : Type 0} (f : X → Holding) (b a : List X) (rest : List Holding) → map f (b ++ a) ++ rest ≡ map f b ++ (map f a ++ rest)
 join_front f [] a rest = refl
-join_front f (y ∷ b) a rest = ap (λ (l : List Held). f y ∷ l) (join_front f b a rest)
+join_front f (y ∷ b) a rest = ap (λ (l : List Holding). f y ∷ l) (join_front f b a rest)
 
-split_back : {X : Type 0} (f : X → Held) (b a : List X) (x : X) (front : List Held) → front ++ map f (b ++ x ∷ a) ≡ (front ++ map f b) ++ f x ∷ map f a
+split_back : {X : Type 0} (f : X → Holding) (b a : List X) (x : X) (front : List Holding) → front ++ map f (b ++ x ∷ a) ≡ (front ++ map f b) ++ f x ∷ map f a
 split_back f [] a x [] = refl
-split_back f (y ∷ b) a x [] = ap (λ (l : List Held). f y ∷ l) (split_back f b a x [])
-split_back f b a x (z ∷ front) = ap (λ (l : List Held). z ∷ l) (split_back f b a x front)
+split_back f (y ∷ b) a x [] = ap (λ (l : List Holding). f y ∷ l) (split_back f b a x [])
+split_back f b a x (z ∷ front) = ap (λ (l : List Holding). z ∷ l) (split_back f b a x front)
 
-join_back : {X : Type 0} (f : X → Held) (b a : List X) (front : List Held) → front ++ map f (b ++ a) ≡ (front ++ map f b) ++ map f a
+join_back : {X : Type 0} (f : X → Holding) (b a : List X) (front : List Holding) → front ++ map f (b ++ a) ≡ (front ++ map f b) ++ map f a
 join_back f [] a [] = refl
-join_back f (y ∷ b) a [] = ap (λ (l : List Held). f y ∷ l) (join_back f b a [])
-join_back f b a (z ∷ front) = ap (λ (l : List Held). z ∷ l) (join_back f b a front)
+join_back f (y ∷ b) a [] = ap (λ (l : List Holding). f y ∷ l) (join_back f b a [])
+join_back f b a (z ∷ front) = ap (λ (l : List Holding). z ∷ l) (join_back f b a front)
 
 -- a desk with one module more than another
 module _ (d : Desk) (ms : List (Option ReadModule)) (m : ReadModule) (one : OneMore d.modules ms m) where
@@ -186,4 +186,4 @@ module _ (d : Desk) where
       where
         at_other : (b a : List Trial) → map held_trial (b ++ t' ∷ a) ≡ map held_trial (b ++ t ∷ a)
         at_other [] a = ap (λ j. held.Trial (steps_of_trial j.asked.limit j.asked.runs) ∷ map held_trial a) same
-        at_other (x ∷ b) a = ap (λ (l : List Held). held_trial x ∷ l) (at_other b a)
+        at_other (x ∷ b) a = ap (λ (l : List Holding). held_trial x ∷ l) (at_other b a)

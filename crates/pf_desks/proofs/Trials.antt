@@ -3,14 +3,14 @@ use Rattle.std.proofs.Common.{◌≡◌, ◌≤◌, ◌+◌, ℕ, zero, suc, Boo
 use Rattle.std.specs.Prelude.{Result, Ok, Err, if◌then◌else◌, IfSome, slice_get, slice_set}
 use Rattle.std.specs.Option.{option_flatten, option_map}
 use Rattle.std.proofs.lemmas.List.{length-set}
-use Rattle.pf_fault.specs.declared.code.Code.{Code}
-use Rattle.pf_fault.specs.declared.code.Code.TheVariants as code
+use Rattle.pf_errors.specs.declared.code.Code.{Code}
+use Rattle.pf_errors.specs.declared.code.Code.TheVariants as code
 use Rattle.pf_quota.specs.declared.charges.Charge.TheVariants as charge
 use Rattle.pf_request.specs.Calls.{Call, submit, order, fetch, status, drop_trial, withdraw, usage, log, edition}
 use Rattle.pf_request.specs.Job.{Job}
 use Rattle.pf_request.specs.Module.{ReadModule}
-use Rattle.pf_desks.specs.Desk.{Profile, Desk, State, queued, Trial, Reading, readable, faulty, Reply, has_edition, refused, job_ordered, held_at, with_held}
-use Rattle.pf_desks.specs.Calls.{within_limits, passed_by, submitted, with_job, ordered, dropped, users_of, withdrawn, in_edition, answered, noted, after_call}
+use Rattle.pf_desks.specs.Desk.{Profile, Desk, TrialState, queued, Trial, SourceReading, readable, faulty, Reply, has_edition, refused, job_ordered, held_at, with_held}
+use Rattle.pf_desks.specs.Calls.{within_limits, passed_by, submitted, with_job, ordered, dropped, users_of, withdrawn, in_edition, answer_of_call, noted, after_call}
 use Rattle.pf_desks.specs.Work.{in_state, with_state}
 
 length_written : (ts : List (Option Trial)) (t : ℕ) (o : Option Trial) → length (with_held ts t o) ≡ length ts
@@ -40,11 +40,11 @@ module _ (P : Trial → Type 0) where
   written ts (suc i) zero o f h = h
   written ts (suc i) (suc k) o f h = written_index ts i k o (λ e. f (ap suc e)) h
 
-  mapped : (f : Job → State) (o : Option Trial) → ((x : Trial) → P x → P (in_state f x)) → IsSo o → IsSo (option_map (in_state f) o)
+  mapped : (f : Job → TrialState) (o : Option Trial) → ((x : Trial) → P x → P (in_state f x)) → IsSo o → IsSo (option_map (in_state f) o)
   mapped f None by h = tt
   mapped f (Some x) by h = by x h
 
-  state_written : (ts : List (Option Trial)) (u t : ℕ) (f : Job → State) → (u ≡ t → (x : Trial) → P x → P (in_state f x))
+  state_written : (ts : List (Option Trial)) (u t : ℕ) (f : Job → TrialState) → (u ≡ t → (x : Trial) → P x → P (in_state f x))
       → IsSo (held_at ts t) → IsSo (held_at (with_state ts u f) t)
   state_written ts u t f by h =
       written ts u t (option_map (in_state f) (held_at ts u)) (λ e. mapped f (held_at ts u) (by e) (subst (λ (n : ℕ). IsSo (held_at ts n)) (sym e) h)) h
@@ -85,7 +85,7 @@ module _ (P : Trial → Type 0) where
     pub given_dropped : (n : ℕ) → IsGiven (record d { trials = with_held d.trials n None }) t
     given_dropped n = (omega (arith, k.0, length_written d.trials n None), written d.trials n t None (λ e. tt) k.1)
 
-    pub given_in_state : (u : ℕ) (f : Job → State) → (u ≡ t → (x : Trial) → P x → P (in_state f x)) → IsGiven (record d { trials = with_state d.trials u f }) t
+    pub given_in_state : (u : ℕ) (f : Job → TrialState) → (u ≡ t → (x : Trial) → P x → P (in_state f x)) → IsGiven (record d { trials = with_state d.trials u f }) t
     given_in_state u f by =
         (omega (arith, k.0, length_written d.trials u (option_map (in_state f) (held_at d.trials u))), state_written d.trials u t f by k.1)
 
@@ -95,7 +95,7 @@ module _ (P : Trial → Type 0) where
     given_with None x h = h
     given_with (Some e) x h = k
 
-    given_submitted : (text : List ℕ) (r : Reading) → IsGiven (submitted d text r).0 t
+    given_submitted : (text : List ℕ) (r : SourceReading) → IsGiven (submitted d text r).0 t
     given_submitted text (readable m) = k
     given_submitted text (faulty c) = k
 
@@ -121,7 +121,7 @@ module _ (P : Trial → Type 0) where
         by true false = k
         by false low = k
 
-    given_answered : (p : Profile) (c : Call) → IsGiven (answered p d c).0 t
+    given_answered : (p : Profile) (c : Call) → IsGiven (answer_of_call p d c).0 t
     given_answered p (submit text) = given_with _ (submitted d text (p.reading text)) (given_submitted text (p.reading text))
     given_answered p (order n r) = given_ordered n (job_ordered p d.edition (held_at d.modules n) r)
     given_answered p (fetch u) = k
@@ -133,4 +133,4 @@ module _ (P : Trial → Type 0) where
     given_answered p (edition e) = given_moved e
 
     pub given_called : (p : Profile) (c : Call) → IsGiven (after_call p d c) t
-    given_called p c = given_with (passed_by d charge.Call) (noted c (answered p d c)) (given_answered p c)
+    given_called p c = given_with (passed_by d charge.Call) (noted c (answer_of_call p d c)) (given_answered p c)

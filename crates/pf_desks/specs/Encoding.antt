@@ -2,34 +2,34 @@
 use Rattle.std.specs.Prelude.{◌≡◌, ◌⊎◌, ℕ, zero, suc, ◌==◌, if◌then◌else◌, List, refl}
 use Rattle.std.proofs.Common.{inl, inr}
 use Rattle.std.specs.Coded.{Coded, code_by, coded×, coded⊎, coded_ℕ, coded_list, coded_option}
-use Rattle.pf_fault.specs.declared.code.Code.{Code}
-use Rattle.pf_fault.specs.Codes.{rank_of, code_at, code_at-rank_of}
+use Rattle.pf_errors.specs.declared.code.Code.{Code}
+use Rattle.pf_errors.specs.Codes.{rank_of, code_at, code_at-rank_of}
 use Rattle.pf_quota.specs.declared.usage.Usage.{Usage}
 use Rattle.pf_model.specs.Shrinking.{Result}
 use Rattle.pf_request.specs.Calls.{Call}
 use Rattle.pf_request.specs.Encoding.{coded_call, coded_job, coded_names, coded_read_module}
 use Rattle.pf_request.specs.ReportEncoding.{coded_result}
-use Rattle.pf_desks.specs.Desk.{State, queued, running, done, Trial, Desk, Entry, called, claimed, filed, handed_back, marked_whole, marked_memory}
-use Rattle.pf_desks.specs.Desk.{Stage, at_queue, at_work, at_end, Reply, number, ticket, result, stage, given_up, uses, logged, has_edition, refused}
+use Rattle.pf_desks.specs.Desk.{TrialState, queued, running, done, Trial, Desk, Entry, called, claimed, filed, handed_back, marked_whole, marked_memory}
+use Rattle.pf_desks.specs.Desk.{TrialStage, at_queue, at_work, at_end, Reply, number, ticket, result, stage, given_up, uses, logged, has_edition, refused}
 
 -- ---- what a desk holds
 
-abbrev pub parts_of_state : State → ℕ ⊎ Result
+abbrev pub parts_of_state : TrialState → ℕ ⊎ Result
 parts_of_state queued = inl 0
 parts_of_state running = inl 1
 parts_of_state (done r) = inr r
 
-abbrev pub state_from : ℕ ⊎ Result → State
+abbrev pub state_from : ℕ ⊎ Result → TrialState
 state_from (inl zero) = queued
 state_from (inl (suc n)) = running
 state_from (inr r) = done r
 
-pub state_from-parts_of : (s : State) → state_from (parts_of_state s) ≡ s
+pub state_from-parts_of : (s : TrialState) → state_from (parts_of_state s) ≡ s
 state_from-parts_of queued = refl
 state_from-parts_of running = refl
 state_from-parts_of (done r) = refl
 
-abbrev pub coded_state : Coded State
+abbrev pub coded_state : Coded TrialState
 coded_state = code_by _ (coded⊎ coded_ℕ coded_result) parts_of_state state_from state_from-parts_of
 
 abbrev pub coded_trial : Coded Trial
@@ -48,12 +48,12 @@ coded_usage =
     (λ u. ((u.modules, u.bytes), (u.trials, (u.steps, u.calls))))
     (λ p. record { modules = p.0.0; bytes = p.0.1; trials = p.1.0; steps = p.1.1.0; calls = p.1.1.1 }) (λ _. refl)
 
-abbrev pub rank_of_stage : Stage → ℕ
+abbrev pub rank_of_stage : TrialStage → ℕ
 rank_of_stage at_queue = 0
 rank_of_stage at_work = 1
 rank_of_stage at_end = 2
 
-abbrev pub stage_at : ℕ → Stage
+abbrev pub stage_at : ℕ → TrialStage
 stage_at n = if n == 0 then at_queue else (if n == 1 then at_work else at_end)
 
 -- the replies that are a number are 0 to 2 with it; how far a trial is, is one of three, that it is given up the
@@ -136,5 +136,5 @@ coded_desk =
     code_by _ (coded× coded_ℕ (coded× (coded_list (coded_option coded_read_module)) (coded× (coded_list (coded_option coded_trial)) (coded_list coded_entry))))
     (λ d. (d.edition, (d.modules, (d.trials, d.history)))) (λ p. record { edition = p.0; modules = p.1.0; trials = p.1.1.0; history = p.1.1.1 }) (λ _. refl)
 
-abbrev pub coded_world : Coded (List (ℕ × Desk))
-coded_world = coded_list (coded× coded_ℕ coded_desk)
+abbrev pub coded_desks : Coded (List (ℕ × Desk))
+coded_desks = coded_list (coded× coded_ℕ coded_desk)

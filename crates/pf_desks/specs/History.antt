@@ -4,18 +4,18 @@ use Rattle.pf_desks.specs.Desk.{Profile, Desk, no_desk, Reply, Entry, called, cl
 use Rattle.pf_desks.specs.Calls.{HasRoom, reply_to, after_call}
 use Rattle.pf_desks.specs.Work.{claim, file, hand_back, worker_step}
 
--- Follows p d e d': what is noted leads from a desk to the next: a call had room in the log, and its reply is the
+-- EntryFollows p d e d': what is noted leads from a desk to the next: a call had room in the log, and its reply is the
 -- desk's own; what is claimed was queued, and what is filed or handed back was running
-abbrev pub Follows : Profile → Desk → Entry → Desk → Type 0
-Follows p d (called c r) d' = HasRoom d × (r ≡ reply_to p d c) × (d' ≡ after_call p d c)
-Follows p d (claimed t) d' = worker_step p d (claim t) ≡ Some d'
-Follows p d (filed t m) d' = worker_step p d (file t m) ≡ Some d'
-Follows p d (handed_back t) d' = worker_step p d (hand_back t) ≡ Some d'
+abbrev pub EntryFollows : Profile → Desk → Entry → Desk → Type 0
+EntryFollows p d (called c r) d' = HasRoom d × (r ≡ reply_to p d c) × (d' ≡ after_call p d c)
+EntryFollows p d (claimed t) d' = worker_step p d (claim t) ≡ Some d'
+EntryFollows p d (filed t m) d' = worker_step p d (file t m) ≡ Some d'
+EntryFollows p d (handed_back t) d' = worker_step p d (hand_back t) ≡ Some d'
 
 -- IsLegal p d es d': what is noted leads in turn from a desk to another
 abbrev pub IsLegal : Profile → Desk → List Entry → Desk → Type 0
 IsLegal p d [] d' = d ≡ d'
-IsLegal p d (e ∷ es) d' = (k : Desk) × Follows p d e k × IsLegal p k es d'
+IsLegal p d (e ∷ es) d' = (k : Desk) × EntryFollows p d e k × IsLegal p k es d'
 
 -- the desk is what its history makes of an empty one, and the history is legal
 abbrev pub IsLegalDesk : Profile → Desk → Type 0

@@ -2,7 +2,7 @@ pub mod Desk
 pub mod Calls
 pub mod Work
 pub mod History
-pub mod World
+pub mod Desks
 pub mod Told
 pub mod Encoding
 pub mod Legality

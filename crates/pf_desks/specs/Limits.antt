@@ -4,7 +4,7 @@ use Rattle.pf_quota.specs.Checks.{IsWithinLimits}
 use Rattle.pf_desks.specs.Desk.{Profile, Desk}
 use Rattle.pf_desks.specs.Calls.{usage_in}
 use Rattle.pf_desks.specs.History.{IsLegalDesk}
-use Rattle.pf_desks.specs.World.{Step, desk_at}
+use Rattle.pf_desks.specs.Desks.{DeskStep, desk_at}
 use Rattle.pf_desks.specs.Legality.{after_steps}
 
 -- what a desk uses passes none of the limits of its edition: modules, bytes, trials, steps and calls
@@ -17,4 +17,4 @@ LegalDesksAreInLimits = (p : Profile) (d : Desk) → IsLegalDesk p d → IsInLim
 
 -- whatever steps there are, from the world in which no desk is open, the desk of each project is within its limits
 abbrev pub StaysInLimits : Type 0
-StaysInLimits = (p : Profile) (q : ℕ) (ss : List Step) → IsInLimits (desk_at q (after_steps p [] ss))
+StaysInLimits = (p : Profile) (q : ℕ) (ss : List DeskStep) → IsInLimits (desk_at q (after_steps p [] ss))

@@ -2,12 +2,12 @@
 use Rattle.std.specs.Prelude.{◌≡◌, ℕ, ◌+◌, List, [], ◌∷◌, filter_map, Option, Some, None}
 use Rattle.pf_desks.specs.Desk.{Profile, Desk, Reply, number, ticket}
 use Rattle.pf_desks.specs.History.{IsLegalDesk, replies_noted}
-use Rattle.pf_desks.specs.World.{Step, all_answers, told}
+use Rattle.pf_desks.specs.Desks.{DeskStep, all_answers, replies_to}
 
 -- the module's number that a reply gives
-abbrev pub number_in : Reply → Option ℕ
-number_in (number n) = Some n
-number_in _ = None
+abbrev pub replied_number : Reply → Option ℕ
+replied_number (number n) = Some n
+replied_number _ = None
 
 -- the ticket that a reply gives
 abbrev pub ticket_in : Reply → Option ℕ
@@ -21,7 +21,7 @@ CountUp n (m ∷ ms) = (m ≡ n) × CountUp (n + 1) ms
 
 -- the modules' numbers that these replies give are 1, 2, 3 and so on, and so are their tickets
 abbrev pub TellEachOnce : List Reply → Type 0
-TellEachOnce rs = CountUp 1 (filter_map number_in rs) × CountUp 1 (filter_map ticket_in rs)
+TellEachOnce rs = CountUp 1 (filter_map replied_number rs) × CountUp 1 (filter_map ticket_in rs)
 
 -- no legal history notes a number or a ticket twice, whatever was given up
 abbrev pub LegalHistoriesTellEachOnce : Type 0
@@ -30,4 +30,4 @@ LegalHistoriesTellEachOnce = (p : Profile) (d : Desk) → IsLegalDesk p d → Te
 -- whatever steps there are, from the world in which no desk is open, the modules' numbers that a project is given are
 -- 1, 2, 3 and so on, and so are its tickets: none is given twice, whatever was given up
 abbrev pub NoNumberTwice : Type 0
-NoNumberTwice = (p : Profile) (q : ℕ) (ss : List Step) → TellEachOnce (told q ss (all_answers p ss))
+NoNumberTwice = (p : Profile) (q : ℕ) (ss : List DeskStep) → TellEachOnce (replies_to q ss (all_answers p ss))

@@ -1,6 +1,6 @@
 //! Laws of the definitions: functions with empty bodies, whose contracts are the laws.
 
-ghost use Rattle.pf_desks.specs.World.{Isolation};
+ghost use Rattle.pf_desks.specs.Desks.{Isolation};
 ghost use Rattle.pf_desks.specs.Legality.{Legality};
 ghost use Rattle.pf_desks.specs.Limits.{LegalDesksAreInLimits, StaysInLimits};
 ghost use Rattle.pf_desks.specs.Numbers.{LegalHistoriesTellEachOnce, NoNumberTwice};
@@ -19,8 +19,8 @@ pub fn legality()
 {}
 
 /// Limits of legal desks: each desk whose history is legal is within its limits, whoever made its calls and did its
-/// work. Each desk of a workshop is one (`legality` of `pf_worlds`), and so is each that a closed farm leaves (the
-/// clause `legal` of `Closing::note_count` of `pf_hall`): so it holds of the desks of `steps` and of `farm` alike.
+/// work. Each desk of a workshop is one (`legality` of `pf_world`), and so is each that a closed farm leaves (the
+/// clause `legal` of `Closing::note_count` of `pf_farm_state`): so it holds of the desks of `steps` and of `farm` alike.
 pub fn legal_desks_are_in_limits()
     ensures { LegalDesksAreInLimits }
 {}

@@ -11,15 +11,15 @@ use denote.Param.Send.{IsSend, IsSync, recorded_send, recorded_sync, param_sync,
 use Rattle.std.proofs.Crossing as heap
 use Rattle.std.proofs.sync.ledger.Share.TheSendSync as share
 use Rattle.std.specs.contracts.alloc.Global as Global
-use Rattle.pf_farm_names.specs.declared.names.FarmNames as names
+use Rattle.pf_farm_accounts.specs.declared.names.FarmNames as names
 use Rattle.pf_deques.proofs.ends.Owner.TheSendSync as owner
 use Rattle.pf_deques.proofs.ends.Thief.TheSendSync as thief
 use Rattle.pf_sched.proofs.Crossing as sched
-use Rattle.pf_hall.proofs.Crossing as hall
+use Rattle.pf_farm_state.proofs.Crossing as hall
 use Rattle.pf_farm.proofs.tally.WorkTally.TheSendSync as tally
 use Rattle.pf_farm.specs.contracts.held.HeldRun as HeldRun
 use Rattle.pf_farm.specs.contracts.seat.WorkSeat as WorkSeat
-use Rattle.pf_farm.specs.contracts.floor.Shared as Shared
+use Rattle.pf_farm.specs.contracts.floor.SharedState as Shared
 use Rattle.pf_farm.specs.contracts.floor.Floor as Floor
 
 module _ (N : RattleType) (g : names.Ghosts N.Denot) where

@@ -4,12 +4,12 @@ use Rattle.std.specs.Option.{option_map}
 use Rattle.pf_desks.specs.Desk as desk
 use Rattle.pf_desks.specs.Desk.{at_queue, at_work}
 use Rattle.pf_book.specs.View.{view_of_stage}
-use Rattle.pf_book.specs.declared.reply.Stage.{Stage}
-use Rattle.pf_book.specs.declared.reply.Stage.TheVariants.{Queued, Running, Done}
-use Rattle.pf_farm.specs.Floors.{must_wait, IsOver}
+use Rattle.pf_book.specs.declared.reply.TrialStage.{TrialStage}
+use Rattle.pf_book.specs.declared.reply.TrialStage.TheVariants.{Queued, Running, Done}
+use Rattle.pf_farm.specs.Floors.{must_wait, IsTrialOver}
 
 -- where a client waits no more, and the farm goes on, its trial is over
-pub is_over : (s : Option Stage) (stops : Bool) (x : Option desk.Stage) → option_map view_of_stage s ≡ x → must_wait x stops ≡ false → stops ≡ false → IsOver s
+pub is_over : (s : Option TrialStage) (stops : Bool) (x : Option desk.TrialStage) → option_map view_of_stage s ≡ x → must_wait x stops ≡ false → stops ≡ false → IsTrialOver s
 is_over None stops x e goes on = tt
 is_over (Some Done) stops x e goes on = tt
 is_over (Some Queued) stops x e goes on = let h : true ≡ false = (λ i. must_wait (e i) (sym on i)) ∙ goes in absurd (cc)

@@ -1,21 +1,21 @@
 -- Seats whose workers have worked side by side.
 use Rattle.std.proofs.Common.{◌≡◌, ℕ, zero, suc, ◌<◌, List, [], ◌∷◌, length, get_or, true≢false, Option, Some, None, is_some, refl, sym, ap, ◌∙◌, subst, arith}
-use Rattle.pf_deques.specs.Views.{Place, ThiefView}
-use Rattle.pf_farm.specs.Seats.{SeatView, SameEnds, thief_deque, IsChain, IsRing, IsIdle, AllIdle}
+use Rattle.pf_deques.specs.Views.{DequePlace, ThiefView}
+use Rattle.pf_farm.specs.Seats.{WorkSeatView, SameEnds, thief_deque, IsChain, IsRing, IsIdle, AllIdle}
 
-pub idle_at : (ss : List SeatView) (i : ℕ) (d : SeatView) → AllIdle ss → i < length ss → IsIdle (get_or ss i d)
+pub idle_at : (ss : List WorkSeatView) (i : ℕ) (d : WorkSeatView) → AllIdle ss → i < length ss → IsIdle (get_or ss i d)
 idle_at [] i d idle within = absurd (omega (arith, within))
 idle_at (s ∷ ss) zero d idle within = idle.0
 idle_at (s ∷ ss) (suc i) d idle within = idle_at ss i d idle.1 (omega (arith, within))
 
-pub idle_each : (ss : List SeatView) → ((i : ℕ) (d : SeatView) → i < length ss → IsIdle (get_or ss i d)) → AllIdle ss
+pub idle_each : (ss : List WorkSeatView) → ((i : ℕ) (d : WorkSeatView) → i < length ss → IsIdle (get_or ss i d)) → AllIdle ss
 idle_each [] each = tt
 idle_each (s ∷ ss) each = (each 0 s (omega arith), idle_each ss (λ i d within. each (suc i) d (omega (arith, within))))
 
-abbrev AreSame : List SeatView → List SeatView → Type 0
-AreSame ss ts = (i : ℕ) (d : SeatView) → i < length ss → SameEnds (get_or ss i d) (get_or ts i d)
+abbrev AreSame : List WorkSeatView → List WorkSeatView → Type 0
+AreSame ss ts = (i : ℕ) (d : WorkSeatView) → i < length ss → SameEnds (get_or ss i d) (get_or ts i d)
 
-chain_each : (from to : Option Place) (ss ts : List SeatView) → length ts ≡ length ss → AreSame ss ts → IsChain from ss to → IsChain from ts to
+chain_each : (from to : Option DequePlace) (ss ts : List WorkSeatView) → length ts ≡ length ss → AreSame ss ts → IsChain from ss to → IsChain from ts to
 chain_each from to [] [] len each chain = chain
 chain_each from to [] (t ∷ ts) len each chain = absurd (omega (arith, len))
 chain_each from to (s ∷ ss) [] len each chain = absurd (omega (arith, len))
@@ -28,7 +28,7 @@ no_thief : (t : Option (ThiefView ℕ)) → thief_deque t ≡ None → t ≡ Non
 no_thief None e = refl
 no_thief (Some t) e = absurd (true≢false (ap is_some e))
 
-pub ring_each : (ss ts : List SeatView) → length ts ≡ length ss → AreSame ss ts → IsRing ss → IsRing ts
+pub ring_each : (ss ts : List WorkSeatView) → length ts ≡ length ss → AreSame ss ts → IsRing ss → IsRing ts
 ring_each ss [] len each ring = tt
 ring_each [] (t ∷ ts) len each ring = absurd (omega (arith, len))
 ring_each (s ∷ []) (t ∷ t' ∷ ts) len each ring = absurd (omega (arith, len))

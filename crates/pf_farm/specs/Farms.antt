@@ -1,7 +1,7 @@
 -- What contracts see of a farm.
 use Rattle.std.specs.Prelude.{◌≡◌, ◌<◌, ℕ}
-use Rattle.pf_fault.specs.declared.fault.OrNoMemory.{OrNoMemory}
-use Rattle.pf_fault.specs.declared.fault.OrNoMemory.TheVariants.{Fault, NoMemory}
+use Rattle.pf_errors.specs.declared.fault.OrNoMemory.{OrNoMemory}
+use Rattle.pf_errors.specs.declared.fault.OrNoMemory.TheVariants.{Fault, NoMemory}
 use Rattle.pf_farm.specs.declared.farm.NoSeat.{NoSeat}
 use Rattle.pf_farm.specs.declared.farm.TheConstants.{MOST_SEATS}
 
@@ -10,8 +10,8 @@ pub record FarmView : Type 0 where
   pub workers : ℕ
   pub given : ℕ
 
-abbrev pub farm_of : (workers given : ℕ) → FarmView
-farm_of workers given = record { workers = workers; given = given }
+abbrev pub opened_farm : (workers given : ℕ) → FarmView
+opened_farm workers given = record { workers = workers; given = given }
 
 -- a seat is refused where as many were given as may be; memory runs out only where fewer were
 abbrev pub LacksSeat : OrNoMemory NoSeat → FarmView → Type 0

@@ -1,12 +1,12 @@
 //! A farm from its opening to its end.
 
 ghost use Rattle.std.specs.Prelude.{◌≡◌, ◌+◌, ◌<◌, ◌≤◌, [], Some, false, length, map, vec_len, IfOk, IfErr};
-ghost use Rattle.pf_ledger.specs.Rows.{HaveEnded};
+ghost use Rattle.pf_farm_accounts.specs.Rows.{HaveEnded};
 ghost use Rattle.pf_book.specs.Profile.{ForRight};
-ghost use Rattle.pf_told.specs.Told.{IsTold};
-ghost use Rattle.pf_hall.specs.Clients.{all_receipts, closed_as, empty_client, AreFull, AreTheCalls};
+ghost use Rattle.pf_farm_laws.specs.Told.{AgreesWithHistories};
+ghost use Rattle.pf_farm_state.specs.Clients.{all_receipts, closed_as, empty_client, AreFull, AreTheCalls};
 ghost use Rattle.pf_deques.specs.Views.{stolen_by};
-ghost use Rattle.pf_farm.specs.Farms.{farm_of, LacksSeat};
+ghost use Rattle.pf_farm.specs.Farms.{opened_farm, LacksSeat};
 ghost use Rattle.pf_farm.specs.Seats.{IsRing, AllIdle, IsSpent, seat_at};
 
 use crate::floor::Floor;
@@ -15,12 +15,11 @@ use crate::seat::WorkSeat;
 use crate::tally::WorkTally;
 use pf_book::Reply;
 use pf_deques::{Owner, Thief};
-use pf_farm_names::{CallLedger, EndedLedger, FarmNames, OpenedLedger};
-use pf_fault::OrNoMemory;
-use pf_hall::{ClientSeat, ClosedSeat, Closing, Hall};
-use pf_ledger::Claim;
-use pf_receipts::Receipt;
-use pf_register::NewRegister;
+use pf_errors::OrNoMemory;
+use pf_farm_accounts::{
+    CallLedger, Claim, EndedLedger, FarmNames, NewRegister, OpenedLedger, Receipt,
+};
+use pf_farm_state::{ClientSeat, ClosedSeat, Closing, Hall};
 use pf_request::Call;
 use pf_sched::Job;
 use pf_terms::NoMemory;
@@ -66,11 +65,11 @@ impl<N: FarmNames> Model for Farm<N> {
     ghost use Rattle.std.specs.Prelude.{◌≡◌, ◌+◌, ◌<◌, ◌≤◌, []};
     ghost use Rattle.std.specs.Vec.{vec_capacity};
     ghost use Rattle.pf_farm.specs.declared.farm.TheConstants.{MOST_SEATS};
-    ghost use Rattle.pf_farm.specs.Farms.{FarmView, farm_of};
+    ghost use Rattle.pf_farm.specs.Farms.{FarmView, opened_farm};
 
     ghost Value = { FarmView };
 
-    ghost view = { λ f. farm_of f.workers f.given };
+    ghost view = { λ f. opened_farm f.workers f.given };
 
     ghost invariant = { λ f. (f.opened.parts + f.workers ≡ N.workers)
         × (f.ended.parts + f.workers ≡ N.workers)
@@ -102,7 +101,7 @@ impl<N: FarmNames> Farm<N> {
         requires receipts { N.receipts ≡ Some blanks.receipts }
         requires workers { (0 < workers) × (workers < N.workers) }
         requires seats { MOST_SEATS < N.seats }
-        ensures workers { IfOk result (λ r. (r.0 ≡ farm_of workers 0) × (vec_len r.1 ≡ workers)) }
+        ensures workers { IfOk result (λ r. (r.0 ≡ opened_farm workers 0) × (vec_len r.1 ≡ workers)) }
         ensures ring { IfOk result (λ r. IsRing r.1.items) }
         ensures idle { IfOk result (λ r. AllIdle r.1.items) }
     {
@@ -133,7 +132,7 @@ impl<N: FarmNames> Farm<N> {
     /// A seat for a client of a project, unless as many were given as may be. Several seats may have one project.
     pub fn seat(&mut self, alloc: Global, project: u32) -> Result<ClientSeat<N>, OrNoMemory<NoSeat>>
         ensures seat { IfOk result (λ s. (s ≡ empty_client project)
-            × (self.new ≡ farm_of self.old.workers (self.old.given + 1))) }
+            × (self.new ≡ opened_farm self.old.workers (self.old.given + 1))) }
         ensures err { IfErr result (λ e. LacksSeat e self.old × (self.new ≡ self.old)) }
     {
         if self.given >= MOST_SEATS {
@@ -173,7 +172,7 @@ impl<N: FarmNames> Farm<N> {
         ensures receipts { ForRight (λ p. AreTheCalls (all_receipts result.seats.items) result.book) }
         ensures full { ForRight (λ p. AreFull result.seats.items result.book) }
         ensures ended { HaveEnded result.rows.items }
-        ensures told { ForRight (λ p. IsTold result.rows.items result.book) }
+        ensures told { ForRight (λ p. AgreesWithHistories result.rows.items result.book) }
         ensures spent { IsSpent seats.items }
     {
         let Farm {

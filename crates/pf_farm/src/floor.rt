@@ -3,18 +3,17 @@
 ghost use Rattle.std.specs.Prelude.{◌≡◌, true, false, is_some, IfOk, OnErr, option_map};
 ghost use Rattle.pf_desks.specs.Calls.{stage_of};
 ghost use Rattle.pf_desks.specs.Desk.{held_at};
-ghost use Rattle.pf_desks.specs.World.{desk_at};
+ghost use Rattle.pf_desks.specs.Desks.{desk_at};
 ghost use Rattle.pf_book.specs.View.{view_of_stage};
-ghost use Rattle.pf_hall.specs.Clients.{GetsReceipt, StaysFull};
-ghost use Rattle.pf_farm.specs.Floors.{must_wait, IsOver};
+ghost use Rattle.pf_farm_state.specs.Clients.{GetsReceipt, StaysFull};
+ghost use Rattle.pf_farm.specs.Floors.{must_wait, IsTrialOver};
 ghost use Rattle.pf_farm.specs.Seats.{HasFiled, IsAsBefore};
 
 use crate::seat::WorkSeat;
-use crate::waiting::{SLOTS, Waiting, slot_of};
-use pf_book::{Reply, Stage};
-use pf_farm_names::FarmNames;
-use pf_hall::{ClaimedTrial, ClientSeat, Hall};
-use pf_ledger::OpenClaim;
+use crate::waiting::{SLOTS, WaitingClients, slot_of};
+use pf_book::{Reply, TrialStage};
+use pf_farm_accounts::{FarmNames, OpenClaim};
+use pf_farm_state::{ClaimedTrial, ClientSeat, Hall};
 use pf_request::Call;
 use pf_sched::{Finished, Job};
 use pf_terms::NoMemory;
@@ -26,15 +25,15 @@ use std::sync::{Condvar, Mutex, Wait};
 /// What lies under the lock: the hall, how often something came for which a worker may wait, how many workers wait,
 /// which clients do, and whether the farm stops.
 #[derive(Drop)]
-pub(crate) struct Shared<N: FarmNames> {
+pub(crate) struct SharedState<N: FarmNames> {
     pub hall: Hall<N>,
     moves: u64,
     idle: u32,
-    clients: Waiting,
+    clients: WaitingClients,
     stopped: bool,
 }
 
-impl<N: FarmNames> Shared<N> {
+impl<N: FarmNames> SharedState<N> {
     /// Something came for which a worker may wait.
     fn moved(&mut self)
         ensures hall { self.new.hall ≡ self.old.hall }
@@ -62,14 +61,14 @@ impl<N: FarmNames> Shared<N> {
             self.now.stopped }
     {
         let seen = self.look(project, ticket);
-        !seen.stops && matches!(seen.stage, Some(Stage::Queued | Stage::Running))
+        !seen.stops && matches!(seen.stage, Some(TrialStage::Queued | TrialStage::Running))
     }
 }
 
 /// What a client saw last that waited for a trial: how far this was, if it was held, and whether the farm stopped.
 #[derive(Clone, Copy, Debug, PartialEq, Eq)]
 pub struct LastSeen {
-    pub stage: Option<Stage>,
+    pub stage: Option<TrialStage>,
     pub stops: bool,
 }
 
@@ -77,7 +76,7 @@ pub struct LastSeen {
 /// runs that are parked, and clients for trials that are done or dropped.
 #[derive(Drop)]
 pub struct Floor<N: FarmNames> {
-    pub(crate) shared: Mutex<Shared<N>>,
+    pub(crate) shared: Mutex<SharedState<N>>,
     work: Condvar,
     done: [Condvar; SLOTS],
     /// The same as `stopped`, for workers between two slices.
@@ -87,11 +86,11 @@ pub struct Floor<N: FarmNames> {
 impl<N: FarmNames> Floor<N> {
     /// The floor of a hall.
     pub(crate) fn new(hall: Hall<N>) -> Floor<N> {
-        let shared = Shared {
+        let shared = SharedState {
             hall,
             moves: 0,
             idle: 0,
-            clients: Waiting::new(),
+            clients: WaitingClients::new(),
             stopped: false,
         };
         Floor {
@@ -110,7 +109,7 @@ impl<N: FarmNames> Floor<N> {
             done: _,
             stopping: _,
         } = self;
-        let Shared {
+        let SharedState {
             hall,
             moves: _,
             idle: _,
@@ -153,7 +152,7 @@ impl<N: FarmNames> Floor<N> {
     /// Waits until the trial of a ticket of the seat's project is done, or isn't held; or until the farm stops. Tells
     /// what it saw last.
     pub fn wait_done<R: Wait>(&self, rt: &R, seat: &ClientSeat<N>, ticket: u64) -> LastSeen
-        ensures { result.stops ≡ false → IsOver result.stage }
+        ensures { result.stops ≡ false → IsTrialOver result.stage }
     {
         let project = seat.project();
         let slot = slot_of(project);
@@ -180,7 +179,7 @@ impl<N: FarmNames> Floor<N> {
     }
 
     /// Wakes a worker that waits, for a trial that is queued now.
-    fn wake_one(&self, shared: &mut Shared<N>)
+    fn wake_one(&self, shared: &mut SharedState<N>)
         ensures { shared.new.hall ≡ shared.old.hall }
     {
         shared.moved();
@@ -190,7 +189,7 @@ impl<N: FarmNames> Floor<N> {
     }
 
     /// Wakes the clients that may wait for a trial which is done now, or dropped.
-    fn tell_done(&self, shared: &Shared<N>, project: u32, ticket: u64) {
+    fn tell_done(&self, shared: &SharedState<N>, project: u32, ticket: u64) {
         let slot = slot_of(project);
         if shared.clients.is_awaited(slot, ticket) {
             self.done[slot].notify_all();

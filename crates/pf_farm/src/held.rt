@@ -2,8 +2,7 @@
 
 ghost use Rattle.std.specs.Prelude.{◌≡◌};
 
-use pf_farm_names::FarmNames;
-use pf_ledger::OpenClaim;
+use pf_farm_accounts::{FarmNames, OpenClaim};
 use pf_sched::{Job, Parked};
 use std::marker::Model;
 

@@ -19,4 +19,4 @@ pub use tally::WorkTally;
 pub use workers::{work, work_all};
 
 /// What a client has, and what is left when a farm is closed.
-pub use pf_hall::{ClientSeat, ClosedSeat, Closing};
+pub use pf_farm_state::{ClientSeat, ClosedSeat, Closing};

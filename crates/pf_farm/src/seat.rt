@@ -1,16 +1,15 @@
 //! The seats of workers.
 
 ghost use Rattle.std.specs.Prelude.{◌≡◌, ◌<◌, ◌∷◌, ◌++◌, [], true, false, length, is_some, IfSome, IfNone, IfOk, IfErr, OnOk, OnErr};
-ghost use Rattle.pf_ledger.specs.declared.row.End.TheVariants.{Filed, HandedBack};
+ghost use Rattle.pf_farm_accounts.specs.declared.row.ClaimEnd.TheVariants.{Filed, HandedBack};
 ghost use Rattle.pf_deques.specs.Views.{FoundEmpty, TakesFirst, stolen_by};
-ghost use Rattle.pf_farm.specs.Seats.{EndsAs, HasFiled, IsAsBefore, SameEnds, counted};
+ghost use Rattle.pf_farm.specs.Seats.{ClaimEndsAs, HasFiled, IsAsBefore, SameEnds, saturated};
 
 use crate::held::HeldRun;
 use crate::tally::WorkTally;
 use pf_deques::{Owner, Thief};
-use pf_farm_names::{EndedLedger, FarmNames, OpenedLedger};
-use pf_hall::{ClaimedTrial, Hall};
-use pf_ledger::OpenClaim;
+use pf_farm_accounts::{EndedLedger, FarmNames, OpenClaim, OpenedLedger};
+use pf_farm_state::{ClaimedTrial, Hall};
 use pf_sched::{Finished, Job};
 use pf_terms::NoMemory;
 use std::marker::Model;
@@ -37,23 +36,23 @@ pub struct WorkSeat<N: FarmNames> {
 
 impl<N: FarmNames> Model for WorkSeat<N> {
     ghost use Rattle.std.specs.Prelude.{◌≡◌};
-    ghost use Rattle.pf_farm.specs.Seats.{SeatView, seat_of, IsBalanced, IsCounted};
+    ghost use Rattle.pf_farm.specs.Seats.{WorkSeatView, seat_of, IsBalanced, CountsSteals};
 
-    ghost Value = { SeatView };
+    ghost Value = { WorkSeatView };
 
     ghost view = { λ s. seat_of s.own s.next s.busy s.filed s.tally };
 
     ghost invariant = { λ s. (s.opened.parts ≡ 1)
         × (s.ended.parts ≡ 1)
         × IsBalanced s.opened.amount s.ended.amount (seat_of s.own s.next s.busy s.filed s.tally)
-        × IsCounted (seat_of s.own s.next s.busy s.filed s.tally) };
+        × CountsSteals (seat_of s.own s.next s.busy s.filed s.tally) };
 }
 
 impl<N: FarmNames> WorkSeat<N> {
     /// What its worker did so far.
     pub fn tally(&self) -> WorkTally
-        ensures steals { result.steals ≡ counted (length (stolen_by self.now.next)) }
-        ensures parks { result.parks ≡ counted (length self.now.own.pushed) }
+        ensures steals { result.steals ≡ saturated (length (stolen_by self.now.next)) }
+        ensures parks { result.parks ≡ saturated (length self.now.own.pushed) }
     {
         self.tally
     }
@@ -152,7 +151,7 @@ impl<N: FarmNames> WorkSeat<N> {
     pub(crate) fn file(&mut self, hall: &mut Hall<N>, claim: OpenClaim<N, Job>, finished: Finished)
         requires busy { self.old.busy ≡ true }
         requires job { claim.1.job.value ≡ finished.job }
-        ensures row { EndsAs Filed claim hall.old.rows hall.new.rows }
+        ensures row { ClaimEndsAs Filed claim hall.old.rows hall.new.rows }
         ensures filed { HasFiled self.old self.new }
         ensures idle { self.new.busy ≡ false }
     {
@@ -164,7 +163,7 @@ impl<N: FarmNames> WorkSeat<N> {
     /// Hands back the trial of the run that it held: its claim ends as handed back, or as stray.
     pub(crate) fn hand_back(&mut self, hall: &mut Hall<N>, claim: OpenClaim<N, Job>)
         requires { self.old.busy ≡ true }
-        ensures row { EndsAs HandedBack claim hall.old.rows hall.new.rows }
+        ensures row { ClaimEndsAs HandedBack claim hall.old.rows hall.new.rows }
         ensures same { IsAsBefore self.old self.new }
         ensures idle { self.new.busy ≡ false }
     {

@@ -9,15 +9,15 @@ pub(crate) const SLOTS: usize = 16;
 /// Those who wait in a slot: how many, and for which ticket if there is one who waits; 0, which is no ticket,
 /// means any.
 #[derive(Clone, Copy)]
-pub(crate) struct Slot {
+pub(crate) struct WaitingSlot {
     count: u32,
     ticket: u64,
 }
 
 /// The clients that wait, by slot.
 #[derive(Clone, Copy)]
-pub(crate) struct Waiting {
-    slots: [Slot; SLOTS],
+pub(crate) struct WaitingClients {
+    slots: [WaitingSlot; SLOTS],
 }
 
 /// The slot of a project.
@@ -27,13 +27,13 @@ pub(crate) fn slot_of(project: u32) -> usize
     project as usize % SLOTS
 }
 
-impl Waiting {
+impl WaitingClients {
     /// None waits.
-    pub(crate) fn new() -> Waiting
+    pub(crate) fn new() -> WaitingClients
         ensures { All (λ slot. slot.count ≡ 0) result.slots }
     {
-        Waiting {
-            slots: [Slot {
+        WaitingClients {
+            slots: [WaitingSlot {
                 count: 0,
                 ticket: 0,
             }; SLOTS],
@@ -46,9 +46,9 @@ impl Waiting {
         ensures { IfSome (slice_get self.old.slots slot) (λ was.
             self.new.slots ≡ slice_set self.old.slots slot (entered was ticket)) }
     {
-        let Slot { count, .. } = self.slots[slot];
+        let WaitingSlot { count, .. } = self.slots[slot];
         let ticket = if count == 0 { ticket } else { 0 };
-        self.slots[slot] = Slot {
+        self.slots[slot] = WaitingSlot {
             count: count.saturating_add(1),
             ticket,
         };
@@ -60,8 +60,8 @@ impl Waiting {
         ensures { IfSome (slice_get self.old.slots slot) (λ was.
             self.new.slots ≡ slice_set self.old.slots slot (left was)) }
     {
-        let Slot { count, .. } = self.slots[slot];
-        self.slots[slot] = Slot {
+        let WaitingSlot { count, .. } = self.slots[slot];
+        self.slots[slot] = WaitingSlot {
             count: count.saturating_sub(1),
             ticket: 0,
         };
@@ -72,7 +72,7 @@ impl Waiting {
         requires { slot < SLOTS }
         ensures { option_map (λ s. awaits s ticket) (slice_get self.now.slots slot) ≡ Some result }
     {
-        let Slot {
+        let WaitingSlot {
             count,
             ticket: awaited,
         } = self.slots[slot];

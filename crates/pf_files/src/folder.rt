@@ -5,7 +5,7 @@ ghost use Rattle.std.specs.String.{string_bytes};
 ghost use Rattle.pf_files.specs.Suites.{IsPathOf};
 
 use crate::names::read_word;
-use pf_fault::{NoMemory, OrNoMemory};
+use pf_errors::{NoMemory, OrNoMemory};
 use pf_terms::StreamFault;
 use std::alloc::{AllocGlobal, Global};
 use std::fs::{self, Files};

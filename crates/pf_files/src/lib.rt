@@ -6,4 +6,4 @@ mod names;
 mod suite;
 
 pub use names::{open, read_word};
-pub use suite::{Answered, hunt_suite, is_suite, workers_of};
+pub use suite::{AnsweredRoot, hunt_suite, is_suite, workers_of};

@@ -2,22 +2,24 @@
 
 ghost use Rattle.std.specs.Prelude.{◌≡◌, ◌≢◌, ◌<◌, ◌≤◌, true, is_some, ◌||◌, None, Ok, IfNone, IfSome, IfOk, IsSomeAnd, MatchOption, OnOk, take};
 ghost use Rattle.std.specs.Io.KnownBytes.{Appends};
-ghost use Rattle.pf_cli.specs.declared.args.Sought.TheVariants.{Failure};
+ghost use Rattle.pf_cli.specs.declared.args.HuntGoal.TheVariants.{Failure};
 ghost use Rattle.pf_cli.specs.Args.{view_of_hunt_args};
 ghost use Rattle.pf_files.specs.Suites.{goes_over_several};
 
 use crate::folder::{files_in, is_folder};
 use crate::names::open;
-use pf_cli::{HuntArgs, Roots, Sought};
-use pf_command::MOST_BYTES;
-use pf_fault::{NoMemory, OrNoMemory};
-use pf_module::ReadModule;
-use pf_request::Request;
-use pf_said::{Line, REFUSED, Seeds, Shown, Waiting, failed, say, why_of_root};
-use pf_suite::{
-    Ending, Hunted, RootEnd, Suite, hunt_root, line_of_refusal, line_of_root, line_of_rootless,
-    read_hunted, request_for, root_name,
+use pf_check::ReadModule;
+use pf_cli::{HuntArgs, HuntGoal, Roots};
+use pf_cli_messages::{
+    ProgressLine, REFUSED, Seeds, ShownText, WaitingProcesses, failed, say, why_of_root,
 };
+use pf_command::MOST_BYTES;
+use pf_errors::{NoMemory, OrNoMemory};
+use pf_hunt_suite::{
+    Hunted, RootEnd, Suite, SuiteCounts, hunt_root, line_of_refusal, line_of_root,
+    line_of_rootless, read_hunted, request_for, root_name,
+};
+use pf_request::Request;
 use pf_terms::{Counted, StreamFault};
 use std::alloc::{AllocGlobal, Global};
 use std::fs::Files;
@@ -28,7 +30,7 @@ use std::thread::{Threads, available_parallelism};
 use std::time::{Clock, Instant};
 
 /// What the work of a command ends with: a status, or what stopped it.
-pub type Answered = Result<u8, OrNoMemory<StreamFault>>;
+pub type AnsweredRoot = Result<u8, OrNoMemory<StreamFault>>;
 
 /// How many threads run the seeds of a hunt: those that are named, or one for each of the machine's processors, at most
 /// 64.
@@ -56,20 +58,20 @@ pub fn is_suite(rt: &impl Files, args: &HuntArgs) -> bool
 
 /// Whether a hunt goes on after a root's result, or stops there.
 #[derive(Clone, Copy, PartialEq, Eq)]
-enum Next {
+enum AfterRoot {
     GoesOn,
     Stops,
 }
 
 /// Whether a hunt goes on, or what ended it.
-type Step = Result<Next, OrNoMemory<StreamFault>>;
+type SuiteStep = Result<AfterRoot, OrNoMemory<StreamFault>>;
 
 /// A hunt over several sources, so far.
 #[derive(Drop)]
 struct SuiteHunt<'a, R> {
     rt: &'a R,
     args: &'a HuntArgs<'a>,
-    line: &'a Line,
+    line: &'a ProgressLine,
     workers: u64,
     /// When it began, if the clock can be read.
     start: Option<Instant>,
@@ -130,14 +132,14 @@ where
     }
 
     /// Says that a file or a folder can't be read, and counts it.
-    fn lost(&mut self, name: &str, fault: StreamFault) -> Step {
+    fn lost(&mut self, name: &str, fault: StreamFault) -> SuiteStep {
         if fault.error().kind() == io::ErrorKind::OutOfMemory {
             return Err(OrNoMemory::NoMemory);
         }
-        self.suite.ends.push(Ending::Lost)?;
+        self.suite.ends.push(SuiteCounts::Lost)?;
         self.line.clear();
         failed(self.rt, Some(name), &fault);
-        Ok(Next::GoesOn)
+        Ok(AfterRoot::GoesOn)
     }
 
     /// The bytes of a file; `-` names the standard input, which is read once only.
@@ -178,7 +180,7 @@ where
         module: &ReadModule,
         root: &[u8],
         end: RootEnd,
-        waiting: Option<Waiting>,
+        waiting: Option<WaitingProcesses>,
     ) -> Result<(), NoMemory> {
         let alloc = self.rt.alloc();
         let bytes = root_name(alloc, file, root)?;
@@ -201,21 +203,21 @@ where
         module: &ReadModule,
         root: &[u8],
         writer: &mut Counted<W, M>,
-    ) -> Step {
+    ) -> SuiteStep {
         let alloc = self.rt.alloc();
         let args = self.args;
         let seeds = args.end.saturating_sub(args.first);
         let mut observer = Seeds::new(self.line, self.rt, seeds, self.time_left());
         let workers = self.workers;
         let end = hunt_root(self.rt, alloc, args, module, root, workers, &mut observer)?;
-        self.suite.ends.push(Ending::Root(end))?;
+        self.suite.ends.push(SuiteCounts::Root(end))?;
         put_now(&line_of_root(alloc, file, root, end)?, writer)?;
         // The line went out: nothing more is said where memory runs out now.
         let _said = self.say_more(file, module, root, end, observer.waiting());
         if args.fail_fast && matches!(end, RootEnd::Fails { .. }) {
-            Ok(Next::Stops)
+            Ok(AfterRoot::Stops)
         } else {
-            Ok(Next::GoesOn)
+            Ok(AfterRoot::GoesOn)
         }
     }
 
@@ -225,16 +227,16 @@ where
         file: &str,
         source: &Hunted,
         writer: &mut Counted<W, M>,
-    ) -> Step {
+    ) -> SuiteStep {
         if source.roots.is_empty() {
             put_now(&line_of_rootless(self.rt.alloc(), file)?, writer)?;
         }
         for root in &source.roots {
-            if self.root(file, &source.module, root, writer)? == Next::Stops {
-                return Ok(Next::Stops);
+            if self.root(file, &source.module, root, writer)? == AfterRoot::Stops {
+                return Ok(AfterRoot::Stops);
             }
         }
-        Ok(Next::GoesOn)
+        Ok(AfterRoot::GoesOn)
     }
 
     /// Hunts the roots of the source of these bytes, or says why it is refused.
@@ -243,16 +245,16 @@ where
         file: &str,
         bytes: &[u8],
         writer: &mut Counted<W, M>,
-    ) -> Step {
+    ) -> SuiteStep {
         let (alloc, args) = (self.rt.alloc(), self.args);
         match read_hunted(alloc, args, bytes) {
             Ok(source) => self.roots(file, &source, writer),
             Err(OrNoMemory::NoMemory) => Err(OrNoMemory::NoMemory),
             Err(OrNoMemory::Fault(refusal)) => {
-                self.suite.ends.push(Ending::Lost)?;
+                self.suite.ends.push(SuiteCounts::Lost)?;
                 put_now(&line_of_refusal(alloc, file, refusal)?, writer)?;
                 let _said = self.say_why(file, &args.request, bytes);
-                Ok(Next::GoesOn)
+                Ok(AfterRoot::GoesOn)
             }
         }
     }
@@ -263,12 +265,12 @@ where
         name: &str,
         stdin: &mut Counted<I, L>,
         writer: &mut Counted<W, M>,
-    ) -> Step {
+    ) -> SuiteStep {
         self.suite.files = self.suite.files.saturating_add(1);
         match self.bytes_of(name, stdin) {
             Ok(bytes) => {
                 let has_lines = false;
-                let shown = Shown {
+                let shown = ShownText {
                     text: name,
                     has_lines,
                 };
@@ -286,7 +288,7 @@ where
         name: &str,
         stdin: &mut Counted<I, L>,
         writer: &mut Counted<W, M>,
-    ) -> Step {
+    ) -> SuiteStep {
         if !is_folder(self.rt, name) {
             return self.file(name, stdin, writer);
         }
@@ -296,11 +298,11 @@ where
             Err(OrNoMemory::NoMemory) => return Err(OrNoMemory::NoMemory),
         };
         for file in &files {
-            if self.file(file, stdin, writer)? == Next::Stops {
-                return Ok(Next::Stops);
+            if self.file(file, stdin, writer)? == AfterRoot::Stops {
+                return Ok(AfterRoot::Stops);
             }
         }
-        Ok(Next::GoesOn)
+        Ok(AfterRoot::GoesOn)
     }
 
     /// Hunts what all names name.
@@ -308,17 +310,17 @@ where
         &mut self,
         stdin: &mut Counted<I, L>,
         writer: &mut Counted<W, M>,
-    ) -> Step {
+    ) -> SuiteStep {
         let args = self.args;
-        if self.name(args.file.unwrap_or("-"), stdin, writer)? == Next::Stops {
-            return Ok(Next::Stops);
+        if self.name(args.file.unwrap_or("-"), stdin, writer)? == AfterRoot::Stops {
+            return Ok(AfterRoot::Stops);
         }
         for name in &args.more {
-            if self.name(name, stdin, writer)? == Next::Stops {
-                return Ok(Next::Stops);
+            if self.name(name, stdin, writer)? == AfterRoot::Stops {
+                return Ok(AfterRoot::Stops);
             }
         }
-        Ok(Next::GoesOn)
+        Ok(AfterRoot::GoesOn)
     }
 }
 
@@ -328,15 +330,15 @@ pub fn hunt_suite<R, I: Read, W: Write, L: Ledger, M: Ledger>(
     args: &HuntArgs,
     stdin: &mut Counted<I, L>,
     writer: &mut Counted<W, M>,
-    line: &Line,
-) -> Answered
+    line: &ProgressLine,
+) -> AnsweredRoot
 where
     R: Files + Print + Eprint + AllocGlobal + Clock + Threads + Sync,
     R::File: Drop,
     ensures { args.now.sought ≢ Failure None → (result ≡ Ok 2)
         × (W.contents writer.new.inner ≡ W.contents writer.old.inner) }
 {
-    if !matches!(args.sought, Sought::Failure { runs: None }) {
+    if !matches!(args.sought, HuntGoal::Failure { runs: None }) {
         say(
             rt,
             "`--all` and `--shrink` want one file, and this is a folder",

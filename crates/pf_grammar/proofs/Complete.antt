@@ -3,13 +3,13 @@
 use Rattle.std.proofs.Common.{◌≡◌, ℕ, zero, suc, ◌-◌, ◌≤◌, ◌<◌, List, ◌∷◌, ◌++◌, length, Bool, false, Option, Some, None, refl, sym, ap, ◌∙◌, arith, append_assoc}
 use Rattle.std.proofs.lemmas.Bool.{le-leb}
 use Rattle.std.proofs.lemmas.List.{length-append}
-use Rattle.pf_tokens.specs.declared.marks.Mark.TheVariants as marks
+use Rattle.pf_tokens.specs.declared.marks.TokenMark.TheVariants as marks
 use Rattle.pf_syntax.specs.ExprPattern.{ExprPattern}
 use Rattle.pf_syntax.specs.Expr as p
 use Rattle.pf_syntax.specs.Expr.{Expr, expr_depth}
-use Rattle.pf_intern.specs.NumberedTokens.{mark, NumberedToken}
-use Rattle.pf_grammar.specs.Grammar.{Names, Joined, Infix, operator, and_also, or_else, send, infix_of, level_of, left_level, right_level, top, element as body_level, Derives}
-use Rattle.pf_grammar.specs.Parse.{Parse, after, joined, within, infix_ahead, more_step, more, unary, level_with, pattern, match_ahead, element_step, parse_expr_with, prim_with, readers, parse_expr, element}
+use Rattle.pf_tokens.specs.NumberedTokens.{mark, NumberedToken}
+use Rattle.pf_grammar.specs.Grammar.{TokenNames, Joined, Infix, operator, and_also, or_else, send, infix_of, level_of, left_level, right_level, top, element as body_level, Derives}
+use Rattle.pf_grammar.specs.Parse.{Parse, after_kind, joined_exprs, within, infix_ahead, more_step, more, unary, level_with, pattern, match_ahead, element_step, parse_expr_with, prim_with, readers, parse_expr, element}
 use Rattle.pf_grammar.proofs.Single.{bind_some, some_is, after_some, after_here, level_low, level_high, left_low, left_most, right_low, right_most, infix_here}
 use Rattle.pf_grammar.proofs.Lists.{CompleteFor, opens_front}
 use Rattle.pf_grammar.proofs.Patterns.{pattern_sound, pattern_complete}
@@ -33,7 +33,7 @@ spine (p.send a b) = right_level send
 spine _ = 0
 
 -- an infix ends the right operand of its left operand
-spine_low : (n : Names) (g : Bool) (i : Infix) (e : Expr) (front : List NumberedToken) → Derives n g e (left_level i) front → spine e < level_of i
+spine_low : (n : TokenNames) (g : Bool) (i : Infix) (e : Expr) (front : List NumberedToken) → Derives n g e (left_level i) front → spine e < level_of i
 unfolding spine
 spine_low n g i (p.binary o a b) front h = spine_stops i (operator o) h.0
 spine_low n g i (p.and_also a b) front h = spine_stops i and_also h.0
@@ -42,7 +42,7 @@ spine_low n g i (p.send a b) front h = spine_stops i send h.0
 spine_low n g i (p.integer z) front h = omega (arith, level_low i)
 spine_low n g i _ front h = omega (arith, level_low i)
 
-spine_most : (n : Names) (g : Bool) (e : Expr) (level : ℕ) (front : List NumberedToken) → Derives n g e level front → spine e ≤ level
+spine_most : (n : TokenNames) (g : Bool) (e : Expr) (level : ℕ) (front : List NumberedToken) → Derives n g e level front → spine e ≤ level
 unfolding spine
 spine_most n g (p.binary o a b) level front h = omega (arith, h.0, right_most (operator o))
 spine_most n g (p.and_also a b) level front h = omega (arith, h.0, right_most and_also)
@@ -60,11 +60,11 @@ module _ (deeper : ℕ → Parse Expr) (g : Bool) (limit level : ℕ) where
   more_stops (suc turns) floor left ts e = ap (more_step deeper limit (more deeper g limit level turns) left ts) e
 
   more_goes : (turns fewer floor : ℕ) (left : Expr) (ts : List NumberedToken) (i : Infix) (behind : List NumberedToken) (right : Expr) (rest : List NumberedToken) → turns ≡ suc fewer → infix_ahead g floor level ts ≡ Some (i, behind)
-      → deeper (right_level i) behind ≡ Some (right, rest) → expr_depth (joined i left right) ≤ limit → more deeper g limit level turns floor left ts ≡ more deeper g limit level fewer (level_of i) (joined i left right) rest
+      → deeper (right_level i) behind ≡ Some (right, rest) → expr_depth (joined_exprs i left right) ≤ limit → more deeper g limit level turns floor left ts ≡ more deeper g limit level fewer (level_of i) (joined_exprs i left right) rest
   unfolding more
-  more_goes turns fewer floor left ts i behind right rest k e f le = let deep = within_is limit (joined i left right) rest le in rw (k, e, f, deep) refl
+  more_goes turns fewer floor left ts i behind right rest k e f le = let deep = within_is limit (joined_exprs i left right) rest le in rw (k, e, f, deep) refl
 
-module _ (n : Names) (d : ℕ) (parse_exprs : ExpressionsRead n d) (g : Bool) (part : Parse Expr) (part_complete : CompleteFor part (Fits n g 0 (suc d)) (Stops g 0)) where
+module _ (n : TokenNames) (d : ℕ) (parse_exprs : ExpressionsRead n d) (g : Bool) (part : Parse Expr) (part_complete : CompleteFor part (Fits n g 0 (suc d)) (Stops g 0)) where
   unary_part : (e : Expr) (front rest : List NumberedToken) → Fits n g 0 (suc d) e front → Stops g 0 rest → unary part (suc d) (front ++ rest) ≡ Some (e, rest)
   unary_part e front rest fits stops =
       let non = opens_front (mark marks.Minus) front rest (starts_opens false (mark marks.Minus) front refl (part_starts n g e front fits.0)) in
@@ -93,8 +93,8 @@ module _ (n : Names) (d : ℕ) (parse_exprs : ExpressionsRead n d) (g : Bool) (p
   reads_at_once level m e front r le one = record { turns = length r; floor = 1; low = le; enough = omega arith; reads = rw one refl }
 
   -- the left operand was read, and then come the infix and the right one
-  reads_joined : (level m : ℕ) (i : Infix) (a b : Expr) (front r : List NumberedToken) → m ≤ level → (h : Joined g i m (Derives n g a) (Derives n g b) front) → expr_depth (joined i a b) ≤ suc d → expr_depth b ≤ d → Stops g (right_level i) r
-      → ReadsUpTo level (left_level i) a h.2.0 (h.2.1 ∷ (h.2.2 ++ r)) → ReadsUpTo level m (joined i a b) front r
+  reads_joined : (level m : ℕ) (i : Infix) (a b : Expr) (front r : List NumberedToken) → m ≤ level → (h : Joined g i m (Derives n g a) (Derives n g b) front) → expr_depth (joined_exprs i a b) ≤ suc d → expr_depth b ≤ d → Stops g (right_level i) r
+      → ReadsUpTo level (left_level i) a h.2.0 (h.2.1 ∷ (h.2.2 ++ r)) → ReadsUpTo level m (joined_exprs i a b) front r
   reads_joined level m i a b front r le h deep shallow stops left =
       let q = h.2 in
       let behind = q.2 ++ r in
@@ -147,11 +147,11 @@ module _ (n : Names) (d : ℕ) (parse_exprs : ExpressionsRead n d) (g : Bool) (p
 
 -- an expression that a pattern and `=` begin isn't followed by another token: a pattern is an expression too, and no
 -- tokens have two
-module _ (n : Names) (d : ℕ) (plain : Parse Expr) (plain_complete : CompleteFor plain (Fits n false top (suc d)) (Stops false top)) where
-  match_behind : (e : Expr) (front rest : List NumberedToken) (x : ExprPattern × List NumberedToken) → Fits n false top (suc d) e front → Stops false top rest → match_ahead (pattern n d) (front ++ rest) ≡ Some x → after (mark marks.Match) rest ≡ Some x.1
+module _ (n : TokenNames) (d : ℕ) (plain : Parse Expr) (plain_complete : CompleteFor plain (Fits n false top (suc d)) (Stops false top)) where
+  match_behind : (e : Expr) (front rest : List NumberedToken) (x : ExprPattern × List NumberedToken) → Fits n false top (suc d) e front → Stops false top rest → match_ahead (pattern n d) (front ++ rest) ≡ Some x → after_kind (mark marks.Match) rest ≡ Some x.1
   match_behind e front rest x fits stops h =
       let a = bind_some (pattern n d (front ++ rest)) _ x h in
-      let b = bind_some (after (mark marks.Match) a.0.1) (λ r. Some (a.0.0, r)) x a.2 in
+      let b = bind_some (after_kind (mark marks.Match) a.0.1) (λ r. Some (a.0.0, r)) x a.2 in
       let m = after_some (mark marks.Match) a.0.1 b.0 b.1 in
       let took = pattern_sound n d (front ++ rest) a.0 a.1 in
       let holds = took.holds in
@@ -161,7 +161,7 @@ module _ (n : Names) (d : ℕ) (plain : Parse Expr) (plain_complete : CompleteFo
       let two = plain_complete other.0 took.front a.0.1 (up n false other.0 1 top took.front (omega arith) other.1, omega (arith, other.2, holds.1)) stops_here in
       let same = some_is (e, rest) (other.0, a.0.1) (sym one ∙ ap plain took.parts ∙ two) in
       let last = some_is (a.0.0, b.0) x b.2 in
-      ap (λ (y : Expr × List NumberedToken). after (mark marks.Match) y.1) same ∙ b.1 ∙ ap (λ (y : ExprPattern × List NumberedToken). Some y.1) last
+      ap (λ (y : Expr × List NumberedToken). after_kind (mark marks.Match) y.1) same ∙ b.1 ∙ ap (λ (y : ExprPattern × List NumberedToken). Some y.1) last
 
   no_match : (e : Expr) (front rest : List NumberedToken) → Fits n false top (suc d) e front → ElementEnds rest → match_ahead (pattern n d) (front ++ rest) ≡ None
   no_match e front rest fits ends = none (match_ahead (pattern n d) (front ++ rest)) refl
@@ -203,7 +203,7 @@ module _ (n : Names) (d : ℕ) (plain : Parse Expr) (plain_complete : CompleteFo
 
 -- ---- both
 
-both_complete : (n : Names) (d : ℕ) → ExpressionsRead n d × ElementsRead n d
+both_complete : (n : TokenNames) (d : ℕ) → ExpressionsRead n d × ElementsRead n d
 unfolding parse_expr element
 both_complete n zero = (λ g level one high e front rest fits stops. absurd (omega (arith, some_depth e, fits.1)), λ e front rest fits stops. absurd (omega (arith, some_depth e, fits.1)))
 both_complete n (suc d) =
@@ -211,8 +211,8 @@ both_complete n (suc d) =
     let plain : ExpressionsRead n (suc d) = λ g. level_complete n d below.0 g (prim_with n (readers n d) g (parse_expr n g d top)) (prim_complete n d below.0 below.1 g) in
     (plain, element_complete_step n d (parse_expr_with n (readers n d) false (parse_expr n false d) (suc d) top) (plain false top (omega arith) (omega arith)) below.1)
 
-pub parse_expr_complete : (n : Names) (d : ℕ) → ExpressionsRead n d
+pub parse_expr_complete : (n : TokenNames) (d : ℕ) → ExpressionsRead n d
 parse_expr_complete n d = (both_complete n d).0
 
-pub element_complete : (n : Names) (d : ℕ) → ElementsRead n d
+pub element_complete : (n : TokenNames) (d : ℕ) → ElementsRead n d
 element_complete n d = (both_complete n d).1

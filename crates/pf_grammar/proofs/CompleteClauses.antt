@@ -1,12 +1,12 @@
 -- Guards, bodies and clauses that derive tokens are read, where the expressions in them are.
 use Rattle.std.proofs.Common.{◌≡◌, ℕ, ◌≤◌, ◌<◌, List, [], ◌∷◌, ◌++◌, length, Bool, true, false, Some, None, refl, ap, ◌∙◌, arith, append_assoc, inl, inr}
 use Rattle.std.proofs.lemmas.List.{length-append}
-use Rattle.pf_tokens.specs.declared.marks.Mark.TheVariants as marks
+use Rattle.pf_tokens.specs.declared.marks.TokenMark.TheVariants as marks
 use Rattle.pf_tokens.specs.declared.words.Reserved.TheVariants as words
 use Rattle.pf_syntax.specs.Expr.{Expr, Condition, Branches, condition_depth, branches_depth}
-use Rattle.pf_intern.specs.NumberedTokens.{NumberedKind, mark, reserved, NumberedToken}
-use Rattle.pf_grammar.specs.Grammar.{Names, Guarded, top, element as body_level, infix_of, DerivesGuard, DerivesBranches}
-use Rattle.pf_grammar.specs.Parse.{Clause, is, after, tests_of, guard, when, when_step, front as front_of, body, clause, branches, readers, parse_expr, element}
+use Rattle.pf_tokens.specs.NumberedTokens.{NumberedKind, mark, reserved, NumberedToken}
+use Rattle.pf_grammar.specs.Grammar.{TokenNames, Guarded, top, element as body_level, infix_of, DerivesGuard, DerivesBranches}
+use Rattle.pf_grammar.specs.Parse.{ParsedClause, is, after_kind, guard_tests, guard, when, when_step, front as front_of, body_parse, clause, branches, readers, parse_expr, element}
 use Rattle.pf_grammar.proofs.Single.{after_here, after_none}
 use Rattle.pf_grammar.proofs.Lists.{CompleteFor, Several, opens_length, items_complete}
 use Rattle.pf_grammar.proofs.Patterns.{pattern_complete}
@@ -17,15 +17,15 @@ use Rattle.pf_grammar.proofs.Stops.{Stops, stops_kind, starts_opens, expression_
 
 -- an element of a body
 abbrev pub ElementEnds : List NumberedToken → Type 0
-ElementEnds rest = Stops false top rest × (after (mark marks.Match) rest ≡ None)
+ElementEnds rest = Stops false top rest × (after_kind (mark marks.Match) rest ≡ None)
 
 -- a body, and the clause with it
 abbrev pub ClauseEnds : List NumberedToken → Type 0
-ClauseEnds rest = ElementEnds rest × (after (mark marks.Comma) rest ≡ None)
+ClauseEnds rest = ElementEnds rest × (after_kind (mark marks.Comma) rest ≡ None)
 
 -- the tests of an alternative
 abbrev pub TestsEnd : List NumberedToken → Type 0
-TestsEnd rest = Stops true top rest × (after (mark marks.Comma) rest ≡ None)
+TestsEnd rest = Stops true top rest × (after_kind (mark marks.Comma) rest ≡ None)
 
 -- a guard
 pub record ArrowAhead (rest : List NumberedToken) : Type 0 where
@@ -44,15 +44,15 @@ tests_end : (kind : NumberedKind) (t : NumberedToken) (ts : List NumberedToken) 
 tests_end kind t ts e a b c = (stops_kind true top kind t ts e a b, after_none (mark marks.Comma) kind t ts e c)
 
 -- another kind of token isn't ahead
-arrow_other : (s : NumberedKind) (rest : List NumberedToken) → ArrowAhead rest → is s (mark marks.Arrow) ≡ false → after s rest ≡ None
-arrow_other s rest a non = ap (after s) a.whole ∙ after_none s (mark marks.Arrow) a.arrow a.behind a.arrow_is non
+arrow_other : (s : NumberedKind) (rest : List NumberedToken) → ArrowAhead rest → is s (mark marks.Arrow) ≡ false → after_kind s rest ≡ None
+arrow_other s rest a non = ap (after_kind s) a.whole ∙ after_none s (mark marks.Arrow) a.arrow a.behind a.arrow_is non
 
 arrow_tests : (rest : List NumberedToken) → ArrowAhead rest → TestsEnd rest
 arrow_tests rest a = let w = a.whole in rw w (tests_end (mark marks.Arrow) a.arrow a.behind a.arrow_is refl refl refl)
 
 -- ---- what derives a part is some tokens
 
-pub fits_some : (n : Names) (g : Bool) (level d : ℕ) (e : Expr) (front : List NumberedToken) → Fits n g level d e front → 0 < length front
+pub fits_some : (n : TokenNames) (g : Bool) (level d : ℕ) (e : Expr) (front : List NumberedToken) → Fits n g level d e front → 0 < length front
 fits_some n g level d e front h = opens_length (mark marks.CloseParenthesis) front (starts_opens true (mark marks.CloseParenthesis) front refl (expression_starts n g e level front h.0))
 
 several_some : (A : Type 0) (s : NumberedKind) (P : A → List NumberedToken → Type 0) → ((x : A) (front : List NumberedToken) → P x front → 0 < length front) → (xs : List A) (front : List NumberedToken) → Several s P xs front → 0 < length front
@@ -60,29 +60,29 @@ several_some A s P some [] front h = absurd (h.1 refl)
 several_some A s P some (x ∷ []) front h = some x front h.0
 several_some A s P some (x ∷ y ∷ xs) front h = let a = h.0 in let w = ap length a.4 in omega (arith, w, length-append a.0 (a.1 ∷ a.2))
 
-tests_some : (n : Names) (d : ℕ) (es : List Expr) (front : List NumberedToken) → FitsTests n d es front → 0 < length front
+tests_some : (n : TokenNames) (d : ℕ) (es : List Expr) (front : List NumberedToken) → FitsTests n d es front → 0 < length front
 tests_some n d = several_some Expr (mark marks.Comma) (Fits n true top d) (fits_some n true top d)
 
-pub clause_some : (n : Names) (choice : Bool) (d : ℕ) (c : Clause) (front : List NumberedToken) → FitsClause n choice d c front → 0 < length front
+pub clause_some : (n : TokenNames) (choice : Bool) (d : ℕ) (c : ParsedClause) (front : List NumberedToken) → FitsClause n choice d c front → 0 < length front
 clause_some n choice d c front h = let w = ap length h.4 in omega (arith, w, length-append h.0 (h.1 ∷ h.2))
 
 -- ---- what reads expressions and elements no deeper than a limit
 
-abbrev pub ExpressionsRead : Names → ℕ → Type 0
+abbrev pub ExpressionsRead : TokenNames → ℕ → Type 0
 ExpressionsRead n d = (g : Bool) (level : ℕ) → 1 ≤ level → level ≤ top → CompleteFor (parse_expr n g d level) (Fits n g level d) (Stops g level)
 
-abbrev pub ElementsRead : Names → ℕ → Type 0
+abbrev pub ElementsRead : TokenNames → ℕ → Type 0
 ElementsRead n d = CompleteFor (element n d) (Fits n false body_level d) ElementEnds
 
-module _ (n : Names) (d : ℕ) (parse_exprs : ExpressionsRead n d) where
-  tests_complete : CompleteFor (tests_of (parse_expr n true d top)) (FitsTests n d) TestsEnd
+module _ (n : TokenNames) (d : ℕ) (parse_exprs : ExpressionsRead n d) where
+  tests_complete : CompleteFor (guard_tests (parse_expr n true d top)) (FitsTests n d) TestsEnd
   tests_complete es front rest h ends =
       items_complete Expr (mark marks.Comma) (Fits n true top d) (parse_expr n true d top) (Stops true top) refl (parse_exprs true top (omega arith) (omega arith)) (fits_some n true top d)
       (λ t ts e. stops_kind true top (mark marks.Comma) t ts e refl refl) es front rest (length (front ++ rest)) h ends.0 ends.1 (omega (arith, length-append front rest))
 
   guard_complete : (c : Condition) (front rest : List NumberedToken) → DerivesGuard n c front → condition_depth c ≤ d → ArrowAhead rest → guard (parse_expr n true d top) (front ++ rest) ≡ Some (c, rest)
   guard_complete c front rest h le ahead =
-      let listed = items_complete (List Expr) (mark marks.Semicolon) (FitsTests n d) (tests_of (parse_expr n true d top)) TestsEnd refl tests_complete (tests_some n d)
+      let listed = items_complete (List Expr) (mark marks.Semicolon) (FitsTests n d) (guard_tests (parse_expr n true d top)) TestsEnd refl tests_complete (tests_some n d)
       (λ t ts e. tests_end (mark marks.Semicolon) t ts e refl refl refl) (tests_list c) front rest (length (front ++ rest)) (guard_to n d c front h le) (arrow_tests rest ahead) (arrow_other (mark marks.Semicolon) rest ahead refl) (omega (arith, length-append front rest)) in
       let back = condition_back c in
       rw (listed, back) refl
@@ -111,13 +111,13 @@ module _ (n : Names) (d : ℕ) (parse_exprs : ExpressionsRead n d) where
       let more = guard_complete f.1 front rest k.1 h.2 ahead in
       rw (more, anything) refl
 
-module _ (n : Names) (d : ℕ) (elements : ElementsRead n d) where
-  pub body_complete : CompleteFor (body (element n d)) (Several (mark marks.Comma) (Fits n false body_level d)) ClauseEnds
+module _ (n : TokenNames) (d : ℕ) (elements : ElementsRead n d) where
+  pub body_complete : CompleteFor (body_parse (element n d)) (Several (mark marks.Comma) (Fits n false body_level d)) ClauseEnds
   body_complete es front rest h ends =
       items_complete Expr (mark marks.Comma) (Fits n false body_level d) (element n d) ElementEnds refl elements (fits_some n false body_level d) (λ t ts e. element_ends (mark marks.Comma) t ts e refl refl refl)
       es front rest (length (front ++ rest)) h ends.0 ends.1 (omega (arith, length-append front rest))
 
-module _ (n : Names) (d : ℕ) (parse_exprs : ExpressionsRead n d) (elements : ElementsRead n d) where
+module _ (n : TokenNames) (d : ℕ) (parse_exprs : ExpressionsRead n d) (elements : ElementsRead n d) where
   clause_complete : (choice : Bool) → CompleteFor (clause (readers n d) choice) (FitsClause n choice d) ClauseEnds
   clause_complete choice c front rest h ends =
       let behind = h.1 ∷ (h.2 ++ rest) in
@@ -132,7 +132,7 @@ module _ (n : Names) (d : ℕ) (parse_exprs : ExpressionsRead n d) (elements : E
   branches_complete choice bs front rest t e h le =
       let behind = t ∷ rest in
       let cs = branches_to n choice d bs front h le in
-      let listed = items_complete Clause (mark marks.Semicolon) (FitsClause n choice d) (clause (readers n d) choice) ClauseEnds refl (clause_complete choice) (clause_some n choice d)
+      let listed = items_complete ParsedClause (mark marks.Semicolon) (FitsClause n choice d) (clause (readers n d) choice) ClauseEnds refl (clause_complete choice) (clause_some n choice d)
       (λ u ts f. clause_ends (mark marks.Semicolon) u ts f refl refl refl refl) (clause_list bs) front behind (length (front ++ behind)) cs (clause_ends (reserved words.End) t rest e refl refl refl refl)
       (after_none (mark marks.Semicolon) (reserved words.End) t rest e refl) (omega (arith, length-append front behind)) in
       let end_word = after_here (reserved words.End) t rest refl e in

@@ -1,13 +1,13 @@
 -- Each part of an expression that derives tokens is read, where the expressions in it are.
 use Rattle.std.proofs.Common.{◌≡◌, ℕ, suc, List, [], ◌∷◌, ◌++◌, length, Bool, true, false, Some, None, refl, ap, ◌∙◌, arith, append_assoc, inl, inr}
-use Rattle.pf_tokens.specs.declared.marks.Mark.{Mark}
-use Rattle.pf_tokens.specs.declared.marks.Mark.TheVariants as marks
+use Rattle.pf_tokens.specs.declared.marks.TokenMark.{TokenMark}
+use Rattle.pf_tokens.specs.declared.marks.TokenMark.TheVariants as marks
 use Rattle.pf_tokens.specs.declared.words.Reserved.TheVariants as words
 use Rattle.pf_syntax.specs.Expr as p
 use Rattle.pf_syntax.specs.Expr.{Expr, Exprs, Branches, expr_depth, exprs_depth, branches_depth}
-use Rattle.pf_intern.specs.NumberedTokens.{NumberedKind, atom, mark, reserved, NumberedToken}
-use Rattle.pf_grammar.specs.Grammar.{Names, IsAtom, Between, Apart, operator, and_also, or_else, send, infix_of, top, call_stands, Derives, DerivesBranches}
-use Rattle.pf_grammar.specs.Parse.{is, after, atom_in, until, listed, call_step, prim_with, readers, parse_expr}
+use Rattle.pf_tokens.specs.NumberedTokens.{NumberedKind, atom, mark, reserved, NumberedToken}
+use Rattle.pf_grammar.specs.Grammar.{TokenNames, IsAtom, Between, Apart, operator, and_also, or_else, send, infix_of, top, call_stands, Derives, DerivesBranches}
+use Rattle.pf_grammar.specs.Parse.{is, after_kind, atom_in, until, listed, call_parse_step, prim_with, readers, parse_expr}
 use Rattle.pf_grammar.proofs.Single.{after_here, atom_in_is, short_is, level_low}
 use Rattle.pf_grammar.proofs.Lists.{CompleteFor, Closed, ListedIs, until_complete, listed_complete}
 use Rattle.pf_grammar.proofs.Groups.{Fits, expr_list, exprs_back, list_arity, all_to, has_to}
@@ -15,7 +15,7 @@ use Rattle.pf_grammar.proofs.Stops.{Stops, stops_kind, begins_one, starts_opens,
 use Rattle.pf_grammar.proofs.CompleteClauses.{ExpressionsRead, ElementsRead, branches_complete}
 
 -- a mark that closes expressions with commas
-record Closes (m : Mark) : Type 0 where
+record Closes (m : TokenMark) : Type 0 where
   plain : is (mark m) (mark m) ≡ true
   no_comma : is (mark marks.Comma) (mark m) ≡ false
   no_start : begins_one true (mark m) ≡ false
@@ -34,11 +34,11 @@ between_regroup first last P front rest h =
     let b = h.4 in
     ap (λ (l : List NumberedToken). l ++ rest) (h.3 ∙ ap (λ (l : List NumberedToken). h.0 ∷ l) b.3) ∙ ap (λ (l : List NumberedToken). h.0 ∷ l) (append_assoc b.0 (b.1 ∷ []) rest)
 
-module _ (n : Names) (d : ℕ) (parse_exprs : ExpressionsRead n d) (elements : ElementsRead n d) (g : Bool) where
+module _ (n : TokenNames) (d : ℕ) (parse_exprs : ExpressionsRead n d) (elements : ElementsRead n d) (g : Bool) where
   inner_complete : CompleteFor (parse_expr n g d top) (Fits n g top d) (Stops g top)
   inner_complete = parse_exprs g top (omega arith) (omega arith)
 
-  all_complete : (m : Mark) → Closes m → (es : Exprs) (front rest : List NumberedToken) → Closed (mark m) (Fits n g top d) (expr_list es) front → until (mark m) (parse_expr n g d top) (front ++ rest) ≡ Some (expr_list es, rest)
+  all_complete : (m : TokenMark) → Closes m → (es : Exprs) (front rest : List NumberedToken) → Closed (mark m) (Fits n g top d) (expr_list es) front → until (mark m) (parse_expr n g d top) (front ++ rest) ≡ Some (expr_list es, rest)
   all_complete m c es front rest h =
       until_complete Expr (mark m) (Fits n g top d) (parse_expr n g d top) (Stops g top) c.plain c.no_comma inner_complete (λ e xs f. starts_opens true (mark m) xs c.no_start (expression_starts n g e top xs f.0))
       (λ t ts e. stops_kind g top (mark marks.Comma) t ts e refl refl) (λ t ts e. stops_kind g top (mark m) t ts e c.no_infix c.no_call) (expr_list es) front rest h
@@ -48,7 +48,7 @@ module _ (n : Names) (d : ℕ) (parse_exprs : ExpressionsRead n d) (elements : E
       listed_complete Expr (Fits n g top d) (parse_expr n g d top) (Stops g top) inner_complete (λ e xs f. starts_opens true (mark marks.CloseBracket) xs refl (expression_starts n g e top xs f.0))
       (λ t ts e. stops_kind g top (mark marks.Comma) t ts e refl refl) (λ t ts e. stops_kind g top (mark marks.Bar) t ts e refl refl) (λ t ts e. stops_kind g top (mark marks.CloseBracket) t ts e refl refl) x front rest h
 
-  prim_atom : (a : ℕ) (t : NumberedToken) (ts : List NumberedToken) → IsAtom n a t → prim_with n (readers n d) g (parse_expr n g d top) (t ∷ ts) ≡ call_step n g (parse_expr n g d top) a t.at ts (after (mark marks.OpenParenthesis) ts)
+  prim_atom : (a : ℕ) (t : NumberedToken) (ts : List NumberedToken) → IsAtom n a t → prim_with n (readers n d) g (parse_expr n g d top) (t ∷ ts) ≡ call_parse_step n g (parse_expr n g d top) a t.at ts (after_kind (mark marks.OpenParenthesis) ts)
   prim_atom a t ts (inl h) = let e = h.0 in let i = atom_in_is n a t (inl h) in let j : atom_in n (atom a) ≡ Some a = rw e at i in rw (e, j) refl
   prim_atom a t ts (inr h) = let e = h.0 in let own = h.1 in rw (e, own) refl
 
@@ -150,7 +150,7 @@ module _ (n : Names) (d : ℕ) (parse_exprs : ExpressionsRead n d) (elements : E
 
   pub prim_complete : CompleteFor (prim_with n (readers n d) g (parse_expr n g d top)) (Fits n g 0 (suc d)) (Stops g 0)
   prim_complete (p.integer z) front rest fits stops = let h = fits.0 in let ez = h.1 in let i = h.2 in let e = i.1 in let w = i.2 in rw (w, e, ez) refl
-  prim_complete (p.atom a) front rest fits stops = let h = fits.0 in let w = h.2 in let non = stops.no_call in rw w (prim_atom a h.0 rest h.1 ∙ ap (call_step n g (parse_expr n g d top) a h.0.at rest) non)
+  prim_complete (p.atom a) front rest fits stops = let h = fits.0 in let w = h.2 in let non = stops.no_call in rw w (prim_atom a h.0 rest h.1 ∙ ap (call_parse_step n g (parse_expr n g d top) a h.0.at rest) non)
   prim_complete (p.text cs) front rest fits stops = let h = fits.0 in let short = short_is cs h.0 in let i = h.1 in let e = i.1 in let w = i.2 in rw (w, e, short) refl
   prim_complete (p.variable x at) front rest fits stops = let h = fits.0 in let e = h.1 in let offset = h.2 in let w = h.3 in rw (w, e, offset) refl
   prim_complete (p.anonymous at) front rest fits stops = let h = fits.0 in let e = h.1 in let offset = h.2 in let w = h.3 in rw (w, e, offset) refl

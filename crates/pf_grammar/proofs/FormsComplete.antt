@@ -2,13 +2,13 @@
 use Rattle.std.proofs.Common.{◌≡◌, ℕ, zero, suc, ◌≤◌, ◌<◌, List, [], ◌∷◌, ◌++◌, length, Some, None, refl, sym, ap, ◌∙◌, arith, append_assoc}
 use Rattle.std.specs.Prelude.{flat_map, codes}
 use Rattle.std.proofs.lemmas.List.{length-append}
-use Rattle.pf_tokens.specs.declared.marks.Mark.TheVariants as marks
+use Rattle.pf_tokens.specs.declared.marks.TokenMark.TheVariants as marks
 use Rattle.pf_syntax.specs.ExprPattern.{ExprPattern}
 use Rattle.pf_syntax.specs.SyntaxTree.{Export, Head}
-use Rattle.pf_intern.specs.declared.limits.TheConstants.{MOST_TREE_DEPTH}
-use Rattle.pf_intern.specs.NumberedTokens.{dot, mark, NumberedToken}
-use Rattle.pf_grammar.specs.Grammar.{Names, DerivesHead, DerivesHeads, DerivesFunction, DerivesFunctions, DerivesEntry, DerivesEntries, DerivesExport, DerivesExports}
-use Rattle.pf_grammar.specs.Parse.{after, pattern, head, function, functions, entry, export, exports}
+use Rattle.pf_tokens.specs.declared.limits.TheConstants.{MOST_TREE_DEPTH}
+use Rattle.pf_tokens.specs.NumberedTokens.{dot, mark, NumberedToken}
+use Rattle.pf_grammar.specs.Grammar.{TokenNames, DerivesHead, DerivesHeads, DerivesFunction, DerivesFunctions, DerivesEntry, DerivesEntries, DerivesExport, DerivesExports}
+use Rattle.pf_grammar.specs.Parse.{after_kind, pattern, head_parse, function, functions, entry, export, exports}
 use Rattle.pf_grammar.proofs.Single.{after_here, after_none, atom_no_mark, named_is, number_is, word_is, closing_parenthesis}
 use Rattle.pf_grammar.proofs.Lists.{CompleteFor, Any, Separated, Several, Opens, opens_front, opens_on, items_complete, until_complete}
 use Rattle.pf_grammar.proofs.Patterns.{FitsPattern, pattern_complete, expr_pattern_opens, expr_pattern_list, expr_patterns_back, expr_patterns_to}
@@ -18,7 +18,7 @@ use Rattle.pf_grammar.proofs.Complete.{parse_expr_complete, element_complete}
 
 -- ---- functions
 
-head_complete : (n : Names) → CompleteFor (head n) (DerivesHead n) ClauseEnds
+head_complete : (n : TokenNames) → CompleteFor (head_parse n) (DerivesHead n) ClauseEnds
 head_complete n h front rest d ends =
     let q = d.parts in
     let k = q.5 in
@@ -37,37 +37,37 @@ head_complete n h front rest d ends =
     let es = body_complete n MOST_TREE_DEPTH (element_complete n MOST_TREE_DEPTH) (expr_list h.body) q.2 rest (body_to n MOST_TREE_DEPTH h.body q.2 q.6 d.shallow_body) ends in
     let expr_patterns = expr_patterns_back h.parameters in
     let elements = exprs_back h.body in
-    ap (head n) regroup ∙ rw (name, opens, qs, condition, arrow, es, expr_patterns, elements) refl
+    ap (head_parse n) regroup ∙ rw (name, opens, qs, condition, arrow, es, expr_patterns, elements) refl
 
-head_some : (n : Names) (h : Head) (front : List NumberedToken) → DerivesHead n h front → 0 < length front
+head_some : (n : TokenNames) (h : Head) (front : List NumberedToken) → DerivesHead n h front → 0 < length front
 head_some n h front d = let w = ap length d.whole in omega (arith, w)
 
-heads_to : (n : Names) (hs : List Head) (ts : List NumberedToken) → DerivesHeads n hs ts → Several (mark marks.Semicolon) (DerivesHead n) hs ts
+heads_to : (n : TokenNames) (hs : List Head) (ts : List NumberedToken) → DerivesHeads n hs ts → Several (mark marks.Semicolon) (DerivesHead n) hs ts
 heads_to n [] ts d = absurd d
 heads_to n (h ∷ []) ts d = (d, λ w. cc)
 heads_to n (h ∷ k ∷ hs) ts d = let more = heads_to n (k ∷ hs) d.2 d.6 in ((d.0, d.1, d.2, d.3, d.4, d.5, more.0), λ w. cc)
 
-function_complete : (n : Names) → CompleteFor (function n) (DerivesFunction n) Any
+function_complete : (n : TokenNames) → CompleteFor (function n) (DerivesFunction n) Any
 function_complete n hs front rest d u =
     let behind = d.1 ∷ rest in
     let regroup : front ++ rest ≡ d.0 ++ behind = ap (λ (l : List NumberedToken). l ++ rest) d.3 ∙ append_assoc d.0 (d.1 ∷ []) rest in
-    let listed = items_complete Head (mark marks.Semicolon) (DerivesHead n) (head n) ClauseEnds refl (head_complete n) (head_some n) (λ t ts e. clause_ends (mark marks.Semicolon) t ts e refl refl refl refl)
+    let listed = items_complete Head (mark marks.Semicolon) (DerivesHead n) (head_parse n) ClauseEnds refl (head_complete n) (head_some n) (λ t ts e. clause_ends (mark marks.Semicolon) t ts e refl refl refl refl)
     hs d.0 behind (length (d.0 ++ behind)) (heads_to n hs d.0 d.4) (clause_ends dot d.1 rest d.2 refl refl refl refl) (after_none (mark marks.Semicolon) dot d.1 rest d.2 refl) (omega (arith, length-append d.0 behind)) in
     let last = after_here dot d.1 rest refl d.2 in
     ap (function n) regroup ∙ rw (listed, last) refl
 
-head_opens : (n : Names) (h : Head) (front : List NumberedToken) → DerivesHead n h front → Opens (mark marks.Minus) front
+head_opens : (n : TokenNames) (h : Head) (front : List NumberedToken) → DerivesHead n h front → Opens (mark marks.Minus) front
 head_opens n h front d = record { first = d.name; others = d.more; whole = d.whole; differs = atom_no_mark n h.name d.name marks.Minus d.name_is }
 
-heads_open : (n : Names) (hs : List Head) (front : List NumberedToken) → DerivesHeads n hs front → Opens (mark marks.Minus) front
+heads_open : (n : TokenNames) (hs : List Head) (front : List NumberedToken) → DerivesHeads n hs front → Opens (mark marks.Minus) front
 heads_open n [] front d = absurd d
 heads_open n (h ∷ []) front d = head_opens n h front d
 heads_open n (h ∷ k ∷ hs) front d = opens_on (mark marks.Minus) d.0 (d.1 ∷ d.2) front d.4 (head_opens n h d.0 d.5)
 
-function_opens : (n : Names) (f : List Head) (front : List NumberedToken) → DerivesFunction n f front → Opens (mark marks.Minus) front
+function_opens : (n : TokenNames) (f : List Head) (front : List NumberedToken) → DerivesFunction n f front → Opens (mark marks.Minus) front
 function_opens n f front d = opens_on (mark marks.Minus) d.0 (d.1 ∷ []) front d.3 (heads_open n f d.0 d.4)
 
-pub functions_complete : (n : Names) (fs : List (List Head)) (ts : List NumberedToken) (turns : ℕ) → DerivesFunctions n fs ts → length ts ≤ turns → functions n turns ts ≡ Some fs
+pub functions_complete : (n : TokenNames) (fs : List (List Head)) (ts : List NumberedToken) (turns : ℕ) → DerivesFunctions n fs ts → length ts ≤ turns → functions n turns ts ≡ Some fs
 unfolding functions
 functions_complete n [] ts turns d le = let w = d in rw w refl
 functions_complete n (f ∷ fs) ts zero d le = absurd (let o = function_opens n f d.0 d.3 in let w = ap length (d.2 ∙ ap (λ (l : List NumberedToken). l ++ d.1) o.whole) in omega (arith, w))
@@ -79,32 +79,32 @@ functions_complete n (f ∷ fs) ts (suc turns) d le =
     let more = functions_complete n fs d.1 turns d.4 fewer in
     rw (whole, one, more) refl
 
-pub functions_open : (n : Names) (fs : List (List Head)) (ts : List NumberedToken) → DerivesFunctions n fs ts → after (mark marks.Minus) ts ≡ None
-functions_open n [] ts d = ap (after (mark marks.Minus)) d
-functions_open n (f ∷ fs) ts d = ap (after (mark marks.Minus)) d.2 ∙ opens_front (mark marks.Minus) d.0 d.1 (function_opens n f d.0 d.3)
+pub functions_open : (n : TokenNames) (fs : List (List Head)) (ts : List NumberedToken) → DerivesFunctions n fs ts → after_kind (mark marks.Minus) ts ≡ None
+functions_open n [] ts d = ap (after_kind (mark marks.Minus)) d
+functions_open n (f ∷ fs) ts d = ap (after_kind (mark marks.Minus)) d.2 ∙ opens_front (mark marks.Minus) d.0 d.1 (function_opens n f d.0 d.3)
 
 -- ---- exports
 
-entry_complete : (n : Names) → CompleteFor (entry n) (DerivesEntry n) Any
+entry_complete : (n : TokenNames) → CompleteFor (entry n) (DerivesEntry n) Any
 entry_complete n x front rest d u =
     let name = named_is n x.name x.offset d.name (d.slash ∷ d.arity ∷ rest) d.name_is d.offset_is in
     let slash = after_here (mark marks.Slash) d.slash (d.arity ∷ rest) refl d.slash_is in
     let k = number_is x.arity d.arity rest d.arity_is in
     ap (λ (l : List NumberedToken). entry n (l ++ rest)) d.whole ∙ rw (name, slash, k) refl
 
-entry_opens : (n : Names) (x : Export) (front : List NumberedToken) → DerivesEntry n x front → Opens (mark marks.CloseBracket) front
+entry_opens : (n : TokenNames) (x : Export) (front : List NumberedToken) → DerivesEntry n x front → Opens (mark marks.CloseBracket) front
 entry_opens n x front d = record { first = d.name; others = d.slash ∷ d.arity ∷ []; whole = d.whole; differs = atom_no_mark n x.name d.name marks.CloseBracket d.name_is }
 
-entries_to : (n : Names) (es : List Export) (ts : List NumberedToken) → DerivesEntries n es ts → Separated (mark marks.Comma) (DerivesEntry n) es ts
+entries_to : (n : TokenNames) (es : List Export) (ts : List NumberedToken) → DerivesEntries n es ts → Separated (mark marks.Comma) (DerivesEntry n) es ts
 entries_to n [] ts h = h
 entries_to n (e ∷ []) ts h = h
 entries_to n (e ∷ f ∷ es) ts h = (h.0, h.1, h.2, h.3, h.4, h.5, entries_to n (f ∷ es) h.2 h.6)
 
 -- what follows the minus of an export form
-tail_of : (n : Names) (es : List Export) (front : List NumberedToken) → DerivesExport n es front → List NumberedToken
+tail_of : (n : TokenNames) (es : List Export) (front : List NumberedToken) → DerivesExport n es front → List NumberedToken
 tail_of n es front d = d.word ∷ (d.more ++ d.last ∷ [])
 
-export_complete : (n : Names) (es : List Export) (front rest : List NumberedToken) (d : DerivesExport n es front) → export n (tail_of n es front d ++ rest) ≡ Some (es, rest)
+export_complete : (n : TokenNames) (es : List Export) (front rest : List NumberedToken) (d : DerivesExport n es front) → export n (tail_of n es front d ++ rest) ≡ Some (es, rest)
 unfolding tail_of
 export_complete n es front rest d =
     let q = d.entries in
@@ -124,12 +124,12 @@ export_complete n es front rest d =
     let last = after_here dot d.last rest refl d.last_is in
     ap (λ (l : List NumberedToken). export n (d.word ∷ l)) regroup ∙ rw (name, opens, bracket, listed, closes, last) refl
 
-exports_end : (n : Names) (ts : List NumberedToken) (turns : ℕ) → after (mark marks.Minus) ts ≡ None → exports n turns ts ≡ Some ([], ts)
+exports_end : (n : TokenNames) (ts : List NumberedToken) (turns : ℕ) → after_kind (mark marks.Minus) ts ≡ None → exports n turns ts ≡ Some ([], ts)
 unfolding exports
 exports_end n ts zero e = refl
 exports_end n ts (suc turns) e = rw e refl
 
-pub exports_complete : (n : Names) (forms : List (List Export)) (front rest : List NumberedToken) (turns : ℕ) → DerivesExports n forms front → after (mark marks.Minus) rest ≡ None → length front ≤ turns → exports n turns (front ++ rest) ≡ Some (flat_map (λ es. es) forms, rest)
+pub exports_complete : (n : TokenNames) (forms : List (List Export)) (front rest : List NumberedToken) (turns : ℕ) → DerivesExports n forms front → after_kind (mark marks.Minus) rest ≡ None → length front ≤ turns → exports n turns (front ++ rest) ≡ Some (flat_map (λ es. es) forms, rest)
 unfolding exports tail_of
 exports_complete n [] front rest turns d non le = let w = d in rw w (exports_end n rest turns non)
 exports_complete n (es ∷ forms) front rest zero d non le = absurd (let a = d.3 in let w = ap length (d.2 ∙ ap (λ (l : List NumberedToken). l ++ d.1) a.whole) in omega (arith, w))

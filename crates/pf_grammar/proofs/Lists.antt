@@ -2,10 +2,10 @@
 -- is read.
 use Rattle.std.proofs.Common.{◌≡◌, ℕ, zero, suc, ◌≤◌, ◌<◌, List, [], ◌∷◌, ◌++◌, length, false, Option, Some, None, refl, sym, ap, subst, ◌∙◌, arith, append_assoc}
 use Rattle.std.proofs.lemmas.List.{length-append}
-use Rattle.pf_tokens.specs.declared.marks.Mark.TheVariants as marks
-use Rattle.pf_intern.specs.NumberedTokens.{NumberedKind, mark, NumberedToken}
+use Rattle.pf_tokens.specs.declared.marks.TokenMark.TheVariants as marks
+use Rattle.pf_tokens.specs.NumberedTokens.{NumberedKind, mark, NumberedToken}
 use Rattle.pf_grammar.specs.Grammar.{Before, Apart}
-use Rattle.pf_grammar.specs.Parse.{◌>>=◌, Parse, is, after, items_step, items, until_step, until, Listed, tail_step, listed_step, listed}
+use Rattle.pf_grammar.specs.Parse.{◌>>=◌, Parse, is, after_kind, items_step, items, until_step, until, Listed, tail_step, listed_step, listed}
 use Rattle.pf_grammar.proofs.Single.{bind_some, some_is, after_some, after_here, after_other, after_none, Plain}
 
 -- ---- a part at the front
@@ -58,8 +58,8 @@ pub record Opens (s : NumberedKind) (front : List NumberedToken) : Type 0 where
   pub whole : front ≡ first ∷ others
   pub differs : is s first.kind ≡ false
 
-pub opens_front : (s : NumberedKind) (front rest : List NumberedToken) → Opens s front → after s (front ++ rest) ≡ None
-opens_front s front rest o = ap (λ (l : List NumberedToken). after s (l ++ rest)) o.whole ∙ after_other s o.first (o.others ++ rest) o.differs
+pub opens_front : (s : NumberedKind) (front rest : List NumberedToken) → Opens s front → after_kind s (front ++ rest) ≡ None
+opens_front s front rest o = ap (λ (l : List NumberedToken). after_kind s (l ++ rest)) o.whole ∙ after_other s o.first (o.others ++ rest) o.differs
 
 pub opens_length : (s : NumberedKind) (front : List NumberedToken) → Opens s front → 0 < length front
 opens_length s front o = let w = ap length o.whole in omega arith
@@ -73,7 +73,7 @@ module _ (A : Type 0) (s : NumberedKind) (P : A → List NumberedToken → Type 
   one_more x [] xs ys t h e p q = absurd (h refl)
   one_more x (y ∷ us) xs ys t h e p q = (xs, t, ys, e, refl, p, q)
 
-  step_sound : (go : Parse (List A)) → SoundFor go (Several s P) → (ts : List NumberedToken) (x : A) (r : List NumberedToken) → Took (P x) ts r → (o : Option (List NumberedToken)) → after s r ≡ o → (y : List A × List NumberedToken) → items_step go x r o ≡ Some y → Took (Several s P y.0) ts y.1
+  step_sound : (go : Parse (List A)) → SoundFor go (Several s P) → (ts : List NumberedToken) (x : A) (r : List NumberedToken) → Took (P x) ts r → (o : Option (List NumberedToken)) → after_kind s r ≡ o → (y : List A × List NumberedToken) → items_step go x r o ≡ Some y → Took (Several s P y.0) ts y.1
   step_sound go sound ts x r took None e y f = took_is (Several s P) ts (x ∷ [], r) y f (record { front = took.front; parts = took.parts; holds = (took.holds, λ h. cc) })
   step_sound go sound ts x r took (Some rest) e y f =
       let b = bind_some (go rest) (λ more. Some (x ∷ more.0, more.1)) y f in
@@ -87,11 +87,11 @@ module _ (A : Type 0) (s : NumberedKind) (P : A → List NumberedToken → Type 
   unfolding items
   items_sound sound zero ts y e = absurd cc
   items_sound sound (suc n) ts y e =
-      let b = bind_some (item ts) (λ x. items_step (items s item n) x.0 x.1 (after s x.1)) y e in
-      step_sound (items s item n) (items_sound sound n) ts b.0.0 b.0.1 (sound ts b.0 b.1) (after s b.0.1) refl y b.2
+      let b = bind_some (item ts) (λ x. items_step (items s item n) x.0 x.1 (after_kind s x.1)) y e in
+      step_sound (items s item n) (items_sound sound n) ts b.0.0 b.0.1 (sound ts b.0 b.1) (after_kind s b.0.1) refl y b.2
 
   module _ (Ends : List NumberedToken → Type 0) (plain : Plain s) (complete : CompleteFor item P Ends) (some : (x : A) (front : List NumberedToken) → P x front → 0 < length front) (ends : (t : NumberedToken) (ts : List NumberedToken) → t.kind ≡ s → Ends (t ∷ ts)) where
-    pub items_complete : (xs : List A) (front rest : List NumberedToken) (n : ℕ) → Several s P xs front → Ends rest → after s rest ≡ None → length front ≤ n → items s item n (front ++ rest) ≡ Some (xs, rest)
+    pub items_complete : (xs : List A) (front rest : List NumberedToken) (n : ℕ) → Several s P xs front → Ends rest → after_kind s rest ≡ None → length front ≤ n → items s item n (front ++ rest) ≡ Some (xs, rest)
     unfolding items
     items_complete [] front rest n h stop last le = absurd (h.1 refl)
     items_complete (x ∷ []) front rest zero h stop last le = absurd (let l = some x front h.0 in omega arith)
@@ -114,20 +114,20 @@ abbrev pub Closed : {A : Type 0} → NumberedKind → (A → List NumberedToken 
 Closed last P xs = Before last (Separated (mark marks.Comma) P xs)
 
 module _ (A : Type 0) (last : NumberedKind) (P : A → List NumberedToken → Type 0) (item : Parse A) where
-  until_step_sound : SoundFor item P → (ts : List NumberedToken) (o : Option (List NumberedToken)) → after last ts ≡ o → (y : List A × List NumberedToken) → until_step last item ts o ≡ Some y → Took (Closed last P y.0) ts y.1
+  until_step_sound : SoundFor item P → (ts : List NumberedToken) (o : Option (List NumberedToken)) → after_kind last ts ≡ o → (y : List A × List NumberedToken) → until_step last item ts o ≡ Some y → Took (Closed last P y.0) ts y.1
   until_step_sound sound ts (Some rest) e y f =
       let m = after_some last ts rest e in
       took_is (Closed last P) ts ([], rest) y f (record { front = m.0 ∷ []; parts = m.2; holds = ([], m.0, m.1, refl, refl) })
   until_step_sound sound ts None e y f =
-      let b = bind_some (items (mark marks.Comma) item (length ts) ts) (λ x. after last x.1 >>= λ rest. Some (x.0, rest)) y f in
-      let c = bind_some (after last b.0.1) (λ rest. Some (b.0.0, rest)) y b.2 in
+      let b = bind_some (items (mark marks.Comma) item (length ts) ts) (λ x. after_kind last x.1 >>= λ rest. Some (x.0, rest)) y f in
+      let c = bind_some (after_kind last b.0.1) (λ rest. Some (b.0.0, rest)) y b.2 in
       let m = after_some last b.0.1 c.0 c.1 in
       let l = items_sound A (mark marks.Comma) P item sound (length ts) ts b.0 b.1 in
       let parts = grow ts l.front b.0.1 (m.0 ∷ []) c.0 l.parts m.2 in
       took_is (Closed last P) ts (b.0.0, c.0) y c.2 (record { front = l.front ++ m.0 ∷ []; parts = parts; holds = (l.front, m.0, m.1, refl, l.holds.0) })
 
   pub until_sound : SoundFor item P → SoundFor (until last item) (Closed last P)
-  until_sound sound ts y e = until_step_sound sound ts (after last ts) refl y e
+  until_sound sound ts y e = until_step_sound sound ts (after_kind last ts) refl y e
 
   module _ (Ends : List NumberedToken → Type 0) (plain : Plain last) (no_comma : is (mark marks.Comma) last ≡ false) (complete : CompleteFor item P Ends) (opens : (x : A) (front : List NumberedToken) → P x front → Opens last front)
       (comma_ends : (t : NumberedToken) (ts : List NumberedToken) → t.kind ≡ mark marks.Comma → Ends (t ∷ ts)) (last_ends : (t : NumberedToken) (ts : List NumberedToken) → t.kind ≡ last → Ends (t ∷ ts)) where
@@ -140,7 +140,7 @@ module _ (A : Type 0) (last : NumberedKind) (P : A → List NumberedToken → Ty
     several_complete xs mid rest t e h =
         let non = opens_front last mid (t ∷ rest) (list_opens xs mid h) in
         let closes = after_here last t rest plain e in
-        let comma : after (mark marks.Comma) (t ∷ rest) ≡ None = after_other (mark marks.Comma) t rest (rw e no_comma) in
+        let comma : after_kind (mark marks.Comma) (t ∷ rest) ≡ None = after_other (mark marks.Comma) t rest (rw e no_comma) in
         let some : (x : A) (front : List NumberedToken) → P x front → 0 < length front = λ x front p. opens_length last front (opens x front p) in
         let listed = items_complete A (mark marks.Comma) P item Ends refl complete some comma_ends xs mid (t ∷ rest) (length (mid ++ t ∷ rest)) h (last_ends t rest e) comma (omega (arith, length-append mid (t ∷ rest))) in
         rw (non, listed, closes) refl
@@ -161,15 +161,15 @@ ListedIs P (xs, None) = Closed (mark marks.CloseBracket) P xs
 ListedIs P (xs, Some y) = Before (mark marks.CloseBracket) (Apart (mark marks.Bar) (Several (mark marks.Comma) P xs) (P y))
 
 module _ (A : Type 0) (P : A → List NumberedToken → Type 0) (item : Parse A) where
-  tail_sound : SoundFor item P → (ts : List NumberedToken) (xs : List A) (r : List NumberedToken) → Took (Several (mark marks.Comma) P xs) ts r → (o : Option (List NumberedToken)) → after (mark marks.Bar) r ≡ o → (y : Listed A × List NumberedToken) → tail_step item xs r o ≡ Some y → Took (ListedIs P y.0) ts y.1
+  tail_sound : SoundFor item P → (ts : List NumberedToken) (xs : List A) (r : List NumberedToken) → Took (Several (mark marks.Comma) P xs) ts r → (o : Option (List NumberedToken)) → after_kind (mark marks.Bar) r ≡ o → (y : Listed A × List NumberedToken) → tail_step item xs r o ≡ Some y → Took (ListedIs P y.0) ts y.1
   tail_sound sound ts xs r took None e y f =
-      let b = bind_some (after (mark marks.CloseBracket) r) _ y f in
+      let b = bind_some (after_kind (mark marks.CloseBracket) r) _ y f in
       let m = after_some (mark marks.CloseBracket) r b.0 b.1 in
       let parts = grow ts took.front r (m.0 ∷ []) b.0 took.parts m.2 in
       took_is (ListedIs P) ts ((xs, None), b.0) y b.2 (record { front = took.front ++ m.0 ∷ []; parts = parts; holds = (took.front, m.0, m.1, refl, took.holds.0) })
   tail_sound sound ts xs r took (Some rest) e y f =
       let a = bind_some (item rest) _ y f in
-      let b = bind_some (after (mark marks.CloseBracket) a.0.1) _ y a.2 in
+      let b = bind_some (after_kind (mark marks.CloseBracket) a.0.1) _ y a.2 in
       let bar = after_some (mark marks.Bar) r rest e in
       let last = after_some (mark marks.CloseBracket) a.0.1 b.0 b.1 in
       let i = sound rest a.0 a.1 in
@@ -178,17 +178,17 @@ module _ (A : Type 0) (P : A → List NumberedToken → Type 0) (item : Parse A)
       let parts = grow ts mid a.0.1 (last.0 ∷ []) b.0 upto last.2 in
       took_is (ListedIs P) ts ((xs, Some a.0.0), b.0) y b.2 (record { front = mid ++ last.0 ∷ []; parts = parts; holds = (mid, last.0, last.1, refl, (took.front, bar.0, i.front, bar.1, refl, took.holds, i.holds)) })
 
-  listed_step_sound : SoundFor item P → (ts : List NumberedToken) (o : Option (List NumberedToken)) → after (mark marks.CloseBracket) ts ≡ o → (y : Listed A × List NumberedToken) → listed_step item ts o ≡ Some y → Took (ListedIs P y.0) ts y.1
+  listed_step_sound : SoundFor item P → (ts : List NumberedToken) (o : Option (List NumberedToken)) → after_kind (mark marks.CloseBracket) ts ≡ o → (y : Listed A × List NumberedToken) → listed_step item ts o ≡ Some y → Took (ListedIs P y.0) ts y.1
   listed_step_sound sound ts (Some rest) e y f =
       let m = after_some (mark marks.CloseBracket) ts rest e in
       took_is (ListedIs P) ts (([], None), rest) y f (record { front = m.0 ∷ []; parts = m.2; holds = ([], m.0, m.1, refl, refl) })
   listed_step_sound sound ts None e y f =
       let b = bind_some (items (mark marks.Comma) item (length ts) ts) _ y f in
       let l = items_sound A (mark marks.Comma) P item sound (length ts) ts b.0 b.1 in
-      tail_sound sound ts b.0.0 b.0.1 l (after (mark marks.Bar) b.0.1) refl y b.2
+      tail_sound sound ts b.0.0 b.0.1 l (after_kind (mark marks.Bar) b.0.1) refl y b.2
 
   pub listed_sound : SoundFor item P → SoundFor (listed item) (ListedIs P)
-  listed_sound sound ts y e = listed_step_sound sound ts (after (mark marks.CloseBracket) ts) refl y e
+  listed_sound sound ts y e = listed_step_sound sound ts (after_kind (mark marks.CloseBracket) ts) refl y e
 
   module _ (Ends : List NumberedToken → Type 0) (complete : CompleteFor item P Ends) (opens : (x : A) (front : List NumberedToken) → P x front → Opens (mark marks.CloseBracket) front)
       (comma_ends : (t : NumberedToken) (ts : List NumberedToken) → t.kind ≡ mark marks.Comma → Ends (t ∷ ts)) (bar_ends : (t : NumberedToken) (ts : List NumberedToken) → t.kind ≡ mark marks.Bar → Ends (t ∷ ts))
@@ -199,7 +199,7 @@ module _ (A : Type 0) (P : A → List NumberedToken → Type 0) (item : Parse A)
     bracket_opens (x ∷ y ∷ xs) front h = let a = h.0 in opens_on (mark marks.CloseBracket) a.0 (a.1 ∷ a.2) front a.4 (opens x a.0 a.5)
 
     -- the items, before a token that ends the last one
-    listed_items : (xs : List A) (mid rest : List NumberedToken) → Several (mark marks.Comma) P xs mid → Ends rest → after (mark marks.Comma) rest ≡ None → items (mark marks.Comma) item (length (mid ++ rest)) (mid ++ rest) ≡ Some (xs, rest)
+    listed_items : (xs : List A) (mid rest : List NumberedToken) → Several (mark marks.Comma) P xs mid → Ends rest → after_kind (mark marks.Comma) rest ≡ None → items (mark marks.Comma) item (length (mid ++ rest)) (mid ++ rest) ≡ Some (xs, rest)
     listed_items xs mid rest h stop comma =
         let some : (x : A) (front : List NumberedToken) → P x front → 0 < length front = λ x front p. opens_length (mark marks.CloseBracket) front (opens x front p) in
         items_complete A (mark marks.Comma) P item Ends refl complete some comma_ends xs mid rest (length (mid ++ rest)) h stop comma (omega (arith, length-append mid rest))

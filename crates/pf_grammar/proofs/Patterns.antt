@@ -2,18 +2,18 @@
 -- whatever follows.
 use Rattle.std.proofs.Common.{◌≡◌, ◌⊎◌, ℕ, zero, suc, ◌≤◌, ◌<◌, List, [], ◌∷◌, ◌++◌, Option, Some, None, refl, ap, arith, inl, inr}
 use Rattle.std.specs.Prelude.{ℤ, pos, neg_ℤ}
-use Rattle.pf_tokens.specs.declared.marks.Mark.{Mark}
-use Rattle.pf_tokens.specs.declared.marks.Mark.TheVariants as marks
+use Rattle.pf_tokens.specs.declared.marks.TokenMark.{TokenMark}
+use Rattle.pf_tokens.specs.declared.marks.TokenMark.TheVariants as marks
 use Rattle.pf_syntax.specs.ExprPattern as s
 use Rattle.pf_syntax.specs.ExprPattern.{ExprPattern, ExprPatterns, no_expr_patterns, expr_pattern, expr_pattern_depth, expr_patterns_depth}
-use Rattle.pf_intern.specs.NumberedTokens.{NumberedKind, integer, atom, variable, anonymous, text, own_module, dot, mark, reserved, NumberedToken}
-use Rattle.pf_grammar.specs.Grammar.{Names, IsAtom, IsOne, Behind, HasPattern, DerivesExprPattern, DerivesExprPatterns}
+use Rattle.pf_tokens.specs.NumberedTokens.{NumberedKind, integer, atom, variable, anonymous, text, own_module, dot, mark, reserved, NumberedToken}
+use Rattle.pf_grammar.specs.Grammar.{TokenNames, IsAtom, IsOne, Behind, HasPattern, DerivesExprPattern, DerivesExprPatterns}
 use Rattle.pf_grammar.specs.Parse.{Parse, atom_in, number, until, Listed, listed, expr_patterns_of, is_short, atom_expr_pattern, negative, tuple_expr_pattern, listed_expr_pattern, list_expr_pattern, marked_expr_pattern, expr_pattern_kind, pattern_with, pattern}
 use Rattle.pf_grammar.proofs.Single.{bind_some, cond_some, atom_in_some, atom_in_is, atom_no_mark, number_some, differs, short_some, short_is, Closing, closing_brace, closing_bracket}
 use Rattle.pf_grammar.proofs.Lists.{Took, SoundFor, CompleteFor, Any, took_is, Separated, Several, Opens, until_sound, until_complete, ListedIs, listed_sound, listed_complete}
 
 -- a pattern derives the tokens, no deeper than this
-abbrev pub FitsPattern : Names → ℕ → ExprPattern → List NumberedToken → Type 0
+abbrev pub FitsPattern : TokenNames → ℕ → ExprPattern → List NumberedToken → Type 0
 FitsPattern n d q ts = DerivesExprPattern n q ts × (expr_pattern_depth q ≤ d)
 
 -- a pattern is at least one deep
@@ -32,7 +32,7 @@ unfolding expr_pattern_list
 expr_patterns_back no_expr_patterns = refl
 expr_patterns_back (expr_pattern q qs) = ap (expr_pattern q) (expr_patterns_back qs)
 
-pub expr_patterns_from : (n : Names) (d : ℕ) (qs : List ExprPattern) (ts : List NumberedToken) → Separated (mark marks.Comma) (FitsPattern n d) qs ts → DerivesExprPatterns n (expr_patterns_of qs) ts × (expr_patterns_depth (expr_patterns_of qs) ≤ d)
+pub expr_patterns_from : (n : TokenNames) (d : ℕ) (qs : List ExprPattern) (ts : List NumberedToken) → Separated (mark marks.Comma) (FitsPattern n d) qs ts → DerivesExprPatterns n (expr_patterns_of qs) ts × (expr_patterns_depth (expr_patterns_of qs) ≤ d)
 expr_patterns_from n d [] ts h = (h, omega arith)
 expr_patterns_from n d (q ∷ []) ts h = (h.0, omega (arith, h.1))
 expr_patterns_from n d (q ∷ r ∷ qs) ts h =
@@ -40,7 +40,7 @@ expr_patterns_from n d (q ∷ r ∷ qs) ts h =
     let more = expr_patterns_from n d (r ∷ qs) h.2 h.6 in
     ((h.0, h.1, h.2, h.3, h.4, one.0, more.0), omega (arith, one.1, more.1))
 
-pub expr_patterns_to : (n : Names) (d : ℕ) (qs : ExprPatterns) (ts : List NumberedToken) → DerivesExprPatterns n qs ts → expr_patterns_depth qs ≤ d → Separated (mark marks.Comma) (FitsPattern n d) (expr_pattern_list qs) ts
+pub expr_patterns_to : (n : TokenNames) (d : ℕ) (qs : ExprPatterns) (ts : List NumberedToken) → DerivesExprPatterns n qs ts → expr_patterns_depth qs ≤ d → Separated (mark marks.Comma) (FitsPattern n d) (expr_pattern_list qs) ts
 unfolding expr_pattern_list
 expr_patterns_to n d no_expr_patterns ts h le = h
 expr_patterns_to n d (expr_pattern q no_expr_patterns) ts h le = (h, omega arith)
@@ -57,18 +57,18 @@ no_empty (expr_pattern q qs) h e = absurd cc
 
 -- ---- what is read
 
-atom_expr_pattern_sound : (n : Names) (d : ℕ) (t : NumberedToken) (ts : List NumberedToken) (o : Option ℕ) → ((a : ℕ) → o ≡ Some a → IsAtom n a t) → (x : ExprPattern × List NumberedToken) → atom_expr_pattern o ts ≡ Some x → Took (FitsPattern n (suc d) x.0) (t ∷ ts) x.1
+atom_expr_pattern_sound : (n : TokenNames) (d : ℕ) (t : NumberedToken) (ts : List NumberedToken) (o : Option ℕ) → ((a : ℕ) → o ≡ Some a → IsAtom n a t) → (x : ExprPattern × List NumberedToken) → atom_expr_pattern o ts ≡ Some x → Took (FitsPattern n (suc d) x.0) (t ∷ ts) x.1
 atom_expr_pattern_sound n d t ts None h x e = absurd cc
 atom_expr_pattern_sound n d t ts (Some a) h x e = took_is (FitsPattern n (suc d)) (t ∷ ts) (s.atom a, ts) x e (record { front = t ∷ []; parts = refl; holds = ((t, h a refl, refl), omega arith) })
 
-negative_sound : (n : Names) (d : ℕ) (t : NumberedToken) (ts : List NumberedToken) → t.kind ≡ mark marks.Minus → (x : ExprPattern × List NumberedToken) → negative ts ≡ Some x → Took (FitsPattern n (suc d) x.0) (t ∷ ts) x.1
+negative_sound : (n : TokenNames) (d : ℕ) (t : NumberedToken) (ts : List NumberedToken) → t.kind ≡ mark marks.Minus → (x : ExprPattern × List NumberedToken) → negative ts ≡ Some x → Took (FitsPattern n (suc d) x.0) (t ∷ ts) x.1
 negative_sound n d t ts h x e =
     let b = bind_some (number ts) _ x e in
     let k = number_some ts b.0 b.1 in
     took_is (FitsPattern n (suc d)) (t ∷ ts) (s.integer (neg_ℤ (pos b.0.0)), b.0.1) x b.2
     (record { front = t ∷ k.0 ∷ []; parts = ap (λ (l : List NumberedToken). t ∷ l) k.2; holds = ((b.0.0, inr (refl, (t, k.0 ∷ [], h, refl, (k.0, k.1, refl)))), omega arith) })
 
-module _ (n : Names) (d : ℕ) (inner : Parse ExprPattern) (sound : SoundFor inner (FitsPattern n d)) where
+module _ (n : TokenNames) (d : ℕ) (inner : Parse ExprPattern) (sound : SoundFor inner (FitsPattern n d)) where
   tuple_sound : (t : NumberedToken) (ts : List NumberedToken) → t.kind ≡ mark marks.OpenBrace → (x : ExprPattern × List NumberedToken) → tuple_expr_pattern inner ts ≡ Some x → Took (FitsPattern n (suc d) x.0) (t ∷ ts) x.1
   tuple_sound t ts h x e =
       let b = bind_some (until (mark marks.CloseBrace) inner ts) _ x e in
@@ -94,7 +94,7 @@ module _ (n : Names) (d : ℕ) (inner : Parse ExprPattern) (sound : SoundFor inn
       took_is (FitsPattern n (suc d)) (t ∷ ts) (listed_expr_pattern b.0.0, b.0.1) x b.2
       (record { front = t ∷ u.front; parts = ap (λ (l : List NumberedToken). t ∷ l) u.parts; holds = listed_fits t u.front b.0.0 h u.holds })
 
-  marked_sound : (t : NumberedToken) (ts : List NumberedToken) (m : Mark) → t.kind ≡ mark m → (x : ExprPattern × List NumberedToken) → marked_expr_pattern inner m ts ≡ Some x → Took (FitsPattern n (suc d) x.0) (t ∷ ts) x.1
+  marked_sound : (t : NumberedToken) (ts : List NumberedToken) (m : TokenMark) → t.kind ≡ mark m → (x : ExprPattern × List NumberedToken) → marked_expr_pattern inner m ts ≡ Some x → Took (FitsPattern n (suc d) x.0) (t ∷ ts) x.1
   marked_sound t ts marks.Minus h x e = negative_sound n d t ts h x e
   marked_sound t ts marks.OpenBrace h x e = tuple_sound t ts h x e
   marked_sound t ts marks.OpenBracket h x e = list_sound t ts h x e
@@ -117,18 +117,18 @@ module _ (n : Names) (d : ℕ) (inner : Parse ExprPattern) (sound : SoundFor inn
   pattern_with_sound [] x e = absurd cc
   pattern_with_sound (t ∷ ts) x e = kind_sound t ts t.kind refl x e
 
-pub pattern_sound : (n : Names) (d : ℕ) → SoundFor (pattern n d) (FitsPattern n d)
+pub pattern_sound : (n : TokenNames) (d : ℕ) → SoundFor (pattern n d) (FitsPattern n d)
 unfolding pattern
 pattern_sound n zero ts x e = absurd cc
 pattern_sound n (suc d) ts x e = pattern_with_sound n d (pattern n d) (pattern_sound n d) ts x e
 
 -- ---- how a pattern begins
 
-integer_opens : (m : Mark) (z : ℤ) (front : List NumberedToken) (k : ℕ) → Closing m → ((z ≡ pos k) × IsOne (integer k) front) ⊎ ((z ≡ neg_ℤ (pos k)) × Behind (mark marks.Minus) (IsOne (integer k)) front) → Opens (mark m) front
+integer_opens : (m : TokenMark) (z : ℤ) (front : List NumberedToken) (k : ℕ) → Closing m → ((z ≡ pos k) × IsOne (integer k) front) ⊎ ((z ≡ neg_ℤ (pos k)) × Behind (mark marks.Minus) (IsOne (integer k)) front) → Opens (mark m) front
 integer_opens m z front k c (inl h) = let i = h.1 in record { first = i.0; others = []; whole = i.2; differs = differs (mark m) (integer k) i.0 i.1 refl }
 integer_opens m z front k c (inr h) = let b = h.1 in record { first = b.0; others = b.1; whole = b.3; differs = differs (mark m) (mark marks.Minus) b.0 b.2 c.no_minus }
 
-pub expr_pattern_opens : (n : Names) (m : Mark) → Closing m → (q : ExprPattern) (front : List NumberedToken) → DerivesExprPattern n q front → Opens (mark m) front
+pub expr_pattern_opens : (n : TokenNames) (m : TokenMark) → Closing m → (q : ExprPattern) (front : List NumberedToken) → DerivesExprPattern n q front → Opens (mark m) front
 expr_pattern_opens n m c (s.integer z) front h = integer_opens m z front h.0 c h.1
 expr_pattern_opens n m c (s.atom a) front h = record { first = h.0; others = []; whole = h.2; differs = atom_no_mark n a h.0 m h.1 }
 expr_pattern_opens n m c (s.text cs) front h = let i = h.1 in record { first = i.0; others = []; whole = i.2; differs = differs (mark m) (text cs) i.0 i.1 refl }
@@ -140,15 +140,15 @@ expr_pattern_opens n m c (s.list_on qs q) front h = let b = h.1 in record { firs
 
 -- ---- what derives
 
-with_atom : (n : Names) (inner : Parse ExprPattern) (a : ℕ) (t : NumberedToken) (ts : List NumberedToken) → IsAtom n a t → pattern_with n inner (t ∷ ts) ≡ Some (s.atom a, ts)
+with_atom : (n : TokenNames) (inner : Parse ExprPattern) (a : ℕ) (t : NumberedToken) (ts : List NumberedToken) → IsAtom n a t → pattern_with n inner (t ∷ ts) ≡ Some (s.atom a, ts)
 with_atom n inner a t ts (inl h) = let e = h.0 in let i = atom_in_is n a t (inl h) in let j : atom_in n (atom a) ≡ Some a = rw e at i in rw (e, j) refl
 with_atom n inner a t ts (inr h) = let e = h.0 in let own = h.1 in rw (e, own) refl
 
-pub pattern_atom : (n : Names) (d a : ℕ) (t : NumberedToken) (ts : List NumberedToken) → IsAtom n a t → pattern n (suc d) (t ∷ ts) ≡ Some (s.atom a, ts)
+pub pattern_atom : (n : TokenNames) (d a : ℕ) (t : NumberedToken) (ts : List NumberedToken) → IsAtom n a t → pattern n (suc d) (t ∷ ts) ≡ Some (s.atom a, ts)
 unfolding pattern
 pattern_atom n d a t ts h = with_atom n (pattern n d) a t ts h
 
-integer_complete : (n : Names) (inner : Parse ExprPattern) (z : ℤ) (front rest : List NumberedToken) (k : ℕ) → ((z ≡ pos k) × IsOne (integer k) front) ⊎ ((z ≡ neg_ℤ (pos k)) × Behind (mark marks.Minus) (IsOne (integer k)) front) → pattern_with n inner (front ++ rest) ≡ Some (s.integer z, rest)
+integer_complete : (n : TokenNames) (inner : Parse ExprPattern) (z : ℤ) (front rest : List NumberedToken) (k : ℕ) → ((z ≡ pos k) × IsOne (integer k) front) ⊎ ((z ≡ neg_ℤ (pos k)) × Behind (mark marks.Minus) (IsOne (integer k)) front) → pattern_with n inner (front ++ rest) ≡ Some (s.integer z, rest)
 integer_complete n inner z front rest k (inl h) = let e = h.0 in let i = h.1 in let kind = i.1 in let w = i.2 in rw (w, kind, e) refl
 integer_complete n inner z front rest k (inr h) =
     let e = h.0 in
@@ -160,7 +160,7 @@ integer_complete n inner z front rest k (inr h) =
     let v = i.2 in
     rw (w, v, minus, kind, e) refl
 
-module _ (n : Names) (d : ℕ) (inner : Parse ExprPattern) (complete : CompleteFor inner (FitsPattern n d) Any) where
+module _ (n : TokenNames) (d : ℕ) (inner : Parse ExprPattern) (complete : CompleteFor inner (FitsPattern n d) Any) where
   tuple_complete : (qs : ExprPatterns) (front rest : List NumberedToken) → DerivesExprPattern n (s.tuple qs) front → expr_patterns_depth qs ≤ d → pattern_with n inner (front ++ rest) ≡ Some (s.tuple qs, rest)
   tuple_complete qs front rest h le =
       let kind = h.2 in
@@ -205,7 +205,7 @@ module _ (n : Names) (d : ℕ) (inner : Parse ExprPattern) (complete : CompleteF
   pattern_with_complete (s.list qs) front rest h le = list_complete qs front rest h (omega arith)
   pattern_with_complete (s.list_on qs q) front rest h le = list_on_complete qs q front rest h (omega arith) (omega arith)
 
-pub pattern_complete : (n : Names) (d : ℕ) → CompleteFor (pattern n d) (FitsPattern n d) Any
+pub pattern_complete : (n : TokenNames) (d : ℕ) → CompleteFor (pattern n d) (FitsPattern n d) Any
 unfolding pattern
 pattern_complete n zero q front rest h u = absurd (let some = pattern_some_depth q in let low = h.1 in omega (arith, some, low))
 pattern_complete n (suc d) q front rest h u = pattern_with_complete n d (pattern n d) (pattern_complete n d) q front rest h.0 h.1

@@ -5,15 +5,15 @@ use Rattle.std.specs.Str.{bytes_eq}
 use Rattle.std.proofs.lemmas.Bool.{eqb-true, leb-true, le-leb, lt-leb}
 use Rattle.std.proofs.lemmas.Slice.Eq.{bytes_eq-Decides}
 use Rattle.pf_terms.specs.Atoms.{name_of}
-use Rattle.pf_tokens.specs.declared.marks.Mark.{Mark}
-use Rattle.pf_tokens.specs.declared.marks.Mark.TheVariants as marks
+use Rattle.pf_tokens.specs.declared.marks.TokenMark.{TokenMark}
+use Rattle.pf_tokens.specs.declared.marks.TokenMark.TheVariants as marks
 use Rattle.pf_tokens.specs.declared.words.Reserved.{Reserved}
 use Rattle.pf_tokens.specs.declared.words.Reserved.TheVariants as words
 use Rattle.pf_syntax.specs.Tree.{plus, minus, times, quotient, remainder, append, equal, unequal, less, at_most, greater, at_least}
-use Rattle.pf_intern.specs.declared.limits.TheConstants.{MOST_NAME_BYTES, MOST_TEXT_CHARACTERS}
-use Rattle.pf_intern.specs.NumberedTokens.{NumberedKind, integer, atom, own_module, dot, mark, reserved, NumberedToken}
+use Rattle.pf_tokens.specs.declared.limits.TheConstants.{MOST_NAME_BYTES, MOST_TEXT_CHARACTERS}
+use Rattle.pf_tokens.specs.NumberedTokens.{NumberedKind, integer, atom, own_module, dot, mark, reserved, NumberedToken}
 use Rattle.pf_grammar.specs.Grammar.{
-  Names,
+  TokenNames,
   IsAtom,
   IsWord,
   Infix,
@@ -29,14 +29,14 @@ use Rattle.pf_grammar.specs.Grammar.{
   binding_of,
   level_of,
   top,
-  left_in,
-  right_in,
+  greatest_left,
+  greatest_right,
   left_level,
   right_level,
   infix_stands,
 }
-use Rattle.pf_grammar.specs.Parse.{◌>>=◌, mark_code, reserved_code, is, after, atom_in, named, number_kind, number, is_word, word, is_short, infix_fits, infix_ahead}
-use Rattle.pf_fault.proofs.Bools.{both}
+use Rattle.pf_grammar.specs.Parse.{◌>>=◌, mark_code, reserved_code, is, after_kind, atom_in, name_with_offset, number_kind, number, follows_word, word_parse, is_short, infix_fits, infix_ahead}
+use Rattle.pf_errors.proofs.Bools.{both}
 
 -- ---- steps that did not fail
 
@@ -53,17 +53,17 @@ some_is x y e = cc
 
 -- ---- marks and reserved words with one number are one
 
-all_marks : List Mark
+all_marks : List TokenMark
 all_marks =
     marks.ExactlyEqual ∷ marks.ExactlyUnequal ∷ marks.Arrow ∷ marks.Append ∷ marks.Equal ∷ marks.Unequal ∷ marks.AtMost
     ∷ marks.AtLeast ∷ marks.Subtract ∷ marks.Generator ∷ marks.OpenParenthesis ∷ marks.CloseParenthesis ∷ marks.OpenBrace ∷ marks.CloseBrace
     ∷ marks.OpenBracket ∷ marks.CloseBracket ∷ marks.Comma ∷ marks.Semicolon ∷ marks.Bar ∷ marks.Match ∷ marks.Send
     ∷ marks.Plus ∷ marks.Minus ∷ marks.Times ∷ marks.Slash ∷ marks.Less ∷ marks.Greater ∷ []
 
-mark_back : ℕ → Mark
+mark_back : ℕ → TokenMark
 mark_back n = slice_index_or all_marks n marks.Greater
 
-mark_back_code : (m : Mark) → mark_back (mark_code m) ≡ m
+mark_back_code : (m : TokenMark) → mark_back (mark_code m) ≡ m
 unfolding mark_back all_marks
 mark_back_code marks.ExactlyEqual = refl
 mark_back_code marks.ExactlyUnequal = refl
@@ -93,7 +93,7 @@ mark_back_code marks.Slash = refl
 mark_back_code marks.Less = refl
 mark_back_code marks.Greater = refl
 
-pub same_mark : (m k : Mark) → nat_eq (mark_code m) (mark_code k) ≡ true → m ≡ k
+pub same_mark : (m k : TokenMark) → nat_eq (mark_code m) (mark_code k) ≡ true → m ≡ k
 same_mark m k e = sym (mark_back_code m) ∙ ap mark_back (eqb-true _ _ e) ∙ mark_back_code k
 
 all_words : List Reserved
@@ -151,22 +151,22 @@ is_same _ _ e = absurd cc
 abbrev pub Plain : NumberedKind → Type 0
 Plain s = is s s ≡ true
 
-pub after_some : (s : NumberedKind) (ts rest : List NumberedToken) → after s ts ≡ Some rest → (t : NumberedToken) × (t.kind ≡ s) × (ts ≡ t ∷ rest)
+pub after_some : (s : NumberedKind) (ts rest : List NumberedToken) → after_kind s ts ≡ Some rest → (t : NumberedToken) × (t.kind ≡ s) × (ts ≡ t ∷ rest)
 after_some s [] rest e = absurd cc
 after_some s (t ∷ ts) rest e =
     let c = cond_some (is s t.kind) (Some ts) rest e in
     let same : ts ≡ rest = some_is ts rest c.1 in
     (t, is_same s t.kind c.0, ap (λ (l : List NumberedToken). t ∷ l) same)
 
-pub after_here : (s : NumberedKind) (t : NumberedToken) (ts : List NumberedToken) → Plain s → t.kind ≡ s → after s (t ∷ ts) ≡ Some ts
+pub after_here : (s : NumberedKind) (t : NumberedToken) (ts : List NumberedToken) → Plain s → t.kind ≡ s → after_kind s (t ∷ ts) ≡ Some ts
 after_here s t ts h e = rw (e, h) refl
 
-pub after_other : (s : NumberedKind) (t : NumberedToken) (ts : List NumberedToken) → is s t.kind ≡ false → after s (t ∷ ts) ≡ None
+pub after_other : (s : NumberedKind) (t : NumberedToken) (ts : List NumberedToken) → is s t.kind ≡ false → after_kind s (t ∷ ts) ≡ None
 after_other s t ts e = rw e refl
 
 -- ---- atoms
 
-pub atom_in_some : (n : Names) (s : NumberedKind) (t : NumberedToken) (a : ℕ) → t.kind ≡ s → atom_in n s ≡ Some a → IsAtom n a t
+pub atom_in_some : (n : TokenNames) (s : NumberedKind) (t : NumberedToken) (a : ℕ) → t.kind ≡ s → atom_in n s ≡ Some a → IsAtom n a t
 atom_in_some n (atom b) t a e h =
     let c = cond_some (nat_le (length (name_of n.atoms b)) MOST_NAME_BYTES) (Some b) a h in
     let same : b ≡ a = some_is b a c.1 in
@@ -174,24 +174,24 @@ atom_in_some n (atom b) t a e h =
 atom_in_some n own_module t a e h = inr (e, sym (some_is n.own a h))
 atom_in_some n _ t a e h = absurd cc
 
-pub atom_in_is : (n : Names) (a : ℕ) (t : NumberedToken) → IsAtom n a t → atom_in n t.kind ≡ Some a
+pub atom_in_is : (n : TokenNames) (a : ℕ) (t : NumberedToken) → IsAtom n a t → atom_in n t.kind ≡ Some a
 atom_in_is n a t (inl h) = let e = h.0 in let short = le-leb _ _ h.1 in rw (e, short) refl
 atom_in_is n a t (inr h) = let e = h.0 in let own = h.1 in rw (e, own) refl
 
 -- an atom is no mark
-pub atom_no_mark : (n : Names) (a : ℕ) (t : NumberedToken) (m : Mark) → IsAtom n a t → is (mark m) t.kind ≡ false
+pub atom_no_mark : (n : TokenNames) (a : ℕ) (t : NumberedToken) (m : TokenMark) → IsAtom n a t → is (mark m) t.kind ≡ false
 atom_no_mark n a t m (inl h) = let e = h.0 in rw e refl
 atom_no_mark n a t m (inr h) = let e = h.0 in rw e refl
 
 -- a name and its offset
-pub named_some : (n : Names) (ts : List NumberedToken) (x : (ℕ × ℕ) × List NumberedToken) → named n ts ≡ Some x → (t : NumberedToken) × IsAtom n x.0.0 t × (t.at ≡ x.0.1) × (ts ≡ t ∷ x.1)
+pub named_some : (n : TokenNames) (ts : List NumberedToken) (x : (ℕ × ℕ) × List NumberedToken) → name_with_offset n ts ≡ Some x → (t : NumberedToken) × IsAtom n x.0.0 t × (t.at ≡ x.0.1) × (ts ≡ t ∷ x.1)
 named_some n [] x e = absurd cc
 named_some n (t ∷ ts) x e =
     let b = bind_some (atom_in n t.kind) (λ a. Some ((a, t.at), ts)) x e in
     let same = some_is ((b.0, t.at), ts) x b.2 in
     (t, atom_in_some n t.kind t x.0.0 refl (b.1 ∙ ap (λ (y : (ℕ × ℕ) × List NumberedToken). Some y.0.0) same), ap (λ (y : (ℕ × ℕ) × List NumberedToken). y.0.1) same, ap (λ (y : (ℕ × ℕ) × List NumberedToken). t ∷ y.1) same)
 
-pub named_is : (n : Names) (a at : ℕ) (t : NumberedToken) (ts : List NumberedToken) → IsAtom n a t → t.at ≡ at → named n (t ∷ ts) ≡ Some ((a, at), ts)
+pub named_is : (n : TokenNames) (a at : ℕ) (t : NumberedToken) (ts : List NumberedToken) → IsAtom n a t → t.at ≡ at → name_with_offset n (t ∷ ts) ≡ Some ((a, at), ts)
 named_is n a at t ts h offset = let e = atom_in_is n a t h in rw (e, offset) refl
 
 -- ---- integers and words
@@ -207,18 +207,18 @@ number_some (t ∷ ts) x e = number_kind_some t.kind refl e
 pub number_is : (k : ℕ) (t : NumberedToken) (ts : List NumberedToken) → t.kind ≡ integer k → number (t ∷ ts) ≡ Some (k, ts)
 number_is k t ts e = rw e refl
 
-pub word_some : (n : Names) (bytes : List ℕ) (ts rest : List NumberedToken) → word n.atoms bytes ts ≡ Some rest → (t : NumberedToken) × IsWord n bytes t × (ts ≡ t ∷ rest)
+pub word_some : (n : TokenNames) (bytes : List ℕ) (ts rest : List NumberedToken) → word_parse n.atoms bytes ts ≡ Some rest → (t : NumberedToken) × IsWord n bytes t × (ts ≡ t ∷ rest)
 word_some n bytes [] rest e = absurd cc
 word_some n bytes (t ∷ ts) rest e =
-    let c = cond_some (is_word n.atoms bytes t.kind) (Some ts) rest e in
+    let c = cond_some (follows_word n.atoms bytes t.kind) (Some ts) rest e in
     let same : ts ≡ rest = some_is ts rest c.1 in
     (t, is_the_word t.kind refl c.0, ap (λ (l : List NumberedToken). t ∷ l) same)
   where
-    is_the_word : (s : NumberedKind) → t.kind ≡ s → is_word n.atoms bytes s ≡ true → IsWord n bytes t
+    is_the_word : (s : NumberedKind) → t.kind ≡ s → follows_word n.atoms bytes s ≡ true → IsWord n bytes t
     is_the_word (atom a) h f = (a, h, (bytes_eq-Decides _ _).0 f)
     is_the_word _ h f = absurd cc
 
-pub word_is : (n : Names) (bytes : List ℕ) (t : NumberedToken) (ts : List NumberedToken) → IsWord n bytes t → word n.atoms bytes (t ∷ ts) ≡ Some ts
+pub word_is : (n : TokenNames) (bytes : List ℕ) (t : NumberedToken) (ts : List NumberedToken) → IsWord n bytes t → word_parse n.atoms bytes (t ∷ ts) ≡ Some ts
 word_is n bytes t ts h =
     let e = h.1 in
     let same : bytes_eq (name_of n.atoms h.0) bytes ≡ true = (bytes_eq-Decides _ _).1 h.2 in
@@ -228,7 +228,7 @@ word_is n bytes t ts h =
 pub differs : (s k : NumberedKind) (t : NumberedToken) → t.kind ≡ k → is s k ≡ false → is s t.kind ≡ false
 differs s k t e h = rw (e, h) refl
 
-pub after_none : (s k : NumberedKind) (t : NumberedToken) (ts : List NumberedToken) → t.kind ≡ k → is s k ≡ false → after s (t ∷ ts) ≡ None
+pub after_none : (s k : NumberedKind) (t : NumberedToken) (ts : List NumberedToken) → t.kind ≡ k → is s k ≡ false → after_kind s (t ∷ ts) ≡ None
 after_none s k t ts e h = after_other s t ts (differs s k t e h)
 
 -- ---- tests that say yes
@@ -285,17 +285,17 @@ level_high and_also = omega arith
 level_high or_else = omega arith
 level_high send = omega arith
 
-left_in_high : (g : Grouping) (level : ℕ) → (left_in g level ≤ level) × (level ≤ suc (left_in g level))
+left_in_high : (g : Grouping) (level : ℕ) → (greatest_left g level ≤ level) × (level ≤ suc (greatest_left g level))
 left_in_high leftwards level = (omega arith, omega arith)
 left_in_high rightwards level = (omega arith, omega arith)
 left_in_high alone level = (omega arith, omega arith)
 
-right_in_high : (g : Grouping) (level : ℕ) → (right_in g level ≤ level) × (level ≤ suc (right_in g level))
+right_in_high : (g : Grouping) (level : ℕ) → (greatest_right g level ≤ level) × (level ≤ suc (greatest_right g level))
 right_in_high leftwards level = (omega arith, omega arith)
 right_in_high rightwards level = (omega arith, omega arith)
 right_in_high alone level = (omega arith, omega arith)
 
-one_side_in : (g : Grouping) (level : ℕ) → 0 < level → left_in g level + right_in g level < level + level
+one_side_in : (g : Grouping) (level : ℕ) → 0 < level → greatest_left g level + greatest_right g level < level + level
 one_side_in leftwards level lt = omega arith
 one_side_in rightwards level lt = omega arith
 one_side_in alone level lt = omega arith
@@ -348,10 +348,10 @@ pub one_grouping : (i j : Infix) → level_of i ≡ level_of j → (binding_of i
 one_grouping i j e = grouping_is i ∙ ap grouping_at e ∙ sym (grouping_is j)
 
 pub one_left : (i j : Infix) → level_of i ≡ level_of j → left_level i ≡ left_level j
-one_left i j e = ap (λ (g : Grouping). left_in g (level_of i)) (one_grouping i j e) ∙ ap (left_in (binding_of j).grouping) e
+one_left i j e = ap (λ (g : Grouping). greatest_left g (level_of i)) (one_grouping i j e) ∙ ap (greatest_left (binding_of j).grouping) e
 
 pub one_right : (i j : Infix) → level_of i ≡ level_of j → right_level i ≡ right_level j
-one_right i j e = ap (λ (g : Grouping). right_in g (level_of i)) (one_grouping i j e) ∙ ap (right_in (binding_of j).grouping) e
+one_right i j e = ap (λ (g : Grouping). greatest_right g (level_of i)) (one_grouping i j e) ∙ ap (greatest_right (binding_of j).grouping) e
 
 -- a kind of token that is no infix isn't one
 pub infix_differs : (s k : NumberedKind) (i : Infix) → infix_of k ≡ Some i → infix_of s ≡ None → is s k ≡ false
@@ -361,7 +361,7 @@ infix_differs s k i e f = no_same (is s k) refl
     no_same false h = refl
     no_same true h = absurd (let same = is_same s k h in let g = ap infix_of same in cc)
 
-pub infix_after : (s : NumberedKind) (i : Infix) (t : NumberedToken) (ts : List NumberedToken) → infix_of t.kind ≡ Some i → infix_of s ≡ None → after s (t ∷ ts) ≡ None
+pub infix_after : (s : NumberedKind) (i : Infix) (t : NumberedToken) (ts : List NumberedToken) → infix_of t.kind ≡ Some i → infix_of s ≡ None → after_kind s (t ∷ ts) ≡ None
 infix_after s i t ts e f = after_other s t ts (infix_differs s t.kind i e f)
 
 -- ---- an infix that comes first
@@ -407,7 +407,7 @@ infix_kind guard floor level kind t ts e f = infix_none guard floor level t ts (
 -- ---- marks that close
 
 -- the mark is none of those that a pattern or an expression begins with
-pub record Closing (m : Mark) : Type 0 where
+pub record Closing (m : TokenMark) : Type 0 where
   pub no_minus : is (mark m) (mark marks.Minus) ≡ false
   pub no_parenthesis : is (mark m) (mark marks.OpenParenthesis) ≡ false
   pub no_brace : is (mark m) (mark marks.OpenBrace) ≡ false

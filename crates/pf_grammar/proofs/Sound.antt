@@ -2,8 +2,8 @@
 use Rattle.std.proofs.Common.{◌≡◌, ℕ, zero, suc, ◌≤◌, ◌<◌, List, [], ◌∷◌, ◌++◌, length, Bool, true, false, Option, Some, None, refl, sym, ap, subst, ◌∙◌, arith, append_assoc, inl, inr}
 use Rattle.std.specs.Prelude.{pos, nat_le, IsTrue}
 use Rattle.std.proofs.lemmas.Bool.{leb-true}
-use Rattle.pf_tokens.specs.declared.marks.Mark.{Mark}
-use Rattle.pf_tokens.specs.declared.marks.Mark.TheVariants as marks
+use Rattle.pf_tokens.specs.declared.marks.TokenMark.{TokenMark}
+use Rattle.pf_tokens.specs.declared.marks.TokenMark.TheVariants as marks
 use Rattle.pf_tokens.specs.declared.words.Reserved.{Reserved}
 use Rattle.pf_tokens.specs.declared.words.Reserved.TheVariants as words
 use Rattle.pf_syntax.specs.Naming.{arity_of}
@@ -11,10 +11,10 @@ use Rattle.pf_syntax.specs.ExprPattern as s
 use Rattle.pf_syntax.specs.ExprPattern.{ExprPattern}
 use Rattle.pf_syntax.specs.Expr as p
 use Rattle.pf_syntax.specs.Expr.{Expr, Condition, Branches, expr_depth, condition_depth, branches_depth}
-use Rattle.pf_builtins.specs.Forms.{deciding, choosing, receiving, may_stand}
-use Rattle.pf_intern.specs.NumberedTokens.{NumberedKind, integer, atom, variable, anonymous, text, own_module, dot, mark, reserved, NumberedToken}
+use Rattle.pf_syntax.specs.Forms.{deciding, choosing, receiving, may_stand}
+use Rattle.pf_tokens.specs.NumberedTokens.{NumberedKind, integer, atom, variable, anonymous, text, own_module, dot, mark, reserved, NumberedToken}
 use Rattle.pf_grammar.specs.Grammar.{
-  Names,
+  TokenNames,
   IsAtom,
   Before,
   Guarded,
@@ -40,9 +40,9 @@ use Rattle.pf_grammar.specs.Parse.{
   ◌>>=◌,
   Parse,
   Readers,
-  Clause,
+  ParsedClause,
   Listed,
-  after,
+  after_kind,
   atom_in,
   items,
   until,
@@ -51,25 +51,25 @@ use Rattle.pf_grammar.specs.Parse.{
   is_short,
   pattern,
   infix_ahead,
-  joined,
+  joined_exprs,
   within,
   more_step,
   more,
   unary_step,
   unary,
   level_with,
-  tests_of,
+  guard_tests,
   condition_of,
   guard,
   when_step,
   when,
   front,
-  body,
+  body_parse,
   clause,
   branches_of,
   branches,
   call_behind,
-  call_step,
+  call_parse_step,
   atom_or_call,
   parenthesized,
   tuple,
@@ -78,8 +78,8 @@ use Rattle.pf_grammar.specs.Parse.{
   marked,
   case_of,
   if_of,
-  receive_of,
-  worded,
+  receive_parse,
+  reserved_parse,
   prim_kind,
   prim_with,
   match_ahead,
@@ -96,24 +96,24 @@ use Rattle.pf_grammar.proofs.Groups.{Fits, FitsTests, FitsFront, FitsClause, has
 -- ---- guards
 
 -- a guard derives the tokens, no deeper than this
-abbrev pub FitsGuard : Names → ℕ → Condition → List NumberedToken → Type 0
+abbrev pub FitsGuard : TokenNames → ℕ → Condition → List NumberedToken → Type 0
 FitsGuard n d c ts = DerivesGuard n c ts × (condition_depth c ≤ d) × (0 < d)
 
 -- `when` and a guard, or neither
-abbrev pub FitsWhen : Names → ℕ → Condition → List NumberedToken → Type 0
+abbrev pub FitsWhen : TokenNames → ℕ → Condition → List NumberedToken → Type 0
 FitsWhen n d c ts = Guarded c (DerivesGuard n c) ts × (condition_depth c ≤ d)
 
-module _ (n : Names) (d : ℕ) (test : Parse Expr) (test_sound : SoundFor test (Fits n true top d)) where
-  tests_sound : SoundFor (tests_of test) (FitsTests n d)
+module _ (n : TokenNames) (d : ℕ) (test : Parse Expr) (test_sound : SoundFor test (Fits n true top d)) where
+  tests_sound : SoundFor (guard_tests test) (FitsTests n d)
   tests_sound ts x e = items_sound Expr (mark marks.Comma) (Fits n true top d) test test_sound (length ts) ts x e
 
   pub guard_sound : SoundFor (guard test) (FitsGuard n d)
   guard_sound ts x e =
-      let b = bind_some (items (mark marks.Semicolon) (tests_of test) (length ts) ts) _ x e in
-      let l = items_sound (List Expr) (mark marks.Semicolon) (FitsTests n d) (tests_of test) tests_sound (length ts) ts b.0 b.1 in
+      let b = bind_some (items (mark marks.Semicolon) (guard_tests test) (length ts) ts) _ x e in
+      let l = items_sound (List Expr) (mark marks.Semicolon) (FitsTests n d) (guard_tests test) tests_sound (length ts) ts b.0 b.1 in
       took_is (FitsGuard n d) ts (condition_of b.0.0, b.0.1) x b.2 (record { front = l.front; parts = l.parts; holds = guard_from n d b.0.0 l.front l.holds })
 
-  when_step_sound : (ts : List NumberedToken) (o : Option (List NumberedToken)) → after (reserved words.When) ts ≡ o → (x : Condition × List NumberedToken) → when_step test ts o ≡ Some x → Took (FitsWhen n d x.0) ts x.1
+  when_step_sound : (ts : List NumberedToken) (o : Option (List NumberedToken)) → after_kind (reserved words.When) ts ≡ o → (x : Condition × List NumberedToken) → when_step test ts o ≡ Some x → Took (FitsWhen n d x.0) ts x.1
   when_step_sound ts None e x f = took_is (FitsWhen n d) ts (unguarded, ts) x f (record { front = []; parts = refl; holds = (inl (refl, refl), omega arith) })
   when_step_sound ts (Some rest) e x f =
       let m = after_some (reserved words.When) ts rest e in
@@ -121,24 +121,24 @@ module _ (n : Names) (d : ℕ) (test : Parse Expr) (test_sound : SoundFor test (
       record { front = m.0 ∷ g.front; parts = m.2 ∙ ap (λ (l : List NumberedToken). m.0 ∷ l) g.parts; holds = (inr (m.0, g.front, m.1, refl, g.holds.0), g.holds.1) }
 
   pub when_sound : SoundFor (when test) (FitsWhen n d)
-  when_sound ts x e = when_step_sound ts (after (reserved words.When) ts) refl x e
+  when_sound ts x e = when_step_sound ts (after_kind (reserved words.When) ts) refl x e
 
 -- ---- clauses
 
 -- clauses and `end`, no deeper than this
-abbrev FitsBranches : Names → Bool → ℕ → Branches → List NumberedToken → Type 0
+abbrev FitsBranches : TokenNames → Bool → ℕ → Branches → List NumberedToken → Type 0
 FitsBranches n choice d bs ts = Before (reserved words.End) (DerivesBranches n choice bs) ts × (branches_depth bs ≤ d)
 
-pub body_sound : (n : Names) (d : ℕ) (other : Parse Expr) → SoundFor other (Fits n false body_level d) → SoundFor (body other) (Several (mark marks.Comma) (Fits n false body_level d))
+pub body_sound : (n : TokenNames) (d : ℕ) (other : Parse Expr) → SoundFor other (Fits n false body_level d) → SoundFor (body_parse other) (Several (mark marks.Comma) (Fits n false body_level d))
 body_sound n d other sound ts x e = items_sound Expr (mark marks.Comma) (Fits n false body_level d) other sound (length ts) ts x e
 
 -- readers that are sound up to this depth
-pub record Reads (n : Names) (d : ℕ) (r : Readers) : Type 0 where
+pub record Reads (n : TokenNames) (d : ℕ) (r : Readers) : Type 0 where
   pub of_patterns : SoundFor r.patterns (FitsPattern n d)
   pub of_tests : SoundFor r.tests (Fits n true top d)
   pub of_elements : SoundFor r.elements (Fits n false body_level d)
 
-module _ (n : Names) (d : ℕ) (r : Readers) (reads : Reads n d r) where
+module _ (n : TokenNames) (d : ℕ) (r : Readers) (reads : Reads n d r) where
   front_sound : (choice : Bool) → SoundFor (front r choice) (FitsFront n choice d)
   front_sound false ts x e =
       let a = bind_some (r.patterns ts) (λ q. when r.tests q.1 >>= λ c. Some ((q.0, c.0), c.1)) x e in
@@ -155,9 +155,9 @@ module _ (n : Names) (d : ℕ) (r : Readers) (reads : Reads n d r) where
 
   clause_sound : (choice : Bool) → SoundFor (clause r choice) (FitsClause n choice d)
   clause_sound choice ts x e =
-      let a = bind_some (front r choice ts) (λ f. after (mark marks.Arrow) f.1 >>= λ rest. body r.elements rest >>= λ es. Some ((f.0, es.0), es.1)) x e in
-      let b = bind_some (after (mark marks.Arrow) a.0.1) (λ rest. body r.elements rest >>= λ es. Some ((a.0.0, es.0), es.1)) x a.2 in
-      let c = bind_some (body r.elements b.0) (λ es. Some ((a.0.0, es.0), es.1)) x b.2 in
+      let a = bind_some (front r choice ts) (λ f. after_kind (mark marks.Arrow) f.1 >>= λ rest. body_parse r.elements rest >>= λ es. Some ((f.0, es.0), es.1)) x e in
+      let b = bind_some (after_kind (mark marks.Arrow) a.0.1) (λ rest. body_parse r.elements rest >>= λ es. Some ((a.0.0, es.0), es.1)) x a.2 in
+      let c = bind_some (body_parse r.elements b.0) (λ es. Some ((a.0.0, es.0), es.1)) x b.2 in
       let q = front_sound choice ts a.0 a.1 in
       let m = after_some (mark marks.Arrow) a.0.1 b.0 b.1 in
       let i = body_sound n d r.elements reads.of_elements b.0 c.0 c.1 in
@@ -166,9 +166,9 @@ module _ (n : Names) (d : ℕ) (r : Readers) (reads : Reads n d r) where
 
   branches_sound : (choice : Bool) → SoundFor (branches r choice) (FitsBranches n choice d)
   branches_sound choice ts x e =
-      let c = bind_some (items (mark marks.Semicolon) (clause r choice) (length ts) ts) (λ cs. after (reserved words.End) cs.1 >>= λ rest. Some (branches_of cs.0, rest)) x e in
-      let g = bind_some (after (reserved words.End) c.0.1) (λ rest. Some (branches_of c.0.0, rest)) x c.2 in
-      let cs = items_sound Clause (mark marks.Semicolon) (FitsClause n choice d) (clause r choice) (clause_sound choice) (length ts) ts c.0 c.1 in
+      let c = bind_some (items (mark marks.Semicolon) (clause r choice) (length ts) ts) (λ cs. after_kind (reserved words.End) cs.1 >>= λ rest. Some (branches_of cs.0, rest)) x e in
+      let g = bind_some (after_kind (reserved words.End) c.0.1) (λ rest. Some (branches_of c.0.0, rest)) x c.2 in
+      let cs = items_sound ParsedClause (mark marks.Semicolon) (FitsClause n choice d) (clause r choice) (clause_sound choice) (length ts) ts c.0 c.1 in
       let last = after_some (reserved words.End) c.0.1 g.0 g.1 in
       let bs = branches_from n choice d c.0.0 cs.front cs.holds in
       let parts = grow ts cs.front c.0.1 (last.0 ∷ []) g.0 cs.parts last.2 in
@@ -180,12 +180,12 @@ pub arity_is : (es : List Expr) → arity_of (exprs_of es) ≡ length es
 arity_is [] = refl
 arity_is (e ∷ es) = let more = arity_is es in omega (arith, more)
 
-module _ (n : Names) (g : Bool) (d : ℕ) (r : Readers) (reads : Reads n d r) (inner : Parse Expr) (inner_sound : SoundFor inner (Fits n g top d)) where
+module _ (n : TokenNames) (g : Bool) (d : ℕ) (r : Readers) (reads : Reads n d r) (inner : Parse Expr) (inner_sound : SoundFor inner (Fits n g top d)) where
   -- what is read after the first token
   abbrev PartBehind : NumberedToken → List NumberedToken → Expr × List NumberedToken → Type 0
   PartBehind t ts x = Took (Fits n g 0 (suc d) x.0) (t ∷ ts) x.1
 
-  call_sound : (t : NumberedToken) (ts : List NumberedToken) (a : ℕ) → IsAtom n a t → (o : Option (List NumberedToken)) → after (mark marks.OpenParenthesis) ts ≡ o → (x : Expr × List NumberedToken) → call_step n g inner a t.at ts o ≡ Some x → PartBehind t ts x
+  call_sound : (t : NumberedToken) (ts : List NumberedToken) (a : ℕ) → IsAtom n a t → (o : Option (List NumberedToken)) → after_kind (mark marks.OpenParenthesis) ts ≡ o → (x : Expr × List NumberedToken) → call_parse_step n g inner a t.at ts o ≡ Some x → PartBehind t ts x
   call_sound t ts a h None e x f = took_is (Fits n g 0 (suc d)) (t ∷ ts) (p.atom a, ts) x f (record { front = t ∷ []; parts = refl; holds = ((t, h, refl), omega arith) })
   call_sound t ts a h (Some rest) e x f =
       let b = bind_some (until (mark marks.CloseParenthesis) inner rest) (λ y. call_behind n g a t.at y.0 y.1) x f in
@@ -201,12 +201,12 @@ module _ (n : Names) (g : Bool) (d : ℕ) (r : Readers) (reads : Reads n d r) (i
 
   atom_or_call_sound : (t : NumberedToken) (ts : List NumberedToken) (o : Option ℕ) → ((a : ℕ) → o ≡ Some a → IsAtom n a t) → (x : Expr × List NumberedToken) → atom_or_call n g inner o t.at ts ≡ Some x → PartBehind t ts x
   atom_or_call_sound t ts None h x f = absurd cc
-  atom_or_call_sound t ts (Some a) h x f = call_sound t ts a (h a refl) (after (mark marks.OpenParenthesis) ts) refl x f
+  atom_or_call_sound t ts (Some a) h x f = call_sound t ts a (h a refl) (after_kind (mark marks.OpenParenthesis) ts) refl x f
 
   parenthesized_sound : (t : NumberedToken) (ts : List NumberedToken) → t.kind ≡ mark marks.OpenParenthesis → (x : Expr × List NumberedToken) → parenthesized inner ts ≡ Some x → PartBehind t ts x
   parenthesized_sound t ts h x f =
-      let b = bind_some (inner ts) (λ y. after (mark marks.CloseParenthesis) y.1 >>= λ rest. Some (p.parentheses y.0, rest)) x f in
-      let c = bind_some (after (mark marks.CloseParenthesis) b.0.1) (λ rest. Some (p.parentheses b.0.0, rest)) x b.2 in
+      let b = bind_some (inner ts) (λ y. after_kind (mark marks.CloseParenthesis) y.1 >>= λ rest. Some (p.parentheses y.0, rest)) x f in
+      let c = bind_some (after_kind (mark marks.CloseParenthesis) b.0.1) (λ rest. Some (p.parentheses b.0.0, rest)) x b.2 in
       let m = after_some (mark marks.CloseParenthesis) b.0.1 c.0 c.1 in
       let i = inner_sound ts b.0 b.1 in
       let tail = grow ts i.front b.0.1 (m.0 ∷ []) c.0 i.parts m.2 in
@@ -238,7 +238,7 @@ module _ (n : Names) (g : Bool) (d : ℕ) (r : Readers) (reads : Reads n d r) (i
       took_is (Fits n g 0 (suc d)) (t ∷ ts) (listed_expression b.0.0, b.0.1) x b.2
       (record { front = t ∷ u.front; parts = ap (λ (l : List NumberedToken). t ∷ l) u.parts; holds = listed_fits t u.front b.0.0 h u.holds })
 
-  marked_sound : (t : NumberedToken) (ts : List NumberedToken) (m : Mark) → t.kind ≡ mark m → (x : Expr × List NumberedToken) → marked inner m ts ≡ Some x → PartBehind t ts x
+  marked_sound : (t : NumberedToken) (ts : List NumberedToken) (m : TokenMark) → t.kind ≡ mark m → (x : Expr × List NumberedToken) → marked inner m ts ≡ Some x → PartBehind t ts x
   marked_sound t ts marks.OpenParenthesis h x f = parenthesized_sound t ts h x f
   marked_sound t ts marks.OpenBrace h x f = tuple_sound t ts h x f
   marked_sound t ts marks.OpenBracket h x f = list_sound t ts h x f
@@ -246,8 +246,8 @@ module _ (n : Names) (g : Bool) (d : ℕ) (r : Readers) (reads : Reads n d r) (i
 
   case_sound : (t : NumberedToken) (ts : List NumberedToken) → IsTrue (may_stand g deciding) → t.kind ≡ reserved words.Case → (x : Expr × List NumberedToken) → case_of r inner ts ≡ Some x → PartBehind t ts x
   case_sound t ts may h x f =
-      let a = bind_some (inner ts) (λ y. after (reserved words.Of) y.1 >>= λ rest. branches r false rest >>= λ bs. Some (p.case y.0 bs.0, bs.1)) x f in
-      let b = bind_some (after (reserved words.Of) a.0.1) (λ rest. branches r false rest >>= λ bs. Some (p.case a.0.0 bs.0, bs.1)) x a.2 in
+      let a = bind_some (inner ts) (λ y. after_kind (reserved words.Of) y.1 >>= λ rest. branches r false rest >>= λ bs. Some (p.case y.0 bs.0, bs.1)) x f in
+      let b = bind_some (after_kind (reserved words.Of) a.0.1) (λ rest. branches r false rest >>= λ bs. Some (p.case a.0.0 bs.0, bs.1)) x a.2 in
       let c = bind_some (branches r false b.0) (λ bs. Some (p.case a.0.0 bs.0, bs.1)) x b.2 in
       let i = inner_sound ts a.0 a.1 in
       let m = after_some (reserved words.Of) a.0.1 b.0 b.1 in
@@ -272,7 +272,7 @@ module _ (n : Names) (g : Bool) (d : ℕ) (r : Readers) (reads : Reads n d r) (i
       took_is (Fits n g 0 (suc d)) (t ∷ ts) (p.if_expression c.0.0, c.0.1) x c.2
       (record { front = t ∷ bs.front; parts = ap (λ (l : List NumberedToken). t ∷ l) bs.parts; holds = ((may, (t, bs.front, h, refl, fits.0)), omega (arith, fits.1)) })
 
-  receive_sound : (t : NumberedToken) (ts : List NumberedToken) → IsTrue (may_stand g receiving) → t.kind ≡ reserved words.Receive → (x : Expr × List NumberedToken) → receive_of r ts ≡ Some x → PartBehind t ts x
+  receive_sound : (t : NumberedToken) (ts : List NumberedToken) → IsTrue (may_stand g receiving) → t.kind ≡ reserved words.Receive → (x : Expr × List NumberedToken) → receive_parse r ts ≡ Some x → PartBehind t ts x
   receive_sound t ts may h x f =
       let c = bind_some (branches r false ts) (λ bs. Some (p.receive bs.0, bs.1)) x f in
       let bs = branches_sound n d r reads false ts c.0 c.1 in
@@ -280,10 +280,10 @@ module _ (n : Names) (g : Bool) (d : ℕ) (r : Readers) (reads : Reads n d r) (i
       took_is (Fits n g 0 (suc d)) (t ∷ ts) (p.receive c.0.0, c.0.1) x c.2
       (record { front = t ∷ bs.front; parts = ap (λ (l : List NumberedToken). t ∷ l) bs.parts; holds = ((may, (t, bs.front, h, refl, fits.0)), omega (arith, fits.1)) })
 
-  worded_sound : (t : NumberedToken) (ts : List NumberedToken) (w : Reserved) → t.kind ≡ reserved w → (x : Expr × List NumberedToken) → worded r g inner w ts ≡ Some x → PartBehind t ts x
+  worded_sound : (t : NumberedToken) (ts : List NumberedToken) (w : Reserved) → t.kind ≡ reserved w → (x : Expr × List NumberedToken) → reserved_parse r g inner w ts ≡ Some x → PartBehind t ts x
   worded_sound t ts words.Case h x f = let c = cond_some (may_stand g deciding) (case_of r inner ts) x f in case_sound t ts c.0 h x c.1
   worded_sound t ts words.If h x f = let c = cond_some (may_stand g choosing) (if_of r ts) x f in if_sound t ts c.0 h x c.1
-  worded_sound t ts words.Receive h x f = let c = cond_some (may_stand g receiving) (receive_of r ts) x f in receive_sound t ts c.0 h x c.1
+  worded_sound t ts words.Receive h x f = let c = cond_some (may_stand g receiving) (receive_parse r ts) x f in receive_sound t ts c.0 h x c.1
   worded_sound t ts _ h x f = absurd cc
 
   kind_sound : (t : NumberedToken) (ts : List NumberedToken) (kind : NumberedKind) → t.kind ≡ kind → (x : Expr × List NumberedToken) → prim_kind n r g inner kind t.at ts ≡ Some x → PartBehind t ts x
@@ -306,7 +306,7 @@ module _ (n : Names) (g : Bool) (d : ℕ) (r : Readers) (reads : Reads n d r) (i
 -- ---- levels
 
 -- an expression of a level is one of each level above it
-pub up : (n : Names) (g : Bool) (e : Expr) (low high : ℕ) (ts : List NumberedToken) → low ≤ high → Derives n g e low ts → Derives n g e high ts
+pub up : (n : TokenNames) (g : Bool) (e : Expr) (low high : ℕ) (ts : List NumberedToken) → low ≤ high → Derives n g e low ts → Derives n g e high ts
 up n g (p.negate e) low high ts le h = (omega (arith, h.0), h.1)
 up n g (p.binary o a b) low high ts le h = (omega (arith, h.0), h.1, h.2)
 up n g (p.and_also a b) low high ts le h = (omega (arith, h.0), h.1, h.2)
@@ -315,10 +315,10 @@ up n g (p.send a b) low high ts le h = (omega (arith, h.0), h.1, h.2)
 up n g (p.match q e) low high ts le h = (omega (arith, h.0), h.1)
 up n g _ low high ts le h = h
 
-took_up : (n : Names) (g : Bool) (e : Expr) (low high limit : ℕ) (ts rest : List NumberedToken) → low ≤ high → Took (Fits n g low limit e) ts rest → Took (Fits n g high limit e) ts rest
+took_up : (n : TokenNames) (g : Bool) (e : Expr) (low high limit : ℕ) (ts rest : List NumberedToken) → low ≤ high → Took (Fits n g low limit e) ts rest → Took (Fits n g high limit e) ts rest
 took_up n g e low high limit ts rest le t = record { front = t.front; parts = t.parts; holds = (up n g e low high t.front le t.holds.0, t.holds.1) }
 
-joined_derives : (n : Names) (g : Bool) (i : Infix) (a b : Expr) (level : ℕ) (ts : List NumberedToken) → Joined g i level (Derives n g a) (Derives n g b) ts → Derives n g (joined i a b) level ts
+joined_derives : (n : TokenNames) (g : Bool) (i : Infix) (a b : Expr) (level : ℕ) (ts : List NumberedToken) → Joined g i level (Derives n g a) (Derives n g b) ts → Derives n g (joined_exprs i a b) level ts
 joined_derives n g (operator o) a b level ts h = h
 joined_derives n g and_also a b level ts h = h
 joined_derives n g or_else a b level ts h = h
@@ -327,8 +327,8 @@ joined_derives n g send a b level ts h = h
 pub within_some : (limit : ℕ) (e : Expr) (ts : List NumberedToken) (x : Expr × List NumberedToken) → within limit e ts ≡ Some x → (Some (e, ts) ≡ Some x) × (expr_depth e ≤ limit)
 within_some limit e ts x f = let c = cond_some (nat_le (expr_depth e) limit) (Some (e, ts)) x f in (c.1, leb-true _ _ c.0)
 
-module _ (n : Names) (g : Bool) (prim : Parse Expr) (limit : ℕ) (sound : SoundFor prim (Fits n g 0 limit)) where
-  unary_step_sound : (ts : List NumberedToken) (o : Option (List NumberedToken)) → after (mark marks.Minus) ts ≡ o → (x : Expr × List NumberedToken) → unary_step prim limit ts o ≡ Some x → Took (Fits n g 1 limit x.0) ts x.1
+module _ (n : TokenNames) (g : Bool) (prim : Parse Expr) (limit : ℕ) (sound : SoundFor prim (Fits n g 0 limit)) where
+  unary_step_sound : (ts : List NumberedToken) (o : Option (List NumberedToken)) → after_kind (mark marks.Minus) ts ≡ o → (x : Expr × List NumberedToken) → unary_step prim limit ts o ≡ Some x → Took (Fits n g 1 limit x.0) ts x.1
   unary_step_sound ts None e x f = took_up n g x.0 0 1 limit ts x.1 (omega arith) (sound ts x f)
   unary_step_sound ts (Some rest) e x f =
       let a = bind_some (prim rest) (λ y. within limit (p.negate y.0) y.1) x f in
@@ -338,9 +338,9 @@ module _ (n : Names) (g : Bool) (prim : Parse Expr) (limit : ℕ) (sound : Sound
       took_is (Fits n g 1 limit) ts (p.negate a.0.0, a.0.1) x w.0 (record { front = m.0 ∷ i.front; parts = m.2 ∙ ap (λ (l : List NumberedToken). m.0 ∷ l) i.parts; holds = ((omega arith, (m.0, i.front, m.1, refl, i.holds.0)), w.1) })
 
   unary_sound : SoundFor (unary prim limit) (Fits n g 1 limit)
-  unary_sound ts x e = unary_step_sound ts (after (mark marks.Minus) ts) refl x e
+  unary_sound ts x e = unary_step_sound ts (after_kind (mark marks.Minus) ts) refl x e
 
-module _ (n : Names) (g : Bool) (deeper : ℕ → Parse Expr) (d : ℕ) (sound : (k : ℕ) → 1 ≤ k → SoundFor (deeper k) (Fits n g k d)) (limit level : ℕ) where
+module _ (n : TokenNames) (g : Bool) (deeper : ℕ → Parse Expr) (d : ℕ) (sound : (k : ℕ) → 1 ≤ k → SoundFor (deeper k) (Fits n g k d)) (limit level : ℕ) where
   abbrev MoreSound : (ℕ → Expr → Parse Expr) → Type 0
   MoreSound go = (floor : ℕ) → floor ≤ level → (ts : List NumberedToken) (left : Expr) (r : List NumberedToken) → Took (Fits n g floor limit left) ts r → (x : Expr × List NumberedToken) → go floor left r ≡ Some x → Took (Fits n g level limit x.0) ts x.1
 
@@ -348,15 +348,15 @@ module _ (n : Names) (g : Bool) (deeper : ℕ → Parse Expr) (d : ℕ) (sound :
       → (o : Option (Infix × List NumberedToken)) → infix_ahead g floor level r ≡ o → (x : Expr × List NumberedToken) → more_step deeper limit go left r o ≡ Some x → Took (Fits n g level limit x.0) ts x.1
   more_step_sound go again floor low ts left r took None e x f = took_is (Fits n g level limit) ts (left, r) x f (took_up n g left floor level limit ts r low took)
   more_step_sound go again floor low ts left r took (Some i) e x f =
-      let a = bind_some (deeper (right_level i.0) i.1) (λ right. within limit (joined i.0 left right.0) right.1 >>= λ y. go (level_of i.0) y.0 y.1) x f in
-      let b = bind_some (within limit (joined i.0 left a.0.0) a.0.1) (λ y. go (level_of i.0) y.0 y.1) x a.2 in
-      let w = within_some limit (joined i.0 left a.0.0) a.0.1 b.0 b.1 in
+      let a = bind_some (deeper (right_level i.0) i.1) (λ right. within limit (joined_exprs i.0 left right.0) right.1 >>= λ y. go (level_of i.0) y.0 y.1) x f in
+      let b = bind_some (within limit (joined_exprs i.0 left a.0.0) a.0.1) (λ y. go (level_of i.0) y.0 y.1) x a.2 in
+      let w = within_some limit (joined_exprs i.0 left a.0.0) a.0.1 b.0 b.1 in
       let op = infix_some g floor level r i e in
       let right = sound (right_level i.0) (right_low i.0) i.1 a.0 a.1 in
       let parts = grow_apart ts took.front r op.0 i.1 right.front a.0.1 took.parts op.2 right.parts in
       let left_fits = up n g left floor (left_level i.0) took.front op.4 took.holds.0 in
       let derives = joined_derives n g i.0 left a.0.0 (level_of i.0) (took.front ++ op.0 ∷ right.front) (omega arith, op.3, (took.front, op.0, right.front, op.1, refl, left_fits, right.holds.0)) in
-      let now = took_is (Fits n g (level_of i.0) limit) ts (joined i.0 left a.0.0, a.0.1) b.0 w.0 (record { front = took.front ++ op.0 ∷ right.front; parts = parts; holds = (derives, w.1) }) in
+      let now = took_is (Fits n g (level_of i.0) limit) ts (joined_exprs i.0 left a.0.0, a.0.1) b.0 w.0 (record { front = took.front ++ op.0 ∷ right.front; parts = parts; holds = (derives, w.1) }) in
       again (level_of i.0) op.5 ts b.0.0 b.0.1 now x b.2
 
   more_sound : (turns : ℕ) → MoreSound (more deeper g limit level turns)
@@ -369,21 +369,21 @@ module _ (n : Names) (g : Bool) (deeper : ℕ → Parse Expr) (d : ℕ) (sound :
       let b = bind_some (unary prim limit ts) (λ y. more deeper g limit level (length y.1) 1 y.0 y.1) x e in
       more_sound (length b.0.1) 1 some ts b.0.0 b.0.1 (unary_sound n g prim limit part ts b.0 b.1) x b.2
 
-pub parse_expr_with_sound : (n : Names) (g : Bool) (d : ℕ) (r : Readers) → Reads n d r → (deeper : ℕ → Parse Expr) → ((k : ℕ) → 1 ≤ k → SoundFor (deeper k) (Fits n g k d)) → (level : ℕ) → 1 ≤ level → SoundFor (parse_expr_with n r g deeper (suc d) level) (Fits n g level (suc d))
+pub parse_expr_with_sound : (n : TokenNames) (g : Bool) (d : ℕ) (r : Readers) → Reads n d r → (deeper : ℕ → Parse Expr) → ((k : ℕ) → 1 ≤ k → SoundFor (deeper k) (Fits n g k d)) → (level : ℕ) → 1 ≤ level → SoundFor (parse_expr_with n r g deeper (suc d) level) (Fits n g level (suc d))
 parse_expr_with_sound n g d r reads deeper sound level some = level_with_sound n g deeper d sound (suc d) level (prim_with n r g (deeper top)) (prim_sound n g d r reads (deeper top) (sound top (omega arith))) some
 
 -- ---- elements of bodies
 
-match_ahead_some : (n : Names) (d : ℕ) (pat : Parse ExprPattern) → SoundFor pat (FitsPattern n d) → (ts : List NumberedToken) (x : ExprPattern × List NumberedToken) → match_ahead pat ts ≡ Some x → (xs : List NumberedToken) × (t : NumberedToken) × (t.kind ≡ mark marks.Match) × (ts ≡ (xs ++ t ∷ []) ++ x.1) × DerivesExprPattern n x.0 xs
+match_ahead_some : (n : TokenNames) (d : ℕ) (pat : Parse ExprPattern) → SoundFor pat (FitsPattern n d) → (ts : List NumberedToken) (x : ExprPattern × List NumberedToken) → match_ahead pat ts ≡ Some x → (xs : List NumberedToken) × (t : NumberedToken) × (t.kind ≡ mark marks.Match) × (ts ≡ (xs ++ t ∷ []) ++ x.1) × DerivesExprPattern n x.0 xs
 match_ahead_some n d pat sound ts x e =
-    let a = bind_some (pat ts) (λ q. after (mark marks.Match) q.1 >>= λ rest. Some (q.0, rest)) x e in
-    let b = bind_some (after (mark marks.Match) a.0.1) (λ rest. Some (a.0.0, rest)) x a.2 in
+    let a = bind_some (pat ts) (λ q. after_kind (mark marks.Match) q.1 >>= λ rest. Some (q.0, rest)) x e in
+    let b = bind_some (after_kind (mark marks.Match) a.0.1) (λ rest. Some (a.0.0, rest)) x a.2 in
     let q = sound ts a.0 a.1 in
     let m = after_some (mark marks.Match) a.0.1 b.0 b.1 in
     let parts = grow ts q.front a.0.1 (m.0 ∷ []) b.0 q.parts m.2 in
     subst (λ (y : ExprPattern × List NumberedToken). (xs : List NumberedToken) × (t : NumberedToken) × (t.kind ≡ mark marks.Match) × (ts ≡ (xs ++ t ∷ []) ++ y.1) × DerivesExprPattern n y.0 xs) (some_is (a.0.0, b.0) x b.2) (q.front, m.0, m.1, parts, q.holds.0)
 
-module _ (n : Names) (d : ℕ) (pat : Parse ExprPattern) (pat_sound : SoundFor pat (FitsPattern n d)) (plain other : Parse Expr) (plain_sound : SoundFor plain (Fits n false top (suc d))) (other_sound : SoundFor other (Fits n false body_level d)) where
+module _ (n : TokenNames) (d : ℕ) (pat : Parse ExprPattern) (pat_sound : SoundFor pat (FitsPattern n d)) (plain other : Parse Expr) (plain_sound : SoundFor plain (Fits n false top (suc d))) (other_sound : SoundFor other (Fits n false body_level d)) where
   element_step_sound : (ts : List NumberedToken) (o : Option (ExprPattern × List NumberedToken)) → match_ahead pat ts ≡ o → (x : Expr × List NumberedToken) → element_step plain other (suc d) ts o ≡ Some x → Took (Fits n false body_level (suc d) x.0) ts x.1
   element_step_sound ts None e x f = took_up n false x.0 top body_level (suc d) ts x.1 (omega arith) (plain_sound ts x f)
   element_step_sound ts (Some q) e x f =
@@ -394,7 +394,7 @@ module _ (n : Names) (d : ℕ) (pat : Parse ExprPattern) (pat_sound : SoundFor p
       let parts : ts ≡ (m.0 ++ m.1 ∷ i.front) ++ a.0.1 = m.3 ∙ ap (λ (l : List NumberedToken). (m.0 ++ m.1 ∷ []) ++ l) i.parts ∙ sym (append_assoc (m.0 ++ m.1 ∷ []) i.front a.0.1) ∙ ap (λ (l : List NumberedToken). l ++ a.0.1) (append_assoc m.0 (m.1 ∷ []) i.front) in
       took_is (Fits n false body_level (suc d)) ts (p.match q.0 a.0.0, a.0.1) x w.0 (record { front = m.0 ++ m.1 ∷ i.front; parts = parts; holds = ((omega arith, (m.0, m.1, i.front, m.2, refl, m.4, i.holds.0)), w.1) })
 
-both_sound : (n : Names) (d : ℕ) → ((g : Bool) (level : ℕ) → 1 ≤ level → SoundFor (parse_expr n g d level) (Fits n g level d)) × SoundFor (element n d) (Fits n false body_level d)
+both_sound : (n : TokenNames) (d : ℕ) → ((g : Bool) (level : ℕ) → 1 ≤ level → SoundFor (parse_expr n g d level) (Fits n g level d)) × SoundFor (element n d) (Fits n false body_level d)
 unfolding parse_expr element
 both_sound n zero = (λ g level some ts x e. absurd cc, λ ts x e. absurd cc)
 both_sound n (suc d) =
@@ -404,8 +404,8 @@ both_sound n (suc d) =
     let plain : (g : Bool) (level : ℕ) → 1 ≤ level → SoundFor (parse_expr_with n r g (parse_expr n g d) (suc d) level) (Fits n g level (suc d)) = λ g level some. parse_expr_with_sound n g d r reads (parse_expr n g d) (below.0 g) level some in
     (plain, λ ts x e. element_step_sound n d (pattern n d) (pattern_sound n d) (parse_expr_with n r false (parse_expr n false d) (suc d) top) (element n d) (plain false top (omega arith)) below.1 ts (match_ahead (pattern n d) ts) refl x e)
 
-pub parse_expr_sound : (n : Names) (g : Bool) (d level : ℕ) → 1 ≤ level → SoundFor (parse_expr n g d level) (Fits n g level d)
+pub parse_expr_sound : (n : TokenNames) (g : Bool) (d level : ℕ) → 1 ≤ level → SoundFor (parse_expr n g d level) (Fits n g level d)
 parse_expr_sound n g d level some = (both_sound n d).0 g level some
 
-pub element_sound : (n : Names) (d : ℕ) → SoundFor (element n d) (Fits n false body_level d)
+pub element_sound : (n : TokenNames) (d : ℕ) → SoundFor (element n d) (Fits n false body_level d)
 element_sound n d = (both_sound n d).1

@@ -2,15 +2,15 @@
 use Rattle.std.proofs.Common.{◌≡◌, ◌⊎◌, ℕ, suc, ◌≤◌, ◌<◌, List, [], ◌∷◌, ◌++◌, Bool, true, false, Option, Some, None, refl, ap, ◌∙◌, arith, inl, inr}
 use Rattle.std.specs.Prelude.{ℤ, pos, neg_ℤ, IsTrue}
 use Rattle.std.proofs.lemmas.Bool.{cases_lt}
-use Rattle.pf_tokens.specs.declared.marks.Mark.TheVariants as marks
+use Rattle.pf_tokens.specs.declared.marks.TokenMark.TheVariants as marks
 use Rattle.pf_tokens.specs.declared.words.Reserved.TheVariants as words
 use Rattle.pf_syntax.specs.ExprPattern as s
 use Rattle.pf_syntax.specs.ExprPattern.{ExprPattern, ExprPatterns, no_expr_patterns, expr_pattern, expr_pattern_depth, expr_patterns_depth}
 use Rattle.pf_syntax.specs.Expr as p
 use Rattle.pf_syntax.specs.Expr.{Expr, Exprs, no_exprs, expr, expr_depth, exprs_depth}
-use Rattle.pf_intern.specs.NumberedTokens.{NumberedKind, integer, atom, variable, anonymous, text, own_module, mark, reserved, NumberedToken}
-use Rattle.pf_grammar.specs.Grammar.{Names, IsAtom, IsOne, Behind, Apart, HasPattern, HasExpression, Infix, operator, and_also, or_else, send, infix_of, level_of, left_level, right_level, infix_stands, top, DerivesExprPattern, DerivesExprPatterns, Derives, DerivesAll}
-use Rattle.pf_grammar.specs.Parse.{is, after, infix_fits, infix_ahead}
+use Rattle.pf_tokens.specs.NumberedTokens.{NumberedKind, integer, atom, variable, anonymous, text, own_module, mark, reserved, NumberedToken}
+use Rattle.pf_grammar.specs.Grammar.{TokenNames, IsAtom, IsOne, Behind, Apart, HasPattern, HasExpression, Infix, operator, and_also, or_else, send, infix_of, level_of, left_level, right_level, infix_stands, top, DerivesExprPattern, DerivesExprPatterns, Derives, DerivesAll}
+use Rattle.pf_grammar.specs.Parse.{is, after_kind, infix_fits, infix_ahead}
 use Rattle.pf_grammar.proofs.Single.{is_same, first_no, level_low, left_most, right_most, one_side, one_right, infix_after, infix_level, infix_none}
 use Rattle.pf_grammar.proofs.Lists.{Opens}
 use Rattle.pf_grammar.proofs.Sound.{up}
@@ -25,7 +25,7 @@ infix_first (t ∷ ts) = infix_of t.kind
 -- an infix that comes first and is allowed binds less tightly than this level; and no `(` comes first
 pub record Stops (g : Bool) (level : ℕ) (rest : List NumberedToken) : Type 0 where
   pub no_infix : (i : Infix) → infix_first rest ≡ Some i → IsTrue (infix_stands g i) → level < level_of i
-  pub no_call : after (mark marks.OpenParenthesis) rest ≡ None
+  pub no_call : after_kind (mark marks.OpenParenthesis) rest ≡ None
 
 -- what ends an expression of a level ends one of a level below it
 pub stops_below : (g : Bool) (low high : ℕ) (rest : List NumberedToken) → low ≤ high → Stops g high rest → Stops g low rest
@@ -115,12 +115,12 @@ starts_on negative front more whole e d = record { first = d.first; others = d.o
 starts_with : (negative : Bool) (kind : NumberedKind) (t : NumberedToken) (more whole : List NumberedToken) → whole ≡ t ∷ more → t.kind ≡ kind → begins_one negative kind ≡ true → Starts negative whole
 starts_with negative kind t more whole e f b = record { first = t; others = more; whole = e; begins = rw (f, b) refl }
 
-starts_atom : (n : Names) (negative : Bool) (a : ℕ) (t : NumberedToken) (more whole : List NumberedToken) → whole ≡ t ∷ more → IsAtom n a t → Starts negative whole
+starts_atom : (n : TokenNames) (negative : Bool) (a : ℕ) (t : NumberedToken) (more whole : List NumberedToken) → whole ≡ t ∷ more → IsAtom n a t → Starts negative whole
 starts_atom n negative a t more whole e (inl h) = starts_with negative (atom a) t more whole e h.0 refl
 starts_atom n negative a t more whole e (inr h) = starts_with negative own_module t more whole e h.0 refl
 
 -- a part that no infix opens doesn't begin with a minus
-pub part_starts : (n : Names) (g : Bool) (e : Expr) (front : List NumberedToken) → Derives n g e 0 front → Starts false front
+pub part_starts : (n : TokenNames) (g : Bool) (e : Expr) (front : List NumberedToken) → Derives n g e 0 front → Starts false front
 part_starts n g (p.integer z) front h = let i = h.2 in starts_with false (integer h.0) i.0 [] front i.2 i.1 refl
 part_starts n g (p.atom a) front h = starts_atom n false a h.0 [] front h.2 h.1
 part_starts n g (p.text cs) front h = let i = h.1 in starts_with false (text cs) i.0 [] front i.2 i.1 refl
@@ -145,7 +145,7 @@ integer_starts : (z : ℤ) (front : List NumberedToken) (k : ℕ) → ((z ≡ po
 integer_starts z front k (inl h) = let i = h.1 in starts_with true (integer k) i.0 [] front i.2 i.1 refl
 integer_starts z front k (inr h) = let b = h.1 in starts_with true (mark marks.Minus) b.0 b.1 front b.3 b.2 refl
 
-pub pattern_starts : (n : Names) (q : ExprPattern) (front : List NumberedToken) → DerivesExprPattern n q front → Starts true front
+pub pattern_starts : (n : TokenNames) (q : ExprPattern) (front : List NumberedToken) → DerivesExprPattern n q front → Starts true front
 pattern_starts n (s.integer z) front h = integer_starts z front h.0 h.1
 pattern_starts n (s.atom a) front h = starts_atom n true a h.0 [] front h.2 h.1
 pattern_starts n (s.text cs) front h = let i = h.1 in starts_with true (text cs) i.0 [] front i.2 i.1 refl
@@ -155,7 +155,7 @@ pattern_starts n (s.tuple qs) front h = starts_with true (mark marks.OpenBrace) 
 pattern_starts n (s.list qs) front h = starts_with true (mark marks.OpenBracket) h.0 h.1 front h.3 h.2 refl
 pattern_starts n (s.list_on qs q) front h = let b = h.1 in starts_with true (mark marks.OpenBracket) b.0 b.1 front b.3 b.2 refl
 
-pub expression_starts : (n : Names) (g : Bool) (e : Expr) (level : ℕ) (front : List NumberedToken) → Derives n g e level front → Starts true front
+pub expression_starts : (n : TokenNames) (g : Bool) (e : Expr) (level : ℕ) (front : List NumberedToken) → Derives n g e level front → Starts true front
 expression_starts n g (p.negate a) level front h = let b = h.1 in starts_with true (mark marks.Minus) b.0 b.1 front b.3 b.2 refl
 expression_starts n g (p.binary o a b) level front h = let q = h.2 in starts_on true q.0 (q.1 ∷ q.2) front q.4 (expression_starts n g a (left_level (operator o)) q.0 q.5)
 expression_starts n g (p.and_also a b) level front h = let q = h.2 in starts_on true q.0 (q.1 ∷ q.2) front q.4 (expression_starts n g a (left_level and_also) q.0 q.5)
@@ -167,17 +167,17 @@ expression_starts n g e level front h = starts_more front (part_starts n g e fro
 
 -- ---- patterns are expressions
 
-integer_expression : (n : Names) (g : Bool) (z : ℤ) (ts : List NumberedToken) (k : ℕ) → ((z ≡ pos k) × IsOne (integer k) ts) ⊎ ((z ≡ neg_ℤ (pos k)) × Behind (mark marks.Minus) (IsOne (integer k)) ts) → (e : Expr) × Derives n g e 1 ts × (expr_depth e ≤ 2)
+integer_expression : (n : TokenNames) (g : Bool) (z : ℤ) (ts : List NumberedToken) (k : ℕ) → ((z ≡ pos k) × IsOne (integer k) ts) ⊎ ((z ≡ neg_ℤ (pos k)) × Behind (mark marks.Minus) (IsOne (integer k)) ts) → (e : Expr) × Derives n g e 1 ts × (expr_depth e ≤ 2)
 integer_expression n g z ts k (inl h) = (p.integer z, (k, h.0, h.1), omega arith)
 integer_expression n g z ts k (inr h) = let b = h.1 in (p.negate (p.integer (pos k)), (omega arith, (b.0, b.1, b.2, b.3, (k, refl, b.4))), omega arith)
 
 -- one expression and some more
-all_with : (n : Names) (g : Bool) (e : Expr) (es : Exprs) (ts : List NumberedToken) → HasExpression es → Apart (mark marks.Comma) (Derives n g e top) (DerivesAll n g es) ts → DerivesAll n g (expr e es) ts
+all_with : (n : TokenNames) (g : Bool) (e : Expr) (es : Exprs) (ts : List NumberedToken) → HasExpression es → Apart (mark marks.Comma) (Derives n g e top) (DerivesAll n g es) ts → DerivesAll n g (expr e es) ts
 all_with n g e no_exprs ts has h = absurd has
 all_with n g e (expr f es) ts has h = h
 
 mutual
-  pub pattern_expression : (n : Names) (g : Bool) (q : ExprPattern) (ts : List NumberedToken) → DerivesExprPattern n q ts → (e : Expr) × Derives n g e 1 ts × (expr_depth e ≤ suc (expr_pattern_depth q))
+  pub pattern_expression : (n : TokenNames) (g : Bool) (q : ExprPattern) (ts : List NumberedToken) → DerivesExprPattern n q ts → (e : Expr) × Derives n g e 1 ts × (expr_depth e ≤ suc (expr_pattern_depth q))
   pattern_expression n g (s.integer z) ts h = integer_expression n g z ts h.0 h.1
   pattern_expression n g (s.atom a) ts h = (p.atom a, h, omega arith)
   pattern_expression n g (s.text cs) ts h = (p.text cs, h, omega arith)
@@ -199,7 +199,7 @@ mutual
       let e = pattern_expression n g q c.2 c.6 in
       (p.list_on es.0 e.0, (es.3 h.0, (k.0, k.1, k.2, k.3, (b.0, b.1, b.2, b.3, (c.0, c.1, c.2, c.3, c.4, es.1, up n g e.0 1 top c.2 (omega arith) e.1)))), omega (arith, es.2, e.2))
 
-  patterns_expressions : (n : Names) (g : Bool) (qs : ExprPatterns) (ts : List NumberedToken) → DerivesExprPatterns n qs ts → (es : Exprs) × DerivesAll n g es ts × (exprs_depth es ≤ suc (expr_patterns_depth qs)) × (HasPattern qs → HasExpression es)
+  patterns_expressions : (n : TokenNames) (g : Bool) (qs : ExprPatterns) (ts : List NumberedToken) → DerivesExprPatterns n qs ts → (es : Exprs) × DerivesAll n g es ts × (exprs_depth es ≤ suc (expr_patterns_depth qs)) × (HasPattern qs → HasExpression es)
   patterns_expressions n g no_expr_patterns ts h = (no_exprs, h, omega arith, λ h. h)
   patterns_expressions n g (expr_pattern q no_expr_patterns) ts h =
       let e = pattern_expression n g q ts h in

@@ -4,11 +4,11 @@ use Rattle.std.specs.Prelude.{flat_map, codes, nat_le}
 use Rattle.std.proofs.lemmas.Bool.{leb-true, le-leb}
 use Rattle.std.proofs.lemmas.List.{length-append}
 use Rattle.pf_terms.specs.Atoms.{name_of}
-use Rattle.pf_tokens.specs.declared.marks.Mark.TheVariants as marks
-use Rattle.pf_intern.specs.declared.limits.TheConstants.{MOST_NAME_BYTES}
-use Rattle.pf_intern.specs.NumberedTokens.{NumberedKind, atom, dot, mark, NumberedToken}
-use Rattle.pf_grammar.specs.Grammar.{Names, Begins, Tree, DerivesTree}
-use Rattle.pf_grammar.specs.Parse.{after, word, functions, exports, atom_kind, any_atom, begins, behind, tree}
+use Rattle.pf_tokens.specs.declared.marks.TokenMark.TheVariants as marks
+use Rattle.pf_tokens.specs.declared.limits.TheConstants.{MOST_NAME_BYTES}
+use Rattle.pf_tokens.specs.NumberedTokens.{NumberedKind, atom, dot, mark, NumberedToken}
+use Rattle.pf_grammar.specs.Grammar.{TokenNames, BeginsModule, Tree, DerivesTree}
+use Rattle.pf_grammar.specs.Parse.{after_kind, word_parse, functions, exports, atom_kind, any_atom, first_form, after_first_form, tree}
 use Rattle.pf_grammar.proofs.Single.{bind_some, cond_some, some_is, after_some, after_here, word_some, word_is}
 use Rattle.pf_grammar.proofs.FormsSound.{functions_sound, exports_sound}
 use Rattle.pf_grammar.proofs.FormsComplete.{functions_complete, functions_open, exports_complete}
@@ -23,14 +23,14 @@ any_atom_some (t ∷ ts) x e = of_kind t.kind refl e
     of_kind (atom a) h f = let same = some_is (a, ts) x f in (t, h ∙ ap (λ (y : ℕ × List NumberedToken). atom y.0) same, ap (λ (y : ℕ × List NumberedToken). t ∷ y.1) same)
     of_kind _ h f = absurd cc
 
-pub begins_sound : (atoms : List (List ℕ)) (ts : List NumberedToken) (x : ℕ × List NumberedToken) → begins atoms ts ≡ Some x → Begins atoms x.0 x.1 ts
+pub begins_sound : (atoms : List (List ℕ)) (ts : List NumberedToken) (x : ℕ × List NumberedToken) → first_form atoms ts ≡ Some x → BeginsModule atoms x.0 x.1 ts
 begins_sound atoms ts x e =
-    let a = bind_some (after (mark marks.Minus) ts) _ x e in
-    let b = bind_some (word atoms (codes "module") a.0) _ x a.2 in
-    let c = bind_some (after (mark marks.OpenParenthesis) b.0) _ x b.2 in
+    let a = bind_some (after_kind (mark marks.Minus) ts) _ x e in
+    let b = bind_some (word_parse atoms (codes "module") a.0) _ x a.2 in
+    let c = bind_some (after_kind (mark marks.OpenParenthesis) b.0) _ x b.2 in
     let g = bind_some (any_atom c.0) _ x c.2 in
-    let k = bind_some (after (mark marks.CloseParenthesis) g.0.1) _ x g.2 in
-    let j = bind_some (after dot k.0) _ x k.2 in
+    let k = bind_some (after_kind (mark marks.CloseParenthesis) g.0.1) _ x g.2 in
+    let j = bind_some (after_kind dot k.0) _ x k.2 in
     let minus = after_some (mark marks.Minus) ts a.0 a.1 in
     let t = word_some (record { atoms = atoms; own = g.0.0 }) (codes "module") a.0 b.0 b.1 in
     let opens = after_some (mark marks.OpenParenthesis) b.0 c.0 c.1 in
@@ -40,7 +40,7 @@ begins_sound atoms ts x e =
     let whole : ts ≡ minus.0 ∷ t.0 ∷ opens.0 ∷ name.0 ∷ closes.0 ∷ last.0 ∷ j.0 =
     minus.2 ∙ ap (λ (l : List NumberedToken). minus.0 ∷ l) t.2 ∙ ap (λ (l : List NumberedToken). minus.0 ∷ t.0 ∷ l) opens.2 ∙ ap (λ (l : List NumberedToken). minus.0 ∷ t.0 ∷ opens.0 ∷ l) name.2
     ∙ ap (λ (l : List NumberedToken). minus.0 ∷ t.0 ∷ opens.0 ∷ name.0 ∷ l) closes.2 ∙ ap (λ (l : List NumberedToken). minus.0 ∷ t.0 ∷ opens.0 ∷ name.0 ∷ closes.0 ∷ l) last.2 in
-    subst (λ (y : ℕ × List NumberedToken). Begins atoms y.0 y.1 ts) (some_is (g.0.0, j.0) x j.2)
+    subst (λ (y : ℕ × List NumberedToken). BeginsModule atoms y.0 y.1 ts) (some_is (g.0.0, j.0) x j.2)
     (record {
       minus = minus.0;
       word = t.0;
@@ -57,7 +57,7 @@ begins_sound atoms ts x e =
       last_is = last.1;
     })
 
-pub begins_complete : (atoms : List (List ℕ)) (ts : List NumberedToken) (name : ℕ) (rest : List NumberedToken) → Begins atoms name rest ts → begins atoms ts ≡ Some (name, rest)
+pub begins_complete : (atoms : List (List ℕ)) (ts : List NumberedToken) (name : ℕ) (rest : List NumberedToken) → BeginsModule atoms name rest ts → first_form atoms ts ≡ Some (name, rest)
 begins_complete atoms ts name rest d =
     let minus = after_here (mark marks.Minus) d.minus (d.word ∷ d.opens ∷ d.atom_token ∷ d.closes ∷ d.last ∷ rest) refl d.minus_is in
     let named = word_is (record { atoms = atoms; own = name }) (codes "module") d.word (d.opens ∷ d.atom_token ∷ d.closes ∷ d.last ∷ rest) d.word_is in
@@ -66,14 +66,14 @@ begins_complete atoms ts name rest d =
     let one : any_atom (d.atom_token ∷ d.closes ∷ d.last ∷ rest) ≡ Some (name, d.closes ∷ d.last ∷ rest) = rw kind refl in
     let closes = after_here (mark marks.CloseParenthesis) d.closes (d.last ∷ rest) refl d.closes_is in
     let last = after_here dot d.last rest refl d.last_is in
-    ap (begins atoms) d.whole ∙ rw (minus, named, opens, one, closes, last) refl
+    ap (first_form atoms) d.whole ∙ rw (minus, named, opens, one, closes, last) refl
 
 -- ---- modules
 
 pub tree_sound : (atoms : List (List ℕ)) (ts : List NumberedToken) (m : Tree) → tree atoms ts ≡ Some m → DerivesTree atoms m ts
 tree_sound atoms ts m e =
-    let a = bind_some (begins atoms ts) (λ x. behind atoms x.0 x.1) m e in
-    let n : Names = record { atoms = atoms; own = a.0.0 } in
+    let a = bind_some (first_form atoms ts) (λ x. after_first_form atoms x.0 x.1) m e in
+    let n : TokenNames = record { atoms = atoms; own = a.0.0 } in
     let b = bind_some (exports n (length a.0.1) a.0.1) _ m a.2 in
     let c = bind_some (functions n (length b.0.1) b.0.1) _ m b.2 in
     let made : Tree = record { name = a.0.0; exports = b.0.0; functions = c.0 } in
@@ -85,7 +85,7 @@ tree_sound atoms ts m e =
 
 pub tree_complete : (atoms : List (List ℕ)) (ts : List NumberedToken) (m : Tree) → DerivesTree atoms m ts → tree atoms ts ≡ Some m
 tree_complete atoms ts m d =
-    let n : Names = record { atoms = atoms; own = m.name } in
+    let n : TokenNames = record { atoms = atoms; own = m.name } in
     let q = d.parts in
     let first = begins_complete atoms ts m.name d.rest d.begins in
     let enough : length q.0 ≤ length d.rest = let w = ap length q.2 in omega (arith, w, length-append q.0 q.1) in

@@ -1,7 +1,7 @@
 -- The grammar, as relations between a tree and the tokens that it is written with.
 use Rattle.std.specs.Prelude.{◌≡◌, ◌⊎◌, ℕ, ◌-◌, ◌≤◌, Bool, true, false, IsTrue, pos, neg_ℤ, List, [], ◌∷◌, ◌++◌, length, flat_map, Option, Some, None, codes}
 use Rattle.pf_terms.specs.Atoms.{name_of}
-use Rattle.pf_tokens.specs.declared.marks.Mark.TheVariants as marks
+use Rattle.pf_tokens.specs.declared.marks.TokenMark.TheVariants as marks
 use Rattle.pf_tokens.specs.declared.words.Reserved.TheVariants as words
 use Rattle.pf_syntax.specs.Tree.{Operator, plus, minus, times, quotient, remainder, append, equal, unequal, less, at_most, greater, at_least, Builtin}
 use Rattle.pf_syntax.specs.ExprPattern as s
@@ -10,13 +10,13 @@ use Rattle.pf_syntax.specs.Expr as p
 use Rattle.pf_syntax.specs.Expr.{Expr, Exprs, Condition, Branches, no_exprs, expr, no_tests, tests, no_branches, branch, exprs_depth, condition_depth}
 use Rattle.pf_syntax.specs.SyntaxTree.{Export, Head}
 use Rattle.pf_syntax.specs.Naming.{arity_of}
-use Rattle.pf_builtins.specs.Forms.{builtin_named, appending, deciding, choosing, receiving, sending, calling, may_stand}
+use Rattle.pf_syntax.specs.Forms.{builtin_named, appending, deciding, choosing, receiving, sending, calling, may_stand}
 pub use Rattle.pf_syntax.specs.ExprModule.{Tree, tree_of, unguarded}
-use Rattle.pf_intern.specs.declared.limits.TheConstants.{MOST_NAME_BYTES, MOST_TREE_DEPTH, MOST_TEXT_CHARACTERS}
-use Rattle.pf_intern.specs.NumberedTokens.{NumberedKind, integer, atom, variable, anonymous, text, own_module, dot, mark, reserved, NumberedToken}
+use Rattle.pf_tokens.specs.declared.limits.TheConstants.{MOST_NAME_BYTES, MOST_TREE_DEPTH, MOST_TEXT_CHARACTERS}
+use Rattle.pf_tokens.specs.NumberedTokens.{NumberedKind, integer, atom, variable, anonymous, text, own_module, dot, mark, reserved, NumberedToken}
 
 -- what numbers in tokens stand for: the names of atoms, and the number of the module's own name
-pub record Names : Type 0 where
+pub record TokenNames : Type 0 where
   pub atoms : List (List ℕ)
   pub own : ℕ
 
@@ -49,11 +49,11 @@ Between first last P ts = Behind first (Before last P) ts
 -- ---- names
 
 -- the token is this atom, whose name isn't too long, or `?MODULE`
-abbrev pub IsAtom : Names → ℕ → NumberedToken → Type 0
+abbrev pub IsAtom : TokenNames → ℕ → NumberedToken → Type 0
 IsAtom n a t = ((t.kind ≡ atom a) × (length (name_of n.atoms a) ≤ MOST_NAME_BYTES)) ⊎ ((t.kind ≡ own_module) × (a ≡ n.own))
 
 -- the token is an atom of these bytes
-abbrev pub IsWord : Names → List ℕ → NumberedToken → Type 0
+abbrev pub IsWord : TokenNames → List ℕ → NumberedToken → Type 0
 IsWord n bytes t = (a : ℕ) × (t.kind ≡ atom a) × (name_of n.atoms a ≡ bytes)
 
 -- ---- operators
@@ -97,25 +97,25 @@ pub record Binding : Type 0 where
   pub level : ℕ
   pub grouping : Grouping
 
-abbrev pub binds : ℕ → Grouping → Binding
-binds level grouping = record { level = level; grouping = grouping }
+abbrev pub binding_at : ℕ → Grouping → Binding
+binding_at level grouping = record { level = level; grouping = grouping }
 
 abbrev pub binding_of : Infix → Binding
-binding_of (operator times) = binds 2 leftwards
-binding_of (operator quotient) = binds 2 leftwards
-binding_of (operator remainder) = binds 2 leftwards
-binding_of (operator plus) = binds 3 leftwards
-binding_of (operator minus) = binds 3 leftwards
-binding_of (operator append) = binds 4 rightwards
-binding_of (operator equal) = binds 5 alone
-binding_of (operator unequal) = binds 5 alone
-binding_of (operator less) = binds 5 alone
-binding_of (operator at_most) = binds 5 alone
-binding_of (operator greater) = binds 5 alone
-binding_of (operator at_least) = binds 5 alone
-binding_of and_also = binds 6 rightwards
-binding_of or_else = binds 7 rightwards
-binding_of send = binds 8 rightwards
+binding_of (operator times) = binding_at 2 leftwards
+binding_of (operator quotient) = binding_at 2 leftwards
+binding_of (operator remainder) = binding_at 2 leftwards
+binding_of (operator plus) = binding_at 3 leftwards
+binding_of (operator minus) = binding_at 3 leftwards
+binding_of (operator append) = binding_at 4 rightwards
+binding_of (operator equal) = binding_at 5 alone
+binding_of (operator unequal) = binding_at 5 alone
+binding_of (operator less) = binding_at 5 alone
+binding_of (operator at_most) = binding_at 5 alone
+binding_of (operator greater) = binding_at 5 alone
+binding_of (operator at_least) = binding_at 5 alone
+binding_of and_also = binding_at 6 rightwards
+binding_of or_else = binding_at 7 rightwards
+binding_of send = binding_at 8 rightwards
 
 abbrev pub level_of : Infix → ℕ
 level_of i = (binding_of i).level
@@ -129,19 +129,19 @@ abbrev pub element : ℕ
 element = 9
 
 -- the greatest level of the left operand, and of the right one: the infix's own on the side to which it groups
-abbrev pub left_in : Grouping → ℕ → ℕ
-left_in leftwards level = level
-left_in _ level = level - 1
+abbrev pub greatest_left : Grouping → ℕ → ℕ
+greatest_left leftwards level = level
+greatest_left _ level = level - 1
 
-abbrev pub right_in : Grouping → ℕ → ℕ
-right_in rightwards level = level
-right_in _ level = level - 1
+abbrev pub greatest_right : Grouping → ℕ → ℕ
+greatest_right rightwards level = level
+greatest_right _ level = level - 1
 
 abbrev pub left_level : Infix → ℕ
-left_level i = left_in (binding_of i).grouping (level_of i)
+left_level i = greatest_left (binding_of i).grouping (level_of i)
 
 abbrev pub right_level : Infix → ℕ
-right_level i = right_in (binding_of i).grouping (level_of i)
+right_level i = greatest_right (binding_of i).grouping (level_of i)
 
 -- whether the infix is allowed, in a guard where the flag says so
 abbrev pub infix_stands : Bool → Infix → Bool
@@ -184,7 +184,7 @@ HasExpression (expr e es) = Unit {0}
 -- ---- patterns
 
 abbrev mutual
-  pub DerivesExprPattern : Names → ExprPattern → List NumberedToken → Type 0
+  pub DerivesExprPattern : TokenNames → ExprPattern → List NumberedToken → Type 0
   DerivesExprPattern n (s.integer z) ts = (k : ℕ) × (((z ≡ pos k) × IsOne (integer k) ts) ⊎ ((z ≡ neg_ℤ (pos k)) × Behind (mark marks.Minus) (IsOne (integer k)) ts))
   DerivesExprPattern n (s.atom a) ts = (t : NumberedToken) × IsAtom n a t × (ts ≡ t ∷ [])
   DerivesExprPattern n (s.text cs) ts = IsText cs ts
@@ -195,7 +195,7 @@ abbrev mutual
   DerivesExprPattern n (s.list_on qs q) ts = HasPattern qs × Bracketed (Apart (mark marks.Bar) (DerivesExprPatterns n qs) (DerivesExprPattern n q)) ts
 
   -- patterns with commas between them, or none
-  pub DerivesExprPatterns : Names → ExprPatterns → List NumberedToken → Type 0
+  pub DerivesExprPatterns : TokenNames → ExprPatterns → List NumberedToken → Type 0
   DerivesExprPatterns n no_expr_patterns ts = ts ≡ []
   DerivesExprPatterns n (expr_pattern q no_expr_patterns) ts = DerivesExprPattern n q ts
   DerivesExprPatterns n (expr_pattern q (expr_pattern r qs)) ts =
@@ -208,7 +208,7 @@ abbrev pub named_stands : Option Builtin → Bool
 named_stands None = false
 named_stands (Some b) = may_stand true (calling b)
 
-abbrev pub call_stands : Names → Bool → ℕ → ℕ → Bool
+abbrev pub call_stands : TokenNames → Bool → ℕ → ℕ → Bool
 call_stands n false f arity = true
 call_stands n true f arity = named_stands (builtin_named (name_of n.atoms f) arity)
 
@@ -224,7 +224,7 @@ FrontIs true q c P G ts = (q ≡ s.anything) × G ts
 
 abbrev mutual
   -- an expression of at most this level, in a guard where the flag says so
-  pub Derives : Names → Bool → Expr → ℕ → List NumberedToken → Type 0
+  pub Derives : TokenNames → Bool → Expr → ℕ → List NumberedToken → Type 0
   Derives n g (p.integer z) level ts = (k : ℕ) × (z ≡ pos k) × IsOne (integer k) ts
   Derives n g (p.atom a) level ts = (t : NumberedToken) × IsAtom n a t × (ts ≡ t ∷ [])
   Derives n g (p.text cs) level ts = IsText cs ts
@@ -252,27 +252,27 @@ abbrev mutual
       IsTrue (may_stand g receiving) × Between (reserved words.Receive) (reserved words.End) (DerivesBranches n false bs) ts
 
   -- expressions with commas between them, or none
-  pub DerivesAll : Names → Bool → Exprs → List NumberedToken → Type 0
+  pub DerivesAll : TokenNames → Bool → Exprs → List NumberedToken → Type 0
   DerivesAll n g no_exprs ts = ts ≡ []
   DerivesAll n g (expr e no_exprs) ts = Derives n g e top ts
   DerivesAll n g (expr e (expr f es)) ts =
       Apart (mark marks.Comma) (Derives n g e top) (DerivesAll n g (expr f es)) ts
 
   -- a body: elements with commas between them
-  pub DerivesBody : Names → Exprs → List NumberedToken → Type 0
+  pub DerivesBody : TokenNames → Exprs → List NumberedToken → Type 0
   DerivesBody n no_exprs ts = ⊥
   DerivesBody n (expr e no_exprs) ts = Derives n false e element ts
   DerivesBody n (expr e (expr f es)) ts =
       Apart (mark marks.Comma) (Derives n false e element) (DerivesBody n (expr f es)) ts
 
   -- a guard: alternatives with semicolons between them, each tests with commas between them
-  pub DerivesGuard : Names → Condition → List NumberedToken → Type 0
+  pub DerivesGuard : TokenNames → Condition → List NumberedToken → Type 0
   DerivesGuard n no_tests ts = ⊥
   DerivesGuard n (tests es no_tests) ts = HasExpression es × DerivesAll n true es ts
   DerivesGuard n (tests es (tests fs c)) ts = HasExpression es × Apart (mark marks.Semicolon) (DerivesAll n true es) (DerivesGuard n (tests fs c)) ts
 
   -- clauses with semicolons between them
-  pub DerivesBranches : Names → Bool → Branches → List NumberedToken → Type 0
+  pub DerivesBranches : TokenNames → Bool → Branches → List NumberedToken → Type 0
   DerivesBranches n choice no_branches ts = ⊥
   DerivesBranches n choice (branch q c es no_branches) ts = Apart (mark marks.Arrow) (FrontIs choice q c (DerivesExprPattern n q) (DerivesGuard n c)) (DerivesBody n es) ts
   DerivesBranches n choice (branch q c es (branch r d fs bs)) ts =
@@ -283,7 +283,7 @@ abbrev mutual
 
 -- a clause of a function: its name, patterns between parentheses, a guard or none, an arrow and a body; no pattern,
 -- test or element is too deep
-pub record DerivesHead (n : Names) (h : Head) (ts : List NumberedToken) : Type 0 where
+pub record DerivesHead (n : TokenNames) (h : Head) (ts : List NumberedToken) : Type 0 where
   pub name : NumberedToken
   pub more : List NumberedToken
   pub whole : ts ≡ name ∷ more
@@ -295,24 +295,24 @@ pub record DerivesHead (n : Names) (h : Head) (ts : List NumberedToken) : Type 0
   pub shallow_body : exprs_depth h.body ≤ MOST_TREE_DEPTH
 
 -- clauses with semicolons between them
-abbrev pub DerivesHeads : Names → List Head → List NumberedToken → Type 0
+abbrev pub DerivesHeads : TokenNames → List Head → List NumberedToken → Type 0
 DerivesHeads n [] ts = ⊥
 DerivesHeads n (h ∷ []) ts = DerivesHead n h ts
 DerivesHeads n (h ∷ k ∷ hs) ts = Apart (mark marks.Semicolon) (DerivesHead n h) (DerivesHeads n (k ∷ hs)) ts
 
 -- a function is clauses and a dot
-abbrev pub DerivesFunction : Names → List Head → List NumberedToken → Type 0
+abbrev pub DerivesFunction : TokenNames → List Head → List NumberedToken → Type 0
 DerivesFunction n hs ts = Before dot (DerivesHeads n hs) ts
 
 -- functions, one after the other
-abbrev pub DerivesFunctions : Names → List (List Head) → List NumberedToken → Type 0
+abbrev pub DerivesFunctions : TokenNames → List (List Head) → List NumberedToken → Type 0
 DerivesFunctions n [] ts = ts ≡ []
 DerivesFunctions n (f ∷ fs) ts = Together (DerivesFunction n f) (DerivesFunctions n fs) ts
 
 -- ---- exports
 
 -- an entry: a name, a slash and a number of arguments
-pub record DerivesEntry (n : Names) (e : Export) (ts : List NumberedToken) : Type 0 where
+pub record DerivesEntry (n : TokenNames) (e : Export) (ts : List NumberedToken) : Type 0 where
   pub name : NumberedToken
   pub slash : NumberedToken
   pub arity : NumberedToken
@@ -323,13 +323,13 @@ pub record DerivesEntry (n : Names) (e : Export) (ts : List NumberedToken) : Typ
   pub arity_is : arity.kind ≡ integer e.arity
 
 -- entries with commas between them, or none
-abbrev pub DerivesEntries : Names → List Export → List NumberedToken → Type 0
+abbrev pub DerivesEntries : TokenNames → List Export → List NumberedToken → Type 0
 DerivesEntries n [] ts = ts ≡ []
 DerivesEntries n (e ∷ []) ts = DerivesEntry n e ts
 DerivesEntries n (e ∷ f ∷ es) ts = Apart (mark marks.Comma) (DerivesEntry n e) (DerivesEntries n (f ∷ es)) ts
 
 -- `-export([ entries ]).`
-pub record DerivesExport (n : Names) (es : List Export) (ts : List NumberedToken) : Type 0 where
+pub record DerivesExport (n : TokenNames) (es : List Export) (ts : List NumberedToken) : Type 0 where
   pub minus : NumberedToken
   pub word : NumberedToken
   pub more : List NumberedToken
@@ -341,14 +341,14 @@ pub record DerivesExport (n : Names) (es : List Export) (ts : List NumberedToken
   pub entries : Between (mark marks.OpenParenthesis) (mark marks.CloseParenthesis) (Between (mark marks.OpenBracket) (mark marks.CloseBracket) (DerivesEntries n es)) more
 
 -- export forms, one after the other, each with its entries
-abbrev pub DerivesExports : Names → List (List Export) → List NumberedToken → Type 0
+abbrev pub DerivesExports : TokenNames → List (List Export) → List NumberedToken → Type 0
 DerivesExports n [] ts = ts ≡ []
 DerivesExports n (es ∷ forms) ts = Together (DerivesExport n es) (DerivesExports n forms) ts
 
 -- ---- modules
 
 -- the first form, `-module(Atom).`, with what follows it
-pub record Begins (atoms : List (List ℕ)) (name : ℕ) (rest ts : List NumberedToken) : Type 0 where
+pub record BeginsModule (atoms : List (List ℕ)) (name : ℕ) (rest ts : List NumberedToken) : Type 0 where
   pub minus : NumberedToken
   pub word : NumberedToken
   pub opens : NumberedToken
@@ -365,12 +365,12 @@ pub record Begins (atoms : List (List ℕ)) (name : ℕ) (rest ts : List Numbere
 
 -- the tokens begin with a first form
 abbrev pub HasHead : List (List ℕ) → List NumberedToken → Type 0
-HasHead atoms ts = (name : ℕ) × (rest : List NumberedToken) × Begins atoms name rest ts
+HasHead atoms ts = (name : ℕ) × (rest : List NumberedToken) × BeginsModule atoms name rest ts
 
 -- a module is its first form, its exports and its functions; its name isn't too long
 pub record DerivesTree (atoms : List (List ℕ)) (m : Tree) (ts : List NumberedToken) : Type 0 where
   pub rest : List NumberedToken
-  pub begins : Begins atoms m.name rest ts
+  pub begins : BeginsModule atoms m.name rest ts
   pub short : length (name_of atoms m.name) ≤ MOST_NAME_BYTES
   pub forms : List (List Export)
   pub all_exports : flat_map (λ es. es) forms ≡ m.exports

@@ -3,14 +3,12 @@
 ghost use Rattle.std.specs.Prelude.{◌≡◌, option_map};
 ghost use Rattle.pf_grammar.specs.Grammar.{binding_of, infix_of, infix_stands, left_level, level_of, right_level};
 ghost use Rattle.pf_grammar.specs.Parse.{infix_fits};
-ghost use Rattle.pf_intern.specs.NumberedTokens as NumberedTokens;
-ghost use Rattle.pf_intern.specs.View.{kind_of};
+ghost use Rattle.pf_tokens.specs.NumberedTokens as NumberedTokens;
+ghost use Rattle.pf_tokens.specs.View.{kind_of};
 ghost use Rattle.pf_grammar.specs.View.{view_of_binding, view_of_infix};
 
-use pf_builtins::{Form, may_stand};
-use pf_intern::NumberedKind;
-use pf_syntax::Operator;
-use pf_tokens::{Mark, Reserved};
+use pf_syntax::{Form, Operator, may_stand};
+use pf_tokens::{NumberedKind, Reserved, TokenMark};
 
 /// What is between two operands.
 #[derive(Clone, Copy, Debug, PartialEq, Eq)]
@@ -37,21 +35,21 @@ pub struct Binding {
 }
 
 /// The infix that a mark is.
-fn mark_infix(mark: Mark) -> Option<Infix>
+fn mark_infix(mark: TokenMark) -> Option<Infix>
     ensures { option_map view_of_infix result ≡ infix_of (NumberedTokens.mark mark) }
 {
     match mark {
-        Mark::Times => Some(Infix::Operator(Operator::Times)),
-        Mark::Plus => Some(Infix::Operator(Operator::Plus)),
-        Mark::Minus => Some(Infix::Operator(Operator::Minus)),
-        Mark::Append => Some(Infix::Operator(Operator::Append)),
-        Mark::Equal | Mark::ExactlyEqual => Some(Infix::Operator(Operator::Equal)),
-        Mark::Unequal | Mark::ExactlyUnequal => Some(Infix::Operator(Operator::Unequal)),
-        Mark::Less => Some(Infix::Operator(Operator::Less)),
-        Mark::AtMost => Some(Infix::Operator(Operator::AtMost)),
-        Mark::Greater => Some(Infix::Operator(Operator::Greater)),
-        Mark::AtLeast => Some(Infix::Operator(Operator::AtLeast)),
-        Mark::Send => Some(Infix::Send),
+        TokenMark::Times => Some(Infix::Operator(Operator::Times)),
+        TokenMark::Plus => Some(Infix::Operator(Operator::Plus)),
+        TokenMark::Minus => Some(Infix::Operator(Operator::Minus)),
+        TokenMark::Append => Some(Infix::Operator(Operator::Append)),
+        TokenMark::Equal | TokenMark::ExactlyEqual => Some(Infix::Operator(Operator::Equal)),
+        TokenMark::Unequal | TokenMark::ExactlyUnequal => Some(Infix::Operator(Operator::Unequal)),
+        TokenMark::Less => Some(Infix::Operator(Operator::Less)),
+        TokenMark::AtMost => Some(Infix::Operator(Operator::AtMost)),
+        TokenMark::Greater => Some(Infix::Operator(Operator::Greater)),
+        TokenMark::AtLeast => Some(Infix::Operator(Operator::AtLeast)),
+        TokenMark::Send => Some(Infix::Send),
         _ => None,
     }
 }

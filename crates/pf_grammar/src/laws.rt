@@ -1,7 +1,7 @@
 //! Laws of the grammar: functions with empty bodies, whose contracts are the laws.
 
 ghost use Rattle.std.specs.Prelude.{◌≡◌, List, ℕ, Some};
-ghost use Rattle.pf_intern.specs.NumberedTokens.{NumberedToken};
+ghost use Rattle.pf_tokens.specs.NumberedTokens.{NumberedToken};
 ghost use Rattle.pf_grammar.specs.Grammar.{DerivesTree, Tree};
 ghost use Rattle.pf_grammar.specs.Parse.{tree};
 

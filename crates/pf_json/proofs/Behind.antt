@@ -1,7 +1,7 @@
 -- Facts after others.
 use Rattle.std.proofs.Common.{◌≡◌, List, [], ◌∷◌, ◌++◌, ℕ, Option, Some, None, refl, ap, sym, ◌∙◌, append_assoc}
 use Rattle.std.specs.Prelude.{option_map, option_and_then, unwrap_or}
-use Rattle.pf_json.specs.Facts.{Fact, Part, facts_by, or_else, step, with_fact}
+use Rattle.pf_json.specs.Facts.{Fact, ShapePart, facts_by, or_else, part_step, with_fact}
 
 -- these facts, and after them those that there are
 abbrev pub behind : List Fact → Option (List Fact) → Option (List Fact)
@@ -14,14 +14,14 @@ one_more fs None (Some gs) = ap Some (sym (append_assoc fs [] gs))
 one_more fs (Some f) (Some gs) = ap Some (sym (append_assoc fs (f ∷ []) gs))
 
 -- a part that is there
-pub stands : (fs : List Fact) (p : Part) (ps : List Part) (t rest : List ℕ) (f : Option Fact) → step p t ≡ Some (rest, f)
+pub stands : (fs : List Fact) (p : ShapePart) (ps : List ShapePart) (t rest : List ℕ) (f : Option Fact) → part_step p t ≡ Some (rest, f)
     → behind fs (facts_by (p ∷ ps) t) ≡ behind (fs ++ with_fact f []) (facts_by ps rest)
 stands fs p ps t rest f e =
     ap (λ (s : Option (List ℕ × Option Fact)). behind fs (option_and_then (λ s. option_map (with_fact s.1) (facts_by ps s.0)) s)) e
     ∙ one_more fs f (facts_by ps rest)
 
 -- and one that isn't
-pub stands_not : (fs : List Fact) (p : Part) (ps : List Part) (t : List ℕ) → step p t ≡ None → behind fs (facts_by (p ∷ ps) t) ≡ None
+pub stands_not : (fs : List Fact) (p : ShapePart) (ps : List ShapePart) (t : List ℕ) → part_step p t ≡ None → behind fs (facts_by (p ∷ ps) t) ≡ None
 stands_not fs p ps t e =
     ap (λ (s : Option (List ℕ × Option Fact)). behind fs (option_and_then (λ s. option_map (with_fact s.1) (facts_by ps s.0)) s)) e
 

@@ -11,8 +11,8 @@ use Rattle.json.specs.Token as token
 use Rattle.json.specs.Token.{Token}
 use Rattle.json.specs.Print.{begins, ends, escape, escape_byte, escape_letter, print_from, quoted, separator, token_text}
 use Rattle.pf_json.specs.Facts.{Fact, Value, number, text, truth}
-use Rattle.pf_json.specs.Laws.{is_end}
-use Rattle.pf_json.specs.Lines.{Held, behind_line, objects_from, with_byte}
+use Rattle.pf_json.specs.Laws.{is_line_end}
+use Rattle.pf_json.specs.Lines.{HeldText, behind_line, objects_from, with_byte}
 use Rattle.pf_json.specs.Objects.{fact_tokens, facts_at, object_line, object_tokens, value_token}
 
 -- no byte of a text is a line end
@@ -113,32 +113,32 @@ facts_are_clean (f ∷ fs) =
 
 -- ---- line ends
 
-ends_both : (xs ys : List ℕ) → count_by is_end (xs ++ ys) ≡ count_by is_end xs + count_by is_end ys
-ends_both xs ys = sum_by-append (λ b. cond (is_end b) 1 0) xs ys
+ends_both : (xs ys : List ℕ) → count_by is_line_end (xs ++ ys) ≡ count_by is_line_end xs + count_by is_line_end ys
+ends_both xs ys = sum_by-append (λ b. cond (is_line_end b) 1 0) xs ys
 
-ends_behind : (b : ℕ) (bs : List ℕ) → count_by is_end (b ∷ bs) ≡ cond (b == 10) 1 0 + count_by is_end bs
-ends_behind b bs = ends_both (b ∷ []) bs ∙ ap (λ (n : ℕ). n + count_by is_end bs) (zero-add (cond (b == 10) 1 0))
+ends_behind : (b : ℕ) (bs : List ℕ) → count_by is_line_end (b ∷ bs) ≡ cond (b == 10) 1 0 + count_by is_line_end bs
+ends_behind b bs = ends_both (b ∷ []) bs ∙ ap (λ (n : ℕ). n + count_by is_line_end bs) (zero-add (cond (b == 10) 1 0))
 
-clean_has_none : (bs : List ℕ) → Clean bs → count_by is_end bs ≡ 0
+clean_has_none : (bs : List ℕ) → Clean bs → count_by is_line_end bs ≡ 0
 clean_has_none [] h = refl
 clean_has_none (b ∷ bs) h =
     let none : cond {A = ℕ} (b == 10) 1 0 ≡ 0 = ap (λ (c : Bool). cond {A = ℕ} c 1 0) (ne_eqb b 10 h.0) in
     omega (arith, ends_behind b bs, none, clean_has_none bs h.1)
 
-one_end : (facts : List Fact) → count_by is_end (object_line facts) ≡ 1
+one_end : (facts : List Fact) → count_by is_line_end (object_line facts) ≡ 1
 one_end facts =
     let tokens = object_tokens facts in
     let clean = clean_has_none (print_from false tokens) (print_is_clean false tokens ((differ 123 refl, tt), facts_are_clean facts)) in
-    let last : count_by is_end (10 ∷ []) ≡ 1 = refl in
+    let last : count_by is_line_end (10 ∷ []) ≡ 1 = refl in
     omega (arith, ends_both (print_from false tokens) (10 ∷ []), clean, last)
 
 -- a line end, or another byte
-end_by_end : (c : Bool) (line x y rest : List ℕ) → count_by is_end line ≡ 1 → count_by is_end x ≡ count_by is_end rest → count_by is_end y ≡ count_by is_end rest
-    → count_by is_end (if c then line ++ x else y) ≡ cond c 1 0 + count_by is_end rest
+end_by_end : (c : Bool) (line x y rest : List ℕ) → count_by is_line_end line ≡ 1 → count_by is_line_end x ≡ count_by is_line_end rest → count_by is_line_end y ≡ count_by is_line_end rest
+    → count_by is_line_end (if c then line ++ x else y) ≡ cond c 1 0 + count_by is_line_end rest
 end_by_end true line x y rest l e d = omega (arith, ends_both line x, l, e)
-end_by_end false line x y rest l e d = d ∙ sym (zero-add (count_by is_end rest))
+end_by_end false line x y rest l e d = d ∙ sym (zero-add (count_by is_line_end rest))
 
-pub line_by_line : (h : Held) (t : List ℕ) → count_by is_end (objects_from h t) ≡ count_by is_end t
+pub line_by_line : (h : HeldText) (t : List ℕ) → count_by is_line_end (objects_from h t) ≡ count_by is_line_end t
 line_by_line h [] = refl
 line_by_line h (b ∷ bs) =
     end_by_end (b == 10) (object_line (facts_at h.place h.line)) (objects_from (behind_line h) bs) (objects_from (with_byte h b) bs) bs

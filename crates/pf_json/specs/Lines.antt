@@ -1,35 +1,35 @@
 -- The JSON objects of the lines of a text.
 use Rattle.std.specs.Prelude.{ℕ, ◌==◌, if◌then◌else◌, List, [], ◌∷◌, ◌++◌}
 use Rattle.pf_json.specs.Objects.{facts_at, next, object_line}
-use Rattle.pf_json.specs.declared.place.Place.{Place}
-use Rattle.pf_json.specs.declared.place.Place.TheVariants.{Report}
+use Rattle.pf_json.specs.declared.place.LinePlace.{LinePlace}
+use Rattle.pf_json.specs.declared.place.LinePlace.TheVariants.{Report}
 
 -- how far a writer is: the place of the line that it is in, and what of that line was written
-pub record Held : Type 0 where
-  pub place : Place
+pub record HeldText : Type 0 where
+  pub place : LinePlace
   pub line : List ℕ
 
 -- nothing was written yet
-abbrev pub fresh : Held
-fresh = record { place = Report; line = [] }
+abbrev pub nothing_written : HeldText
+nothing_written = record { place = Report; line = [] }
 
-abbrev pub with_byte : Held → ℕ → Held
+abbrev pub with_byte : HeldText → ℕ → HeldText
 with_byte h b = record h { line = h.line ++ b ∷ [] }
 
-abbrev pub behind_line : Held → Held
+abbrev pub behind_line : HeldText → HeldText
 behind_line h = record { place = next h.place h.line; line = [] }
 
 -- the objects of the lines that end in a text, the first of which begins with what is held
-abbrev pub objects_from : Held → List ℕ → List ℕ
+abbrev pub objects_from : HeldText → List ℕ → List ℕ
 objects_from h [] = []
 objects_from h (b ∷ text) =
     if b == 10 then object_line (facts_at h.place h.line) ++ objects_from (behind_line h) text else objects_from (with_byte h b) text
 
 -- what is held after a text
-abbrev pub held_behind : Held → List ℕ → Held
+abbrev pub held_behind : HeldText → List ℕ → HeldText
 held_behind h [] = h
 held_behind h (b ∷ text) = if b == 10 then held_behind (behind_line h) text else held_behind (with_byte h b) text
 
 -- the objects of the whole lines of a text, one for each, in their order; what comes after the last line end has none
 abbrev pub json_lines : List ℕ → List ℕ
-json_lines text = objects_from fresh text
+json_lines text = objects_from nothing_written text

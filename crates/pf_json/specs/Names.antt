@@ -28,18 +28,18 @@ of_file name = fact (codes "file") (text name)
 abbrev pub of_root : List ℕ → Option (List Fact)
 of_root name = option_map (λ n. of_file (take n name) ∷ fact (codes "root") (text (drop (n + 1) name)) ∷ []) (blank_before name)
 
-abbrev pub both : Option (List Fact) → Option (List Fact) → Option (List Fact)
-both (Some fs) (Some gs) = Some (fs ++ gs)
-both _ _ = None
+abbrev pub both_facts : Option (List Fact) → Option (List Fact) → Option (List Fact)
+both_facts (Some fs) (Some gs) = Some (fs ++ gs)
+both_facts _ _ = None
 
 -- what is reported of a root, or of a file
-abbrev pub told_of : (name told : List ℕ) → Option (List Fact)
-told_of name told =
-    or_else (both (of_root name) (facts_by_first root_shapes told)) (both (Some (of_file name ∷ [])) (facts_by_first file_shapes told))
+abbrev pub root_facts : (name told : List ℕ) → Option (List Fact)
+root_facts name told =
+    or_else (both_facts (of_root name) (facts_by_first root_shapes told)) (both_facts (Some (of_file name ∷ [])) (facts_by_first file_shapes told))
 
 abbrev pub named_at : (line : List ℕ) → (n : ℕ) → Option (List Fact)
-named_at line n = told_of (take n line) (drop (n + 2) line)
+named_at line n = root_facts (take n line) (drop (n + 2) line)
 
 -- `a.erl main: seed 0 fails`, `a.erl: E4 at 0`
-abbrev pub named : (line : List ℕ) → Option (List Fact)
-named line = option_and_then (named_at line) (last_start (codes ": ") line)
+abbrev pub named_root : (line : List ℕ) → Option (List Fact)
+named_root line = option_and_then (named_at line) (last_start (codes ": ") line)

@@ -7,24 +7,24 @@ use Rattle.json.specs.Token.{Token}
 use Rattle.json.specs.Print.{print}
 use Rattle.pf_json.specs.Facts.{Fact, Value, fact, number, text, truth, facts_by, facts_by_first, or_else, said}
 use Rattle.pf_json.specs.Shapes.{position, shapes}
-use Rattle.pf_json.specs.Names.{named}
-use Rattle.pf_json.specs.declared.place.Place.{Place}
-use Rattle.pf_json.specs.declared.place.Place.TheVariants.{Report, Source, Caret, Advice}
+use Rattle.pf_json.specs.Names.{named_root}
+use Rattle.pf_json.specs.declared.place.LinePlace.{LinePlace}
+use Rattle.pf_json.specs.declared.place.LinePlace.TheVariants.{Report, Source, Caret, Advice}
 
 -- ---- what a line reports
 
 -- a line of names, one of the shapes, or `WORD REST`
 abbrev pub facts_of : List ℕ → List Fact
-facts_of line = unwrap_or (or_else (named line) (facts_by_first shapes line)) (said line ∷ [])
+facts_of line = unwrap_or (or_else (named_root line) (facts_by_first shapes line)) (said line ∷ [])
 
 -- after `line L, column C` come three lines as they are: of the source, with a caret, and with the advice
-abbrev pub facts_at : Place → List ℕ → List Fact
+abbrev pub facts_at : LinePlace → List ℕ → List Fact
 facts_at Report line = facts_of line
 facts_at Source line = fact (codes "source") (text line) ∷ []
 facts_at Caret line = fact (codes "caret") (text line) ∷ []
 facts_at Advice line = fact (codes "advice") (text line) ∷ []
 
-abbrev pub next : Place → List ℕ → Place
+abbrev pub next : LinePlace → List ℕ → LinePlace
 next Report line = if is_some (facts_by position line) then Source else Report
 next Source line = Caret
 next Caret line = Advice

@@ -1,51 +1,51 @@
 -- The shapes of lines that report several facts, or one in words of their own.
 use Rattle.std.specs.Prelude.{true, false, List, [], ◌∷◌, codes}
-use Rattle.pf_json.specs.Facts.{Part, fact, number, text, truth, words, maybe, count, word, code, rest, says, tells}
+use Rattle.pf_json.specs.Facts.{ShapePart, fact, number, text, truth, words, maybe, count, word, code, rest, says, tells}
 
 -- ---- lines of a report
 
 -- `0/2 <0> raise badarg`
-abbrev pub event : List Part
-event =
+abbrev pub event_shape : List ShapePart
+event_shape =
     count (codes "choice") ∷ words (codes "/") ∷ count (codes "count") ∷ words (codes " ") ∷ word (codes "actor") ∷ words (codes " ")
     ∷ rest (codes "label") ∷ []
 
 -- `no verdict`, beside `property holds` and `property fails`
-abbrev pub no_verdict : List Part
+abbrev pub no_verdict : List ShapePart
 no_verdict = words (codes "no verdict") ∷ tells (fact (codes "property") (text (codes "no verdict"))) ∷ []
 
 -- `schedule 0,2,1`: always a text
-abbrev pub schedule : List Part
+abbrev pub schedule : List ShapePart
 schedule = words (codes "schedule ") ∷ rest (codes "schedule") ∷ []
 
 -- ---- lines of a hunt
 
 -- `no failure in 200 seeds`
-abbrev pub no_failure : List Part
+abbrev pub no_failure : List ShapePart
 no_failure = tells (fact (codes "failure") (truth false)) ∷ words (codes "no failure in ") ∷ count (codes "seeds") ∷ words (codes " seeds") ∷ []
 
 -- `stopped behind 512 seeds`
-abbrev pub stopped : List Part
+abbrev pub stopped : List ShapePart
 stopped = tells (fact (codes "stopped") (truth true)) ∷ words (codes "stopped behind ") ∷ count (codes "seeds") ∷ words (codes " seeds") ∷ []
 
 -- by how many seeds an outcome is met, the least of them, and the outcome
-abbrev pub by_seeds : List Part
+abbrev pub by_seeds : List ShapePart
 by_seeds = count (codes "seeds") ∷ words (codes " seeds, least ") ∷ count (codes "least") ∷ words (codes ": ") ∷ says ∷ []
 
 -- `holds 3 seeds, least 0: finished ok`
-abbrev pub row_holds : List Part
+abbrev pub row_holds : List ShapePart
 row_holds = tells (fact (codes "property") (text (codes "holds"))) ∷ words (codes "holds ") ∷ by_seeds
 
 -- `fails 2 seeds, least 1: deadlock <0>`
-abbrev pub row_fails : List Part
+abbrev pub row_fails : List ShapePart
 row_fails = tells (fact (codes "property") (text (codes "fails"))) ∷ words (codes "fails ") ∷ by_seeds
 
 -- `no verdict 1 seeds, least 7: memory`
-abbrev pub row_without : List Part
+abbrev pub row_without : List ShapePart
 row_without = tells (fact (codes "property") (text (codes "no verdict"))) ∷ words (codes "no verdict ") ∷ by_seeds
 
 -- `2 files, 3 roots: 1 fails, 0 refused`
-abbrev pub summary : List Part
+abbrev pub summary : List ShapePart
 summary =
     count (codes "files") ∷ words (codes " file") ∷ maybe (codes "s") ∷ words (codes ", ") ∷ count (codes "roots") ∷ words (codes " root")
     ∷ maybe (codes "s") ∷ words (codes ": ") ∷ count (codes "fail") ∷ words (codes " fail") ∷ maybe (codes "s") ∷ words (codes ", ")
@@ -54,54 +54,54 @@ summary =
 -- ---- refusals
 
 -- `B2`
-abbrev pub refusal : List Part
+abbrev pub refusal : List ShapePart
 refusal = code (codes "refusal") ∷ []
 
 -- `E6 at 41`
-abbrev pub refusal_at : List Part
+abbrev pub refusal_at : List ShapePart
 refusal_at = code (codes "refusal") ∷ words (codes " at ") ∷ count (codes "at") ∷ []
 
 -- `line 3, column 11`
-abbrev pub position : List Part
+abbrev pub position : List ShapePart
 position = words (codes "line ") ∷ count (codes "line") ∷ words (codes ", column ") ∷ count (codes "column") ∷ []
 
 -- `  instead of  X and Y`
-abbrev pub instead : List Part
+abbrev pub instead : List ShapePart
 instead = words (codes "  instead of  ") ∷ rest (codes "instead") ∷ []
 
 -- `  write       X andalso Y`
-abbrev pub write : List Part
+abbrev pub write : List ShapePart
 write = words (codes "  write       ") ∷ rest (codes "write") ∷ []
 
 -- an empty line
-abbrev pub blank : List Part
-blank = tells (fact (codes "blank") (truth true)) ∷ []
+abbrev pub blank_line : List ShapePart
+blank_line = tells (fact (codes "blank") (truth true)) ∷ []
 
-abbrev pub shapes : List (List Part)
+abbrev pub shapes : List (List ShapePart)
 shapes =
-    event ∷ no_verdict ∷ schedule ∷ no_failure ∷ stopped ∷ row_holds ∷ row_fails ∷ row_without ∷ summary ∷ refusal ∷ refusal_at ∷ position ∷ instead
-    ∷ write ∷ blank ∷ []
+    event_shape ∷ no_verdict ∷ schedule ∷ no_failure ∷ stopped ∷ row_holds ∷ row_fails ∷ row_without ∷ summary ∷ refusal ∷ refusal_at ∷ position ∷ instead
+    ∷ write ∷ blank_line ∷ []
 
 -- ---- what is reported after a name, in a hunt over several files or roots
 
 -- `seed 0 fails`
-abbrev pub seed_fails : List Part
+abbrev pub seed_fails : List ShapePart
 seed_fails = tells (fact (codes "failure") (truth true)) ∷ words (codes "seed ") ∷ count (codes "seed") ∷ words (codes " fails") ∷ []
 
 -- `stopped behind 512 seeds, no failure`
-abbrev pub stopped_well : List Part
+abbrev pub stopped_well : List ShapePart
 stopped_well =
     tells (fact (codes "stopped") (truth true)) ∷ tells (fact (codes "failure") (truth false)) ∷ words (codes "stopped behind ")
     ∷ count (codes "seeds") ∷ words (codes " seeds, no failure") ∷ []
 
 -- `no exported function without arguments`
-abbrev pub rootless : List Part
+abbrev pub rootless : List ShapePart
 rootless = words (codes "no exported function without arguments") ∷ tells (fact (codes "roots") (number 0)) ∷ []
 
 -- what is reported of a root
-abbrev pub root_shapes : List (List Part)
+abbrev pub root_shapes : List (List ShapePart)
 root_shapes = seed_fails ∷ no_failure ∷ stopped_well ∷ refusal ∷ []
 
 -- what is reported of a file
-abbrev pub file_shapes : List (List Part)
+abbrev pub file_shapes : List (List ShapePart)
 file_shapes = refusal_at ∷ rootless ∷ []

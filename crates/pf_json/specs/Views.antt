@@ -5,9 +5,9 @@ use Rattle.pf_json.specs.Facts.{fact, number, text, truth}
 use Rattle.pf_json.specs.declared.facts.Value.{Value}
 use Rattle.pf_json.specs.declared.facts.Value.TheVariants.{Number, Text, Truth}
 use Rattle.pf_json.specs.declared.facts.Fact.{Fact}
-use Rattle.pf_json.specs.declared.parts.Taken.{Taken}
-use Rattle.pf_json.specs.declared.parts.Part.{Part}
-use Rattle.pf_json.specs.declared.parts.Part.TheVariants.{Words, Maybe, Count, Word, Code, Rest, Says, Tells}
+use Rattle.pf_json.specs.declared.parts.TakenPart.{TakenPart}
+use Rattle.pf_json.specs.declared.parts.ShapePart.{ShapePart}
+use Rattle.pf_json.specs.declared.parts.ShapePart.TheVariants.{Words, Maybe, Count, Word, Code, Rest, Says, Tells}
 
 abbrev pub view_of_value : Value → facts.Value
 view_of_value (Number n) = number n
@@ -20,7 +20,7 @@ view_of_fact f = fact f.key.now (view_of_value f.value)
 abbrev pub views_of : List Fact → List facts.Fact
 views_of fs = map view_of_fact fs
 
-abbrev pub view_of_part : Part → facts.Part
+abbrev pub view_of_part : ShapePart → facts.ShapePart
 view_of_part (Words w) = facts.words w.now
 view_of_part (Maybe w) = facts.maybe w.now
 view_of_part (Count key) = facts.count key.now
@@ -30,5 +30,5 @@ view_of_part (Rest key) = facts.rest key.now
 view_of_part Says = facts.says
 view_of_part (Tells f) = facts.tells (view_of_fact f)
 
-abbrev pub view_of_taken : Taken → List ℕ × Option facts.Fact
+abbrev pub view_of_taken : TakenPart → List ℕ × Option facts.Fact
 view_of_taken s = (s.rest.now, option_map view_of_fact s.fact)

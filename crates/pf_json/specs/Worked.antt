@@ -2,7 +2,7 @@
 use Rattle.std.specs.Prelude.{◌≡◌, true, [], ◌∷◌, codes, refl}
 use Rattle.pf_json.specs.Facts.{fact, facts_by_first, number, text, truth}
 use Rattle.pf_json.specs.Objects.{facts_at, facts_of, next}
-use Rattle.pf_json.specs.declared.place.Place.TheVariants.{Report, Source}
+use Rattle.pf_json.specs.declared.place.LinePlace.TheVariants.{Report, Source}
 
 -- ---- a report
 

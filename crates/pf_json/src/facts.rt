@@ -2,7 +2,7 @@
 
 ghost use Rattle.std.specs.Prelude.{◌≡◌, ◌≤◌, length};
 ghost use Rattle.std.specs.List.{prefix_len};
-ghost use Rattle.pf_json.specs.Facts.{is_no_blank, said, value_of};
+ghost use Rattle.pf_json.specs.Facts.{is_no_blank, said, fact_value};
 ghost use Rattle.pf_json.specs.Views.{view_of_fact, view_of_value};
 
 use pf_text::long_number_of;
@@ -27,7 +27,7 @@ const LIMIT: u64 = 9_007_199_254_740_992;
 
 /// The value that a text is.
 pub(crate) fn value_of(text: &[u8]) -> Value<'_>
-    ensures { view_of_value result ≡ value_of text.now }
+    ensures { view_of_value result ≡ fact_value text.now }
 {
     match long_number_of(text) {
         Some(number) if number < LIMIT => Value::Number(number),

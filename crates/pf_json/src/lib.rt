@@ -12,4 +12,4 @@ mod shapes;
 
 pub use laws::{in_pieces, one_for_each};
 pub use lines::JsonLines;
-pub use place::Place;
+pub use place::LinePlace;

@@ -7,26 +7,26 @@ ghost use Rattle.pf_json.specs.Lines.{held_behind, objects_from};
 ghost use Rattle.pf_json.specs.Writers.{view_of_held};
 
 use crate::objects::{next, with_line};
-use crate::place::Place;
+use crate::place::LinePlace;
 use std::alloc::{AllocError, Global};
 use std::io::{self, ErrorKind, Write};
 
 /// How far a text is: the place of the line that it is in, and what of that line there is.
 #[derive(Drop)]
-struct Held {
-    place: Place,
+struct HeldText {
+    place: LinePlace,
     line: Vec<u8>,
 }
 
 /// The objects of lines, and what is held after them.
 #[derive(Drop)]
-struct Turned {
+struct TurnedLine {
     out: Vec<u8>,
-    held: Held,
+    held: HeldText,
 }
 
 /// The objects of the lines that end in a text, the first of which begins with what is held.
-fn turn(alloc: Global, held: &Held, text: &[u8]) -> Result<Turned, AllocError>
+fn turn(alloc: Global, held: &HeldText, text: &[u8]) -> Result<TurnedLine, AllocError>
     ensures out { IfOk result (λ t. t.out.items ≡ objects_from (view_of_held held.now) text.now) }
     ensures held { IfOk result (λ t. view_of_held t.held ≡ held_behind (view_of_held held.now) text.now) }
 {
@@ -42,8 +42,8 @@ fn turn(alloc: Global, held: &Held, text: &[u8]) -> Result<Turned, AllocError>
             line.push(*byte)?;
         }
     }
-    let held = Held { place, line };
-    Ok(Turned { out, held })
+    let held = HeldText { place, line };
+    Ok(TurnedLine { out, held })
 }
 
 /// Writes the whole text; where a call fails, a beginning of it went out.
@@ -68,21 +68,21 @@ fn put<W: Write>(inner: &mut W, text: &[u8]) -> io::Result<()>
 pub struct JsonLines<W> {
     pub inner: W,
     alloc: Global,
-    held: Held,
+    held: HeldText,
 }
 
 impl<W> JsonLines<W> {
     ghost use Rattle.std.specs.Prelude.{◌≡◌};
-    ghost use Rattle.pf_json.specs.Lines.{fresh};
-    ghost use Rattle.pf_json.specs.Writers.{held_by};
+    ghost use Rattle.pf_json.specs.Lines.{nothing_written};
+    ghost use Rattle.pf_json.specs.Writers.{held_text_of};
 
     /// Nothing was written yet.
     pub fn new(alloc: Global, inner: W) -> JsonLines<W>
         ensures inner { result.inner ≡ inner }
-        ensures held { held_by result ≡ fresh }
+        ensures held { held_text_of result ≡ nothing_written }
     {
-        let (place, line) = (Place::Report, Vec::new(alloc));
-        let held = Held { place, line };
+        let (place, line) = (LinePlace::Report, Vec::new(alloc));
+        let held = HeldText { place, line };
         JsonLines { inner, alloc, held }
     }
 }
@@ -93,7 +93,7 @@ impl<W: Write> Write for JsonLines<W> {
     ghost use Rattle.std.specs.Io.KnownBytes.{Appends, Keeps, WriteAppends};
     ghost use Rattle.pf_terms.specs.Streams.{AppendsFront};
     ghost use Rattle.pf_json.specs.Lines.{held_behind, objects_from};
-    ghost use Rattle.pf_json.specs.Writers.{held_by};
+    ghost use Rattle.pf_json.specs.Writers.{held_text_of};
 
     /// Takes the whole text, and writes the objects of the lines that end in it. Where that fails, a beginning of them
     /// went out.
@@ -102,10 +102,10 @@ impl<W: Write> Write for JsonLines<W> {
         ensures bytes { WriteAppends None None result buf.now }
         ensures whole { IfOk result (λ n. n ≡ length buf.now) }
         ensures objects { OnOk result (Appends (W.contents self.old.inner) (W.contents self.new.inner)
-            (objects_from (held_by self.old) buf.now)) }
-        ensures held { OnOk result (held_by self.new ≡ held_behind (held_by self.old) buf.now) }
+            (objects_from (held_text_of self.old) buf.now)) }
+        ensures held { OnOk result (held_text_of self.new ≡ held_behind (held_text_of self.old) buf.now) }
         ensures front { OnErr result (AppendsFront (W.contents self.old.inner) (W.contents self.new.inner)
-            (objects_from (held_by self.old) buf.now)) }
+            (objects_from (held_text_of self.old) buf.now)) }
     {
         let turned = turn(self.alloc, &self.held, buf)?;
         put(&mut self.inner, &turned.out)?;
@@ -117,7 +117,7 @@ impl<W: Write> Write for JsonLines<W> {
     /// written.
     fn flush(&mut self) -> io::Result<()>
         ensures bytes { Keeps None None }
-        ensures held { held_by self.new ≡ held_by self.old }
+        ensures held { held_text_of self.new ≡ held_text_of self.old }
         ensures kept { Keeps (W.contents self.old.inner) (W.contents self.new.inner) }
     {
         self.inner.flush()

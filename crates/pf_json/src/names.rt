@@ -2,7 +2,7 @@
 
 ghost use Rattle.std.specs.Prelude.{◌≡◌, ◌<◌, ◌≤◌, ◌+◌, ◌∷◌, ◌++◌, [], IfOk, IfSome, Some, length, option_map};
 ghost use Rattle.pf_json.specs.Facts.{facts_by_first};
-ghost use Rattle.pf_json.specs.Names.{blank_before, both, is_quoted, last_start, named, of_file, of_root, told_of};
+ghost use Rattle.pf_json.specs.Names.{blank_before, both_facts, is_quoted, last_start, named_root, of_file, of_root, root_facts};
 ghost use Rattle.pf_json.specs.Shapes.{file_shapes, root_shapes};
 ghost use Rattle.pf_json.specs.Views.{view_of_fact, views_of};
 
@@ -87,7 +87,7 @@ fn told_of_root<'a>(
     told: &'a [u8],
 ) -> Result<Option<Vec<Fact<'a>>>, AllocError>
     ensures { IfOk result (λ fs. option_map (λ v. views_of v.items) fs
-        ≡ both (of_root name.entry.now) (facts_by_first root_shapes told.entry.now)) }
+        ≡ both_facts (of_root name.entry.now) (facts_by_first root_shapes told.entry.now)) }
 {
     let Some((file, root)) = of_root(name) else {
         return Ok(None);
@@ -106,7 +106,7 @@ fn told_of_file<'a>(
     told: &'a [u8],
 ) -> Result<Option<Vec<Fact<'a>>>, AllocError>
     ensures { IfOk result (λ fs. option_map (λ v. views_of v.items) fs
-        ≡ both (Some (of_file name.entry.now ∷ [])) (facts_by_first file_shapes told.entry.now)) }
+        ≡ both_facts (Some (of_file name.entry.now ∷ [])) (facts_by_first file_shapes told.entry.now)) }
 {
     let Some(back) = facts_by_first(alloc, &FILE_SHAPES, told)? else {
         return Ok(None);
@@ -121,7 +121,7 @@ fn told_of<'a>(
     name: &'a [u8],
     told: &'a [u8],
 ) -> Result<Option<Vec<Fact<'a>>>, AllocError>
-    ensures { IfOk result (λ fs. option_map (λ v. views_of v.items) fs ≡ told_of name.entry.now told.entry.now) }
+    ensures { IfOk result (λ fs. option_map (λ v. views_of v.items) fs ≡ root_facts name.entry.now told.entry.now) }
 {
     match told_of_root(alloc, name, told)? {
         Some(facts) => Ok(Some(facts)),
@@ -131,7 +131,7 @@ fn told_of<'a>(
 
 /// What a line reports of the name that it begins with.
 pub(crate) fn named(alloc: Global, line: &[u8]) -> Result<Option<Vec<Fact<'_>>>, AllocError>
-    ensures { IfOk result (λ fs. option_map (λ v. views_of v.items) fs ≡ named line.now) }
+    ensures { IfOk result (λ fs. option_map (λ v. views_of v.items) fs ≡ named_root line.now) }
 {
     let Some(end) = last_start(b": ", line) else {
         return Ok(None);

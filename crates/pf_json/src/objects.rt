@@ -10,7 +10,7 @@ ghost use Rattle.pf_json.specs.Views.{view_of_fact, view_of_value, views_of};
 use crate::facts::{Fact, Value, said};
 use crate::names::named;
 use crate::parts::{facts_by, facts_by_first};
-use crate::place::Place;
+use crate::place::LinePlace;
 use crate::shapes::{POSITION, SHAPES};
 use json::Writer;
 use std::alloc::{AllocError, Global};
@@ -50,29 +50,29 @@ fn as_it_is<'a>(
 }
 
 /// The facts of a line at a place.
-fn facts_at(alloc: Global, place: Place, line: &[u8]) -> Result<Vec<Fact<'_>>, AllocError>
+fn facts_at(alloc: Global, place: LinePlace, line: &[u8]) -> Result<Vec<Fact<'_>>, AllocError>
     ensures { IfOk result (λ v. views_of v.items ≡ facts_at place line.now) }
 {
     match place {
-        Place::Report => facts_of(alloc, line),
-        Place::Source => as_it_is(alloc, b"source", line),
-        Place::Caret => as_it_is(alloc, b"caret", line),
-        Place::Advice => as_it_is(alloc, b"advice", line),
+        LinePlace::Report => facts_of(alloc, line),
+        LinePlace::Source => as_it_is(alloc, b"source", line),
+        LinePlace::Caret => as_it_is(alloc, b"caret", line),
+        LinePlace::Advice => as_it_is(alloc, b"advice", line),
     }
 }
 
 /// The place after a line.
-pub(crate) fn next(alloc: Global, place: Place, line: &[u8]) -> Result<Place, AllocError>
+pub(crate) fn next(alloc: Global, place: LinePlace, line: &[u8]) -> Result<LinePlace, AllocError>
     ensures { IfOk result (λ p. p ≡ next place line.now) }
 {
     match place {
-        Place::Report => match facts_by(alloc, &POSITION, line)? {
-            Some(_) => Ok(Place::Source),
-            None => Ok(Place::Report),
+        LinePlace::Report => match facts_by(alloc, &POSITION, line)? {
+            Some(_) => Ok(LinePlace::Source),
+            None => Ok(LinePlace::Report),
         },
-        Place::Source => Ok(Place::Caret),
-        Place::Caret => Ok(Place::Advice),
-        Place::Advice => Ok(Place::Report),
+        LinePlace::Source => Ok(LinePlace::Caret),
+        LinePlace::Caret => Ok(LinePlace::Advice),
+        LinePlace::Advice => Ok(LinePlace::Report),
     }
 }
 
@@ -145,7 +145,7 @@ fn with_object(alloc: Global, out: Vec<u8>, facts: &[Fact]) -> Result<Vec<u8>, A
 pub(crate) fn with_line(
     alloc: Global,
     out: Vec<u8>,
-    place: Place,
+    place: LinePlace,
     line: &[u8],
 ) -> Result<Vec<u8>, AllocError>
     ensures { IfOk result (λ v. v.items ≡ out.items ++ object_line (facts_at place line.now)) }

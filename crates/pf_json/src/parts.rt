@@ -3,7 +3,7 @@
 ghost use Rattle.std.specs.Prelude.{◌≡◌, ◌≤◌, ◌+◌, IfOk, Some, drop, length, map, option_map};
 ghost use Rattle.std.specs.List.{prefix_len};
 ghost use Rattle.pf_tokens.specs.Bytes.{is_digit};
-ghost use Rattle.pf_json.specs.Facts.{after, coded, counted, fact, facts_by, facts_by_first, is_code, is_no_blank, step, worded};
+ghost use Rattle.pf_json.specs.Facts.{after_words, coded, counted_fact, fact, facts_by, facts_by_first, is_code, is_no_blank, part_step, word_fact};
 ghost use Rattle.pf_json.specs.Views.{view_of_part, view_of_taken, view_of_value, views_of};
 
 use crate::facts::{Fact, Value, before_blank, said, value_of};
@@ -13,7 +13,7 @@ use std::alloc::{AllocError, Global};
 
 /// A part of a shape.
 #[derive(Drop, Clone, Copy)]
-pub(crate) enum Part<'a> {
+pub(crate) enum ShapePart<'a> {
     /// These words.
     Words(&'a [u8]),
     /// These words, or nothing.
@@ -34,14 +34,14 @@ pub(crate) enum Part<'a> {
 
 /// What follows a part, and what the part reports.
 #[derive(Drop, Clone, Copy)]
-pub(crate) struct Taken<'a> {
+pub(crate) struct TakenPart<'a> {
     pub rest: &'a [u8],
     pub fact: Option<Fact<'a>>,
 }
 
 /// What follows words at the front of a text.
 pub(crate) fn after<'a>(words: &[u8], text: &'a [u8]) -> Option<&'a [u8]>
-    ensures { option_map (λ s. s.now) result ≡ after words.now text.now }
+    ensures { option_map (λ s. s.now) result ≡ after_words words.now text.now }
 {
     if text.starts_with(words) {
         Some(&text[words.len()..])
@@ -59,17 +59,17 @@ fn digits(text: &[u8]) -> usize
 }
 
 /// A fact of the first bytes of a text, and what follows them.
-fn told<'a>(key: &'a [u8], value: Value<'a>, rest: &'a [u8]) -> Option<Taken<'a>>
+fn told<'a>(key: &'a [u8], value: Value<'a>, rest: &'a [u8]) -> Option<TakenPart<'a>>
     ensures { option_map view_of_taken result
         ≡ Some (rest.entry.now, Some (fact key.entry.now (view_of_value value.entry))) }
 {
     let fact = Some(Fact { key, value });
-    Some(Taken { rest, fact })
+    Some(TakenPart { rest, fact })
 }
 
 /// The number at the front of a text.
-fn counted<'a>(key: &'a [u8], text: &'a [u8]) -> Option<Taken<'a>>
-    ensures { option_map view_of_taken result ≡ counted key.entry.now text.entry.now (prefix_len is_digit text.entry.now) }
+fn counted<'a>(key: &'a [u8], text: &'a [u8]) -> Option<TakenPart<'a>>
+    ensures { option_map view_of_taken result ≡ counted_fact key.entry.now text.entry.now (prefix_len is_digit text.entry.now) }
 {
     let (number, rest) = text.split_at(digits(text));
     if is_numeral(number) {
@@ -80,8 +80,8 @@ fn counted<'a>(key: &'a [u8], text: &'a [u8]) -> Option<Taken<'a>>
 }
 
 /// The word at the front of a text.
-fn worded<'a>(key: &'a [u8], text: &'a [u8]) -> Option<Taken<'a>>
-    ensures { option_map view_of_taken result ≡ worded key.entry.now text.entry.now (prefix_len is_no_blank text.entry.now) }
+fn worded<'a>(key: &'a [u8], text: &'a [u8]) -> Option<TakenPart<'a>>
+    ensures { option_map view_of_taken result ≡ word_fact key.entry.now text.entry.now (prefix_len is_no_blank text.entry.now) }
 {
     let (word, rest) = text.split_at(before_blank(text));
     if word.is_empty() {
@@ -102,7 +102,7 @@ fn is_code(text: &[u8]) -> bool
 }
 
 /// The code at the front of a text.
-fn coded<'a>(key: &'a [u8], text: &'a [u8]) -> Option<Taken<'a>>
+fn coded<'a>(key: &'a [u8], text: &'a [u8]) -> Option<TakenPart<'a>>
     ensures { option_map view_of_taken result
         ≡ coded key.entry.now text.entry.now (1 + prefix_len is_digit (drop 1 text.entry.now)) }
 {
@@ -116,29 +116,29 @@ fn coded<'a>(key: &'a [u8], text: &'a [u8]) -> Option<Taken<'a>>
 }
 
 /// What follows a part at the front of a text, and what the part reports.
-fn step<'a>(part: Part<'a>, text: &'a [u8]) -> Option<Taken<'a>>
-    ensures { option_map view_of_taken result ≡ step (view_of_part part.entry) text.entry.now }
+fn step<'a>(part: ShapePart<'a>, text: &'a [u8]) -> Option<TakenPart<'a>>
+    ensures { option_map view_of_taken result ≡ part_step (view_of_part part.entry) text.entry.now }
 {
     match part {
-        Part::Words(words) => {
+        ShapePart::Words(words) => {
             let rest = after(words, text)?;
-            Some(Taken { rest, fact: None })
+            Some(TakenPart { rest, fact: None })
         }
-        Part::Maybe(words) => {
+        ShapePart::Maybe(words) => {
             let rest = after(words, text).unwrap_or(text);
-            Some(Taken { rest, fact: None })
+            Some(TakenPart { rest, fact: None })
         }
-        Part::Count(key) => counted(key, text),
-        Part::Word(key) => worded(key, text),
-        Part::Code(key) => coded(key, text),
-        Part::Rest(key) => told(key, Value::Text(text), b""),
-        Part::Says => {
+        ShapePart::Count(key) => counted(key, text),
+        ShapePart::Word(key) => worded(key, text),
+        ShapePart::Code(key) => coded(key, text),
+        ShapePart::Rest(key) => told(key, Value::Text(text), b""),
+        ShapePart::Says => {
             let fact = Some(said(text));
-            Some(Taken { rest: b"", fact })
+            Some(TakenPart { rest: b"", fact })
         }
-        Part::Tells(fact) => {
+        ShapePart::Tells(fact) => {
             let fact = Some(fact);
-            Some(Taken { rest: text, fact })
+            Some(TakenPart { rest: text, fact })
         }
     }
 }
@@ -146,7 +146,7 @@ fn step<'a>(part: Part<'a>, text: &'a [u8]) -> Option<Taken<'a>>
 /// The facts of a line that has this shape.
 pub(crate) fn facts_by<'a>(
     alloc: Global,
-    shape: &[Part<'a>],
+    shape: &[ShapePart<'a>],
     line: &'a [u8],
 ) -> Result<Option<Vec<Fact<'a>>>, AllocError>
     ensures { IfOk result (λ fs. option_map (λ v. views_of v.items) fs
@@ -174,7 +174,7 @@ pub(crate) fn facts_by<'a>(
 #[tactic(auto, unfolding(crate::specs::Facts::facts_by_first))]
 pub(crate) fn facts_by_first<'a>(
     alloc: Global,
-    shapes: &[&[Part<'a>]],
+    shapes: &[&[ShapePart<'a>]],
     line: &'a [u8],
 ) -> Result<Option<Vec<Fact<'a>>>, AllocError>
     ensures { IfOk result (λ fs. option_map (λ v. views_of v.items) fs

@@ -2,7 +2,7 @@
 
 /// What the next line is.
 #[derive(Drop, Clone, Copy)]
-pub enum Place {
+pub enum LinePlace {
     /// A line that reports facts.
     Report,
     /// The line of the source that a refusal is about.

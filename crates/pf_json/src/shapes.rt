@@ -1,144 +1,153 @@
 //! The shapes of lines that report several facts, or one in words of their own.
 
 use crate::facts::{Fact, Value};
-use crate::parts::Part;
+use crate::parts::ShapePart;
 
 /// `0/2 <0> raise badarg`
-const EVENT: [Part<'static>; 7] = [
-    Part::Count(b"choice"),
-    Part::Words(b"/"),
-    Part::Count(b"count"),
-    Part::Words(b" "),
-    Part::Word(b"actor"),
-    Part::Words(b" "),
-    Part::Rest(b"label"),
+const EVENT: [ShapePart<'static>; 7] = [
+    ShapePart::Count(b"choice"),
+    ShapePart::Words(b"/"),
+    ShapePart::Count(b"count"),
+    ShapePart::Words(b" "),
+    ShapePart::Word(b"actor"),
+    ShapePart::Words(b" "),
+    ShapePart::Rest(b"label"),
 ];
 
-const NO_VERDICT: [Part<'static>; 2] = [
-    Part::Words(b"no verdict"),
-    Part::Tells(Fact {
+const NO_VERDICT: [ShapePart<'static>; 2] = [
+    ShapePart::Words(b"no verdict"),
+    ShapePart::Tells(Fact {
         key: b"property",
         value: Value::Text(b"no verdict"),
     }),
 ];
 
 /// `schedule 0,2,1`
-const SCHEDULE: [Part<'static>; 2] = [Part::Words(b"schedule "), Part::Rest(b"schedule")];
+const SCHEDULE: [ShapePart<'static>; 2] = [
+    ShapePart::Words(b"schedule "),
+    ShapePart::Rest(b"schedule"),
+];
 
 /// `no failure in 200 seeds`
-const NO_FAILURE: [Part<'static>; 4] = [
-    Part::Tells(Fact {
+const NO_FAILURE: [ShapePart<'static>; 4] = [
+    ShapePart::Tells(Fact {
         key: b"failure",
         value: Value::Truth(false),
     }),
-    Part::Words(b"no failure in "),
-    Part::Count(b"seeds"),
-    Part::Words(b" seeds"),
+    ShapePart::Words(b"no failure in "),
+    ShapePart::Count(b"seeds"),
+    ShapePart::Words(b" seeds"),
 ];
 
 /// `stopped behind 512 seeds`
-const STOPPED: [Part<'static>; 4] = [
-    Part::Tells(Fact {
+const STOPPED: [ShapePart<'static>; 4] = [
+    ShapePart::Tells(Fact {
         key: b"stopped",
         value: Value::Truth(true),
     }),
-    Part::Words(b"stopped behind "),
-    Part::Count(b"seeds"),
-    Part::Words(b" seeds"),
+    ShapePart::Words(b"stopped behind "),
+    ShapePart::Count(b"seeds"),
+    ShapePart::Words(b" seeds"),
 ];
 
 /// `holds 3 seeds, least 0: finished ok`
-const ROW_HOLDS: [Part<'static>; 7] = [
-    Part::Tells(Fact {
+const ROW_HOLDS: [ShapePart<'static>; 7] = [
+    ShapePart::Tells(Fact {
         key: b"property",
         value: Value::Text(b"holds"),
     }),
-    Part::Words(b"holds "),
-    Part::Count(b"seeds"),
-    Part::Words(b" seeds, least "),
-    Part::Count(b"least"),
-    Part::Words(b": "),
-    Part::Says,
+    ShapePart::Words(b"holds "),
+    ShapePart::Count(b"seeds"),
+    ShapePart::Words(b" seeds, least "),
+    ShapePart::Count(b"least"),
+    ShapePart::Words(b": "),
+    ShapePart::Says,
 ];
 
 /// `fails 2 seeds, least 1: deadlock <0>`
-const ROW_FAILS: [Part<'static>; 7] = [
-    Part::Tells(Fact {
+const ROW_FAILS: [ShapePart<'static>; 7] = [
+    ShapePart::Tells(Fact {
         key: b"property",
         value: Value::Text(b"fails"),
     }),
-    Part::Words(b"fails "),
-    Part::Count(b"seeds"),
-    Part::Words(b" seeds, least "),
-    Part::Count(b"least"),
-    Part::Words(b": "),
-    Part::Says,
+    ShapePart::Words(b"fails "),
+    ShapePart::Count(b"seeds"),
+    ShapePart::Words(b" seeds, least "),
+    ShapePart::Count(b"least"),
+    ShapePart::Words(b": "),
+    ShapePart::Says,
 ];
 
 /// `no verdict 1 seeds, least 7: memory`
-const ROW_WITHOUT: [Part<'static>; 7] = [
-    Part::Tells(Fact {
+const ROW_WITHOUT: [ShapePart<'static>; 7] = [
+    ShapePart::Tells(Fact {
         key: b"property",
         value: Value::Text(b"no verdict"),
     }),
-    Part::Words(b"no verdict "),
-    Part::Count(b"seeds"),
-    Part::Words(b" seeds, least "),
-    Part::Count(b"least"),
-    Part::Words(b": "),
-    Part::Says,
+    ShapePart::Words(b"no verdict "),
+    ShapePart::Count(b"seeds"),
+    ShapePart::Words(b" seeds, least "),
+    ShapePart::Count(b"least"),
+    ShapePart::Words(b": "),
+    ShapePart::Says,
 ];
 
 /// `2 files, 3 roots: 1 fails, 0 refused`
-const SUMMARY: [Part<'static>; 14] = [
-    Part::Count(b"files"),
-    Part::Words(b" file"),
-    Part::Maybe(b"s"),
-    Part::Words(b", "),
-    Part::Count(b"roots"),
-    Part::Words(b" root"),
-    Part::Maybe(b"s"),
-    Part::Words(b": "),
-    Part::Count(b"fail"),
-    Part::Words(b" fail"),
-    Part::Maybe(b"s"),
-    Part::Words(b", "),
-    Part::Count(b"refused"),
-    Part::Words(b" refused"),
+const SUMMARY: [ShapePart<'static>; 14] = [
+    ShapePart::Count(b"files"),
+    ShapePart::Words(b" file"),
+    ShapePart::Maybe(b"s"),
+    ShapePart::Words(b", "),
+    ShapePart::Count(b"roots"),
+    ShapePart::Words(b" root"),
+    ShapePart::Maybe(b"s"),
+    ShapePart::Words(b": "),
+    ShapePart::Count(b"fail"),
+    ShapePart::Words(b" fail"),
+    ShapePart::Maybe(b"s"),
+    ShapePart::Words(b", "),
+    ShapePart::Count(b"refused"),
+    ShapePart::Words(b" refused"),
 ];
 
 /// `B2`
-const REFUSAL: [Part<'static>; 1] = [Part::Code(b"refusal")];
+const REFUSAL: [ShapePart<'static>; 1] = [ShapePart::Code(b"refusal")];
 
 /// `E6 at 41`
-const REFUSAL_AT: [Part<'static>; 3] = [
-    Part::Code(b"refusal"),
-    Part::Words(b" at "),
-    Part::Count(b"at"),
+const REFUSAL_AT: [ShapePart<'static>; 3] = [
+    ShapePart::Code(b"refusal"),
+    ShapePart::Words(b" at "),
+    ShapePart::Count(b"at"),
 ];
 
 /// `line 3, column 11`
-pub(crate) const POSITION: [Part<'static>; 4] = [
-    Part::Words(b"line "),
-    Part::Count(b"line"),
-    Part::Words(b", column "),
-    Part::Count(b"column"),
+pub(crate) const POSITION: [ShapePart<'static>; 4] = [
+    ShapePart::Words(b"line "),
+    ShapePart::Count(b"line"),
+    ShapePart::Words(b", column "),
+    ShapePart::Count(b"column"),
 ];
 
 /// `  instead of  X and Y`
-const INSTEAD: [Part<'static>; 2] = [Part::Words(b"  instead of  "), Part::Rest(b"instead")];
+const INSTEAD: [ShapePart<'static>; 2] = [
+    ShapePart::Words(b"  instead of  "),
+    ShapePart::Rest(b"instead"),
+];
 
 /// `  write       X andalso Y`
-const WRITE: [Part<'static>; 2] = [Part::Words(b"  write       "), Part::Rest(b"write")];
+const WRITE: [ShapePart<'static>; 2] = [
+    ShapePart::Words(b"  write       "),
+    ShapePart::Rest(b"write"),
+];
 
 /// An empty line.
-const BLANK: [Part<'static>; 1] = [Part::Tells(Fact {
+const BLANK: [ShapePart<'static>; 1] = [ShapePart::Tells(Fact {
     key: b"blank",
     value: Value::Truth(true),
 })];
 
 /// The shapes, in the order in which they are tried.
-pub(crate) const SHAPES: [&[Part<'static>]; 15] = [
+pub(crate) const SHAPES: [&[ShapePart<'static>]; 15] = [
     &EVENT,
     &NO_VERDICT,
     &SCHEDULE,
@@ -157,42 +166,42 @@ pub(crate) const SHAPES: [&[Part<'static>]; 15] = [
 ];
 
 /// `seed 0 fails`
-const SEED_FAILS: [Part<'static>; 4] = [
-    Part::Tells(Fact {
+const SEED_FAILS: [ShapePart<'static>; 4] = [
+    ShapePart::Tells(Fact {
         key: b"failure",
         value: Value::Truth(true),
     }),
-    Part::Words(b"seed "),
-    Part::Count(b"seed"),
-    Part::Words(b" fails"),
+    ShapePart::Words(b"seed "),
+    ShapePart::Count(b"seed"),
+    ShapePart::Words(b" fails"),
 ];
 
 /// `stopped behind 512 seeds, no failure`
-const STOPPED_WELL: [Part<'static>; 5] = [
-    Part::Tells(Fact {
+const STOPPED_WELL: [ShapePart<'static>; 5] = [
+    ShapePart::Tells(Fact {
         key: b"stopped",
         value: Value::Truth(true),
     }),
-    Part::Tells(Fact {
+    ShapePart::Tells(Fact {
         key: b"failure",
         value: Value::Truth(false),
     }),
-    Part::Words(b"stopped behind "),
-    Part::Count(b"seeds"),
-    Part::Words(b" seeds, no failure"),
+    ShapePart::Words(b"stopped behind "),
+    ShapePart::Count(b"seeds"),
+    ShapePart::Words(b" seeds, no failure"),
 ];
 
 /// `no exported function without arguments`
-const ROOTLESS: [Part<'static>; 2] = [
-    Part::Words(b"no exported function without arguments"),
-    Part::Tells(Fact {
+const ROOTLESS: [ShapePart<'static>; 2] = [
+    ShapePart::Words(b"no exported function without arguments"),
+    ShapePart::Tells(Fact {
         key: b"roots",
         value: Value::Number(0),
     }),
 ];
 
 /// The shapes of what is reported of a root.
-pub(crate) const ROOT_SHAPES: [&[Part<'static>]; 4] = [
+pub(crate) const ROOT_SHAPES: [&[ShapePart<'static>]; 4] = [
     &SEED_FAILS,
     &NO_FAILURE,
     &STOPPED_WELL,
@@ -200,4 +209,4 @@ pub(crate) const ROOT_SHAPES: [&[Part<'static>]; 4] = [
 ];
 
 /// The shapes of what is reported of a file.
-pub(crate) const FILE_SHAPES: [&[Part<'static>]; 2] = [&REFUSAL_AT, &ROOTLESS];
+pub(crate) const FILE_SHAPES: [&[ShapePart<'static>]; 2] = [&REFUSAL_AT, &ROOTLESS];

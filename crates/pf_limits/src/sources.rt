@@ -2,7 +2,7 @@
 
 ghost use Rattle.std.specs.Prelude.{◌≡◌};
 ghost use Rattle.pf_terms.specs.declared.limits.TheConstants.{MOST_DEPTH, MOST_NODES};
-ghost use Rattle.pf_intern.specs.declared.limits.TheConstants.{MOST_NAME_BYTES, MOST_TEXT_CHARACTERS, MOST_TREE_DEPTH};
+ghost use Rattle.pf_tokens.specs.declared.limits.TheConstants.{MOST_NAME_BYTES, MOST_TEXT_CHARACTERS, MOST_TREE_DEPTH};
 ghost use Rattle.pf_tokens.specs.declared.scan.TheConstants.{MOST_SOURCE_BYTES};
 
 /// How long a source may be, an atom of it and a string, and how deep a pattern or an expression.

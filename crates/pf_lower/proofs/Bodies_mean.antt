@@ -16,7 +16,7 @@ use Rattle.pf_syntax.specs.SyntaxTree.{NodeTable, Head, expr_pattern_at, expr_at
 use Rattle.pf_syntax.specs.SyntaxTreeOver.{exprs_at, alternatives_at, condition_over, branches_over, branch_depth}
 use Rattle.pf_syntax.specs.Scope.{Scope, has, after, after_expr_pattern}
 use Rattle.pf_syntax.specs.Naming as w
-use Rattle.pf_syntax.specs.Naming.{ElementIs, BodyIs, GuardIs, BranchesAre, behind, ending}
+use Rattle.pf_syntax.specs.Naming.{ElementIs, BodyIs, GuardIs, BranchesAre, with_pattern, ending}
 use Rattle.pf_syntax.specs.Module.{Checked, Tables, pattern_at}
 use Rattle.pf_syntax.specs.Over.{part_over, patterns_at, alternatives_over, guard_from, clauses_over}
 use Rattle.pf_syntax.specs.Within.{PatternRepresents, OperandRepresents, ClauseRepresents}
@@ -31,12 +31,12 @@ use Rattle.pf_syntax.specs.declared.expr.Tests.{Tests}
 use Rattle.pf_syntax.specs.declared.expr.Branch.{Branch}
 use Rattle.pf_syntax.specs.ExprModule.{unguarded}
 use Rattle.pf_lower.specs.declared.bodies.Element.{Element}
-use Rattle.pf_rules.specs.Static.{names_of, expr_pattern_faults, expr_faults, exprs_faults, condition_faults, branches_faults}
+use Rattle.pf_rules.specs.Static.{names_of_module, expr_pattern_faults, expr_faults, exprs_faults, condition_faults, branches_faults}
 use Rattle.pf_rules.specs.Formed.{ExprsFormed, ConditionFormed, BranchesFormed, HasFirst, HasAlternative}
-use Rattle.pf_lower.specs.Bound.{bound_by, all_bound_by, bound_after, all_bound_after, IsPlain}
+use Rattle.pf_lower.specs.Bound.{bound_by, all_bound_by, bound_after, all_bound_after, IsNoMatch}
 use Rattle.pf_lower.specs.Grown.{Grown, PartPut}
 use Rattle.pf_lower.specs.Built.{Lowers, ExprPatternBecomes, ElementBecomes, BodyBecomes, ExprPatternMeans, ExprMeans, ExprsMean, ElementMeans, BodyMeans, GuardMeans, BranchesMean}
-use Rattle.pf_lower.specs.Bodies.{ElementRepresents, binds, ElementBuilt, EachElementMeans, BranchGuardBecomes, BranchBodyBecomes, BranchMeans}
+use Rattle.pf_lower.specs.Bodies.{ElementRepresents, bound_elements, ElementBuilt, EachElementMeans, BranchGuardBecomes, BranchBodyBecomes, BranchMeans}
 use Rattle.pf_lower.proofs.Growing.{grown_on, grown_itself, becomes_on, expr_pattern_means_on, exprs_mean_on, guard_means_on}
 use Rattle.pf_lower.proofs.Threads.{Threaded, SoFar}
 use Rattle.pf_lower.proofs.ExprPatterns_mean.{expr_pattern_bound}
@@ -107,7 +107,7 @@ forgotten names q es =
 
 -- ---- elements
 
-patterns_behind : (t : Tables) (ys : List PatternId) (y : PatternId) → patterns_at t (ys ++ y ∷ []) ≡ behind (patterns_at t ys) (pattern_at t y.0)
+patterns_behind : (t : Tables) (ys : List PatternId) (y : PatternId) → patterns_at t (ys ++ y ∷ []) ≡ with_pattern (patterns_at t ys) (pattern_at t y.0)
 patterns_behind t [] y = refl
 patterns_behind t (x ∷ ys) y = ap (pattern (pattern_at t x.0)) (patterns_behind t ys y)
 
@@ -121,10 +121,10 @@ module _ (fs : List (List Head)) where
         stands = part_stands t.tables u.tables on.tables x h.stands;
         means =
             becomes_on (λ n v. ElementBecomes n names e (patterns_at u.tables ys) v) fs t u _ _ on value
-            (subst (λ v. ElementBecomes (names_of t.atoms fs) names e v (part_over t.tables x)) (sym front) h.means);
+            (subst (λ v. ElementBecomes (names_of_module t.atoms fs) names e v (part_over t.tables x)) (sym front) h.means);
       }
 
-  pub plain_lowers : (m0 m1 : Checked) (b names : List ℕ) (e : Expr) (x : Operand) → IsPlain e → Lowers m0 m1 b names (λ t. ExprMeans fs t names e x)
+  pub plain_lowers : (m0 m1 : Checked) (b names : List ℕ) (e : Expr) (x : Operand) → IsNoMatch e → Lowers m0 m1 b names (λ t. ExprMeans fs t names e x)
       → Lowers m0 m1 b (bound_after names e) (λ t. ElementMeans fs t names e [] x)
   plain_lowers m0 m1 b names e x plain d = record {
     grown = d.grown;
@@ -149,10 +149,10 @@ module _ (fs : List (List Head)) where
           patterns_stand = All-append (PatternRepresents m2.tables) ys (y ∷ []) inner.patterns_stand (All-cons (PatternRepresents m2.tables) y [] r.answer.stands (All-nil (PatternRepresents m2.tables)));
           stands = inner.stands;
           means = λ g h f k.
-              let here : expr_faults (names_of m2.atoms fs) g a ≡ [] = left_empty (expr_faults (names_of m2.atoms fs) g a) _ k in
-              let later : expr_pattern_faults (after g a) q ≡ [] = right_empty (expr_faults (names_of m2.atoms fs) g a) _ k in
-              let seen : (after g a).bound ≡ b1 = element_bound (names_of m2.atoms fs) g a f.2 here ∙ ap (λ n. bound_after n a) h ∙ sym d.bound_is in
-              subst (λ v. ElementIs (names_of m2.atoms fs) g (p.match q a) v (part_over m2.tables x)) (sym (patterns_behind m2.tables ys y))
+              let here : expr_faults (names_of_module m2.atoms fs) g a ≡ [] = left_empty (expr_faults (names_of_module m2.atoms fs) g a) _ k in
+              let later : expr_pattern_faults (after g a) q ≡ [] = right_empty (expr_faults (names_of_module m2.atoms fs) g a) _ k in
+              let seen : (after g a).bound ≡ b1 = element_bound (names_of_module m2.atoms fs) g a f.2 here ∙ ap (λ n. bound_after n a) h ∙ sym d.bound_is in
+              subst (λ v. ElementIs (names_of_module m2.atoms fs) g (p.match q a) v (part_over m2.tables x)) (sym (patterns_behind m2.tables ys y))
               (w.match g q a _ _ _ (inner.means g h f.2 here) (r.answer.means (after g a) seen f.1 later));
         };
       })
@@ -202,19 +202,19 @@ module _ (fs : List (List Head)) (b : NodeTable) where
   no_elements t names (id ∷ ids) (x ∷ xs) e h f = cc
 
   body_is : (t : Checked) (names : List ℕ) (ids : List ExprId) (front : List Element) (last : Element) → EachElementMeans fs b t names ids (front ++ last ∷ [])
-      → (g : Scope) → g.bound ≡ names → ExprsFormed true (exprs_at b ids) → exprs_faults (names_of t.atoms fs) g (exprs_at b ids) ≡ []
-      → BodyIs (names_of t.atoms fs) g (exprs_at b ids) (binds t.tables front (ending (patterns_at t.tables last.patterns.items) (part_over t.tables last.value)))
+      → (g : Scope) → g.bound ≡ names → ExprsFormed true (exprs_at b ids) → exprs_faults (names_of_module t.atoms fs) g (exprs_at b ids) ≡ []
+      → BodyIs (names_of_module t.atoms fs) g (exprs_at b ids) (bound_elements t.tables front (ending (patterns_at t.tables last.patterns.items) (part_over t.tables last.value)))
   body_is t names [] [] last h g e f k = absurd h
   body_is t names [] (x ∷ front) last h g e f k = absurd h
   body_is t names (id ∷ []) [] last h g e f k =
-      w.last g (expr_at b id.0) _ _ (h.0.means g e f.0 (left_empty (expr_faults (names_of t.atoms fs) g (expr_at b id.0)) _ k))
+      w.last g (expr_at b id.0) _ _ (h.0.means g e f.0 (left_empty (expr_faults (names_of_module t.atoms fs) g (expr_at b id.0)) _ k))
   body_is t names (id ∷ other ∷ ids) [] last h g e f k = absurd h.1
   body_is t names (id ∷ ids) (x ∷ front) last h g e f k =
       let e0 = expr_at b id.0 in
-      let here : expr_faults (names_of t.atoms fs) g e0 ≡ [] = left_empty (expr_faults (names_of t.atoms fs) g e0) _ k in
-      let later : exprs_faults (names_of t.atoms fs) (after g e0) (exprs_at b ids) ≡ [] = right_empty (expr_faults (names_of t.atoms fs) g e0) _ k in
+      let here : expr_faults (names_of_module t.atoms fs) g e0 ≡ [] = left_empty (expr_faults (names_of_module t.atoms fs) g e0) _ k in
+      let later : exprs_faults (names_of_module t.atoms fs) (after g e0) (exprs_at b ids) ≡ [] = right_empty (expr_faults (names_of_module t.atoms fs) g e0) _ k in
       w.before g e0 (exprs_at b ids) _ _ _ (h.0.means g e f.0 here)
-      (body_is t (next_element names id) ids front last h.1 (after g e0) (element_bound (names_of t.atoms fs) g e0 f.0 here ∙ ap (λ n. bound_after n e0) e) f.1 later)
+      (body_is t (next_element names id) ids front last h.1 (after g e0) (element_bound (names_of_module t.atoms fs) g e0 f.0 here ∙ ap (λ n. bound_after n e0) e) f.1 later)
 
   pub no_body : (m0 m1 : Checked) (bound wanted names : List ℕ) (ids : List ExprId) (xs : List Element) (x : Operand) → OperandRepresents m1.tables x → xs ≡ []
       → Lowers m0 m1 bound wanted (λ t. EachElementMeans fs b t names ids xs) → Lowers m0 m1 bound wanted (λ t. BodyMeans fs t names (exprs_at b ids) x)
@@ -224,7 +224,7 @@ module _ (fs : List (List Head)) (b : NodeTable) where
     answer = record { stands = st; means = λ g h i f k. absurd (no_elements m1 names ids xs e d.answer i) };
   }
 
-binds_kept : (t u : Tables) → Extends t u → (es : List Element) (x : Tree) → All (ElementRepresents t) es → binds u es x ≡ binds t es x
+binds_kept : (t u : Tables) → Extends t u → (es : List Element) (x : Tree) → All (ElementRepresents t) es → bound_elements u es x ≡ bound_elements t es x
 binds_kept t u on [] x h = refl
 binds_kept t u on (e ∷ es) x h =
     let s = All-head (ElementRepresents t) e es h in
@@ -239,12 +239,12 @@ elements_stand_on t u on es h = All-weaker (ElementRepresents t) (ElementReprese
 pub body_done : (fs : List (List Head)) (b : NodeTable) (m0 m1 m2 m3 : Checked) (bound wanted names : List ℕ) (ids : List ExprId) (xs front : List Element) (last : Element) (end x : Operand)
     → xs ≡ front ++ last ∷ [] → Lowers m0 m1 bound wanted (λ t. EachElementMeans fs b t names ids xs)
     → PartPut m1 m2 (ending (patterns_at m1.tables last.patterns.items) (part_over m1.tables last.value)) end
-    → PartPut m2 m3 (binds m2.tables front (part_over m2.tables end)) x → Lowers m0 m3 bound wanted (λ t. BodyMeans fs t names (exprs_at b ids) x)
+    → PartPut m2 m3 (bound_elements m2.tables front (part_over m2.tables end)) x → Lowers m0 m3 bound wanted (λ t. BodyMeans fs t names (exprs_at b ids) x)
 body_done fs b m0 m1 m2 m3 bound wanted names ids xs front last end x e d put_end put =
     let each : EachElementMeans fs b m1 names ids (front ++ last ∷ []) = subst (EachElementMeans fs b m1 names ids) e d.answer in
     let stand = All-pop (ElementRepresents m1.tables) xs front (Some last) e (each_stands fs b m1 names ids xs d.answer) in
-    let whole : binds m2.tables front (part_over m2.tables end) ≡ binds m1.tables front (ending (patterns_at m1.tables last.patterns.items) (part_over m1.tables last.value)) =
-    ap (binds m2.tables front) put_end.is ∙ binds_kept m1.tables m2.tables put_end.grown.tables front _ stand.0 in
+    let whole : bound_elements m2.tables front (part_over m2.tables end) ≡ bound_elements m1.tables front (ending (patterns_at m1.tables last.patterns.items) (part_over m1.tables last.value)) =
+    ap (bound_elements m2.tables front) put_end.is ∙ binds_kept m1.tables m2.tables put_end.grown.tables front _ stand.0 in
     let on = grown_on m1 m2 m3 put_end.grown put.grown in
     record {
       grown = grown_on m0 m1 m3 d.grown on;
@@ -255,21 +255,21 @@ body_done fs b m0 m1 m2 m3 bound wanted names ids xs front last end x e d put_en
       };
     }
 
-binds_last : (t : Tables) (es : List Element) (e : Element) (x : Tree) → binds t (es ++ e ∷ []) x ≡ binds t es (tr.bind (patterns_at t e.patterns.items) (part_over t e.value) x)
+binds_last : (t : Tables) (es : List Element) (e : Element) (x : Tree) → bound_elements t (es ++ e ∷ []) x ≡ bound_elements t es (tr.bind (patterns_at t e.patterns.items) (part_over t e.value) x)
 binds_last t [] e x = refl
 binds_last t (d ∷ es) e x = ap (tr.bind (patterns_at t d.patterns.items) (part_over t d.value)) (binds_last t es e x)
 
 pub bind_step : (m0 m1 m2 : Checked) (all rest : List Element) (e : Element) (l k : Operand) (whole : Tree) → all ≡ rest ++ e ∷ [] → Grown m0 m1
     → All (ElementRepresents m0.tables) all → PartPut m1 m2 (tr.bind (patterns_at m1.tables e.patterns.items) (part_over m1.tables e.value) (part_over m1.tables l)) k
-    → binds m0.tables all (part_over m1.tables l) ≡ whole
-    → All (ElementRepresents m0.tables) rest × (binds m0.tables rest (part_over m2.tables k) ≡ whole)
+    → bound_elements m0.tables all (part_over m1.tables l) ≡ whole
+    → All (ElementRepresents m0.tables) rest × (bound_elements m0.tables rest (part_over m2.tables k) ≡ whole)
 bind_step m0 m1 m2 all rest e l k whole is g h put was =
     let parts = All-pop (ElementRepresents m0.tables) all rest (Some e) is h in
     let front = patterns_kept m0.tables m1.tables g.tables e.patterns.items parts.1.0 in
     let value = part_kept m0.tables m1.tables g.tables e.value parts.1.1 in (
       parts.0,
-      ap (binds m0.tables rest) (put.is ∙ ap (λ z. tr.bind z (part_over m1.tables e.value) (part_over m1.tables l)) front ∙ ap (λ z. tr.bind (patterns_at m0.tables e.patterns.items) z (part_over m1.tables l)) value)
-          ∙ sym (binds_last m0.tables rest e (part_over m1.tables l)) ∙ ap (λ es. binds m0.tables es (part_over m1.tables l)) (sym is) ∙ was,
+      ap (bound_elements m0.tables rest) (put.is ∙ ap (λ z. tr.bind z (part_over m1.tables e.value) (part_over m1.tables l)) front ∙ ap (λ z. tr.bind (patterns_at m0.tables e.patterns.items) z (part_over m1.tables l)) value)
+          ∙ sym (binds_last m0.tables rest e (part_over m1.tables l)) ∙ ap (λ es. bound_elements m0.tables es (part_over m1.tables l)) (sym is) ∙ was,
     )
 
 -- ---- guards
@@ -294,20 +294,20 @@ module _ (fs : List (List Head)) (b : NodeTable) where
   alternatives_stand t names (g ∷ gs) [] h = absurd h
 
   alternatives_mean : (t : Checked) (names : List ℕ) (gs : List Tests) (ds : List Alternative) → Threaded next_tests (EachTests t) names gs ds
-      → (s : Scope) → s.bound ≡ names → ConditionFormed (alternatives_at b gs) → condition_faults (names_of t.atoms fs) s (alternatives_at b gs) ≡ []
-      → GuardIs (names_of t.atoms fs) s (alternatives_at b gs) (alternatives_over t.tables ds)
+      → (s : Scope) → s.bound ≡ names → ConditionFormed (alternatives_at b gs) → condition_faults (names_of_module t.atoms fs) s (alternatives_at b gs) ≡ []
+      → GuardIs (names_of_module t.atoms fs) s (alternatives_at b gs) (alternatives_over t.tables ds)
   alternatives_mean t names [] [] h s e f k = w.no_more_tests s
   alternatives_mean t names (g ∷ gs) (d ∷ ds) h s e f k =
       let es = exprs_at b g.tests.items in
-      w.or_tests s es (alternatives_at b gs) _ _ (h.0.means s e f.0 (left_empty (exprs_faults (names_of t.atoms fs) s es) _ k))
-      (alternatives_mean t names gs ds h.1 s e f.1 (right_empty (exprs_faults (names_of t.atoms fs) s es) _ k))
+      w.or_tests s es (alternatives_at b gs) _ _ (h.0.means s e f.0 (left_empty (exprs_faults (names_of_module t.atoms fs) s es) _ k))
+      (alternatives_mean t names gs ds h.1 s e f.1 (right_empty (exprs_faults (names_of_module t.atoms fs) s es) _ k))
   alternatives_mean t names [] (d ∷ ds) h s e f k = absurd h
   alternatives_mean t names (g ∷ gs) [] h s e f k = absurd h
 
   -- a guard that has an alternative is that of its list
   guard_means : (t : Checked) (names : List ℕ) (gs : List Tests) (ds : List Alternative) → Threaded next_tests (EachTests t) names gs ds
       → (s : Scope) → s.bound ≡ names → HasAlternative (alternatives_at b gs) → ConditionFormed (alternatives_at b gs)
-      → condition_faults (names_of t.atoms fs) s (alternatives_at b gs) ≡ [] → GuardIs (names_of t.atoms fs) s (alternatives_at b gs) (guard_from t.tables ds)
+      → condition_faults (names_of_module t.atoms fs) s (alternatives_at b gs) ≡ [] → GuardIs (names_of_module t.atoms fs) s (alternatives_at b gs) (guard_from t.tables ds)
   guard_means t names [] ds h s e some f k = absurd some
   guard_means t names (g ∷ gs) (d ∷ ds) h s e some f k = alternatives_mean t names (g ∷ gs) (d ∷ ds) h s e f k
   guard_means t names (g ∷ gs) [] h s e some f k = absurd h
@@ -320,8 +320,8 @@ module _ (fs : List (List Head)) (b : NodeTable) where
     answer = record {
       stands = subst (All (AlternativeRepresents m.tables)) (sym none) (All-nil (AlternativeRepresents m.tables));
       means = λ s _ some f k.
-          subst (λ ds. GuardIs (names_of m.atoms fs) s c (guard_from m.tables ds)) (sym none)
-          (subst (λ x. GuardIs (names_of m.atoms fs) s x no_guard) (sym e) (w.or_tests s no_exprs no_tests no_trees no_alternatives (w.no_more s) (w.no_more_tests s)));
+          subst (λ ds. GuardIs (names_of_module m.atoms fs) s c (guard_from m.tables ds)) (sym none)
+          (subst (λ x. GuardIs (names_of_module m.atoms fs) s x no_guard) (sym e) (w.or_tests s no_exprs no_tests no_trees no_alternatives (w.no_more s) (w.no_more_tests s)));
     };
   }
 
@@ -388,12 +388,12 @@ module _ (fs : List (List Head)) (b : NodeTable) where
   branches_stand t names (r ∷ rs) [] h = absurd h
 
   branches_mean : (t : Checked) (names : List ℕ) (rs : List Branch) (cs : List Clause) → Threaded next_branch (EachBranch t) names rs cs
-      → (g : Scope) → g.bound ≡ names → BranchesFormed (branches_over b rs) → branches_faults (names_of t.atoms fs) g (branches_over b rs) ≡ []
-      → BranchesAre (names_of t.atoms fs) g (branches_over b rs) (clauses_over t.tables cs)
+      → (g : Scope) → g.bound ≡ names → BranchesFormed (branches_over b rs) → branches_faults (names_of_module t.atoms fs) g (branches_over b rs) ≡ []
+      → BranchesAre (names_of_module t.atoms fs) g (branches_over b rs) (clauses_over t.tables cs)
   branches_mean t names [] [] h g e f k = w.no_more_branches g
   branches_mean t names (r ∷ rs) (c ∷ cs) h g e f k =
       let q = expr_pattern_at b r.expr_pattern.0 in
-      let n = names_of t.atoms fs in
+      let n = names_of_module t.atoms fs in
       let c1 = condition_over b r.condition in
       let es = exprs_at b r.body.items in
       let first : (expr_pattern_faults g q ++ condition_faults n (after_expr_pattern g q) c1) ++ exprs_faults n (after_expr_pattern g q) es ≡ [] = left_empty _ (branches_faults n g (branches_over b rs)) k in

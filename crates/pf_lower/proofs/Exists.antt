@@ -3,8 +3,8 @@ use Rattle.std.proofs.Common.{◌≡◌, ℕ, zero, suc, Bool, true, false, List
 use Rattle.std.specs.Prelude.{slice_get, ◌==◌, ◌||◌, not, nat_eq, is_some, if◌then◌else◌}
 use Rattle.std.proofs.lemmas.Bool.Decides.{nat_tests}
 use Rattle.std.proofs.lemmas.List.Elements.{All-head, All-tail}
-use Rattle.pf_fault.specs.declared.refusal.Refusal.{Refusal}
-use Rattle.pf_fault.specs.declared.code.Code.TheVariants.{Unbound, Undefined, Unsafe}
+use Rattle.pf_errors.specs.declared.refusal.SourceRefusal.{SourceRefusal}
+use Rattle.pf_errors.specs.declared.code.Code.TheVariants.{Unbound, Undefined, Unsafe}
 use Rattle.pf_terms.specs.Value.{int, atom as atom_value}
 use Rattle.pf_syntax.specs.Pattern.{Pattern, Patterns, any, new, slot, known, tuple_of, no_patterns, pattern}
 use Rattle.pf_syntax.specs.ExprPattern as s
@@ -16,7 +16,7 @@ use Rattle.pf_syntax.specs.Tree.{Builtin, Tree, Trees, Clauses, Guard, lit, var,
 use Rattle.pf_syntax.specs.SyntaxTree.{Export, Head}
 use Rattle.pf_syntax.specs.Scope.{Scope, no_scope, has, is_unsafe, is_new, after_expr_pattern, after_expr_patterns, after, after_all}
 use Rattle.pf_syntax.specs.Naming as w
-use Rattle.pf_syntax.specs.Naming.{Names, ExprPatternIs, ExprPatternsAre, ExprIs, ExprsAre, ElementIs, BodyIs, GuardIs, BranchesAre, HeadIs, IsSlotOf, arity_of, behind, ending, conses, conses_of, empty_list, string}
+use Rattle.pf_syntax.specs.Naming.{Names, ExprPatternIs, ExprPatternsAre, ExprIs, ExprsAre, ElementIs, BodyIs, GuardIs, BranchesAre, HeadIs, IsSlotOf, arity_of, with_pattern, ending, conses, conses_of, empty_list, string}
 use Rattle.pf_rules.specs.Static.{fault_if, parameters_of, is_defined, expr_pattern_faults, expr_patterns_faults, expr_faults, exprs_faults, condition_faults, branches_faults, head_faults}
 use Rattle.pf_rules.specs.Checks.{Pairwise, FunctionIs, is_exported}
 use Rattle.pf_rules.specs.Formed.{ExprFormed, ExprsFormed, ConditionFormed, BranchesFormed, HasFirst, HeadFormed, FunctionFormed, AreFormed}
@@ -118,7 +118,7 @@ module _ (n : Names) where
   callee_by g f at es xs None None e1 e2 h k = cc
 
   matched : (m : Bool) (g : Scope) (q : ExprPattern) (a : Expr) → IsTrue m → SomeExpr true g a → (y : Pattern) × ExprPatternIs n (after g a) q y → SomeExpr m g (p.match q a)
-  matched true g q a m i j = (behind i.0 j.0, i.1, w.match g q a i.0 j.0 i.1 i.2 j.1)
+  matched true g q a m i j = (with_pattern i.0 j.0, i.1, w.match g q a i.0 j.0 i.1 i.2 j.1)
   matched false g q a m i j = cc
 
   mutual
@@ -136,7 +136,7 @@ module _ (n : Names) where
         let j = some_expr false (after_all g es) e f.1 (right_empty (exprs_faults n g es) _ h) in
         standing m g _ _ (w.list_on g es e i.0 j.0 i.1 j.1)
     some_expr m g (p.call a at es) f h =
-        let undefined : List Refusal = if is_defined n a (arity_of es) then [] else fault_if true Undefined at in
+        let undefined : List SourceRefusal = if is_defined n a (arity_of es) then [] else fault_if true Undefined at in
         let i = some_exprs g es f (right_empty undefined (exprs_faults n g es) h) in
         let j = callee_by g a at es i.0 (n.own_of a (arity_of es)) (n.builtin_of a (arity_of es)) refl refl (left_empty undefined (exprs_faults n g es) h) i.1 in
         standing m g _ _ j.1

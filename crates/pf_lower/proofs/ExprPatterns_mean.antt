@@ -2,7 +2,7 @@
 use Rattle.std.proofs.Common.{◌≡◌, ℕ, zero, suc, ◌<◌, ◌≤◌, length, take, get_or, arith, Bool, true, false, List, [], ◌∷◌, ◌++◌, refl, sym, ap, ◌∙◌, subst}
 use Rattle.std.specs.Prelude.{fold, not, ◌||◌, if◌then◌else◌, slice_get, Some}
 use Rattle.std.proofs.lemmas.List.Elements.{All-nil, All-cons}
-use Rattle.pf_fault.specs.declared.code.Code.TheVariants.{Unsafe}
+use Rattle.pf_errors.specs.declared.code.Code.TheVariants.{Unsafe}
 use Rattle.pf_syntax.specs.ExprPattern as s
 use Rattle.pf_syntax.specs.ExprPattern.{ExprPattern, ExprPatterns, no_expr_patterns, expr_pattern, expr_pattern_depth, expr_patterns_depth}
 use Rattle.pf_syntax.specs.Pattern.{new, slot, known, tuple_of}
@@ -16,7 +16,7 @@ use Rattle.pf_syntax.specs.Over.{patterns_at}
 use Rattle.pf_syntax.specs.Within.{PatternRepresents}
 use Rattle.pf_syntax.specs.declared.node.PatternId.{PatternId}
 use Rattle.pf_syntax.specs.declared.expr.ExprPatternId.{ExprPatternId}
-use Rattle.pf_rules.specs.Static.{names_of, fault_if, expr_pattern_faults, expr_patterns_faults}
+use Rattle.pf_rules.specs.Static.{names_of_module, fault_if, expr_pattern_faults, expr_patterns_faults}
 use Rattle.pf_lower.specs.Bound.{bound_by, all_bound_by}
 use Rattle.pf_lower.specs.Built.{Lowers, ExprPatternMeans, ExprPatternsMean}
 use Rattle.pf_lower.specs.Grown.{Grown, PatternPut}
@@ -134,7 +134,7 @@ module _ (fs : List (List Head)) (m0 m1 m2 m3 : Checked) (names b1 : List ℕ) (
       let whole : conses_of (patterns_at m2.tables ps) (pattern_at m2.tables nil.0) ≡ conses_of (patterns_at m2.tables ps) (known empty_list) = ap (conses_of (patterns_at m2.tables ps)) end.is in
       let front = expr_patterns_mean_on fs m1 m2 end.grown names qs ps d.answer in
       expr_pattern_put fs m0 m2 m3 b1 names q (s.list qs) _ p same d.bound_is (grown_on m0 m1 m2 d.grown end.grown)
-      (λ g e f k. subst (ExprPatternIs (names_of m2.atoms fs) g (s.list qs)) (sym whole) (w.list g qs _ (front.means g e f k))) put
+      (λ g e f k. subst (ExprPatternIs (names_of_module m2.atoms fs) g (s.list qs)) (sym whole) (w.list g qs _ (front.means g e f k))) put
 
   pub list_on_expr_pattern : (b2 : List ℕ) (q q1 : ExprPattern) (rest : PatternId) → s.list_on qs q1 ≡ q → Lowers m1 m2 b2 (bound_by b1 q1) (λ t. ExprPatternMeans fs t b1 q1 rest)
       → PatternPut m2 m3 (conses_of (patterns_at m2.tables ps) (pattern_at m2.tables rest.0)) p → Lowers m0 m3 b2 (bound_by names q) (λ t. ExprPatternMeans fs t names q p)

@@ -3,7 +3,7 @@ use Rattle.std.proofs.Common.{◌≡◌, ℕ, zero, suc, ◌<◌, ◌≤◌, tru
 use Rattle.std.specs.Prelude.{fold, slice_get, Some, None, ◌||◌, if◌then◌else◌, is_some, Option}
 use Rattle.std.proofs.lemmas.List.{take_all}
 use Rattle.std.proofs.lemmas.List.Elements.{All-nil, All-cons}
-use Rattle.pf_fault.specs.declared.code.Code.TheVariants.{Undefined}
+use Rattle.pf_errors.specs.declared.code.Code.TheVariants.{Undefined}
 use Rattle.pf_syntax.specs.Expr as p
 use Rattle.pf_syntax.specs.Expr.{Expr, Exprs, Branches, no_exprs, expr, expr_depth, exprs_depth}
 use Rattle.pf_syntax.specs.Tree as tr
@@ -19,9 +19,9 @@ use Rattle.pf_syntax.specs.Within.{OperandRepresents}
 use Rattle.pf_syntax.specs.declared.node.Operand.{Operand}
 use Rattle.pf_syntax.specs.declared.node.Clause.{Clause}
 use Rattle.pf_syntax.specs.declared.expr.ExprId.{ExprId}
-use Rattle.pf_rules.specs.Static.{names_of, fault_if, is_defined, expr_faults, exprs_faults, branches_faults}
+use Rattle.pf_rules.specs.Static.{names_of_module, fault_if, is_defined, expr_faults, exprs_faults, branches_faults}
 use Rattle.pf_rules.specs.Formed.{ExprFormed, ExprsFormed}
-use Rattle.pf_lower.specs.Bound.{bound_by, bound_after, IsPlain}
+use Rattle.pf_lower.specs.Bound.{bound_by, bound_after, IsNoMatch}
 use Rattle.pf_lower.specs.Grown.{Grown, PartPut}
 use Rattle.pf_lower.specs.Built.{Lowers, ExprBecomes, ExprMeans, ExprsMean, BranchesMean}
 use Rattle.pf_lower.proofs.Exists.{bound_by_tests, left_empty, right_empty}
@@ -57,7 +57,7 @@ mutual
   all_kept g no_exprs f = refl
   all_kept g (expr e es) f = all_kept (after g e) es f.1 ∙ kept g e f.0
 
-pub plain_formed : (e : Expr) → IsPlain e → ExprFormed true e → ExprFormed false e
+pub plain_formed : (e : Expr) → IsNoMatch e → ExprFormed true e → ExprFormed false e
 plain_formed (p.integer z) i f = f
 plain_formed (p.atom a) i f = f
 plain_formed (p.text cs) i f = f
@@ -78,7 +78,7 @@ plain_formed (p.case a bs) i f = f
 plain_formed (p.if_expression bs) i f = f
 plain_formed (p.receive bs) i f = f
 
-pub plain_bound : (e : Expr) (names : List ℕ) → IsPlain e → bound_after names e ≡ names
+pub plain_bound : (e : Expr) (names : List ℕ) → IsNoMatch e → bound_after names e ≡ names
 plain_bound (p.integer z) names i = refl
 plain_bound (p.atom a) names i = refl
 plain_bound (p.text cs) names i = refl
@@ -127,7 +127,7 @@ element_bound n g (p.receive bs) f k = kept g (p.receive bs) f
 module _ (fs : List (List Head)) where
   -- a part that needs nothing put
   pub expr_here : (m : Checked) (names : List ℕ) (e e' : Expr) (x : Operand) → e' ≡ e → OperandRepresents m.tables x
-      → ExprBecomes (names_of m.atoms fs) names e' (part_over m.tables x)
+      → ExprBecomes (names_of_module m.atoms fs) names e' (part_over m.tables x)
       → Lowers m m names names (λ t. ExprMeans fs t names e x)
   expr_here m names e e' x same stands means = subst (λ s. Lowers m m names names (λ t. ExprMeans fs t names s x)) same
       (record { grown = grown_itself m; bound_is = refl; answer = record { stands = stands; means = means } })
@@ -153,11 +153,11 @@ module _ (fs : List (List Head)) where
   }
 
   pub two_mean : (t : Checked) (names : List ℕ) (a b : Expr) (x y : Operand) → ExprMeans fs t names a x × ExprMeans fs t names b y
-      → (g : Scope) → g.bound ≡ names → ExprFormed false a × ExprFormed false b → expr_faults (names_of t.atoms fs) g a ++ expr_faults (names_of t.atoms fs) (after g a) b ≡ []
-      → ExprIs (names_of t.atoms fs) g a (part_over t.tables x) × ExprIs (names_of t.atoms fs) (after g a) b (part_over t.tables y)
+      → (g : Scope) → g.bound ≡ names → ExprFormed false a × ExprFormed false b → expr_faults (names_of_module t.atoms fs) g a ++ expr_faults (names_of_module t.atoms fs) (after g a) b ≡ []
+      → ExprIs (names_of_module t.atoms fs) g a (part_over t.tables x) × ExprIs (names_of_module t.atoms fs) (after g a) b (part_over t.tables y)
   two_mean t names a b x y h g e f k = (
-    h.0.means g e f.0 (left_empty (expr_faults (names_of t.atoms fs) g a) _ k),
-    h.1.means (after g a) (kept g a f.0 ∙ e) f.1 (right_empty (expr_faults (names_of t.atoms fs) g a) _ k),
+    h.0.means g e f.0 (left_empty (expr_faults (names_of_module t.atoms fs) g a) _ k),
+    h.1.means (after g a) (kept g a f.0 ∙ e) f.1 (right_empty (expr_faults (names_of_module t.atoms fs) g a) _ k),
   )
 
   pub list_on_put : (m0 m1 m2 m3 : Checked) (b1 b2 names : List ℕ) (es : Exprs) (e e' : Expr) (xs : List Operand) (x y : Operand) → p.list_on es e' ≡ e
@@ -165,7 +165,7 @@ module _ (fs : List (List Head)) where
       → PartPut m2 m3 (conses (parts_over m2.tables xs) (part_over m2.tables x)) y → Lowers m0 m3 b2 names (λ t. ExprMeans fs t names e y)
   list_on_put m0 m1 m2 m3 b1 b2 names es e e' xs x y is d r put =
       let front = exprs_mean_on fs m1 m2 r.grown names es xs d.answer in
-      let n = names_of m2.atoms fs in
+      let n = names_of_module m2.atoms fs in
       expr_put fs m0 m2 m3 b2 names e (p.list_on es e') _ y is (r.bound_is ∙ d.bound_is) (grown_on m0 m1 m2 d.grown r.grown)
       (λ g h f k.
       let here : exprs_faults n g es ≡ [] = left_empty (exprs_faults n g es) _ k in
@@ -180,8 +180,8 @@ module _ (fs : List (List Head)) where
       let value = expr_means_on fs m1 m2 r.grown names a x d.answer in
       expr_put fs m0 m2 m3 b2 names e (p.case a bs) _ y is (r.bound_is ∙ d.bound_is) (grown_on m0 m1 m2 d.grown r.grown)
       (λ g h f k.
-      let here : expr_faults (names_of m2.atoms fs) g a ≡ [] = left_empty (expr_faults (names_of m2.atoms fs) g a) _ k in
-      let later : branches_faults (names_of m2.atoms fs) (after g a) bs ≡ [] = right_empty (expr_faults (names_of m2.atoms fs) g a) _ k in
+      let here : expr_faults (names_of_module m2.atoms fs) g a ≡ [] = left_empty (expr_faults (names_of_module m2.atoms fs) g a) _ k in
+      let later : branches_faults (names_of_module m2.atoms fs) (after g a) bs ≡ [] = right_empty (expr_faults (names_of_module m2.atoms fs) g a) _ k in
       w.case g a bs _ _ (value.means g h f.0 here) (r.answer.means (after g a) (kept g a f.0 ∙ h ∙ sym d.bound_is) f.1 later))
       put
 
@@ -226,8 +226,8 @@ module _ (fs : List (List Head)) (b : NodeTable) where
       record {
         stands = All-cons (OperandRepresents t.tables) x xs h.0.stands rest.stands;
         means = λ g e f k.
-            let here : expr_faults (names_of t.atoms fs) g e0 ≡ [] = left_empty (expr_faults (names_of t.atoms fs) g e0) _ k in
-            let later : exprs_faults (names_of t.atoms fs) (after g e0) (exprs_at b ids) ≡ [] = right_empty (expr_faults (names_of t.atoms fs) g e0) _ k in
+            let here : expr_faults (names_of_module t.atoms fs) g e0 ≡ [] = left_empty (expr_faults (names_of_module t.atoms fs) g e0) _ k in
+            let later : exprs_faults (names_of_module t.atoms fs) (after g e0) (exprs_at b ids) ≡ [] = right_empty (expr_faults (names_of_module t.atoms fs) g e0) _ k in
             w.and_more g e0 (exprs_at b ids) (part_over t.tables x) _ (h.0.means g e f.0 here) (rest.means (after g e0) (kept g e0 f.0 ∙ e) f.1 later);
       }
   exprs_mean t names [] (x ∷ xs) h = absurd h

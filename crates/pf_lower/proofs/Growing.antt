@@ -14,7 +14,7 @@ use Rattle.pf_syntax.specs.declared.node.PatternNode.{PatternNode}
 use Rattle.pf_syntax.specs.declared.node.Operand.{Operand}
 use Rattle.pf_syntax.specs.declared.node.Node.{Node}
 use Rattle.pf_syntax.specs.declared.node.Guard.{Guard}
-use Rattle.pf_rules.specs.Static.{names_of}
+use Rattle.pf_rules.specs.Static.{names_of_module}
 use Rattle.pf_lower.specs.Grown.{Grown}
 use Rattle.std.specs.Prelude.{Result, Ok, Err, IfOk}
 use Rattle.pf_lower.specs.Bound.{bound_by}
@@ -39,8 +39,8 @@ pub grown_node : (m : Checked) (n : Node) → Grown m (with_tables m (with_tree 
 grown_node m n = record { name = refl; atoms = refl; functions = refl; tables = extends_tree m.tables n }
 
 -- what something becomes, among the names of the same atoms
-pub becomes_on : {X : Type 0} (B : Names → X → Type 0) (fs : List (List Head)) (t u : Checked) (x y : X) → Grown t u → y ≡ x → B (names_of t.atoms fs) x → B (names_of u.atoms fs) y
-becomes_on B fs t u x y e d h = subst (λ (a : List (List ℕ)). B (names_of a fs) y) (sym e.atoms) (subst (B (names_of t.atoms fs)) (sym d) h)
+pub becomes_on : {X : Type 0} (B : Names → X → Type 0) (fs : List (List Head)) (t u : Checked) (x y : X) → Grown t u → y ≡ x → B (names_of_module t.atoms fs) x → B (names_of_module u.atoms fs) y
+becomes_on B fs t u x y e d h = subst (λ (a : List (List ℕ)). B (names_of_module a fs) y) (sym e.atoms) (subst (B (names_of_module t.atoms fs)) (sym d) h)
 
 module _ (fs : List (List Head)) (t u : Checked) (e : Grown t u) (names : List ℕ) where
   pub expr_pattern_means_on : (q : ExprPattern) (y : PatternId) → ExprPatternMeans fs t names q y → ExprPatternMeans fs u names q y
@@ -81,7 +81,7 @@ by_ok (Err e) P Q h w = h
 -- a pattern that was put last is the whole answer
 pub expr_pattern_put : (fs : List (List Head)) (m0 m1 m2 : Checked) (b names : List ℕ) (q q' : ExprPattern) (y : Pattern) (p : PatternId)
     → q' ≡ q → b ≡ bound_by names q' → Grown m0 m1
-    → ExprPatternBecomes (names_of m1.atoms fs) names q' y
+    → ExprPatternBecomes (names_of_module m1.atoms fs) names q' y
     → PatternPut m1 m2 y p → Lowers m0 m2 b (bound_by names q) (λ t. ExprPatternMeans fs t names q p)
 expr_pattern_put fs m0 m1 m2 b names q q' y p same bound grown means put = subst (λ s. Lowers m0 m2 b (bound_by names s) (λ t. ExprPatternMeans fs t names s p)) same
     (record {
@@ -96,7 +96,7 @@ expr_pattern_put fs m0 m1 m2 b names q q' y p same bound grown means put = subst
 -- a part that was put last is the whole answer
 pub expr_put : (fs : List (List Head)) (m0 m1 m2 : Checked) (b names : List ℕ) (e e' : Expr) (y : Tree) (x : Operand)
     → e' ≡ e → b ≡ names → Grown m0 m1
-    → ExprBecomes (names_of m1.atoms fs) names e' y
+    → ExprBecomes (names_of_module m1.atoms fs) names e' y
     → PartPut m1 m2 y x → Lowers m0 m2 b names (λ t. ExprMeans fs t names e x)
 expr_put fs m0 m1 m2 b names e e' y x same bound grown means put = subst (λ s. Lowers m0 m2 b names (λ t. ExprMeans fs t names s x)) same
     (record {

@@ -19,7 +19,7 @@ use Rattle.pf_syntax.specs.declared.node.Guard.{Guard}
 use Rattle.pf_syntax.specs.declared.node.FunctionClause.{FunctionClause}
 use Rattle.pf_syntax.specs.declared.node.Function.{Function}
 use Rattle.pf_syntax.specs.declared.expr.Head.{Head as HeadNode}
-use Rattle.pf_rules.specs.Static.{names_of, expr_patterns_faults, condition_faults, exprs_faults, head_faults, parameters_of}
+use Rattle.pf_rules.specs.Static.{names_of_module, expr_patterns_faults, condition_faults, exprs_faults, head_faults, parameters_of}
 use Rattle.pf_rules.specs.Formed.{HeadFormed, FunctionFormed, AreFormed}
 use Rattle.pf_lower.specs.Bound.{all_bound_by, all_bound_after}
 use Rattle.pf_rules.specs.Checks.{Pairwise, FunctionIs, is_exported}
@@ -39,7 +39,7 @@ module _ (fs : List (List Head)) (b : NodeTable) where
       → Lowers m2 m3 b3 (all_bound_after b2 (exprs_at b h.body.items)) (λ t. BodyMeans fs t b2 (exprs_at b h.body.items) x)
       → b4 ≡ [] → Lowers m0 m3 b4 [] (λ t. HeadMeans fs t (head_over b h) c)
   clause_done m0 m1 m2 m3 b1 b2 b3 b4 names h ys d x c none cys cd cx p1 p2 p3 cut =
-      let n = names_of m3.atoms fs in
+      let n = names_of_module m3.atoms fs in
       let qs = expr_patterns_at b h.parameters.items in
       let c1 = condition_over b h.condition in
       let es = exprs_at b h.body.items in
@@ -95,7 +95,7 @@ module _ (fs : List (List Head)) (b : NodeTable) where
   heads_mean : (t : Checked) (names : List ℕ) (hs : List HeadNode) (cs : List FunctionClause) → Threaded next_head (EachHead t) names hs cs → HeadsMean fs t (map (head_over b) hs) cs
   heads_mean t names [] [] h = record { stands = All-nil (FunctionClauseRepresents t.tables); means = λ f k. tt }
   heads_mean t names (x ∷ hs) (c ∷ cs) h =
-      let n = names_of t.atoms fs in
+      let n = names_of_module t.atoms fs in
       let rest = heads_mean t [] hs cs h.1 in
       record {
         stands = All-cons (FunctionClauseRepresents t.tables) c cs h.0.stands rest.stands;

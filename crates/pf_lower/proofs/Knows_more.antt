@@ -10,7 +10,7 @@ use Rattle.pf_syntax.specs.SyntaxTree.{NodeTable, Head}
 use Rattle.pf_syntax.specs.SyntaxTreeOver.{head_over, heads_over}
 use Rattle.pf_syntax.specs.declared.expr.Head.{Head as HeadNode}
 use Rattle.pf_syntax.specs.declared.expr.ExprFunction.{ExprFunction}
-use Rattle.pf_rules.specs.Static.{own_in, is_named}
+use Rattle.pf_rules.specs.Static.{own_in, is_named_by_head}
 use Rattle.pf_lower.specs.Knows.{key_order, same_key}
 use Rattle.pf_lower.specs.Heads.{first_of}
 use Rattle.pf_rules.proofs.Counts.{parameters_length}
@@ -75,24 +75,24 @@ next_function b ws fs k x e lt at =
     ap (take (k + 1)) (sym e) ∙ more ∙ ap (λ y. take k (map (heads_over b) ws) ++ y ∷ []) (item ∙ ap (heads_over b) (sym at)) ∙ ap (λ l. take k l ++ heads_over b x ∷ []) e
 
 pub knows_more : (b : NodeTable) (ws : List ExprFunction) (fs : List (List Head)) (k : ℕ) (x : ExprFunction) (f a : ℕ) (old new : Option ℕ) → map (heads_over b) ws ≡ fs → k < length ws → x ≡ get_or ws k x
-    → old ≡ own_in (take k fs) f a → new ≡ first_of old (if is_named f a (heads_over b x) then Some k else None) → new ≡ own_in (take (k + 1) fs) f a
+    → old ≡ own_in (take k fs) f a → new ≡ first_of old (if is_named_by_head f a (heads_over b x) then Some k else None) → new ≡ own_in (take (k + 1) fs) f a
 knows_more b ws fs k x f a old new e lt at h n =
     let long : length (take k fs) ≡ k = length-taken fs k (omega (arith, ap length e, length_mapped (heads_over b) ws)) in
-    n ∙ ap (λ o. first_of o (if is_named f a (heads_over b x) then Some k else None)) h
-    ∙ ap (λ m. first_of (own_in (take k fs) f a) (if is_named f a (heads_over b x) then Some m else None)) (sym long)
-    ∙ sym (position_more (is_named f a) (take k fs) (heads_over b x))
+    n ∙ ap (λ o. first_of o (if is_named_by_head f a (heads_over b x) then Some k else None)) h
+    ∙ ap (λ m. first_of (own_in (take k fs) f a) (if is_named_by_head f a (heads_over b x) then Some m else None)) (sym long)
+    ∙ sym (position_more (is_named_by_head f a) (take k fs) (heads_over b x))
     ∙ ap (λ l. own_in l f a) (sym (next_function b ws fs k x e lt at))
 
 -- ---- a function's name
 
 pub named_first : (b : NodeTable) (f a : ℕ) (hs : List HeadNode) (h : HeadNode) → Some h ≡ slice_get hs 0
-    → same_key (h.ident.name.0, length h.parameters.items) (f, a) ≡ is_named f a (map (head_over b) hs)
+    → same_key (h.ident.name.0, length h.parameters.items) (f, a) ≡ is_named_by_head f a (map (head_over b) hs)
 named_first b f a [] h e = cc
 named_first b f a (x ∷ hs) h e =
     let same : h ≡ x = cc in
     ap (λ y. same_key (y.ident.name.0, length y.parameters.items) (f, a)) same ∙ ap (λ n. nat_eq x.ident.name.0 f && nat_eq n a) (sym (parameters_length b x.parameters.items))
 
-pub unnamed : (b : NodeTable) (f a : ℕ) (hs : List HeadNode) → None ≡ slice_get hs 0 → false ≡ is_named f a (map (head_over b) hs)
+pub unnamed : (b : NodeTable) (f a : ℕ) (hs : List HeadNode) → None ≡ slice_get hs 0 → false ≡ is_named_by_head f a (map (head_over b) hs)
 unnamed b f a [] e = refl
 unnamed b f a (x ∷ hs) e = cc
 

@@ -1,7 +1,7 @@
 -- A pattern by itself breaks no rule, and only what its atoms stand for decides what it becomes.
 use Rattle.std.proofs.Common.{◌≡◌, ℕ, Bool, true, false, [], ◌∷◌, ◌++◌, refl, ap, ap₂, ◌∙◌, subst}
 use Rattle.std.specs.Prelude.{if◌then◌else◌}
-use Rattle.pf_fault.specs.declared.code.Code.TheVariants.{Unsafe}
+use Rattle.pf_errors.specs.declared.code.Code.TheVariants.{Unsafe}
 use Rattle.pf_terms.specs.Value.{atom as atom_value}
 use Rattle.pf_syntax.specs.Pattern.{Pattern, Patterns, known}
 use Rattle.pf_syntax.specs.ExprPattern as s

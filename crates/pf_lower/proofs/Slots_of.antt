@@ -8,7 +8,7 @@ use Rattle.std.proofs.lemmas.Bool.{cases_eq, cases_lt}
 use Rattle.std.proofs.lemmas.Bool.Decides.{nat_tests}
 use Rattle.pf_syntax.specs.Scope.{has}
 use Rattle.pf_lower.specs.Bound.{with_bound}
-use Rattle.pf_lower.specs.Placed.{Placed}
+use Rattle.pf_lower.specs.Placed.{HasSlots}
 
 -- ---- what is among names
 
@@ -77,7 +77,7 @@ front_or_last (z ∷ ks) x (suc k) y e = by (front_or_last ks x k y e)
 -- ---- names and the list by number
 
 -- the list goes past each name
-pub past : (ks ps : List ℕ) (k x : ℕ) → Placed ks ps → slice_get ks k ≡ Some x → x < length ps
+pub past : (ks ps : List ℕ) (k x : ℕ) → HasSlots ks ps → slice_get ks k ≡ Some x → x < length ps
 past ks ps k x p e = by (cases_lt x (length ps)) (p.noted k x e)
   where
     by : (x < length ps) ⊎ (length ps ≤ x) → slice_index ps x ≡ k + 1 → x < length ps
@@ -85,7 +85,7 @@ past ks ps k x p e = by (cases_lt x (length ps)) (p.noted k x e)
     by (inr h) n = let zeros = get_or_past ps x 0 h in absurd (omega arith)
 
 -- a name with 0 isn't bound
-pub unnoted : (ks ps : List ℕ) (x : ℕ) → Placed ks ps → slice_index ps x ≡ 0 → has ks x ≡ false
+pub unnoted : (ks ps : List ℕ) (x : ℕ) → HasSlots ks ps → slice_index ps x ≡ 0 → has ks x ≡ false
 unnoted ks ps x p e = by (has ks x) refl
   where
     by : (b : Bool) → has ks x ≡ b → b ≡ false
@@ -93,7 +93,7 @@ unnoted ks ps x p e = by (has ks x) refl
     by true h = let f = found_at x ks h in let n = p.noted f.0 x f.1 in absurd (omega arith)
 
 -- one less than what the list has is the slot
-pub looked : (ks ps : List ℕ) (x : ℕ) (r : Option ℕ) → Placed ks ps → SomeIff r (1 ≤ slice_index ps x) (slice_index ps x - 1)
+pub looked : (ks ps : List ℕ) (x : ℕ) (r : Option ℕ) → HasSlots ks ps → SomeIff r (1 ≤ slice_index ps x) (slice_index ps x - 1)
     → MatchOption r (has ks x ≡ false) (λ k. slice_get ks k ≡ Some x)
 looked ks ps x None p h = unnoted ks ps x p (by (slice_index ps x) h)
   where
@@ -103,7 +103,7 @@ looked ks ps x None p h = unnoted ks ps x p (by (slice_index ps x) h)
 looked ks ps x (Some k) p h = let one = h.1 in let much = h.0 in p.stands k x (omega arith)
 
 -- a list with the same numbers does as well
-pub lengthened : (ks ps qs : List ℕ) → Placed ks ps → ((x : ℕ) → slice_index qs x ≡ slice_index ps x) → Placed ks qs
+pub lengthened : (ks ps qs : List ℕ) → HasSlots ks ps → ((x : ℕ) → slice_index qs x ≡ slice_index ps x) → HasSlots ks qs
 lengthened ks ps qs p same = record {
   room = p.room;
   noted = λ k x e. same x ∙ p.noted k x e;
@@ -111,7 +111,7 @@ lengthened ks ps qs p same = record {
 }
 
 -- the last name leaves, and the list has 0 for it
-pub unbound : (ks ps : List ℕ) (x : ℕ) → Placed (ks ++ x ∷ []) ps → Placed ks (set ps x 0)
+pub unbound : (ks ps : List ℕ) (x : ℕ) → HasSlots (ks ++ x ∷ []) ps → HasSlots ks (set ps x 0)
 unbound ks ps x p = record {
   room = let long = length-append ks (x ∷ []) in let room = p.room in omega arith;
   noted = λ k y e.
@@ -137,7 +137,7 @@ unbound ks ps x p = record {
         elim (front_or_last ks x k y (p.stands k y was)) [ inl h ↦ h | inr h ↦ absurd (d h.1) ]
 
 -- a name that isn't bound comes last, and the list has its slot and one
-pub bound : (ks ps : List ℕ) (x : ℕ) → Placed ks ps → has ks x ≡ false → length ks + 1 < 2 ^ 32 → x < length ps → Placed (ks ++ x ∷ []) (set ps x (length ks + 1))
+pub bound : (ks ps : List ℕ) (x : ℕ) → HasSlots ks ps → has ks x ≡ false → length ks + 1 < 2 ^ 32 → x < length ps → HasSlots (ks ++ x ∷ []) (set ps x (length ks + 1))
 bound ks ps x p new room within = record {
   room = let long = length-append ks (x ∷ []) in omega arith;
   noted = λ k y e. noted k y (front_or_last ks x k y e);

@@ -14,7 +14,7 @@ use Rattle.pf_syntax.specs.declared.expr.ExprId.{ExprId}
 use Rattle.pf_syntax.specs.declared.expr.Branch.{Branch}
 use Rattle.pf_syntax.specs.declared.node.Clause.{Clause}
 use Rattle.pf_lower.specs.declared.bodies.Element.{Element}
-use Rattle.pf_rules.specs.Static.{names_of, expr_pattern_faults, condition_faults, exprs_faults}
+use Rattle.pf_rules.specs.Static.{names_of_module, expr_pattern_faults, condition_faults, exprs_faults}
 use Rattle.pf_rules.specs.Formed.{ConditionFormed, HasFirst, HasAlternative, ExprsFormed}
 use Rattle.pf_lower.specs.Bound.{bound_after}
 use Rattle.pf_lower.specs.Built.{ExprPatternBecomes, ElementMeans}
@@ -24,9 +24,9 @@ abbrev pub ElementRepresents : Tables → Element → Type 0
 ElementRepresents t e = All (PatternRepresents t) e.patterns.items × OperandRepresents t e.value
 
 -- elements before the rest of a body
-abbrev pub binds : Tables → List Element → Tree → Tree
-binds t [] rest = rest
-binds t (e ∷ es) rest = bind (patterns_at t e.patterns.items) (part_over t e.value) (binds t es rest)
+abbrev pub bound_elements : Tables → List Element → Tree → Tree
+bound_elements t [] rest = rest
+bound_elements t (e ∷ es) rest = bind (patterns_at t e.patterns.items) (part_over t e.value) (bound_elements t es rest)
 
 abbrev pub ElementBuilt : List (List Head) → Checked → List ℕ → Expr → Element → Type 0
 ElementBuilt fs t names e x = ElementMeans fs t names e x.patterns.items x.value
@@ -53,6 +53,6 @@ module _ (n : Names) (b : NodeTable) (names : List ℕ) (r : Branch) where
 -- a clause of a construct
 pub record BranchMeans (fs : List (List Head)) (b : NodeTable) (m : Checked) (names : List ℕ) (r : Branch) (c : Clause) : Type 0 where
   pub stands : ClauseRepresents m.tables c
-  pub pattern : ExprPatternBecomes (names_of m.atoms fs) names (expr_pattern_at b r.expr_pattern.0) (pattern_at m.tables c.pattern.0)
-  pub guard : BranchGuardBecomes (names_of m.atoms fs) b names r (guard_over m.tables c.guard)
-  pub body : BranchBodyBecomes (names_of m.atoms fs) b names r (part_over m.tables c.body)
+  pub pattern : ExprPatternBecomes (names_of_module m.atoms fs) names (expr_pattern_at b r.expr_pattern.0) (pattern_at m.tables c.pattern.0)
+  pub guard : BranchGuardBecomes (names_of_module m.atoms fs) b names r (guard_over m.tables c.guard)
+  pub body : BranchBodyBecomes (names_of_module m.atoms fs) b names r (part_over m.tables c.body)

@@ -37,6 +37,6 @@ all_bound_after names no_exprs = names
 all_bound_after names (expr e es) = all_bound_after (bound_after names e) es
 
 -- an expression that is no match
-abbrev pub IsPlain : Expr → Type 0
-IsPlain (p.match q a) = ⊥
-IsPlain _ = Unit {0}
+abbrev pub IsNoMatch : Expr → Type 0
+IsNoMatch (p.match q a) = ⊥
+IsNoMatch _ = Unit {0}

@@ -5,7 +5,7 @@ ghost use Rattle.std.specs.List.{All};
 ghost use Rattle.pf_syntax.specs.Naming.{ending};
 ghost use Rattle.pf_syntax.specs.Over.{part_over, patterns_at};
 ghost use Rattle.pf_syntax.specs.Within.{OperandRepresents};
-ghost use Rattle.pf_lower.specs.Bodies.{binds, ElementRepresents};
+ghost use Rattle.pf_lower.specs.Bodies.{bound_elements, ElementRepresents};
 ghost use Rattle.pf_lower.specs.Grown.{PartPut};
 
 use crate::put::put_node;
@@ -41,7 +41,7 @@ pub(crate) fn put_binds(
     requires elements_stand { All (ElementRepresents module.old.tables) elements.items }
     requires rest_stands { OperandRepresents module.old.tables rest }
     ensures { IfOk result (λ x. PartPut module.old module.new
-        (binds module.old.tables elements.items (part_over module.old.tables rest)) x) }
+        (bound_elements module.old.tables elements.items (part_over module.old.tables rest)) x) }
 {
     let mut front = elements;
     let mut body = rest;

@@ -5,7 +5,7 @@ ghost use Rattle.pf_syntax.specs.Expr as expr;
 ghost use Rattle.pf_syntax.specs.SyntaxTree.{NodeTable, expr_at, expr_pattern_at};
 ghost use Rattle.pf_syntax.specs.SyntaxTreeOver.{branches_over, condition_over, expr_over, exprs_at};
 ghost use Rattle.pf_syntax.specs.ExprModule.{unguarded};
-ghost use Rattle.pf_lower.specs.Bound.{all_bound_after, bound_after, IsPlain};
+ghost use Rattle.pf_lower.specs.Bound.{all_bound_after, bound_after, IsNoMatch};
 ghost use Rattle.pf_lower.specs.Built.{BodyMeans, BranchesMean, Lowers, GuardMeans, ExprMeans, ExprsMean};
 ghost use Rattle.pf_lower.specs.Bodies.{BranchMeans, EachElementMeans, ElementBuilt};
 ghost use Rattle.pf_lower.specs.Kinds.{IsConstruct, IsOperation, IsSequence};
@@ -17,10 +17,9 @@ use crate::patterns::pattern;
 use crate::put::{put_list, put_literal, put_node};
 use crate::slots::Slots;
 use crate::strings::string;
-use pf_builtins::builtin_named;
 use pf_syntax::{
     Alternative, Branch, Clause, Condition, ExprId, ExprNode, ExprPatternId, Guard, Ident, Module,
-    Node, Operand, SyntaxTree,
+    Node, Operand, SyntaxTree, builtin_named,
 };
 use pf_terms::NoMemory;
 use std::alloc::Global;
@@ -86,7 +85,7 @@ fn as_match(syntax: &SyntaxTree, id: ExprId) -> Option<(ExprPatternId, ExprId)>
     ensures some { IfSome result (λ m. expr_at syntax.now.node_table id.0 ≡ expr.match
         (expr_pattern_at syntax.now.node_table m.0.0)
         (expr_at syntax.now.node_table m.1.0)) }
-    ensures none { IfNone result (IsPlain (expr_at syntax.now.node_table id.0)) }
+    ensures none { IfNone result (IsNoMatch (expr_at syntax.now.node_table id.0)) }
 {
     match syntax.expr(id) {
         None => None,

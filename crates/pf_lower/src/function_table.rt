@@ -2,7 +2,7 @@
 
 ghost use Rattle.std.specs.Prelude.{◌≡◌, ℕ, if◌then◌else◌, IfOk, MatchOption, None, OnOk, Some};
 ghost use Rattle.std.specs.BTreeMap.{get};
-ghost use Rattle.pf_rules.specs.Static.{is_named, own_in};
+ghost use Rattle.pf_rules.specs.Static.{is_named_by_head, own_in};
 ghost use Rattle.pf_syntax.specs.SyntaxTree.{NodeTable};
 ghost use Rattle.pf_syntax.specs.SyntaxTreeOver.{heads_over};
 ghost use Rattle.pf_lower.specs.Knows.{key_order, same_key, Knows};
@@ -40,7 +40,7 @@ impl FunctionTable {
     fn enter_function(&mut self, function: &ExprFunction, number: usize) -> Result<(), NoMemory>
         ensures { OnOk result ((b : NodeTable) (f a : ℕ) → get key_order self.new.numbers (f, a)
             ≡ first_of (get key_order self.old.numbers (f, a))
-            (if is_named f a (heads_over b function.now) then Some number else None)) }
+            (if is_named_by_head f a (heads_over b function.now) then Some number else None)) }
     {
         match function.heads.first() {
             None => Ok(()),

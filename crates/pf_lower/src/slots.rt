@@ -19,13 +19,13 @@ pub(crate) struct Slots {
 
 impl Model for Slots {
     ghost use Rattle.std.specs.Prelude.{List, ℕ};
-    ghost use Rattle.pf_lower.specs.Placed.{Placed};
+    ghost use Rattle.pf_lower.specs.Placed.{HasSlots};
 
     ghost Value = { List ℕ };
 
     ghost view = { λ a. a.names.items };
 
-    ghost invariant = { λ a. Placed a.names.items a.slots.items };
+    ghost invariant = { λ a. HasSlots a.names.items a.slots.items };
 }
 
 /// Lengthens a list by zeros, so that it goes past a name. No name's number changes, with or without memory.

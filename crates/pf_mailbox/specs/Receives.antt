@@ -8,7 +8,7 @@ use Rattle.pf_syntax.specs.declared.node.Operand.{Operand}
 use Rattle.pf_model.specs.Module.{module_of}
 use Rattle.pf_stepper.specs.Selected.{TakesMessage, TakesNothing}
 use Rattle.pf_mailbox.specs.MailView.{MailView}
-use Rattle.pf_mailbox.specs.Tests.{awaited, risen, tested}
+use Rattle.pf_mailbox.specs.Tests.{awaited_clauses, risen, tested}
 
 -- the oldest message that a clause picks is taken, or there is none and all stays
 abbrev pub Selects : (m : Checked) (own base : ℕ) (before after' : List Term) (l : List Clause) (b b' : MailView) (message : Term) → Option Operand → Type 0
@@ -18,7 +18,7 @@ Selects m own base before after' l b b' message o =
 
 -- each message from the mark on was tested, up to and with the one that is picked
 abbrev pub TestsFromMark : (m : Checked) (own base : ℕ) (env : List Term) (l : List Clause) (b b' : MailView) → Type 0
-TestsFromMark m own base env l b b' = b'.tests ≡ risen b.tests (tested (module_of m) own (awaited m base env l) (drop b.mark b.messages))
+TestsFromMark m own base env l b b' = b'.tests ≡ risen b.tests (tested (module_of m) own (awaited_clauses m base env l) (drop b.mark b.messages))
 
 -- each message was tested that the mark moved past
 abbrev pub TestsPassed : MailView → MailView → Type 0

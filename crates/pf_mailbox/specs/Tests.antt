@@ -16,8 +16,8 @@ use Rattle.pf_stepper.specs.Readiness.{Receive, IsReadyAhead}
 use Rattle.pf_mailbox.specs.MailView.{MailView}
 
 -- the clauses of a `receive`, in the activation that begins at `base`
-abbrev pub awaited : Checked → ℕ → List Term → List Clause → Clauses
-awaited m base env l = sub_clauses (activation env base) (clauses_over m.tables l)
+abbrev pub awaited_clauses : Checked → ℕ → List Term → List Clause → Clauses
+awaited_clauses m base env l = sub_clauses (activation env base) (clauses_over m.tables l)
 
 -- no clause picks a message before the mark
 abbrev pub FitsNoneBefore : Module → ℕ → Clauses → MailView → Type 0

@@ -24,9 +24,9 @@ impl Model for PackedMail {
 
     ghost coded = { coded_mail_view };
 
-    ghost use Rattle.pf_mailbox.specs.Inner.{plain};
+    ghost use Rattle.pf_mailbox.specs.Inner.{plain_mailbox};
 
-    ghost view = { λ p. plain p.messages.items p.mark p.tests };
+    ghost view = { λ p. plain_mailbox p.messages.items p.mark p.tests };
 
     ghost invariant = { λ p. p.mark ≤ length p.messages.items };
 }

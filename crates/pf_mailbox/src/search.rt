@@ -1,8 +1,8 @@
 //! The search for a message that a `receive` takes, from the mark on.
 
 ghost use Rattle.std.specs.Prelude.{◌≡◌, ◌-◌, ◌≤◌, length, IfOk};
-ghost use Rattle.pf_mailbox.specs.Searches.{Passes, Sought, tests_of};
-ghost use Rattle.pf_mailbox.specs.Tests.{awaited};
+ghost use Rattle.pf_mailbox.specs.Searches.{PassesOver, SearchedMail, test_count};
+ghost use Rattle.pf_mailbox.specs.Tests.{awaited_clauses};
 
 use crate::testing::test_marked;
 use pf_nodes::MailList;
@@ -26,11 +26,11 @@ pub(crate) fn search(
     requires slots { base ≤ length env.old.items }
     requires none_made { made.old ≡ 0 }
     ensures items { list.new.items ≡ list.old.items }
-    ensures passed { Passes code.now own
-        (awaited code.now base env.old.items clauses.now) list.old list.new.mark }
+    ensures passed { PassesOver code.now own
+        (awaited_clauses code.now base env.old.items clauses.now) list.old list.new.mark }
     ensures sought { IfOk result
-        (Sought code.now own base env.old.items clauses.now env.new.items list.new) }
-    ensures counted { made.new ≡ tests_of result (list.new.mark - list.old.mark) }
+        (SearchedMail code.now own base env.old.items clauses.now env.new.items list.new) }
+    ensures counted { made.new ≡ test_count result (list.new.mark - list.old.mark) }
 {
     // There are no more messages than a count has room for.
     let _all = list.len();

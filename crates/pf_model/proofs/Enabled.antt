@@ -6,25 +6,25 @@ use Rattle.std.proofs.lemmas.Bool.{eq-eqb}
 use Rattle.std.proofs.lemmas.List.Elements.{All-nil, All-cons, All-append, All-map, All-get_or}
 use Rattle.std.proofs.lemmas.Option.{slice_get_within, get_or_from_slice_get}
 use Rattle.pf_model.specs.Maps.{got}
-use Rattle.pf_model.specs.Context.{State}
-use Rattle.pf_model.specs.Channels.{Queue, Row, Channels, row_of, heads_of, heads_from, heads}
+use Rattle.pf_model.specs.Context.{ProcessState}
+use Rattle.pf_model.specs.Channels.{Queue, SenderRow, Channels, row_of, heads_of, heads_from, heads}
 use Rattle.pf_model.specs.Configuration.{Process, Configuration, process_at}
-use Rattle.pf_model.specs.Runs.{Actor, process, channel, can_go, numbers_of, enabled}
+use Rattle.pf_model.specs.Runs.{Actor, process, channel, can_go, pids_in_state, enabled}
 use Rattle.pf_model.proofs.Turned.{CanPass}
 
 -- what holds of each process in such a state holds of their numbers
-numbers_all : (P : ℕ → Type 0) (so : State → Bool) (n : ℕ) (ps : List Process) → ((j : ℕ) → so (process_at j ps).state ≡ true → P (n + j))
-    → All P (numbers_of so n ps)
+numbers_all : (P : ℕ → Type 0) (so : ProcessState → Bool) (n : ℕ) (ps : List Process) → ((j : ℕ) → so (process_at j ps).state ≡ true → P (n + j))
+    → All P (pids_in_state so n ps)
 numbers_all P so n [] h = All-nil P
 numbers_all P so n (p ∷ ps) h =
     by (so p.state) refl (numbers_all P so (suc n) ps (λ j e. let q : n + suc j ≡ suc n + j = omega arith in subst P q (h (suc j) e)))
   where
-    by : (e : Bool) → so p.state ≡ e → All P (numbers_of so (suc n) ps) → All P (if e then n ∷ numbers_of so (suc n) ps else numbers_of so (suc n) ps)
-    by true e rest = All-cons P n (numbers_of so (suc n) ps) (subst P (add-zero n) (h zero e)) rest
+    by : (e : Bool) → so p.state ≡ e → All P (pids_in_state so (suc n) ps) → All P (if e then n ∷ pids_in_state so (suc n) ps else pids_in_state so (suc n) ps)
+    by true e rest = All-cons P n (pids_in_state so (suc n) ps) (subst P (add-zero n) (h zero e)) rest
     by false e rest = rest
 
 -- what holds of each channel with a queue holds of the heads
-row_all : (a : ℕ) (P : ℕ × ℕ → Type 0) (r : Row) → ((b : ℕ) (q : Queue) → got b r ≡ Some q → P (a, b)) → All P (heads_of a r)
+row_all : (a : ℕ) (P : ℕ × ℕ → Type 0) (r : SenderRow) → ((b : ℕ) (q : Queue) → got b r ≡ Some q → P (a, b)) → All P (heads_of a r)
 row_all a P [] h = All-nil P
 row_all a P (p ∷ ps) h =
     All-cons P (a, p.0) (heads_of a ps) (h p.0 p.1 (rw (eq-eqb p.0 p.0 refl) refl)) (row_all a P ps (λ b q e. behind b q e (b == p.0) refl))
@@ -43,8 +43,8 @@ heads_all P n (r ∷ rs) h =
 
 all_can_pass : (c : Configuration) → All (CanPass c) (enabled c)
 all_can_pass c =
-    All-append (CanPass c) (map process (numbers_of can_go zero c.core.processes)) (map (λ h. channel h.0 h.1) (heads c.channels))
-    (All-map (CanPass c) process (numbers_of can_go zero c.core.processes)
+    All-append (CanPass c) (map process (pids_in_state can_go zero c.core.processes)) (map (λ h. channel h.0 h.1) (heads c.channels))
+    (All-map (CanPass c) process (pids_in_state can_go zero c.core.processes)
     (numbers_all (λ a. CanPass c (process a)) can_go zero c.core.processes (λ j e. rw (zero-add j) e)))
     (All-map (CanPass c) (λ h. channel h.0 h.1) (heads c.channels)
     (heads_all (λ h. CanPass c (channel h.0 h.1)) zero c.channels (λ a b q e. (q, rw (zero-add a) e))))

@@ -3,9 +3,9 @@ use Rattle.std.proofs.Common.{◌≡◌, ◌+◌, List, [], ◌∷◌, refl, ap}
 use Rattle.pf_terms.specs.Value.{Values, none, more}
 use Rattle.pf_syntax.specs.Tree.{Tree, Trees, tree, Program}
 use Rattle.pf_model.specs.Context.{Frame, element_of, first_of, tail_of, left_of, right_of, negation, and_also_of, or_else_of, argument_of, builtin_argument_of, match_of, bind_of, case_of, receiver_of, message_of, after_values, around, fill}
-use Rattle.pf_model.specs.Closed.{trees_in, IsClosed, AllAreClosed}
+use Rattle.pf_model.specs.Closed.{tree_count, IsClosed, AllAreClosed}
 
-same_count : (vs : Values) (x y : Tree) (ts : Trees) → trees_in (after_values vs (tree y ts)) ≡ trees_in (after_values vs (tree x ts))
+same_count : (vs : Values) (x y : Tree) (ts : Trees) → tree_count (after_values vs (tree y ts)) ≡ tree_count (after_values vs (tree x ts))
 same_count none x y ts = refl
 same_count (more v vs) x y ts = ap (λ n. 1 + n) (same_count vs x y ts)
 

@@ -4,12 +4,12 @@ use Rattle.pf_terms.specs.Value.{Value}
 use Rattle.pf_syntax.specs.Tree.{Tree, Clauses}
 use Rattle.pf_model.specs.Module.{Module}
 use Rattle.pf_model.specs.Contraction.{picked}
-use Rattle.pf_model.specs.Receive.{Taken, taking, and_before, taken_or_later, selected, FitsNone, Takes, ReceiveIsRelation}
+use Rattle.pf_model.specs.Receive.{Taken, taking, and_before, taken_or_later, selected, FitsNone, ReceiveTakes, ReceiveIsRelation}
 
 module _ (m : Module) (own : ℕ) (ks : Clauses) where
   -- a message that no clause picks is before what is taken of the others
-  takes_behind : (v : Value) (vs : List Value) (t : Taken) → picked m own ks v ≡ None → Takes m own ks vs t
-      → Takes m own ks (v ∷ vs) (record t { others = v ∷ t.others })
+  takes_behind : (v : Value) (vs : List Value) (t : Taken) → picked m own ks v ≡ None → ReceiveTakes m own ks vs t
+      → ReceiveTakes m own ks (v ∷ vs) (record t { others = v ∷ t.others })
   takes_behind v vs t h k =
       record {
         front = v ∷ k.front;
@@ -20,7 +20,7 @@ module _ (m : Module) (own : ℕ) (ks : Clauses) where
         picks = k.picks;
       }
 
-  takes_first : (v : Value) (vs : List Value) (body : Tree) → picked m own ks v ≡ Some body → Takes m own ks (v ∷ vs) (taking body v vs)
+  takes_first : (v : Value) (vs : List Value) (body : Tree) → picked m own ks v ≡ Some body → ReceiveTakes m own ks (v ∷ vs) (taking body v vs)
   takes_first v vs body h = record { front = []; back = vs; mailbox_is = refl; others_are = refl; none_before = tt; picks = h }
 
   -- ---- from the function to the relation
@@ -30,16 +30,16 @@ module _ (m : Module) (own : ℕ) (ks : Clauses) where
   behind_is v None t e = absurd (cc)
   behind_is v (Some u) t e = (u, refl, cc)
 
-  takes_some : (vs : List Value) (t : Taken) → selected m own ks vs ≡ Some t → Takes m own ks vs t
+  takes_some : (vs : List Value) (t : Taken) → selected m own ks vs ≡ Some t → ReceiveTakes m own ks vs t
   takes_some [] t e = absurd (cc)
   takes_some (v ∷ vs) t e = by (picked m own ks v) refl (takes_some vs) e
     where
-      by : (o : Option Tree) → picked m own ks v ≡ o → ((u : Taken) → selected m own ks vs ≡ Some u → Takes m own ks vs u)
-          → taken_or_later o v vs (selected m own ks vs) ≡ Some t → Takes m own ks (v ∷ vs) t
-      by (Some body) h next d = let q : taking body v vs ≡ t = cc in subst (Takes m own ks (v ∷ vs)) q (takes_first v vs body h)
+      by : (o : Option Tree) → picked m own ks v ≡ o → ((u : Taken) → selected m own ks vs ≡ Some u → ReceiveTakes m own ks vs u)
+          → taken_or_later o v vs (selected m own ks vs) ≡ Some t → ReceiveTakes m own ks (v ∷ vs) t
+      by (Some body) h next d = let q : taking body v vs ≡ t = cc in subst (ReceiveTakes m own ks (v ∷ vs)) q (takes_first v vs body h)
       by None h next d =
           let k = behind_is v (selected m own ks vs) t d in
-          subst (Takes m own ks (v ∷ vs)) (sym k.2) (takes_behind v vs k.0 h (next k.0 k.1))
+          subst (ReceiveTakes m own ks (v ∷ vs)) (sym k.2) (takes_behind v vs k.0 h (next k.0 k.1))
 
   behind_none : (v : Value) (o : Option Taken) → and_before v o ≡ None → o ≡ None
   behind_none v None e = refl
@@ -63,7 +63,7 @@ module _ (m : Module) (own : ℕ) (ks : Clauses) where
       ap (λ o. taken_or_later o w (ws ++ v ∷ back) (selected m own ks (ws ++ v ∷ back))) h.0
       ∙ ap (and_before w) (selected_behind ws back body v h.1 p)
 
-  takes_only : (vs : List Value) (t : Taken) → Takes m own ks vs t → selected m own ks vs ≡ Some t
+  takes_only : (vs : List Value) (t : Taken) → ReceiveTakes m own ks vs t → selected m own ks vs ≡ Some t
   takes_only vs t k =
       ap (selected m own ks) k.mailbox_is ∙ selected_behind k.front k.back t.body t.message k.none_before k.picks
       ∙ ap (λ x. Some (taking t.body t.message x)) (sym k.others_are)

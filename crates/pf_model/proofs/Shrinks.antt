@@ -3,7 +3,7 @@ use Rattle.std.proofs.Common.{◌≡◌, ◌<◌, ◌⊎◌, inl, inr, ◌/◌, 
 use Rattle.std.specs.Prelude.{All, sum, ◌↔◌}
 use Rattle.std.proofs.lemmas.List.Elements.{All-nil, All-cons, All-head, All-tail, All-append, All-map, All-weaker}
 use Rattle.std.proofs.lemmas.List.Sums.{sum_by-cons}
-use Rattle.pf_model.specs.Shrinking.{behind, without_last, without_one, halved, candidates, Found, search, shrunk}
+use Rattle.pf_model.specs.Shrinking.{with_beginnings, without_last, without_one, halved, candidates, Found, search, shrunk}
 use Rattle.pf_model.specs.Laws.{IsSmaller, IsFoundOf, ShrinkingIsRight}
 
 -- ---- smaller schedules
@@ -19,7 +19,7 @@ smaller_behind n ms ns (inl h) = inl (omega arith)
 smaller_behind n ms ns (inr h) =
     let l = h.0 in let s = h.1 in let a = sum_cons n ms in let b = sum_cons n ns in inr (omega arith, omega arith)
 
-all_behind : (n : ℕ) (ns : List ℕ) (cs : List (List ℕ)) → AllSmaller ns cs → AllSmaller (n ∷ ns) (behind n cs)
+all_behind : (n : ℕ) (ns : List ℕ) (cs : List (List ℕ)) → AllSmaller ns cs → AllSmaller (n ∷ ns) (with_beginnings n cs)
 all_behind n ns cs h =
     All-map (λ c. IsSmaller c (n ∷ ns)) (λ c. n ∷ c) cs
     (All-weaker (λ c. IsSmaller c ns) (λ c. IsSmaller (n ∷ c) (n ∷ ns)) (λ c. smaller_behind n c ns) cs h)
@@ -42,7 +42,7 @@ without_one_smaller : (ns : List ℕ) → AllSmaller ns (without_one ns)
 without_one_smaller [] = All-nil (λ c. IsSmaller c [])
 without_one_smaller (n ∷ []) = All-nil (λ c. IsSmaller c (n ∷ []))
 without_one_smaller (n ∷ m ∷ ns) =
-    All-cons (λ c. IsSmaller c (n ∷ m ∷ ns)) (m ∷ ns) (behind n (without_one (m ∷ ns))) (inl (omega arith))
+    All-cons (λ c. IsSmaller c (n ∷ m ∷ ns)) (m ∷ ns) (with_beginnings n (without_one (m ∷ ns))) (inl (omega arith))
     (all_behind n (m ∷ ns) (without_one (m ∷ ns)) (without_one_smaller (m ∷ ns)))
 
 half_smaller : (n : ℕ) (ns : List ℕ) → IsSmaller (suc n / 2 ∷ ns) (suc n ∷ ns)
@@ -55,7 +55,7 @@ halved_smaller : (ns : List ℕ) → AllSmaller ns (halved ns)
 halved_smaller [] = All-nil (λ c. IsSmaller c [])
 halved_smaller (zero ∷ ns) = all_behind zero ns (halved ns) (halved_smaller ns)
 halved_smaller (suc n ∷ ns) =
-    All-cons (λ c. IsSmaller c (suc n ∷ ns)) (suc n / 2 ∷ ns) (behind (suc n) (halved ns)) (half_smaller n ns)
+    All-cons (λ c. IsSmaller c (suc n ∷ ns)) (suc n / 2 ∷ ns) (with_beginnings (suc n) (halved ns)) (half_smaller n ns)
     (all_behind (suc n) ns (halved ns) (halved_smaller ns))
 
 candidates_smaller : (ns : List ℕ) → AllSmaller ns (candidates ns)

@@ -12,18 +12,18 @@ use Rattle.pf_ops.specs.Reasons.{no_case}
 use Rattle.pf_model.specs.Module.{Module, name_in}
 use Rattle.pf_model.specs.Contraction as c
 use Rattle.pf_model.specs.Contraction.{Change, Raises, Asks, Awaits, contract, as_values, as_value, add_value, worked_out, decided, entered, called, matched, bound, picked, body_or_raise}
-use Rattle.pf_model.specs.Context.{Frame, element_of, first_of, tail_of, left_of, right_of, negation, and_also_of, or_else_of, argument_of, builtin_argument_of, match_of, bind_of, case_of, receiver_of, message_of, after_values, literals, around, Context, Move, returns, moved, Moves, at_value, at_index}
-use Rattle.pf_model.specs.Evaluation.{Sought, valued, placed, part, and_last, sought, sought_in, move_of}
+use Rattle.pf_model.specs.Context.{Frame, element_of, first_of, tail_of, left_of, right_of, negation, and_also_of, or_else_of, argument_of, builtin_argument_of, match_of, bind_of, case_of, receiver_of, message_of, after_values, literals, around, IsRedexIn, Move, returns, moved, Moves, at_value, at_index}
+use Rattle.pf_model.specs.Evaluation.{SoughtRedex, valued, placed, part, and_last, sought, sought_in, move_of}
 use Rattle.pf_model.proofs.Contexts.{one_context, fill_no_value}
 
 module _ (m : Module) (own : ℕ) where
   -- a value that the tree is, or a context in it
-  abbrev pub IsIn : Tree → Sought → Type 0
+  abbrev pub IsIn : Tree → SoughtRedex → Type 0
   IsIn t (valued v) = t ≡ lit v
-  IsIn t (placed fs r d) = Context m own t fs r d
+  IsIn t (placed fs r d) = IsRedexIn m own t fs r d
 
   -- what is in a part is in the whole, where that is so once the part is a value
-  part_is_in : (f : Frame) (a t : Tree) (s : Sought) (go : Value → Sought) → around f a ≡ t → IsIn a s
+  part_is_in : (f : Frame) (a t : Tree) (s : SoughtRedex) (go : Value → SoughtRedex) → around f a ≡ t → IsIn a s
       → ((v : Value) → a ≡ lit v → IsIn t (go v)) → IsIn t (part f s go)
   part_is_in f a t (valued v) go e h next = next v h
   part_is_in f a t (placed fs r d) go e h next = record { filled = ap (around f) h.filled ∙ e; redex = h.redex }
@@ -47,7 +47,7 @@ module _ (m : Module) (own : ℕ) where
       → IsIn a (sought m own a) → IsIn b (sought m own b)
       → IsIn (whole a b) (part left (sought m own a) (λ v. part (right v) (sought m own b) (λ w. placed [] (whole (lit v) (lit w)) (last v w))))
   two_parts left right whole last a b hl hr redex ia ib =
-      let both : Value → Value → Sought = λ v w. placed [] (whole (lit v) (lit w)) (last v w) in
+      let both : Value → Value → SoughtRedex = λ v w. placed [] (whole (lit v) (lit w)) (last v w) in
       part_is_in left a (whole a b) (sought m own a) (λ v. part (right v) (sought m own b) (both v)) hl ia
       (λ v e. part_is_in (right v) b (whole a b) (sought m own b) (both v) (hr v b ∙ ap (λ x. whole x b) (sym e)) ib
       (λ w d. is_redex (whole a b) (whole (lit v) (lit w)) (last v w) (ap (λ x. whole x (lit w)) (sym e) ∙ ap (whole a) (sym d)) (redex v w)))
@@ -99,12 +99,12 @@ module _ (m : Module) (own : ℕ) where
         → (vs : Values) (ts : Trees) → IsIn (whole (after_values vs ts)) (sought_in m own frame (λ ws. placed [] (whole (literals ws)) (last ws)) vs ts)
     in_parts frame whole last hf redex vs no_trees = is_redex (whole (literals vs)) (whole (literals vs)) (last vs) refl (redex vs)
     in_parts frame whole last hf redex vs (tree t ts) =
-        let next : Values → Sought = λ ws. sought_in m own frame (λ us. placed [] (whole (literals us)) (last us)) ws ts in
+        let next : Values → SoughtRedex = λ ws. sought_in m own frame (λ us. placed [] (whole (literals us)) (last us)) ws ts in
         part_is_in (frame vs ts) t (whole (after_values vs (tree t ts))) (sought m own t) (λ v. next (and_last vs v)) (hf vs ts t) (sought_is_in t)
         (λ v e. subst (λ x. IsIn (whole x) (next (and_last vs v))) (push_value vs v ts ∙ ap (λ x. after_values vs (tree x ts)) (sym e))
         (in_parts frame whole last hf redex (and_last vs v) ts))
 
-  moves_as : (t : Tree) (s : Sought) → IsIn t s → Moves m own t (move_of s)
+  moves_as : (t : Tree) (s : SoughtRedex) → IsIn t s → Moves m own t (move_of s)
   moves_as t (valued v) h = at_value v h refl
   moves_as t (placed fs r d) h = at_index fs r d h refl
 
@@ -113,7 +113,7 @@ module _ (m : Module) (own : ℕ) where
 
   -- ---- and no other
 
-  no_index_of_value : (t : Tree) (v : Value) (fs : List Frame) (r : Tree) (d : Change) → t ≡ lit v → Context m own t fs r d → ⊥
+  no_index_of_value : (t : Tree) (v : Value) (fs : List Frame) (r : Tree) (d : Change) → t ≡ lit v → IsRedexIn m own t fs r d → ⊥
   no_index_of_value t v fs r d e p =
       let a = fill_no_value m own fs r d p.redex in let b = ap as_value (p.filled ∙ e) in cc
 

@@ -11,9 +11,9 @@ use Rattle.pf_syntax.specs.Root.{exported_of, exported_at}
 use Rattle.pf_model.specs.Module.{Module, exported_as}
 use Rattle.pf_model.specs.Context.{literals}
 use Rattle.pf_model.specs.Actions.{begun, start_of}
-use Rattle.pf_model.specs.Closed.{trees_in, HasArity, AllAreClosed, StateIsClosed}
+use Rattle.pf_model.specs.Closed.{tree_count, HasArity, AllAreClosed, StateIsClosed}
 
-literals_count : (vs : Values) → trees_in (literals vs) ≡ count vs
+literals_count : (vs : Values) → tree_count (literals vs) ≡ count vs
 literals_count none = refl
 literals_count (more v vs) = ap (λ n. 1 + n) (literals_count vs)
 

@@ -5,15 +5,15 @@ use Rattle.std.proofs.lemmas.List.{length-append}
 use Rattle.pf_terms.specs.Value.{Value, Values}
 use Rattle.pf_syntax.specs.Pattern.{Pattern, Patterns, any, new, slot, known, tuple_of, cons_of, never, no_patterns, pattern}
 use Rattle.pf_syntax.specs.Tree.{Tree, Trees, Clauses, Guard, lit, var, tuple, cons, op, neg, and_also, or_else, call, builtin, match, bind, case, if_expression, receive, send, no_trees, tree, no_clauses, clause, no_alternatives, alternative, Program}
-use Rattle.pf_patterns.specs.Fit.{Scope, Fits, FitsAll, fit, fit_all}
+use Rattle.pf_patterns.specs.Fit.{ValueScope, Fits, FitsAll, fit, fit_all}
 use Rattle.pf_patterns.specs.Substitution.{sub, sub_trees, sub_clauses, sub_guard, sub_pattern, sub_patterns, value_or_var, known_or_slot}
 use Rattle.pf_patterns.proofs.FitLaws.{fits_from_fit, all_from_fit}
-use Rattle.pf_model.specs.Closed.{binds, all_bind, PatternIsClosed, PatternsAreClosed, trees_in, IsClosed, AllAreClosed, ClausesAreClosed, GuardIsClosed}
+use Rattle.pf_model.specs.Closed.{binds, all_bind, PatternIsClosed, PatternsAreClosed, tree_count, IsClosed, AllAreClosed, ClausesAreClosed, GuardIsClosed}
 
 -- ---- fit gives as many values as the pattern binds
 
 mutual
-  fits_length : (p : Pattern) (v : Value) (s t : Scope) → Fits p v s t → length t ≡ length s + binds p
+  fits_length : (p : Pattern) (v : Value) (s t : ValueScope) → Fits p v s t → length t ≡ length s + binds p
   fits_length any v s t h = let e = ap length h in omega arith
   fits_length new v s t h = let e = ap length h in let k = length-append s (v ∷ []) in omega arith
   fits_length (slot x) v s t h = let e = ap length h.1 in omega arith
@@ -23,26 +23,26 @@ mutual
       let a = fits_length p h.0 s h.2 h.4 in let b = fits_length q _ h.2 t h.5 in omega arith
   fits_length never v s t h = absurd h
 
-  all_length : (ps : Patterns) (vs : Values) (s t : Scope) → FitsAll ps vs s t → length t ≡ length s + all_bind ps
+  all_length : (ps : Patterns) (vs : Values) (s t : ValueScope) → FitsAll ps vs s t → length t ≡ length s + all_bind ps
   all_length no_patterns vs s t h = let e = ap length h.1 in omega arith
   all_length (pattern p ps) vs s t h =
       let a = fits_length p h.0 s h.2 h.4 in let b = all_length ps h.1 h.2 t h.5 in omega arith
 
-pub fit_length : (p : Pattern) (v : Value) (e : Scope) → fit p v [] ≡ Some e → binds p ≡ length e
+pub fit_length : (p : Pattern) (v : Value) (e : ValueScope) → fit p v [] ≡ Some e → binds p ≡ length e
 fit_length p v e h = let k = fits_length p v [] e (fits_from_fit p v [] e h) in omega arith
 
-pub fit_all_length : (ps : Patterns) (vs : Values) (e : Scope) → fit_all ps vs [] ≡ Some e → all_bind ps ≡ length e
+pub fit_all_length : (ps : Patterns) (vs : Values) (e : ValueScope) → fit_all ps vs [] ≡ Some e → all_bind ps ≡ length e
 fit_all_length ps vs e h = let k = all_length ps vs [] e (all_from_fit ps vs [] e h) in omega arith
 
 -- ---- substitution
 
 -- an index that has no value is past them
-past : (e : Scope) (x : ℕ) → slice_get e x ≡ None → length e ≤ x
+past : (e : ValueScope) (x : ℕ) → slice_get e x ≡ None → length e ≤ x
 past [] x h = omega arith
 past (v ∷ e) zero h = absurd (cc)
 past (v ∷ e) (suc x) h = let k = past e x h in omega arith
 
-module _ (e : Scope) where
+module _ (e : ValueScope) where
   mutual
     pub sub_binds : (p : Pattern) → binds (sub_pattern e p) ≡ binds p
     sub_binds any = refl
@@ -61,7 +61,7 @@ module _ (e : Scope) where
     sub_all_bind no_patterns = refl
     sub_all_bind (pattern p ps) = let a = sub_binds p in let b = sub_all_bind ps in omega arith
 
-  sub_count : (ts : Trees) → trees_in (sub_trees e ts) ≡ trees_in ts
+  sub_count : (ts : Trees) → tree_count (sub_trees e ts) ≡ tree_count ts
   sub_count no_trees = refl
   sub_count (tree t ts) = ap (λ n. 1 + n) (sub_count ts)
 

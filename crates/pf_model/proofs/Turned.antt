@@ -3,8 +3,8 @@ use Rattle.std.proofs.Common.{◌≡◌, ℕ, zero, suc, ◌<◌, true, List, So
 use Rattle.pf_syntax.specs.Tree.{Tree}
 use Rattle.pf_model.specs.Module.{Module}
 use Rattle.pf_model.specs.Contraction.{Change, Becomes, Raises, Exits, Asks, Awaits}
-use Rattle.pf_model.specs.Context.{Frame, State, running, waiting, ending, ended, returned, Move, goes_on, asks, awaits, returns, moved, Moves}
-use Rattle.pf_model.specs.Channels.{Queue, row_of, with_row, left_in, taken, taken_from}
+use Rattle.pf_model.specs.Context.{Frame, ProcessState, running, waiting, ending, ended, returned, Move, goes_on, asks, awaits, returns, moved, Moves}
+use Rattle.pf_model.specs.Channels.{Queue, row_of, with_row, row_with_left, taken, taken_from}
 use Rattle.pf_model.specs.Maps.{got}
 use Rattle.pf_model.specs.Configuration.{Core, Configuration, of}
 use Rattle.pf_model.specs.Actions.{acted}
@@ -12,7 +12,7 @@ use Rattle.pf_model.specs.Receive.{selected}
 use Rattle.pf_model.specs.Deliveries.{Deed}
 use Rattle.pf_model.specs.Turns.{Turn, cut_running, cut_ending, end, contraction, act, last_of_turn, after_act, received, ended_so}
 use Rattle.pf_model.specs.Runs.{Actor, process, channel, can_go, Passed, Passes, turn, delivery}
-use Rattle.pf_model.specs.Evaluation.{Sought, valued, placed, sought, move_of, Turned, turned, one_more, turned_by, turn_of, turn_passed, delivery_passed, pass_of}
+use Rattle.pf_model.specs.Evaluation.{SoughtRedex, valued, placed, sought, move_of, Turned, turned, one_more, turned_by, turn_of, turn_passed, delivery_passed, pass_of}
 use Rattle.pf_model.proofs.Sought.{moves_as_sought, one_move}
 
 -- where a process goes on by itself it can go
@@ -27,23 +27,23 @@ moved_goes_on fs (Exits v) = refl
 moved_goes_on fs (Asks a) = tt
 moved_goes_on fs (Awaits ks) = tt
 
-sought_goes_on : (s : Sought) → GoesOn (move_of s)
+sought_goes_on : (s : SoughtRedex) → GoesOn (move_of s)
 sought_goes_on (valued v) = tt
 sought_goes_on (placed fs r d) = moved_goes_on fs d
 
 module _ (m : Module) (a : ℕ) (c : Core) where
   -- this deed and these steps are of a turn
-  abbrev pub IsTurn : ℕ → State → Turned → Type 0
+  abbrev pub IsTurn : ℕ → ProcessState → Turned → Type 0
   IsTurn n s t = Turn m a c n s t.deed t.used
 
-  turned_as : (n : ℕ) (t : Tree) (x : Move) → Moves m a t x → GoesOn x → ((s : State) → can_go s ≡ true → IsTurn n s (turn_of m a c n s))
+  turned_as : (n : ℕ) (t : Tree) (x : Move) → Moves m a t x → GoesOn x → ((s : ProcessState) → can_go s ≡ true → IsTurn n s (turn_of m a c n s))
       → IsTurn (suc n) (running t) (turned_by m a c (turn_of m a c n) x)
   turned_as n t (goes_on s) h g rest = let k = turn_of m a c n s in contraction n k.used t s k.deed h (rest s g)
   turned_as n t (asks fs x) h g rest = act n t (asks fs x) (after_act a fs (acted m c a x)) h refl
   turned_as n t (awaits fs ks) h g rest = act n t (awaits fs ks) (received c a fs ks (selected m a ks (of c a).mailbox)) h refl
   turned_as n t (returns v) h g rest = act n t (returns v) (ended_so c a (returned v)) h refl
 
-  pub turns_as : (n : ℕ) (s : State) → can_go s ≡ true → IsTurn n s (turn_of m a c n s)
+  pub turns_as : (n : ℕ) (s : ProcessState) → can_go s ≡ true → IsTurn n s (turn_of m a c n s)
   turns_as n (waiting t) h = absurd (cc)
   turns_as n (ended e) h = absurd (cc)
   turns_as zero (running t) h = cut_running t
@@ -52,7 +52,7 @@ module _ (m : Module) (a : ℕ) (c : Core) where
   turns_as (suc n) (running t) h =
       turned_as n t (move_of (sought m a t)) (moves_as_sought m a t) (sought_goes_on (sought m a t)) (turns_as n)
 
-  pub turn_uses : (n : ℕ) (s : State) (d : Deed) (k : ℕ) → Turn m a c (suc n) s d k → 0 < k
+  pub turn_uses : (n : ℕ) (s : ProcessState) (d : Deed) (k : ℕ) → Turn m a c (suc n) s d k → 0 < k
   turn_uses _ _ _ _ (end n r) = omega arith
   turn_uses _ _ _ _ (contraction n k t s d h r) = omega arith
   turn_uses _ _ _ _ (act n t x d h e) = omega arith
@@ -65,7 +65,7 @@ module _ (m : Module) (a : ℕ) (c : Core) where
   last_only n (awaits fs ks) d e = cc
   last_only n (returns v) d e = cc
 
-  pub turn_only : (n : ℕ) (s : State) (d : Deed) (k : ℕ) → Turn m a c n s d k → turn_of m a c n s ≡ turned d k
+  pub turn_only : (n : ℕ) (s : ProcessState) (d : Deed) (k : ℕ) → Turn m a c n s d k → turn_of m a c n s ≡ turned d k
   turn_only _ _ _ _ (cut_running t) = refl
   turn_only _ _ _ _ (cut_ending r) = refl
   turn_only _ _ _ _ (end n r) = refl
@@ -86,7 +86,7 @@ module _ (m : Module) (n : ℕ) (c : Configuration) where
   pub passes_as : (x : Actor) → CanPass c x → Passes m n c x (pass_of m n c x)
   passes_as (process a) h = let t = turn_of m a c.core n (of c.core a).state in turn a t.used t.deed (turns_as m a c.core n (of c.core a).state h)
   passes_as (channel a b) h =
-      let cs = with_row a (left_in b h.0.rest (row_of a c.channels)) c.channels in
+      let cs = with_row a (row_with_left b h.0.rest (row_of a c.channels)) c.channels in
       let e : taken a b c.channels ≡ Some (h.0.first, cs) = ap (taken_from a b c.channels) h.1 in
       subst (λ o. Passes m n c (channel a b) (delivery_passed a b c o)) (sym e) (delivery a b h.0.first cs e)
 

@@ -7,7 +7,7 @@ use Rattle.pf_syntax.specs.Tree as b
 use Rattle.pf_syntax.specs.Tree.{Operator, Builtin}
 use Rattle.pf_ops.specs.Arithmetic.{in_range, ranged, is_zero, negated}
 use Rattle.pf_ops.specs.Reasons.{fits_limits, pair, tagged}
-use Rattle.pf_ops.specs.Operations.{limited, on_integers, divided, joined, operated, values_before, consed, element_at, head_of, tail_of, list_length, element_of, tuple_length}
+use Rattle.pf_ops.specs.Operations.{limited, on_integers, divided, appended, operated, values_before, consed, element_at, head_of, tail_of, list_length, element_of, tuple_length}
 
 -- what an operation evaluates to isn't the raise of `undef`
 abbrev pub IsAnother : Result Value Value → Type 0
@@ -61,7 +61,7 @@ divided_another f x y = by (is_zero y)
     by true = λ e. another_atom _ _ (λ d. absurd (omega arith)) e
     by false = ranged_another (f x y)
 
-joined_another : (v w : Value) → IsAnother (joined v w)
+joined_another : (v w : Value) → IsAnother (appended v w)
 joined_another (list vs) (list ws) = limited_another (list (values_before vs ws))
 joined_another v w = badarg_another
 

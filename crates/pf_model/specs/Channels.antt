@@ -20,19 +20,19 @@ pub record Queue : Type 0 where
   pub rest : List Signal
 
 -- what one sender has on its way, by receiver
-abbrev pub Row : Type 0
-Row = List (ℕ × Queue)
+abbrev pub SenderRow : Type 0
+SenderRow = List (ℕ × Queue)
 
 -- by sender
 abbrev pub Channels : Type 0
-Channels = List Row
+Channels = List SenderRow
 
-abbrev pub row_of : ℕ → Channels → Row
+abbrev pub row_of : ℕ → Channels → SenderRow
 row_of n [] = []
 row_of zero (r ∷ rs) = r
 row_of (suc n) (r ∷ rs) = row_of n rs
 
-abbrev pub with_row : ℕ → Row → Channels → Channels
+abbrev pub with_row : ℕ → SenderRow → Channels → Channels
 with_row zero r [] = r ∷ []
 with_row (suc n) r [] = [] ∷ with_row n r []
 with_row zero r (x ∷ rs) = r ∷ rs
@@ -55,13 +55,13 @@ abbrev pub sent : (from to : ℕ) → Signal → Channels → Channels
 sent a b s cs = with_row a (put b (with_last (got b (row_of a cs)) s) (row_of a cs)) cs
 
 -- a sender's row, with these left in the channel to b
-abbrev pub left_in : ℕ → List Signal → Row → Row
-left_in b [] r = without b r
-left_in b (s ∷ ss) r = put b (record { first = s; rest = ss }) r
+abbrev pub row_with_left : ℕ → List Signal → SenderRow → SenderRow
+row_with_left b [] r = without b r
+row_with_left b (s ∷ ss) r = put b (record { first = s; rest = ss }) r
 
 abbrev pub taken_from : (from to : ℕ) → Channels → Option Queue → Option (Signal × Channels)
 taken_from a b cs None = None
-taken_from a b cs (Some q) = Some (q.first, with_row a (left_in b q.rest (row_of a cs)) cs)
+taken_from a b cs (Some q) = Some (q.first, with_row a (row_with_left b q.rest (row_of a cs)) cs)
 
 -- the oldest signal of a channel, and the channels without it; None where it is empty
 abbrev pub taken : (from to : ℕ) → Channels → Option (Signal × Channels)
@@ -74,7 +74,7 @@ with_senders (suc n) [] = [] ∷ with_senders n []
 with_senders (suc n) (r ∷ rs) = r ∷ with_senders n rs
 
 -- the channels that are not empty, by sender, then receiver
-abbrev pub heads_of : ℕ → Row → List (ℕ × ℕ)
+abbrev pub heads_of : ℕ → SenderRow → List (ℕ × ℕ)
 heads_of a r = map (λ p. (a, p.0)) r
 
 abbrev pub heads_from : ℕ → Channels → List (ℕ × ℕ)

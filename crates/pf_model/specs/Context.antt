@@ -61,7 +61,7 @@ fill [] t = t
 fill (f ∷ fs) t = around f (fill fs t)
 
 -- the redex r is in t within these frames, and does this
-pub record Context (m : Module) (own : ℕ) (t : Tree) (fs : List Frame) (r : Tree) (c : Change) : Type 0 where
+pub record IsRedexIn (m : Module) (own : ℕ) (t : Tree) (fs : List Frame) (r : Tree) (c : Change) : Type 0 where
   pub filled : fill fs r ≡ t
   pub redex : contract m own r ≡ Some c
 
@@ -71,15 +71,15 @@ pub data End : Type 0 where
   failed : Value → End
 
 -- a process runs a tree, waits in a tree for a message, is about to end with a reason, or has ended
-pub data State : Type 0 where
-  running : Tree → State
-  waiting : Tree → State
-  ending : Value → State
-  ended : End → State
+pub data ProcessState : Type 0 where
+  running : Tree → ProcessState
+  waiting : Tree → ProcessState
+  ending : Value → ProcessState
+  ended : End → ProcessState
 
 -- what a process does next: it goes on by itself, asks for an action or for a message in these frames, or has its value
 pub data Move : Type 0 where
-  goes_on : State → Move
+  goes_on : ProcessState → Move
   asks : List Frame → Act → Move
   awaits : List Frame → Clauses → Move
   returns : Value → Move
@@ -95,4 +95,4 @@ moved fs (Awaits ks) = awaits fs ks
 -- what the tree of a process does next
 pub data Moves (m : Module) (own : ℕ) (t : Tree) (d : Move) : Type 0 where
   at_value : (v : Value) → t ≡ lit v → d ≡ returns v → Moves m own t d
-  at_index : (fs : List Frame) (r : Tree) (c : Change) → Context m own t fs r c → d ≡ moved fs c → Moves m own t d
+  at_index : (fs : List Frame) (r : Tree) (c : Change) → IsRedexIn m own t fs r c → d ≡ moved fs c → Moves m own t d

@@ -4,7 +4,7 @@ use Rattle.pf_terms.specs.Value.{Value, none, more, pid, ref, tuple, same}
 use Rattle.pf_terms.specs.Fixed.{normal, kill, killed, noproc, process, exit_atom, down_atom}
 use Rattle.pf_ops.specs.Reasons.{built}
 use Rattle.pf_model.specs.Maps.{got, put, without, has, with_number, without_number}
-use Rattle.pf_model.specs.Context.{State, running, waiting, ending, ended, failed}
+use Rattle.pf_model.specs.Context.{ProcessState, running, waiting, ending, ended, failed}
 use Rattle.pf_model.specs.Channels.{Signal, message, link, unlink, monitor, demonitor, down, exit}
 use Rattle.pf_model.specs.Configuration.{Process, Core, Left, leaving, of, with_process, is_alive}
 use Rattle.pf_model.specs.Labels.{Label, delivers, Suffix, took_effect, no_process, dropped, as_message, ending_with}
@@ -19,7 +19,7 @@ abbrev pub deed : Left → Label → Deed
 deed x l = record { left = x; label = l }
 
 -- a process that waits goes on
-abbrev pub woken : State → State
+abbrev pub woken : ProcessState → ProcessState
 woken (waiting t) = running t
 woken (running t) = running t
 woken (ending r) = ending r

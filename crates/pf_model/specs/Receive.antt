@@ -34,7 +34,7 @@ FitsNone m own ks [] = Unit {0}
 FitsNone m own ks (v ∷ vs) = (picked m own ks v ≡ None) × FitsNone m own ks vs
 
 -- the mailbox is `front`, the message and `back`; no clause picks any of `front`, and a clause picks the message
-pub record Takes (m : Module) (own : ℕ) (ks : Clauses) (mailbox : List Value) (t : Taken) : Type 0 where
+pub record ReceiveTakes (m : Module) (own : ℕ) (ks : Clauses) (mailbox : List Value) (t : Taken) : Type 0 where
   pub front : List Value
   pub back : List Value
   pub mailbox_is : mailbox ≡ front ++ t.message ∷ back
@@ -44,8 +44,8 @@ pub record Takes (m : Module) (own : ℕ) (ks : Clauses) (mailbox : List Value) 
 
 -- function and relation agree: what is selected is what `receive` takes, and where nothing is selected no message fits
 pub record SelectsAsTakes (m : Module) (own : ℕ) (ks : Clauses) (mailbox : List Value) : Type 0 where
-  pub some : (t : Taken) → selected m own ks mailbox ≡ Some t → Takes m own ks mailbox t
-  pub only : (t : Taken) → Takes m own ks mailbox t → selected m own ks mailbox ≡ Some t
+  pub some : (t : Taken) → selected m own ks mailbox ≡ Some t → ReceiveTakes m own ks mailbox t
+  pub only : (t : Taken) → ReceiveTakes m own ks mailbox t → selected m own ks mailbox ≡ Some t
   pub nothing : selected m own ks mailbox ≡ None → FitsNone m own ks mailbox
 
 abbrev pub ReceiveIsRelation : Type 0

@@ -3,26 +3,26 @@ use Rattle.std.specs.Prelude.{◌≡◌, ℕ, zero, suc, ◌/◌, Bool, true, fa
 use Rattle.pf_model.specs.Meaning.{Job, Report, Means, schedule}
 
 -- these schedules, each with this number before it
-abbrev pub behind : ℕ → List (List ℕ) → List (List ℕ)
-behind n ss = map (λ s. n ∷ s) ss
+abbrev pub with_beginnings : ℕ → List (List ℕ) → List (List ℕ)
+with_beginnings n ss = map (λ s. n ∷ s) ss
 
 -- a schedule without its last number
 abbrev pub without_last : List ℕ → List (List ℕ)
 without_last [] = []
 without_last (n ∷ []) = [] ∷ []
-without_last (n ∷ m ∷ ns) = behind n (without_last (m ∷ ns))
+without_last (n ∷ m ∷ ns) = with_beginnings n (without_last (m ∷ ns))
 
 -- without one number, from the first to the last but one
 abbrev pub without_one : List ℕ → List (List ℕ)
 without_one [] = []
 without_one (n ∷ []) = []
-without_one (n ∷ m ∷ ns) = (m ∷ ns) ∷ behind n (without_one (m ∷ ns))
+without_one (n ∷ m ∷ ns) = (m ∷ ns) ∷ with_beginnings n (without_one (m ∷ ns))
 
 -- with one number above 0 halved downwards, by rising index
 abbrev pub halved : List ℕ → List (List ℕ)
 halved [] = []
-halved (zero ∷ ns) = behind zero (halved ns)
-halved (suc n ∷ ns) = ((suc n / 2) ∷ ns) ∷ behind (suc n) (halved ns)
+halved (zero ∷ ns) = with_beginnings zero (halved ns)
+halved (suc n ∷ ns) = ((suc n / 2) ∷ ns) ∷ with_beginnings (suc n) (halved ns)
 
 -- the candidates of a schedule, in their order
 abbrev pub candidates : List ℕ → List (List ℕ)

@@ -3,13 +3,13 @@ use Rattle.std.specs.Prelude.{ℕ, Bool, false, not, ◌&&◌, ◌==◌, if◌th
 use Rattle.std.specs.List.{list_all}
 use Rattle.std.specs.Fmt.{decimal, signed_decimal}
 use Rattle.pf_terms.specs.Value.{Value, Values, int, atom, ref, pid, tuple, list, none, more}
-use Rattle.pf_tokens.specs.Bytes.{is_lower, is_word, single_quote, backslash}
+use Rattle.pf_tokens.specs.Bytes.{is_lower, is_word_byte, single_quote, backslash}
 use Rattle.pf_tokens.specs.TokenKinds.{reserved_of}
 
 -- a lower-case letter begins the name, words go on with it, and it is no reserved word
 abbrev pub is_plain_name : List ℕ → Bool
 is_plain_name [] = false
-is_plain_name (b ∷ bs) = is_lower b && list_all is_word bs && not (is_some (reserved_of (b ∷ bs)))
+is_plain_name (b ∷ bs) = is_lower b && list_all is_word_byte bs && not (is_some (reserved_of (b ∷ bs)))
 
 -- in quotes a line end, a tabulator, `\` and the quote are escaped
 abbrev pub quoted_byte : ℕ → List ℕ

@@ -4,7 +4,7 @@ use Rattle.pf_terms.specs.Value.{Value}
 use Rattle.pf_syntax.specs.Tree.{Tree, Clauses, lit, receive}
 use Rattle.pf_ops.specs.Reasons.{ending_reason}
 use Rattle.pf_model.specs.Module.{Module}
-use Rattle.pf_model.specs.Context.{Frame, fill, State, running, waiting, ending, returned, failed, End, Move, goes_on, asks, awaits, returns, Moves}
+use Rattle.pf_model.specs.Context.{Frame, fill, ProcessState, running, waiting, ending, returned, failed, End, Move, goes_on, asks, awaits, returns, Moves}
 use Rattle.pf_model.specs.Configuration.{Core, leaving, of, with_process, with_state}
 use Rattle.pf_model.specs.Labels as label
 use Rattle.pf_model.specs.Actions.{Acted, acted}
@@ -13,12 +13,12 @@ use Rattle.pf_model.specs.Ends.{ended_by, reason_of}
 use Rattle.pf_model.specs.Deliveries.{Deed, deed}
 
 -- an action's value goes into its place, and a raise makes the process about to end
-abbrev pub answered : List Frame → Result Value Value → State
-answered fs (Ok v) = running (fill fs (lit v))
-answered fs (Err e) = ending (ending_reason e)
+abbrev pub with_answer : List Frame → Result Value Value → ProcessState
+with_answer fs (Ok v) = running (fill fs (lit v))
+with_answer fs (Err e) = ending (ending_reason e)
 
 abbrev pub after_act : ℕ → List Frame → Acted → Deed
-after_act a fs x = deed (leaving (with_state x.left.core a (answered fs x.answer)) x.left.sent) x.label
+after_act a fs x = deed (leaving (with_state x.left.core a (with_answer fs x.answer)) x.left.sent) x.label
 
 -- the message is taken and the process goes on in the clause's body; where none fits it waits
 abbrev pub received : Core → ℕ → List Frame → Clauses → Option Taken → Deed
@@ -38,9 +38,9 @@ last_of_turn m c a (awaits fs ks) = Some (received c a fs ks (selected m a ks (o
 last_of_turn m c a (returns v) = Some (ended_so c a (returned v))
 
 -- Turn m a c n s d k: process a, in state s and with n steps left, does d within k steps
-pub data Turn (m : Module) (a : ℕ) (c : Core) : ℕ → State → Deed → ℕ → Type 0 where
+pub data Turn (m : Module) (a : ℕ) (c : Core) : ℕ → ProcessState → Deed → ℕ → Type 0 where
   cut_running : (t : Tree) → Turn m a c zero (running t) (deed (leaving (with_state c a (running t)) []) label.cut) zero
   cut_ending : (r : Value) → Turn m a c zero (ending r) (deed (leaving (with_state c a (ending r)) []) label.cut) zero
   end : (n : ℕ) (r : Value) → Turn m a c (suc n) (ending r) (ended_so c a (failed r)) 1
-  contraction : (n k : ℕ) (t : Tree) (s : State) (d : Deed) → Moves m a t (goes_on s) → Turn m a c n s d k → Turn m a c (suc n) (running t) d (suc k)
+  contraction : (n k : ℕ) (t : Tree) (s : ProcessState) (d : Deed) → Moves m a t (goes_on s) → Turn m a c n s d k → Turn m a c (suc n) (running t) d (suc k)
   act : (n : ℕ) (t : Tree) (x : Move) (d : Deed) → Moves m a t x → last_of_turn m c a x ≡ Some d → Turn m a c (suc n) (running t) d 1

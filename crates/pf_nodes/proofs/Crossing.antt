@@ -11,10 +11,10 @@ use denote.Struct.Struct.{exits_of}
 use denote.Struct.Owning.{shape, fields, to}
 use denote.Param.Send.{IsSend, Quiet, AllSend, part_keyless, owning_send, struct_send, sendable}
 use Rattle.std.proofs.Crossing.{frees}
-use Rattle.pf_nodes.specs.declared.raw.Node.{Node}
-use Rattle.pf_nodes.specs.contracts.raw.Node as node
+use Rattle.pf_nodes.specs.declared.raw.ListNode.{ListNode}
+use Rattle.pf_nodes.specs.contracts.raw.ListNode as node
 use Rattle.pf_nodes.specs.contracts.raw.Nodes as nodes
-use Rattle.pf_nodes.proofs.raw.Node.TheSendSync as node_crosses
+use Rattle.pf_nodes.proofs.raw.ListNode.TheSendSync as node_crosses
 use Rattle.pf_nodes.specs.Ownership.{heap, nodes_own}
 
 quiet : {D X : Type 0} (f : D → X) (e : Exit X) → Quiet e → Quiet (hidden (under f e))
@@ -26,7 +26,7 @@ lies R s (block_ptr b o) x = part_keyless R s full_share x b o
 lies R s null_ptr x = tt
 
 module _ (T : RattleType) (s : IsSend T) where
-  nodes-Keyless : (ns : List (Ptr × Node T.Denot)) → Keyless (nodes_own T ns)
+  nodes-Keyless : (ns : List (Ptr × ListNode T.Denot)) → Keyless (nodes_own T ns)
   nodes-Keyless [] = tt
   nodes-Keyless (n ∷ ns) =
       let R : RattleType = node.the_row T in

@@ -3,7 +3,7 @@ use Rattle.std.proofs.Common.{◌≡◌, Bool, true, false, cond, List, [], ◌�
 use Rattle.std.specs.Map.{lookup, remove_entry, set_value}
 use denote.RawPtr.{Ptr}
 use Rattle.pf_nodes.specs.NodeRefs.{same_ptr}
-use Rattle.pf_nodes.specs.Nodes.{Placed, IsApart}
+use Rattle.pf_nodes.specs.Nodes.{PlacedNode, IsApart}
 use Rattle.pf_nodes.specs.Links.{change}
 use Rattle.pf_nodes.proofs.Pointers.{same_ptr_refl, same_ptr_comm}
 
@@ -76,22 +76,22 @@ found_changed {X} test other f (e ∷ xs) x h =
 
 module _ {T : Type 0} where
   -- of nodes that lie apart, none before a node lies at its reference
-  pub apart_before : (xs : List (Placed T)) (e : Placed T) (ys : List (Placed T)) → IsApart (xs ++ e ∷ ys) → Absent (same_ptr e.0) xs
+  pub apart_before : (xs : List (PlacedNode T)) (e : PlacedNode T) (ys : List (PlacedNode T)) → IsApart (xs ++ e ∷ ys) → Absent (same_ptr e.0) xs
   apart_before [] e ys h = refl
   apart_before (x ∷ xs) e ys h =
       absent_cons (same_ptr e.0) x xs (same_ptr_comm e.0 x.0 ∙ absent_head (same_ptr x.0) e ys (absent_right (same_ptr x.0) xs (e ∷ ys) h.0)) (apart_before xs e ys h.1)
 
-  pub apart_without : (xs : List (Placed T)) (e : Placed T) (ys : List (Placed T)) → IsApart (xs ++ e ∷ ys) → IsApart (xs ++ ys)
+  pub apart_without : (xs : List (PlacedNode T)) (e : PlacedNode T) (ys : List (PlacedNode T)) → IsApart (xs ++ e ∷ ys) → IsApart (xs ++ ys)
   apart_without [] e ys h = h.1
   apart_without (x ∷ xs) e ys h = let test = same_ptr x.0 in
       (absent_both test xs ys (absent_left test xs (e ∷ ys) h.0) (absent_tail test e ys (absent_right test xs (e ∷ ys) h.0)), apart_without xs e ys h.1)
 
-  pub apart_push : (xs : List (Placed T)) (e : Placed T) → IsApart xs → Absent (same_ptr e.0) xs → IsApart (xs ++ e ∷ [])
+  pub apart_push : (xs : List (PlacedNode T)) (e : PlacedNode T) → IsApart xs → Absent (same_ptr e.0) xs → IsApart (xs ++ e ∷ [])
   apart_push [] e g h = (refl, tt)
   apart_push (x ∷ xs) e g h =
       (absent_both (same_ptr x.0) xs (e ∷ []) g.0 (absent_cons (same_ptr x.0) e [] (same_ptr_comm x.0 e.0 ∙ absent_head (same_ptr e.0) x xs h) refl), apart_push xs e g.1 (absent_tail (same_ptr e.0) x xs h))
 
-  module _ (xs : List (Placed T)) (e : Placed T) (ys : List (Placed T)) (apart : IsApart (xs ++ e ∷ ys)) where
+  module _ (xs : List (PlacedNode T)) (e : PlacedNode T) (ys : List (PlacedNode T)) (apart : IsApart (xs ++ e ∷ ys)) where
     pub lookup_at : lookup (same_ptr e.0) (xs ++ e ∷ ys) ≡ Some e.1
     lookup_at = lookup_cut (same_ptr e.0) e ys (same_ptr_refl e.0) xs (apart_before xs e ys apart)
 

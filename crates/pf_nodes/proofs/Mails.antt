@@ -8,10 +8,10 @@ use Rattle.std.specs.List.{cons_option}
 use Rattle.std.specs.Option.{option_or, option_and}
 use Rattle.std.specs.Map.{lookup, remove_entry}
 use Rattle.pf_nodes.specs.NodeRefs.{same_ptr, same_node_ref, IsNodeRef}
-use Rattle.pf_nodes.specs.Nodes.{Placed, node_ref_of, IsApart, first_or, last_or, IsLinked, IsFull, values, IsMail}
+use Rattle.pf_nodes.specs.Nodes.{PlacedNode, node_ref_of, IsApart, first_or, last_or, IsLinked, IsFull, values, IsMail}
 use Rattle.pf_nodes.specs.Links.{joined}
 use Rattle.pf_nodes.specs.declared.raw.NodeRef.{NodeRef}
-use Rattle.pf_nodes.specs.declared.raw.Node.{Node}
+use Rattle.pf_nodes.specs.declared.raw.ListNode.{ListNode}
 use Rattle.pf_nodes.proofs.Cuts.{Absent, some_none, apart_push, apart_without, lookup_at, remove_at}
 use Rattle.pf_nodes.proofs.Chains.{ends, first_or-append, last_or-append, linked_out, alike_joined, alike_length, alike_values, alike_full, alike_first, alike_last, alike_drop, alike_apart, joined_linked}
 
@@ -28,11 +28,11 @@ module _ {X : Type 0} where
         one = omega arith
 
 module _ {T : Type 0} where
-  full_out : (xs ys : List (Placed T)) → IsFull (xs ++ ys) → IsFull xs × IsFull ys
+  full_out : (xs ys : List (PlacedNode T)) → IsFull (xs ++ ys) → IsFull xs × IsFull ys
   full_out [] ys h = (tt, h)
   full_out (x ∷ xs) ys h = let on = full_out xs ys h.1 in ((h.0, on.0), on.1)
 
-  full_in : (xs ys : List (Placed T)) → IsFull xs → IsFull ys → IsFull (xs ++ ys)
+  full_in : (xs ys : List (PlacedNode T)) → IsFull xs → IsFull ys → IsFull (xs ++ ys)
   full_in [] ys g h = h
   full_in (x ∷ xs) ys g h = (g.0, full_in xs ys g.1 h)
 
@@ -40,7 +40,7 @@ module _ {T : Type 0} where
   one_more None vs h = absurd cc
   one_more (Some v) vs h = refl
 
-  pub length-values : (xs : List (Placed T)) → IsFull xs → length (values xs) ≡ length xs
+  pub length-values : (xs : List (PlacedNode T)) → IsFull xs → length (values xs) ≡ length xs
   length-values [] h = refl
   length-values (x ∷ xs) h = one_more x.1.value (values xs) h.0 ∙ ap suc (length-values xs h.1)
 
@@ -49,27 +49,27 @@ module _ {T : Type 0} where
   value_of (Some v) h = (v, refl)
 
   -- somewhere there is a last node
-  last_some : (p : NodeRef) (xs : List (Placed T)) → (q : NodeRef) × (last_or (Some p) xs ≡ Some q)
+  last_some : (p : NodeRef) (xs : List (PlacedNode T)) → (q : NodeRef) × (last_or (Some p) xs ≡ Some q)
   last_some p [] = (p, refl)
   last_some p (x ∷ xs) = last_some (node_ref_of x) xs
 
   -- ---- the node at the mark
-  pub record Cut (ns : List (Placed T)) (node_ref : NodeRef) (position : ℕ) : Type 0 where
-    pub before : List (Placed T)
-    pub node : Node T
-    pub after : List (Placed T)
+  pub record Cut (ns : List (PlacedNode T)) (node_ref : NodeRef) (position : ℕ) : Type 0 where
+    pub before : List (PlacedNode T)
+    pub node : ListNode T
+    pub after : List (PlacedNode T)
     pub cut : ns ≡ before ++ (node_ref.ptr, node) ∷ after
     pub index : length before ≡ position
 
-  first_is : (ds : List (Placed T)) (node_ref : NodeRef) → Some node_ref ≡ first_or ds None → (n : Node T) × (ys : List (Placed T)) × (ds ≡ (node_ref.ptr, n) ∷ ys)
+  first_is : (ds : List (PlacedNode T)) (node_ref : NodeRef) → Some node_ref ≡ first_or ds None → (n : ListNode T) × (ys : List (PlacedNode T)) × (ds ≡ (node_ref.ptr, n) ∷ ys)
   first_is [] node_ref e = some_none node_ref e
   first_is (d ∷ ds) node_ref e = let same : node_ref ≡ node_ref_of d = cc in (d.1, ds, λ i. ((sym same i).ptr, d.1) ∷ ds)
 
-  module _ {ns : List (Placed T)} {front back at : Option NodeRef} {position count : ℕ} (h : IsMail ns front back at position count) where
+  module _ {ns : List (PlacedNode T)} {front back at : Option NodeRef} {position count : ℕ} (h : IsMail ns front back at position count) where
     pub no_more : at ≡ None → position ≡ length ns
     no_more none =
         let ds = drop position ns in let e = sym (take-append-drop position ns) in let within = h.within in
-        let empty : (l : List (Placed T)) → None ≡ first_or l None → l ≡ [] = λ l. elim l as (λ l. None ≡ first_or l None → l ≡ []) [ [] ↦ λ g. refl | d ∷ ds ↦ λ g. some_none (node_ref_of d) (sym g) ] in
+        let empty : (l : List (PlacedNode T)) → None ≡ first_or l None → l ≡ [] = λ l. elim l as (λ l. None ≡ first_or l None → l ≡ []) [ [] ↦ λ g. refl | d ∷ ds ↦ λ g. some_none (node_ref_of d) (sym g) ] in
         let gone = ap length (empty ds (sym none ∙ h.at_is)) in
         omega (arith, length-drop position ns, gone)
 
@@ -92,7 +92,7 @@ module _ {T : Type 0} where
       mail_found = (at_cut.node, found)
 
       -- what is left when the node is gone, and its neighbors are joined
-      pub record Left (n : Node T) (rest : List (Placed T)) : Type 0 where
+      pub record Left (n : ListNode T) (rest : List (PlacedNode T)) : Type 0 where
         pub prev_there : MatchOption n.prev ⊤ (IsNodeRef rest)
         pub next_there : MatchOption n.next ⊤ (IsNodeRef rest)
         pub left : IsMail (joined n.prev n.next rest) (option_or (option_and n.prev front) n.next) (option_or (option_and n.next back) n.prev) n.next position (count - 1)
@@ -100,7 +100,7 @@ module _ {T : Type 0} where
         pub others : values (joined n.prev n.next rest) ≡ remove (values ns) position
 
   -- ---- the nodes xs and ys, without the node between them
-  module _ (xs : List (Placed T)) (e : Placed T) (ys : List (Placed T)) where
+  module _ (xs : List (PlacedNode T)) (e : PlacedNode T) (ys : List (PlacedNode T)) where
     new_front : option_or (option_and (last_or None xs) (first_or (xs ++ e ∷ ys) None)) (first_or ys None) ≡ first_or (xs ++ ys) None
     new_front = elim xs as (λ l. option_or (option_and (last_or None l) (first_or (l ++ e ∷ ys) None)) (first_or ys None) ≡ first_or (l ++ ys) None) [
       | [] ↦ refl
@@ -130,16 +130,16 @@ module _ {T : Type 0} where
     values_cut : IsFull (xs ++ e ∷ ys) → (v : T) × (e.1.value ≡ Some v) × (values (xs ++ e ∷ ys) ≡ values xs ++ v ∷ values ys)
     values_cut full =
         let v = value_of e.1.value (full_out xs (e ∷ ys) full).1.0 in
-        (v.0, v.1, filter_map-append (λ (d : Placed T). d.1.value) xs (e ∷ ys) ∙ ap (λ o. values xs ++ cons_option o (values ys)) v.1)
+        (v.0, v.1, filter_map-append (λ (d : PlacedNode T). d.1.value) xs (e ∷ ys) ∙ ap (λ o. values xs ++ cons_option o (values ys)) v.1)
 
-  module _ {ns : List (Placed T)} {front back at : Option NodeRef} {position count : ℕ} (h : IsMail ns front back at position count) (node_ref : NodeRef) (is : at ≡ Some node_ref) where
+  module _ {ns : List (PlacedNode T)} {front back at : Option NodeRef} {position count : ℕ} (h : IsMail ns front back at position count) (node_ref : NodeRef) (is : at ≡ Some node_ref) where
     abbrev t : Cut ns node_ref position
     t = at_cut h node_ref is
 
-    abbrev e : Placed T
+    abbrev e : PlacedNode T
     e = (node_ref.ptr, t.node)
 
-    abbrev rest' : List (Placed T)
+    abbrev rest' : List (PlacedNode T)
     rest' = t.before ++ t.after
 
     apart : IsApart (t.before ++ e ∷ t.after)
@@ -181,28 +181,28 @@ module _ {T : Type 0} where
           next_there = subst (λ o. MatchOption o ⊤ (IsNodeRef rest')) (sym l.1) (next_placed t.before e t.after still_apart);
           left = subst (λ (x : Option NodeRef × Option NodeRef). Kept x.0 x.1) (λ i. (sym l.0 i, sym l.1 i)) kept;
           item = (λ i. slice_get (seen i) (index i)) ∙ slice_get_seam (values t.before) v.0 (values t.after) ∙ sym v.1;
-          others = sym (alike_values rest' (joined t.node.prev t.node.next rest') (alike_joined t.node.prev t.node.next rest')) ∙ filter_map-append (λ (d : Placed T). d.1.value) t.before t.after
+          others = sym (alike_values rest' (joined t.node.prev t.node.next rest') (alike_joined t.node.prev t.node.next rest')) ∙ filter_map-append (λ (d : PlacedNode T). d.1.value) t.before t.after
               ∙ sym ((λ i. remove (seen i) (index i)) ∙ remove_seam (values t.before) v.0 (values t.after));
         }
 
-    pub mail_cut : (n : Node T) (rest : List (Placed T)) → lookup (same_node_ref node_ref) ns ≡ Some n → rest ≡ remove_entry (same_node_ref node_ref) ns → Left h node_ref is n rest
+    pub mail_cut : (n : ListNode T) (rest : List (PlacedNode T)) → lookup (same_node_ref node_ref) ns ≡ Some n → rest ≡ remove_entry (same_node_ref node_ref) ns → Left h node_ref is n rest
     mail_cut n rest there gone =
         let same : t.node ≡ n = some_is (sym (found h node_ref is) ∙ there) in
         let shut : rest' ≡ rest = sym (gone ∙ ap (remove_entry (same_node_ref node_ref)) t.cut ∙ remove_at t.before e t.after apart) in
-        subst (λ (x : Node T × List (Placed T)). Left h node_ref is x.0 x.1) (λ i. (same i, shut i)) left' where
-          some_is : {x y : Node T} → Some x ≡ Some y → x ≡ y
+        subst (λ (x : ListNode T × List (PlacedNode T)). Left h node_ref is x.0 x.1) (λ i. (same i, shut i)) left' where
+          some_is : {x y : ListNode T} → Some x ≡ Some y → x ≡ y
           some_is p = cc
 
   -- ---- a node at the end
-  or_first : (ds : List (Placed T)) (o : Option NodeRef) → option_or (first_or ds None) o ≡ first_or ds o
+  or_first : (ds : List (PlacedNode T)) (o : Option NodeRef) → option_or (first_or ds None) o ≡ first_or ds o
   or_first [] o = refl
   or_first (d ∷ ds) o = refl
 
-  module _ {ns : List (Placed T)} {front back at : Option NodeRef} {position count : ℕ} (h : IsMail ns front back at position count) (node_ref : NodeRef) (n : Node T) (fresh : Absent (same_node_ref node_ref) ns) where
-    abbrev added : Placed T
+  module _ {ns : List (PlacedNode T)} {front back at : Option NodeRef} {position count : ℕ} (h : IsMail ns front back at position count) (node_ref : NodeRef) (n : ListNode T) (fresh : Absent (same_node_ref node_ref) ns) where
+    abbrev added : PlacedNode T
     added = (node_ref.ptr, n)
 
-    abbrev more : List (Placed T)
+    abbrev more : List (PlacedNode T)
     more = ns ++ added ∷ []
 
     together : IsApart more
@@ -230,35 +230,35 @@ module _ {T : Type 0} where
             within = omega (arith, length-append ns (added ∷ []));
             count_is = omega (arith, length-append ns (added ∷ []));
           },
-          sym (alike_values more new k) ∙ filter_map-append (λ (d : Placed T). d.1.value) ns (added ∷ []) ∙ ap (λ o. values ns ++ cons_option o []) some,
+          sym (alike_values more new k) ∙ filter_map-append (λ (d : PlacedNode T). d.1.value) ns (added ∷ []) ∙ ap (λ o. values ns ++ cons_option o []) some,
         )
 
   -- what is left, where the code names its parts
-  pub mail_left : {ns : List (Placed T)} {front back at : Option NodeRef} {position count : ℕ} (h : IsMail ns front back at position count) (node_ref : NodeRef) (is : at ≡ Some node_ref) (n : Node T) (rest : List (Placed T))
-      → Left h node_ref is n rest → (items : List (Placed T)) (front' back' prev next : Option NodeRef) → prev ≡ n.prev → next ≡ n.next → items ≡ joined prev next rest
+  pub mail_left : {ns : List (PlacedNode T)} {front back at : Option NodeRef} {position count : ℕ} (h : IsMail ns front back at position count) (node_ref : NodeRef) (is : at ≡ Some node_ref) (n : ListNode T) (rest : List (PlacedNode T))
+      → Left h node_ref is n rest → (items : List (PlacedNode T)) (front' back' prev next : Option NodeRef) → prev ≡ n.prev → next ≡ n.next → items ≡ joined prev next rest
       → front' ≡ option_or (option_and prev front) next → back' ≡ option_or (option_and next back) prev → IsMail items front' back' next position (count - 1) × (values items ≡ remove (values ns) position)
   mail_left {ns = ns} {front = front} {back = back} {position = position} {count = count} h node_ref is n rest l items front' back' prev next prev_is next_is items_is front_is back_is =
       let same = items_is ∙ (λ i. joined (prev_is i) (next_is i) rest) in
       let first = front_is ∙ (λ i. option_or (option_and (prev_is i) front) (next_is i)) in let last = back_is ∙ (λ i. option_or (option_and (next_is i) back) (prev_is i)) in (
-        subst (λ (x : List (Placed T) × Option NodeRef × Option NodeRef × Option NodeRef). IsMail x.0 x.1 x.2 x.3 position (count - 1)) (λ i. (sym same i, sym first i, sym last i, sym next_is i)) l.left,
+        subst (λ (x : List (PlacedNode T) × Option NodeRef × Option NodeRef × Option NodeRef). IsMail x.0 x.1 x.2 x.3 position (count - 1)) (λ i. (sym same i, sym first i, sym last i, sym next_is i)) l.left,
         ap values same ∙ l.others,
       )
 
   -- what a list becomes, where the code names its parts
-  pub mail_added : {ns : List (Placed T)} {front back at : Option NodeRef} {position count : ℕ} (h : IsMail ns front back at position count) (node_ref : NodeRef) (n : Node T) → Absent (same_node_ref node_ref) ns
-      → (v : T) → n.next ≡ None → n.value ≡ Some v → (rest items : List (Placed T)) (front' at' : Option NodeRef) → rest ≡ ns ++ (node_ref.ptr, n) ∷ [] → items ≡ joined back (Some node_ref) rest
+  pub mail_added : {ns : List (PlacedNode T)} {front back at : Option NodeRef} {position count : ℕ} (h : IsMail ns front back at position count) (node_ref : NodeRef) (n : ListNode T) → Absent (same_node_ref node_ref) ns
+      → (v : T) → n.next ≡ None → n.value ≡ Some v → (rest items : List (PlacedNode T)) (front' at' : Option NodeRef) → rest ≡ ns ++ (node_ref.ptr, n) ∷ [] → items ≡ joined back (Some node_ref) rest
       → front' ≡ option_or front (Some node_ref) → at' ≡ option_or at (Some node_ref) → IsMail items front' (Some node_ref) at' position (count + 1) × (values items ≡ values ns ++ v ∷ [])
   mail_added {ns = ns} {front = front} {back = back} {at = at} {position = position} {count = count} h node_ref n fresh v none some rest items front' at' rest_is items_is front_is at_is =
       let l = mail_pushed h node_ref n fresh v none some in let same = items_is ∙ ap (joined back (Some node_ref)) rest_is in (
-        subst (λ (x : List (Placed T) × Option NodeRef × Option NodeRef). IsMail x.0 x.1 (Some node_ref) x.2 position (count + 1)) (λ i. (sym same i, sym front_is i, sym at_is i)) l.0,
+        subst (λ (x : List (PlacedNode T) × Option NodeRef × Option NodeRef). IsMail x.0 x.1 (Some node_ref) x.2 position (count + 1)) (λ i. (sym same i, sym front_is i, sym at_is i)) l.0,
         ap values same ∙ l.1,
       )
 
   -- the mark may move past the node that is there
-  pub mail_stepped : {ns : List (Placed T)} {front back at : Option NodeRef} {position count : ℕ} (h : IsMail ns front back at position count) (node_ref : NodeRef) (is : at ≡ Some node_ref) (n : Node T) → lookup (same_node_ref node_ref) ns ≡ Some n
+  pub mail_stepped : {ns : List (PlacedNode T)} {front back at : Option NodeRef} {position count : ℕ} (h : IsMail ns front back at position count) (node_ref : NodeRef) (is : at ≡ Some node_ref) (n : ListNode T) → lookup (same_node_ref node_ref) ns ≡ Some n
       → IsMail ns front back n.next (position + 1) count × (position < length ns) × ((v : T) × (n.value ≡ Some v) × (slice_get (values ns) position ≡ Some v))
   mail_stepped {ns = ns} {position = position} h node_ref is n there =
-      let t = at_cut h node_ref is in let e : Placed T = (node_ref.ptr, t.node) in
+      let t = at_cut h node_ref is in let e : PlacedNode T = (node_ref.ptr, t.node) in
       let same : t.node ≡ n = some_is (sym (found h node_ref is) ∙ there) in
       let links = linked_out None t.before (e ∷ t.after) None (subst (λ l. IsLinked None l None) t.cut h.linked) in
       let full = subst IsFull t.cut h.full in let v = values_cut t.before e t.after full in
@@ -278,9 +278,9 @@ module _ {T : Type 0} where
         omega (arith, cut, at, more),
         (v.0, sym (ap (λ m. m.value) same) ∙ v.1, (λ i. slice_get ((ap values t.cut ∙ v.2) i) (index i)) ∙ slice_get_seam (values t.before) v.0 (values t.after)),
       ) where
-        some_is : {x y : Node T} → Some x ≡ Some y → x ≡ y
+        some_is : {x y : ListNode T} → Some x ≡ Some y → x ≡ y
         some_is p = cc
 
-  pub no_nodes : (ns : List (Placed T)) → IsFull ns → length (values ns) ≡ 0 → ns ≡ []
+  pub no_nodes : (ns : List (PlacedNode T)) → IsFull ns → length (values ns) ≡ 0 → ns ≡ []
   no_nodes [] full e = refl
   no_nodes (n ∷ ns) full e = let some = length-values (n ∷ ns) full in absurd (omega (arith, e, some))

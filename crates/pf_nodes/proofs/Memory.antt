@@ -39,10 +39,10 @@ use Rattle.pf_nodes.specs.NodeRefs.{same_ptr}
 use Rattle.pf_nodes.specs.Ownership.{heap_token, nodes_own, nodes_lent}
 use Rattle.pf_nodes.proofs.Pointers.{same_ptr_eq}
 use Rattle.pf_nodes.specs.declared.raw.NodeRef.{NodeRef}
-use Rattle.pf_nodes.specs.declared.raw.Node.{Node}
+use Rattle.pf_nodes.specs.declared.raw.ListNode.{ListNode}
 use Rattle.pf_nodes.specs.contracts.raw.Loose as loose
 use Rattle.pf_nodes.specs.contracts.raw.NodeRef as node_ref
-use Rattle.pf_nodes.specs.contracts.raw.Node as node
+use Rattle.pf_nodes.specs.contracts.raw.ListNode as node
 use Rattle.pf_nodes.specs.contracts.raw.Nodes as nodes
 
 module _ (T : RattleType) where
@@ -89,7 +89,7 @@ some_is x y e = cc
 
 module _ {M : Type 1} {𝓤 : Ura M} (𝓛 : Logic 𝓤) (T : RattleType) (p : Ptr) where
   abbrev Node' : Type 0
-  Node' = Node (R T).Denot
+  Node' = ListNode (R T).Denot
 
   -- of the nodes that are lent, the one at p
   pub node_seen : (κ : Lft) (ns : List (Ptr × Node')) (n : Node') → lookup (same_ptr p) ns ≡ Some n → ent 𝓤 (sem 𝓛 (nodes_lent (R T) ns κ)) (sem 𝓛 (lent_at (Nr T) p n κ))
@@ -161,17 +161,17 @@ node_size T o = (omega arith, omega arith)
 
 module _ {M : Type 1} {𝓤 : Ura M} (𝓛 : Logic 𝓤) (𝓜 : Model 𝓤 𝓛.H) (T : RattleType) where
   -- two nodes do not lie at one reference
-  crowd : (p : Ptr) (x y : Node (R T).Denot) → ent 𝓤 (sep 𝓤 (sem 𝓛 (box_owns heap_token (Nr T) p x)) (sem 𝓛 (box_owns heap_token (Nr T) p y))) (never 𝓤)
+  crowd : (p : Ptr) (x y : ListNode (R T).Denot) → ent 𝓤 (sep 𝓤 (sem 𝓛 (box_owns heap_token (Nr T) p x)) (sem 𝓛 (box_owns heap_token (Nr T) p y))) (never 𝓤)
   crowd null_ptr x y = via 𝓤 (sem 𝓛 (box_owns heap_token (Nr T) null_ptr x)) (fst∗ 𝓤 (sem 𝓛 (box_owns heap_token (Nr T) null_ptr x)) (sem 𝓛 (box_owns heap_token (Nr T) null_ptr y))) (fst∗ 𝓤 (never 𝓤) (sem 𝓛 (heap_token (bare (lone (Nr T).mir)) null_ptr)))
   crowd (block_ptr b o) x y =
-      let τ : Ty = lone (Nr T).mir in let own : Node (R T).Denot → Val → Fml = λ n v. (Nr T).own_val n (v ∷ []) in
+      let τ : Ty = lone (Nr T).mir in let own : ListNode (R T).Denot → Val → Fml = λ n v. (Nr T).own_val n (v ∷ []) in
       qed 𝓛 (‵ (box_owns heap_token (Nr T) (block_ptr b o) x) ∷ ‵ (box_owns heap_token (Nr T) (block_ptr b o) y) ∷ []) ∵ fsplit ! $ move ! (2 ∷ []) $ fsplit ! $ move ! (2 ∷ 0 ∷ []) $
       use1 𝓛 (some (λ (v : Val). ‵ (fat full_share τ b o v) ⊛ ‵ (own x v))) (part_out 𝓛 (Nr T) refl full_share x b o) $ pick ! (λ v. split ! $ use1 𝓛 (‵ (froom τ b o)) (𝓛.laws.at_room τ b o v) $
       move ! (2 ∷ []) $ use1 𝓛 (some (λ (w : Val). ‵ (fat full_share τ b o w) ⊛ ‵ (own y w))) (part_out 𝓛 (Nr T) refl full_share y b o) $ pick ! (λ w. split ! $ move ! (2 ∷ 0 ∷ []) $ keep ! (0 ∷ 1 ∷ []) $
       by ! (𝓜.room_at τ τ b o o o full_share w (node_size T o) (node_size T o))))
 
   -- a node that is owned beside others lies at none of their references
-  pub fresh : (p : Ptr) (n : Node (R T).Denot) (ns : List (Ptr × Node (R T).Denot))
+  pub fresh : (p : Ptr) (n : ListNode (R T).Denot) (ns : List (Ptr × ListNode (R T).Denot))
       → ent 𝓤 (sep 𝓤 (sem 𝓛 (box_owns heap_token (Nr T) p n)) (sem 𝓛 (nodes_own (R T) ns))) (fact 𝓤 (lookup (same_ptr p) ns ≡ None))
   fresh p n [] = fact_i 𝓤 (None ≡ None) _ refl
   fresh p n (m ∷ ns) =

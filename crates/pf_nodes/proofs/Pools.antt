@@ -4,14 +4,14 @@ use Rattle.std.proofs.lemmas.List.{reverse-append, length-append}
 use Rattle.std.specs.Map.{lookup, remove_entry}
 use denote.RawPtr.{Ptr}
 use Rattle.pf_nodes.specs.NodeRefs.{same_ptr, same_node_ref, IsNodeRef}
-use Rattle.pf_nodes.specs.Nodes.{Placed, node_ref_of, IsSpare, IsApart, IsStack, IsPool}
+use Rattle.pf_nodes.specs.Nodes.{PlacedNode, node_ref_of, IsSpare, IsApart, IsStack, IsPool}
 use Rattle.pf_nodes.specs.declared.raw.NodeRef.{NodeRef}
-use Rattle.pf_nodes.specs.declared.raw.Node.{Node}
+use Rattle.pf_nodes.specs.declared.raw.ListNode.{ListNode}
 use Rattle.pf_nodes.proofs.Cuts.{Absent, apart_push, apart_without, lookup_at, remove_at, some_none}
 use Rattle.pf_nodes.proofs.Chains.{ends}
 
 module _ {T : Type 0} where
-  pub pool_pushed : (ns : List (Placed T)) (top : Option NodeRef) (count : ℕ) (p : Ptr) (n : Node T) → IsPool ns top count → Absent (same_ptr p) ns → IsSpare n → n.next ≡ top → (count ≡ 1024 → ⊥)
+  pub pool_pushed : (ns : List (PlacedNode T)) (top : Option NodeRef) (count : ℕ) (p : Ptr) (n : ListNode T) → IsPool ns top count → Absent (same_ptr p) ns → IsSpare n → n.next ≡ top → (count ≡ 1024 → ⊥)
       → IsPool (ns ++ (p, n) ∷ []) (Some (record { ptr = p })) (count + 1)
   pool_pushed ns top count p n h fresh spare next_is room =
       let len = h.count_is in let within = h.within in
@@ -23,14 +23,14 @@ module _ {T : Type 0} where
       }
 
   -- the node on top of a stack, and those below it
-  record Top (ns : List (Placed T)) (node_ref : NodeRef) : Type 0 where
-    below : List (Placed T)
-    node : Node T
+  record Top (ns : List (PlacedNode T)) (node_ref : NodeRef) : Type 0 where
+    below : List (PlacedNode T)
+    node : ListNode T
     cut : ns ≡ below ++ (node_ref.ptr, node) ∷ []
     spare : IsSpare node
     rest : IsStack node.next (reverse below)
 
-  top_of : (ns : List (Placed T)) (node_ref : NodeRef) → IsStack (Some node_ref) (reverse ns) → Top ns node_ref
+  top_of : (ns : List (PlacedNode T)) (node_ref : NodeRef) → IsStack (Some node_ref) (reverse ns) → Top ns node_ref
   top_of ns node_ref h = elim (ends ns) [
     | inl e ↦ some_none node_ref (subst (λ l. IsStack (Some node_ref) (reverse l)) e h)
     | inr f ↦
@@ -39,7 +39,7 @@ module _ {T : Type 0} where
         record { below = f.0; node = f.1.1; cut = f.2 ∙ (λ i. f.0 ++ ((sym same i).ptr, f.1.1) ∷ []); spare = s.1; rest = s.2 }
   ]
 
-  module _ (ns : List (Placed T)) (node_ref : NodeRef) (count : ℕ) (h : IsPool ns (Some node_ref) count) where
+  module _ (ns : List (PlacedNode T)) (node_ref : NodeRef) (count : ℕ) (h : IsPool ns (Some node_ref) count) where
     at_top : Top ns node_ref
     at_top = top_of ns node_ref h.stacked
 
@@ -51,7 +51,7 @@ module _ {T : Type 0} where
 
     popped : IsPool (remove_entry (same_node_ref node_ref) ns) at_top.node.next (count - 1)
     popped =
-        let t = at_top in let e : Placed T = (node_ref.ptr, t.node) in let apart = subst IsApart t.cut h.apart in
+        let t = at_top in let e : PlacedNode T = (node_ref.ptr, t.node) in let apart = subst IsApart t.cut h.apart in
         let len = h.count_is in let within = h.within in let cut = ap length t.cut in
         let left : t.below ++ [] ≡ remove_entry (same_node_ref node_ref) ns = sym (ap (remove_entry (same_node_ref node_ref)) t.cut ∙ remove_at t.below e [] apart) in
         subst (λ l. IsPool l t.node.next (count - 1)) (sym (append-nil t.below) ∙ left) (record {
@@ -61,7 +61,7 @@ module _ {T : Type 0} where
           within = omega arith;
         })
 
-    pub pool_popped : (n : Node T) (rest : List (Placed T)) → lookup (same_node_ref node_ref) ns ≡ Some n → rest ≡ remove_entry (same_node_ref node_ref) ns → IsSpare n × (0 < count) × IsPool rest n.next (count - 1)
+    pub pool_popped : (n : ListNode T) (rest : List (PlacedNode T)) → lookup (same_node_ref node_ref) ns ≡ Some n → rest ≡ remove_entry (same_node_ref node_ref) ns → IsSpare n × (0 < count) × IsPool rest n.next (count - 1)
     pool_popped n rest e left =
         let t = at_top in let f = found in let same : t.node ≡ n = cc in let len = h.count_is in let cut = ap length t.cut in (
           subst IsSpare same t.spare,
@@ -69,7 +69,7 @@ module _ {T : Type 0} where
           subst (λ l. IsPool l n.next (count - 1)) (sym left) (subst (λ m. IsPool (remove_entry (same_node_ref node_ref) ns) m.next (count - 1)) same popped),
         )
 
-  pub pool_empty : (ns : List (Placed T)) (top : Option NodeRef) (count : ℕ) → IsPool ns top count → top ≡ None → count ≡ 0
+  pub pool_empty : (ns : List (PlacedNode T)) (top : Option NodeRef) (count : ℕ) → IsPool ns top count → top ≡ None → count ≡ 0
   pool_empty ns top count h none = elim (ends ns) [
     | inl e ↦ h.count_is ∙ ap length e
     | inr f ↦

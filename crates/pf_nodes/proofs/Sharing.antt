@@ -14,19 +14,19 @@ use denote.SharingLaws.{beside_shr_laws, nothing_shr_laws}
 use denote.Shares.{Shares-less}
 use denote.Struct.Lending.{Lends, lent_at, lent_at_shr_laws, Lends-lies, Lends-first, Lends-both, Lends-nothing}
 use Rattle.std.specs.Box.Ownership.{box_owns}
-use Rattle.pf_nodes.specs.declared.raw.Node.{Node}
-use Rattle.pf_nodes.specs.contracts.raw.Node as node
-use Rattle.pf_nodes.proofs.raw.Node.TheLaws as node_laws
+use Rattle.pf_nodes.specs.declared.raw.ListNode.{ListNode}
+use Rattle.pf_nodes.specs.contracts.raw.ListNode as node
+use Rattle.pf_nodes.proofs.raw.ListNode.TheLaws as node_laws
 use Rattle.pf_nodes.specs.Ownership.{heap_token, nodes_own, nodes_lent}
 
 module _ (T : RattleType) (L : Laws T) where
-  pub nodes_lent_laws : (ns : List (Ptr × Node T.Denot)) → ShrLaws (nodes_lent T ns)
+  pub nodes_lent_laws : (ns : List (Ptr × ListNode T.Denot)) → ShrLaws (nodes_lent T ns)
   nodes_lent_laws [] = nothing_shr_laws
   nodes_lent_laws (n ∷ ns) =
       beside_shr_laws _ _ (lent_at_shr_laws (node.the_row T) (node_laws.the_row_laws T L).shr_laws n.0 n.1) (nodes_lent_laws ns)
 
   module _ {M : Type 1} {𝓤 : Ura M} (𝓛 : Logic 𝓤) (l : Lft) (inc : Incl l (node.the_row T).lives) where
-    pub Lends-nodes : (ns : List (Ptr × Node T.Denot)) → Lends 𝓛 (nodes_own T ns) (nodes_lent T ns) l
+    pub Lends-nodes : (ns : List (Ptr × ListNode T.Denot)) → Lends 𝓛 (nodes_own T ns) (nodes_lent T ns) l
     Lends-nodes [] = Lends-nothing 𝓛 ftrue l
     Lends-nodes (n ∷ ns) =
         let R : RattleType = node.the_row T in

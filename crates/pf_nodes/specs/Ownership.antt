@@ -9,8 +9,8 @@ use denote.Sharing.{nothing, beside}
 use denote.Struct.Lending.{lent_at}
 use Rattle.std.specs.contracts.impls.GlobalAllocator.TheImpl.{ghosts}
 use Rattle.std.specs.declared.alloc.Global.{Global}
-use Rattle.pf_nodes.specs.declared.raw.Node.{Node}
-use Rattle.pf_nodes.specs.contracts.raw.Node as node
+use Rattle.pf_nodes.specs.declared.raw.ListNode.{ListNode}
+use Rattle.pf_nodes.specs.contracts.raw.ListNode as node
 
 -- the one handle to the heap
 abbrev pub heap : Global
@@ -22,11 +22,11 @@ heap_token = ghosts.dealloc_token heap
 
 module _ (T : RattleType) where
   -- each node, with the right to free its block
-  abbrev pub nodes_own : List (Ptr × Node T.Denot) → Fml
+  abbrev pub nodes_own : List (Ptr × ListNode T.Denot) → Fml
   nodes_own [] = ftrue
   nodes_own (n ∷ ns) = fsep (box_owns heap_token (node.the_row T) n.0 n.1) (nodes_own ns)
 
   -- each node, as a `&` to it
-  abbrev pub nodes_lent : List (Ptr × Node T.Denot) → Lft → Fml
+  abbrev pub nodes_lent : List (Ptr × ListNode T.Denot) → Lft → Fml
   nodes_lent [] = nothing
   nodes_lent (n ∷ ns) = beside (lent_at (node.the_row T) n.0 n.1) (nodes_lent ns)

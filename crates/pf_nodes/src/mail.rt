@@ -3,7 +3,7 @@ ghost use Rattle.std.specs.Prelude.{◌≡◌, ℕ, ◌+◌, ◌-◌, ◌^◌, �
 ghost use Rattle.std.specs.Prelude.{Some, IfSome, MatchOption, IsOk, IfErr, OnOk, OnErr};
 ghost use Rattle.pf_nodes.specs.Mail.{mail};
 
-use crate::raw::{Loose, Node, NodeRef, Nodes};
+use crate::raw::{ListNode, Loose, NodeRef, Nodes};
 use crate::spare::{CAPACITY, Pool};
 use std::alloc::Global;
 use std::marker::Model;
@@ -133,7 +133,7 @@ impl<T: Drop> MailList<T> {
     }
 
     /// Takes the node at the mark out, with its item.
-    fn cut_at_mark(&mut self) -> Box<Node<T>>
+    fn cut_at_mark(&mut self) -> Box<ListNode<T>>
         requires { self.old.mark < length self.old.items }
         ensures item { slice_get self.old.items self.old.mark ≡ result.value.value }
         ensures others { self.new ≡ mail (remove self.old.items self.old.mark) self.old.mark }

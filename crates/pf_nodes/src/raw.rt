@@ -4,7 +4,7 @@ ghost use Rattle.std.specs.Borrow.{sem};
 ghost use Rattle.std.specs.Box.Ownership.{box_owns};
 ghost use Rattle.std.specs.Map.{lookup, remove_entry};
 ghost use denote.RawPtr.{Ptr};
-ghost use Rattle.pf_nodes.specs.declared.raw.Node.{Node};
+ghost use Rattle.pf_nodes.specs.declared.raw.ListNode.{ListNode};
 ghost use Rattle.pf_nodes.specs.Nodes.{IsSpare};
 ghost use Rattle.pf_nodes.specs.NodeRefs.{IsNodeRef, same_node_ref};
 ghost use Rattle.pf_nodes.specs.Ownership.{heap_token, nodes_own, nodes_lent};
@@ -22,18 +22,18 @@ unsafe impl Send for NodeRef {}
 
 /// A node: the references of the one before it and the one after it, and its value.
 #[derive(Drop)]
-pub struct Node<T> {
+pub struct ListNode<T> {
     pub(crate) prev: Option<NodeRef>,
     pub(crate) next: Option<NodeRef>,
     pub(crate) value: Option<T>,
 }
 
-impl<T> Node<T> {
+impl<T> ListNode<T> {
     /// A node with no neighbor and no value.
-    pub(crate) fn spare() -> Node<T>
+    pub(crate) fn spare() -> ListNode<T>
         ensures { IsSpare result }
     {
-        Node {
+        ListNode {
             prev: None,
             next: None,
             value: None,
@@ -72,8 +72,8 @@ impl<X: Drop> Loose<X> {
 
 /// The owner of nodes, each known by its reference. It takes no space.
 pub struct Nodes<T> {
-    mark: PhantomData<*mut Node<T>>,
-    ghost items: { List (Ptr × Node T) },
+    mark: PhantomData<*mut ListNode<T>>,
+    ghost items: { List (Ptr × ListNode T) },
 }
 
 impl<T> Model for Nodes<T> {
@@ -101,7 +101,7 @@ impl<T> Nodes<T> {
     }
 
     /// Owns one more node, and says where it lies.
-    pub(crate) fn add(&mut self, node: Loose<Node<T>>) -> NodeRef
+    pub(crate) fn add(&mut self, node: Loose<ListNode<T>>) -> NodeRef
         ensures fresh { lookup (same_node_ref result) self.old.items ≡ None }
         ensures items { self.new.items ≡ self.old.items ++ (result.ptr, node.value) ∷ [] }
     {
@@ -112,30 +112,30 @@ impl<T> Nodes<T> {
     }
 
     /// Gives a node away.
-    pub(crate) fn remove(&mut self, node_ref: NodeRef) -> Loose<Node<T>>
+    pub(crate) fn remove(&mut self, node_ref: NodeRef) -> Loose<ListNode<T>>
         requires { IsNodeRef self.old.items node_ref }
         ensures node { lookup (same_node_ref node_ref) self.old.items ≡ Some result.value }
         ensures items { self.new.items ≡ remove_entry (same_node_ref node_ref) self.old.items }
     {
         Loose {
-            ptr: node_ref.ptr as *mut Node<T>,
+            ptr: node_ref.ptr as *mut ListNode<T>,
         }
     }
 
     /// Reads a node.
-    pub(crate) fn get(&self, node_ref: NodeRef) -> &Node<T>
+    pub(crate) fn get(&self, node_ref: NodeRef) -> &ListNode<T>
         requires { IsNodeRef self.now.items node_ref }
         ensures { lookup (same_node_ref node_ref) self.now.items ≡ Some result.now }
     {
-        unsafe { &*(node_ref.ptr as *mut Node<T>) }
+        unsafe { &*(node_ref.ptr as *mut ListNode<T>) }
     }
 
     /// Lends a node.
-    pub(crate) fn get_mut(&mut self, node_ref: NodeRef) -> &mut Node<T>
+    pub(crate) fn get_mut(&mut self, node_ref: NodeRef) -> &mut ListNode<T>
         requires { IsNodeRef self.old.items node_ref }
         ensures* writes_back { sem 𝓛 (LendsNode T.row self.entry node_ref result) }
         ensures value { lookup (same_node_ref node_ref) self.old.items ≡ Some result.now }
     {
-        unsafe { &mut *(node_ref.ptr as *mut Node<T>) }
+        unsafe { &mut *(node_ref.ptr as *mut ListNode<T>) }
     }
 }

@@ -2,7 +2,7 @@
 ghost use Rattle.std.specs.Prelude.{◌≡◌, ℕ, ◌+◌, ◌-◌, ◌≤◌, MatchOption, min};
 ghost use Rattle.pf_nodes.specs.Nodes.{IsSpare};
 
-use crate::raw::{Loose, Node, NodeRef, Nodes};
+use crate::raw::{ListNode, Loose, NodeRef, Nodes};
 use std::alloc::Global;
 use std::marker::Model;
 
@@ -53,7 +53,7 @@ impl<T> Pool<T> {
 
 impl<T: Drop> Pool<T> {
     /// Takes a spare node out, if there is one.
-    fn take(&mut self) -> Option<Box<Node<T>>>
+    fn take(&mut self) -> Option<Box<ListNode<T>>>
         ensures { MatchOption result ((self.old ≡ 0) × (self.new ≡ 0)) (λ b. IsSpare b.value × (self.new + 1 ≡ self.old)) }
     {
         let Some(node_ref) = self.top else {
@@ -66,17 +66,17 @@ impl<T: Drop> Pool<T> {
     }
 
     /// A spare node of the pool, or a new one where the pool has none.
-    pub(crate) fn node(&mut self) -> Option<Box<Node<T>>>
+    pub(crate) fn node(&mut self) -> Option<Box<ListNode<T>>>
         ensures { MatchOption result ((self.old ≡ 0) × (self.new ≡ 0)) (λ _. self.new ≡ self.old - 1) }
     {
         match self.take() {
             Some(node) => Some(node),
-            None => Box::new(self.alloc, Node::spare()).ok(),
+            None => Box::new(self.alloc, ListNode::spare()).ok(),
         }
     }
 
     /// Keeps a spare node, or frees it where the pool is full.
-    pub(crate) fn put(&mut self, mut node: Box<Node<T>>)
+    pub(crate) fn put(&mut self, mut node: Box<ListNode<T>>)
         requires { IsSpare node.value }
         ensures { self.new ≡ min 1024 (self.old + 1) }
     {

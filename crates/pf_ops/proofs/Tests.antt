@@ -8,7 +8,7 @@ use Rattle.pf_syntax.specs.Tree.{tree_size, size_in}
 use Rattle.pf_syntax.specs.Module.{Tables}
 use Rattle.pf_syntax.specs.Over.{part_over, parts_over}
 use Rattle.pf_syntax.specs.declared.node.Operand.{Operand}
-use Rattle.pf_patterns.specs.Fit.{Scope}
+use Rattle.pf_patterns.specs.Fit.{ValueScope}
 use Rattle.pf_patterns.specs.Substitution.{sub, sub_trees}
 use Rattle.pf_ops.specs.Operations.{values_before}
 use Rattle.pf_ops.specs.Guards.{worth, all_worth}
@@ -30,7 +30,7 @@ none_left [] (suc i) h = refl
 none_left (x ∷ xs) zero h = absurd (omega arith)
 none_left (x ∷ xs) (suc i) h = none_left xs i (omega arith)
 
-module _ (name : ℕ → List ℕ) (own : ℕ) (e : Scope) (t : Tables) where
+module _ (name : ℕ → List ℕ) (own : ℕ) (e : ValueScope) (t : Tables) where
   abbrev worth_at : Operand → Option Value
   worth_at p = worth name own (sub e (part_over t p))
 

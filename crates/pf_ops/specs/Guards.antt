@@ -52,6 +52,6 @@ all_true name own no_trees = true
 all_true name own (tree.tree t ts) = is_true (worth name own t) && all_true name own ts
 
 -- a guard holds where some alternative does
-abbrev pub holds : (ℕ → List ℕ) → ℕ → Guard → Bool
-holds name own no_alternatives = false
-holds name own (alternative ts g) = all_true name own ts || holds name own g
+abbrev pub guard_holds : (ℕ → List ℕ) → ℕ → Guard → Bool
+guard_holds name own no_alternatives = false
+guard_holds name own (alternative ts g) = all_true name own ts || guard_holds name own g

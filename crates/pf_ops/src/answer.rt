@@ -8,7 +8,7 @@ ghost use Rattle.pf_ops.specs.Guards as guards;
 use pf_terms::{AtomId, Term};
 
 /// What an operator or a built-in function evaluates to: its value, or the reason that it raises.
-pub type Answer = Result<Term, AtomId>;
+pub type Computed = Result<Term, AtomId>;
 
 /// The atom `true` or the atom `false`.
 pub fn truth(value: bool) -> Term

@@ -8,12 +8,12 @@ ghost use Rattle.pf_ops.specs.Arithmetic as spec;
 ghost use Rattle.pf_ops.specs.Operations.{divided, operated};
 ghost use Rattle.pf_ops.specs.Results.{answer_of, result_of};
 
-use crate::answer::{Answer, truth};
+use crate::answer::{Computed, truth};
 use pf_syntax::Operator;
 use pf_terms::{AtomId, Term};
 
 /// An operator on two integers. It takes no memory.
-pub fn on_integers(operator: Operator, x: i64, y: i64) -> Answer
+pub fn on_integers(operator: Operator, x: i64, y: i64) -> Computed
     ensures { (name : ℕ → List ℕ) → answer_of result ≡ operated name (operator_of operator) (int x) (int y) }
 {
     match operator {
@@ -41,7 +41,7 @@ pub fn on_integers(operator: Operator, x: i64, y: i64) -> Answer
     }
 }
 
-fn quotient(x: i64, y: i64) -> Answer
+fn quotient(x: i64, y: i64) -> Computed
     ensures { answer_of result ≡ divided int_div x y }
 {
     if y == 0 {
@@ -54,7 +54,7 @@ fn quotient(x: i64, y: i64) -> Answer
 }
 
 /// The least integer over -1 leaves 0, though its quotient passes 64 bits.
-fn remainder(x: i64, y: i64) -> Answer
+fn remainder(x: i64, y: i64) -> Computed
     ensures { answer_of result ≡ divided int_rem x y }
 {
     if y == 0 {

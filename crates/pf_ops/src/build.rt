@@ -6,14 +6,14 @@ ghost use Rattle.pf_terms.specs.Term.{elements_of, value_of, values_of};
 ghost use Rattle.pf_ops.specs.Operations as spec;
 ghost use Rattle.pf_ops.specs.Results.{answer_of};
 
-use crate::answer::Answer;
-use pf_fault::{NoMemory, OrNoMemory};
+use crate::answer::Computed;
+use pf_errors::{NoMemory, OrNoMemory};
 use pf_patterns::copied;
 use pf_terms::{AtomId, List, Term, TooLarge, tuple_of};
 use std::alloc::Global;
 
 /// A list of a first element and a list.
-pub fn cons(alloc: Global, first: Term, rest: Term) -> Result<Answer, NoMemory>
+pub fn cons(alloc: Global, first: Term, rest: Term) -> Result<Computed, NoMemory>
     ensures { IfOk result (λ r. answer_of r ≡ spec.consed (value_of first) (value_of rest)) }
 {
     match rest {
@@ -27,7 +27,7 @@ pub fn cons(alloc: Global, first: Term, rest: Term) -> Result<Answer, NoMemory>
 }
 
 /// The tuple of these elements.
-pub fn tuple(alloc: Global, items: Vec<Term>) -> Result<Answer, NoMemory>
+pub fn tuple(alloc: Global, items: Vec<Term>) -> Result<Computed, NoMemory>
     ensures { IfOk result (λ r. answer_of r ≡ spec.limited (tupled (values_of items.items))) }
 {
     match tuple_of(alloc, items) {
@@ -51,7 +51,7 @@ fn elements(alloc: Global, list: &List) -> Result<Vec<Term>, NoMemory>
 }
 
 /// These elements, and then those of a list, which is shared.
-fn before(alloc: Global, items: Vec<Term>, list: List) -> Result<Answer, NoMemory>
+fn before(alloc: Global, items: Vec<Term>, list: List) -> Result<Computed, NoMemory>
     ensures { IfOk result (λ r. answer_of r
         ≡ spec.limited (listed (spec.values_before (values_of items.items) (elements_of list)))) }
 {
@@ -73,8 +73,8 @@ fn before(alloc: Global, items: Vec<Term>, list: List) -> Result<Answer, NoMemor
 /// `++` of two values: the elements of the left list, each shared, before the right one. It takes as long as the
 /// left list is.
 #[inline(never)]
-pub(crate) fn append(alloc: Global, a: &Term, b: &Term) -> Result<Answer, NoMemory>
-    ensures { IfOk result (λ r. answer_of r ≡ spec.joined (value_of a.now) (value_of b.now)) }
+pub(crate) fn append(alloc: Global, a: &Term, b: &Term) -> Result<Computed, NoMemory>
+    ensures { IfOk result (λ r. answer_of r ≡ spec.appended (value_of a.now) (value_of b.now)) }
 {
     match (a, b) {
         (Term::List(left), Term::List(right)) => {

@@ -7,13 +7,13 @@ ghost use Rattle.pf_syntax.specs.Operators.{builtin_of};
 ghost use Rattle.pf_ops.specs.Operations as spec;
 ghost use Rattle.pf_ops.specs.Results.{answer_of};
 
-use crate::answer::{Answer, truth};
+use crate::answer::{Computed, truth};
 use pf_patterns::copied;
 use pf_syntax::Builtin;
 use pf_terms::{AtomId, List, NoMemory, Term, nodes};
 
 /// `hd`.
-fn head(value: &Term) -> Result<Answer, NoMemory>
+fn head(value: &Term) -> Result<Computed, NoMemory>
     ensures { IfOk result (λ r. answer_of r ≡ spec.head_of (value_of value.now)) }
 {
     match value {
@@ -26,7 +26,7 @@ fn head(value: &Term) -> Result<Answer, NoMemory>
 }
 
 /// `tl`.
-fn tail(value: &Term) -> Result<Answer, NoMemory>
+fn tail(value: &Term) -> Result<Computed, NoMemory>
     ensures { IfOk result (λ r. answer_of r ≡ spec.tail_of (value_of value.now)) }
 {
     match value {
@@ -54,7 +54,7 @@ fn count(list: &List) -> u32
 }
 
 /// `length`.
-fn list_length(value: &Term) -> Answer
+fn list_length(value: &Term) -> Computed
     ensures { answer_of result ≡ spec.list_length (value_of value.now) }
 {
     match value {
@@ -64,7 +64,7 @@ fn list_length(value: &Term) -> Answer
 }
 
 /// `tuple_size`.
-fn tuple_size(value: &Term) -> Answer
+fn tuple_size(value: &Term) -> Computed
     ensures { answer_of result ≡ spec.tuple_length (value_of value.now) }
 {
     match value {
@@ -85,7 +85,7 @@ fn at(items: &[Term], index: usize) -> Option<&Term>
 }
 
 /// The element of this number, counted from 1.
-fn item(number: i64, items: &[Term]) -> Result<Answer, NoMemory>
+fn item(number: i64, items: &[Term]) -> Result<Computed, NoMemory>
     ensures { IfOk result (λ r. answer_of r ≡ spec.element_of (int number) (tuple (values_of items.now))) }
 {
     if number < 1 {
@@ -98,7 +98,7 @@ fn item(number: i64, items: &[Term]) -> Result<Answer, NoMemory>
 }
 
 /// `element`.
-fn element(number: &Term, value: &Term) -> Result<Answer, NoMemory>
+fn element(number: &Term, value: &Term) -> Result<Computed, NoMemory>
     ensures { IfOk result (λ r. answer_of r ≡ spec.element_of (value_of number.now) (value_of value.now)) }
 {
     match (number, value) {
@@ -108,7 +108,7 @@ fn element(number: &Term, value: &Term) -> Result<Answer, NoMemory>
 }
 
 /// A built-in function of no argument, in the process of this pid.
-fn on_none(own: u32, builtin: Builtin) -> Option<Answer>
+fn on_none(own: u32, builtin: Builtin) -> Option<Computed>
     ensures { option_map answer_of result ≡ spec.computed own (builtin_of builtin) none }
 {
     match builtin {
@@ -118,7 +118,7 @@ fn on_none(own: u32, builtin: Builtin) -> Option<Answer>
 }
 
 /// A built-in function of one argument.
-fn on_one(builtin: Builtin, value: &Term) -> Result<Option<Answer>, NoMemory>
+fn on_one(builtin: Builtin, value: &Term) -> Result<Option<Computed>, NoMemory>
     ensures { IfOk result (λ o. (own : ℕ) → option_map answer_of o
         ≡ spec.computed own (builtin_of builtin) (more (value_of value.now) none)) }
 {
@@ -138,7 +138,7 @@ fn on_one(builtin: Builtin, value: &Term) -> Result<Option<Answer>, NoMemory>
 }
 
 /// A built-in function of two arguments.
-fn on_two(builtin: Builtin, first: &Term, second: &Term) -> Result<Option<Answer>, NoMemory>
+fn on_two(builtin: Builtin, first: &Term, second: &Term) -> Result<Option<Computed>, NoMemory>
     ensures { IfOk result (λ o. (own : ℕ) → option_map answer_of o ≡ spec.computed own (builtin_of builtin)
         (more (value_of first.now) (more (value_of second.now) none))) }
 {
@@ -150,7 +150,7 @@ fn on_two(builtin: Builtin, first: &Term, second: &Term) -> Result<Option<Answer
 
 /// A built-in function that only looks at its arguments, in the process of this pid: what it evaluates to. None for
 /// the others, and for another number of arguments.
-pub fn compute(own: u32, builtin: Builtin, arguments: &[Term]) -> Result<Option<Answer>, NoMemory>
+pub fn compute(own: u32, builtin: Builtin, arguments: &[Term]) -> Result<Option<Computed>, NoMemory>
     ensures { IfOk result (λ o. option_map answer_of o
         ≡ spec.computed own (builtin_of builtin) (values_of arguments.now)) }
 {

@@ -14,7 +14,7 @@ ghost use Rattle.pf_ops.specs.Guards as spec;
 ghost use Rattle.pf_ops.specs.Results.{answer_of};
 ghost use Rattle.pf_ops.specs.Surroundings.{all_true_in, all_worth_in, decided_in, tables_in, worth_in};
 
-use crate::answer::{Answer, truth_of};
+use crate::answer::{Computed, truth_of};
 use crate::arithmetic::negated;
 use crate::build::{cons, tuple};
 use crate::builtins::compute;
@@ -34,7 +34,7 @@ pub(crate) struct Surroundings<'a> {
 }
 
 /// The value, where there is one.
-fn value_in(answer: Answer) -> Option<Term>
+fn value_in(answer: Computed) -> Option<Term>
     ensures { option_map value_of result ≡ spec.value_in (answer_of answer) }
 {
     match answer {
@@ -255,7 +255,7 @@ pub fn holds(
     base: usize,
     own: u32,
 ) -> Result<bool, NoMemory>
-    ensures { IfOk result (λ b. b ≡ spec.holds (name_of code.now.atoms) own
+    ensures { IfOk result (λ b. b ≡ spec.guard_holds (name_of code.now.atoms) own
         (sub_guard (activation env.now base) (guard_over code.now.tables guard.now))) }
 {
     let around = Surroundings {

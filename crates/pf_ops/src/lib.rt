@@ -9,7 +9,7 @@ mod guards;
 mod operators;
 mod reasons;
 
-pub use answer::{Answer, truth, truth_of};
+pub use answer::{Computed, truth, truth_of};
 pub use arithmetic::{negated, on_integers};
 pub use build::{cons, tuple};
 pub use builtins::compute;

@@ -8,7 +8,7 @@ ghost use Rattle.pf_syntax.specs.Operators.{operator_of};
 ghost use Rattle.pf_ops.specs.Operations.{is_less, operated};
 ghost use Rattle.pf_ops.specs.Results.{answer_of};
 
-use crate::answer::{Answer, truth};
+use crate::answer::{Computed, truth};
 use crate::arithmetic::on_integers;
 use crate::build::append;
 use pf_syntax::Operator;
@@ -34,7 +34,7 @@ pub fn apply(
     a: &Term,
     b: &Term,
     atoms: &AtomTable,
-) -> Result<Answer, NoMemory>
+) -> Result<Computed, NoMemory>
     ensures { IfOk result (λ r. answer_of r
         ≡ operated (name_of atoms.now) (operator_of operator) (value_of a.now) (value_of b.now)) }
 {

@@ -7,7 +7,7 @@ ghost use Rattle.pf_terms.specs.Term.{value_of};
 ghost use Rattle.pf_terms.specs.Faults.{past_limits};
 ghost use Rattle.pf_ops.specs.Reasons as spec;
 
-use pf_fault::{NoMemory, OrNoMemory};
+use pf_errors::{NoMemory, OrNoMemory};
 use pf_terms::{AtomId, List, Term, TooLarge, copy, tuple_of};
 use std::alloc::Global;
 

@@ -7,7 +7,7 @@ ghost use Rattle.pf_syntax.specs.Module.{pattern_at};
 ghost use Rattle.pf_syntax.specs.Over.{patterns_at};
 ghost use Rattle.pf_patterns.specs.Bindings.{all_bindings, bindings, seen_value, IsBinding};
 
-use crate::seen::Seen;
+use crate::seen::ValuePart;
 use pf_syntax::{Module, PatternId, PatternNode};
 use pf_terms::{List, Term};
 
@@ -16,9 +16,9 @@ use pf_terms::{List, Term};
 pub(crate) fn find<'a>(
     code: &Module,
     pattern: PatternId,
-    value: Seen<'a>,
+    value: ValuePart<'a>,
     number: usize,
-) -> Result<Seen<'a>, usize>
+) -> Result<ValuePart<'a>, usize>
     ensures { IsBinding (bindings (pattern_at code.now.tables pattern.0) (seen_value value.entry))
         number result }
 {
@@ -33,13 +33,13 @@ pub(crate) fn find<'a>(
                 }
             }
             PatternNode::Tuple(parts) => match value {
-                Seen::Whole(Term::Tuple(elements)) => {
+                ValuePart::Whole(Term::Tuple(elements)) => {
                     find_in(code, parts.as_slice(), elements.as_slice(), number)
                 }
                 _ => Err(number),
             },
             PatternNode::Cons(head, tail) => match value {
-                Seen::Whole(Term::List(list)) | Seen::Tail(list) => {
+                ValuePart::Whole(Term::List(list)) | ValuePart::Tail(list) => {
                     find_cons(code, *head, *tail, list, number)
                 }
                 _ => Err(number),
@@ -57,15 +57,15 @@ fn find_cons<'a>(
     tail: PatternId,
     list: &'a List,
     number: usize,
-) -> Result<Seen<'a>, usize>
+) -> Result<ValuePart<'a>, usize>
     ensures { let pattern = cons_of (pattern_at code.now.tables head.0) (pattern_at code.now.tables tail.0) in
         IsBinding (bindings pattern (listed (elements_of list.now))) number result }
 {
     match list.split() {
         None => Err(number),
-        Some((first, others)) => match find(code, head, Seen::Whole(first), number) {
+        Some((first, others)) => match find(code, head, ValuePart::Whole(first), number) {
             Ok(found) => Ok(found),
-            Err(left) => find(code, tail, Seen::Tail(others), left),
+            Err(left) => find(code, tail, ValuePart::Tail(others), left),
         },
     }
 }
@@ -77,7 +77,7 @@ fn find_in<'a>(
     patterns: &[PatternId],
     values: &'a [Term],
     number: usize,
-) -> Result<Seen<'a>, usize>
+) -> Result<ValuePart<'a>, usize>
     ensures { IsBinding (all_bindings (patterns_at code.now.tables patterns.now) (values_of values.now))
         number result }
 {
@@ -85,7 +85,7 @@ fn find_in<'a>(
         [] => Err(number),
         [pattern, rest @ ..] => match values {
             [] => Err(number),
-            [first, others @ ..] => match find(code, *pattern, Seen::Whole(first), number) {
+            [first, others @ ..] => match find(code, *pattern, ValuePart::Whole(first), number) {
                 Ok(found) => Ok(found),
                 Err(left) => find_in(code, rest, others, left),
             },

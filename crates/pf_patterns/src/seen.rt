@@ -8,20 +8,20 @@ use pf_terms::{List, Term, equal, equal_lists};
 
 /// A part of a value: one that is a term of its own, or what comes after an element of a list.
 #[derive(Clone, Copy)]
-pub(crate) enum Seen<'a> {
+pub(crate) enum ValuePart<'a> {
     Whole(&'a Term),
     Tail(&'a List),
 }
 
 /// Whether two parts are the same value.
-pub(crate) fn equal_seen(a: Seen, b: Seen) -> bool
+pub(crate) fn equal_seen(a: ValuePart, b: ValuePart) -> bool
     ensures { result ≡ same (seen_value a.entry) (seen_value b.entry) }
 {
     match (a, b) {
-        (Seen::Whole(a), Seen::Whole(b)) => equal(a, b),
-        (Seen::Whole(Term::List(a)), Seen::Tail(b)) => equal_lists(a, b),
-        (Seen::Tail(a), Seen::Whole(Term::List(b))) => equal_lists(a, b),
-        (Seen::Tail(a), Seen::Tail(b)) => equal_lists(a, b),
+        (ValuePart::Whole(a), ValuePart::Whole(b)) => equal(a, b),
+        (ValuePart::Whole(Term::List(a)), ValuePart::Tail(b)) => equal_lists(a, b),
+        (ValuePart::Tail(a), ValuePart::Whole(Term::List(b))) => equal_lists(a, b),
+        (ValuePart::Tail(a), ValuePart::Tail(b)) => equal_lists(a, b),
         _ => false,
     }
 }

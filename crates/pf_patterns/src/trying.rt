@@ -8,16 +8,16 @@ ghost use Rattle.pf_syntax.specs.Module.{literal_at, pattern_at};
 ghost use Rattle.pf_patterns.specs.Fit as spec;
 ghost use Rattle.pf_patterns.specs.Slots.{activation};
 ghost use Rattle.pf_patterns.specs.Bindings.{seen_value};
-ghost use Rattle.pf_patterns.specs.Walks.{cons_at, part_at, parts_at, scope_at, AllStandAt, AllWalkedAt, StandsAt, WalkedAt};
+ghost use Rattle.pf_patterns.specs.Walks.{cons_at, part_at, pattern_parts, scope_at, AllStandAt, AllWalkedAt, IsAtPart, WalkedAt};
 
 use crate::finding::find;
-use crate::seen::{Seen, equal_seen};
+use crate::seen::{ValuePart, equal_seen};
 use pf_syntax::{LiteralId, Module, PatternId, PatternNode};
 use pf_terms::{List, Term, nodes};
 
 /// A whole pattern and the value that is to fit it, over the values of the variables in scope.
 #[derive(Clone, Copy)]
-pub(crate) struct Walk<'a> {
+pub(crate) struct PatternWalk<'a> {
     code: &'a Module,
     scope: &'a [Term],
     pattern: PatternId,
@@ -25,19 +25,24 @@ pub(crate) struct Walk<'a> {
 }
 
 /// Whether a part is the value of a slot in scope, where `bound` variables of the pattern are bound.
-fn fits_index(walk: &Walk, index: u32, value: Seen, bound: usize) -> bool
+fn fits_index(walk: &PatternWalk, index: u32, value: ValuePart, bound: usize) -> bool
     ensures { spec.fit (variable index) (seen_value value.entry) (scope_at walk.now bound)
         ≡ spec.kept_if result (scope_at walk.now bound) }
 {
     let index = index as usize;
     match walk.scope.get(index) {
-        Some(known) => equal_seen(Seen::Whole(known), value),
+        Some(known) => equal_seen(ValuePart::Whole(known), value),
         None => {
             let number = index - walk.scope.len();
             if number >= bound {
                 return false;
             }
-            match find(walk.code, walk.pattern, Seen::Whole(walk.value), number) {
+            match find(
+                walk.code,
+                walk.pattern,
+                ValuePart::Whole(walk.value),
+                number,
+            ) {
                 Ok(known) => equal_seen(known, value),
                 Err(_) => false,
             }
@@ -46,19 +51,19 @@ fn fits_index(walk: &Walk, index: u32, value: Seen, bound: usize) -> bool
 }
 
 /// Whether a part is the literal of this number.
-fn is_literal(code: &Module, id: LiteralId, value: Seen) -> bool
+fn is_literal(code: &Module, id: LiteralId, value: ValuePart) -> bool
     ensures { result ≡ same (literal_at code.now.tables id.0) (seen_value value.entry) }
 {
     match code.literal(id) {
-        Some(literal) => equal_seen(Seen::Whole(literal), value),
-        None => equal_seen(Seen::Tail(&List::Nil), value),
+        Some(literal) => equal_seen(ValuePart::Whole(literal), value),
+        None => equal_seen(ValuePart::Tail(&List::Nil), value),
     }
 }
 
 /// Whether a part fits, where n variables of the whole pattern are bound: how many then are.
 #[cycle(walk)]
-fn fits_part(walk: &Walk, part: PatternId, value: Seen, bound: usize) -> Option<usize>
-    requires { StandsAt walk.now bound (part_at walk.now part) (seen_value value) }
+fn fits_part(walk: &PatternWalk, part: PatternId, value: ValuePart, bound: usize) -> Option<usize>
+    requires { IsAtPart walk.now bound (part_at walk.now part) (seen_value value) }
     ensures { WalkedAt walk.now bound (part_at walk.now part) (seen_value value.entry) result }
 {
     match walk.code.pattern(part) {
@@ -68,21 +73,23 @@ fn fits_part(walk: &Walk, part: PatternId, value: Seen, bound: usize) -> Option<
             PatternNode::New => Some(bound + 1),
             PatternNode::Slot(index) => fits_index(walk, *index, value, bound).then_some(bound),
             PatternNode::Int(n) => {
-                matches!(value, Seen::Whole(Term::Int(other)) if n == other).then_some(bound)
+                matches!(value, ValuePart::Whole(Term::Int(other)) if n == other).then_some(bound)
             }
             PatternNode::Atom(atom) => {
-                matches!(value, Seen::Whole(Term::Atom(other)) if atom == other).then_some(bound)
+                matches!(value, ValuePart::Whole(Term::Atom(other)) if atom == other).then_some(
+                    bound,
+                )
             }
-            PatternNode::Nil => equal_seen(Seen::Tail(&List::Nil), value).then_some(bound),
+            PatternNode::Nil => equal_seen(ValuePart::Tail(&List::Nil), value).then_some(bound),
             PatternNode::Literal(id) => is_literal(walk.code, *id, value).then_some(bound),
             PatternNode::Tuple(parts) => match value {
-                Seen::Whole(Term::Tuple(elements)) => {
+                ValuePart::Whole(Term::Tuple(elements)) => {
                     fits_all(walk, parts.as_slice(), elements.as_slice(), bound)
                 }
                 _ => None,
             },
             PatternNode::Cons(head, tail) => match value {
-                Seen::Whole(Term::List(list)) | Seen::Tail(list) => {
+                ValuePart::Whole(Term::List(list)) | ValuePart::Tail(list) => {
                     fits_cons(walk, *head, *tail, list, bound)
                 }
                 _ => None,
@@ -95,29 +102,29 @@ fn fits_part(walk: &Walk, part: PatternId, value: Seen, bound: usize) -> Option<
 /// Whether the first element of a list and what comes after it fit their patterns.
 #[cycle(walk)]
 fn fits_cons(
-    walk: &Walk,
+    walk: &PatternWalk,
     head: PatternId,
     tail: PatternId,
     list: &List,
     bound: usize,
 ) -> Option<usize>
-    requires { StandsAt walk.now bound (cons_at walk.now head tail) (listed (elements_of list.now)) }
+    requires { IsAtPart walk.now bound (cons_at walk.now head tail) (listed (elements_of list.now)) }
     ensures { WalkedAt walk.now bound (cons_at walk.now head tail) (listed (elements_of list.now)) result }
 {
     match list.split() {
         None => None,
         Some((first, others)) => {
-            let bound = fits_part(walk, head, Seen::Whole(first), bound)?;
-            fits_part(walk, tail, Seen::Tail(others), bound)
+            let bound = fits_part(walk, head, ValuePart::Whole(first), bound)?;
+            fits_part(walk, tail, ValuePart::Tail(others), bound)
         }
     }
 }
 
 /// Whether each value fits its pattern, from left to right.
 #[cycle(walk)]
-fn fits_all(walk: &Walk, parts: &[PatternId], values: &[Term], bound: usize) -> Option<usize>
-    requires { AllStandAt walk.now bound (parts_at walk.now parts.now) (values_of values.now) }
-    ensures { AllWalkedAt walk.now bound (parts_at walk.now parts.now) (values_of values.now) result }
+fn fits_all(walk: &PatternWalk, parts: &[PatternId], values: &[Term], bound: usize) -> Option<usize>
+    requires { AllStandAt walk.now bound (pattern_parts walk.now parts.now) (values_of values.now) }
+    ensures { AllWalkedAt walk.now bound (pattern_parts walk.now parts.now) (values_of values.now) result }
 {
     match parts {
         [] => match values {
@@ -127,7 +134,7 @@ fn fits_all(walk: &Walk, parts: &[PatternId], values: &[Term], bound: usize) -> 
         [part, rest @ ..] => match values {
             [] => None,
             [first, others @ ..] => {
-                let bound = fits_part(walk, *part, Seen::Whole(first), bound)?;
+                let bound = fits_part(walk, *part, ValuePart::Whole(first), bound)?;
                 fits_all(walk, rest, others, bound)
             }
         },
@@ -143,11 +150,11 @@ pub fn fits(code: &Module, pattern: PatternId, value: &Term, env: &[Term], base:
     // Its contract bounds how many variables can be bound.
     let _nodes = nodes(value);
     let scope = env.get(base..).unwrap_or(&[]);
-    let walk = Walk {
+    let walk = PatternWalk {
         code,
         scope,
         pattern,
         value,
     };
-    fits_part(&walk, pattern, Seen::Whole(value), 0).is_some()
+    fits_part(&walk, pattern, ValuePart::Whole(value), 0).is_some()
 }

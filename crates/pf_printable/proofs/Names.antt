@@ -5,12 +5,12 @@ use Rattle.std.specs.List.{flat_map, list_all, list_any}
 use Rattle.std.specs.Str.{bytes_eq}
 use Rattle.std.proofs.lemmas.Bool.{and_from, and_parts, eqb-true, le-leb, leb-true, or_left}
 use Rattle.std.proofs.lemmas.Option.{same_Some}
-use Rattle.pf_terms.specs.Atoms.{fixed_names, name_of, with_name, with_names}
-use Rattle.pf_tokens.specs.Bytes.{backslash, double_quote, escape_of, is_digit, is_lower, is_quotable, is_upper, is_visible, is_word, single_quote}
+use Rattle.pf_terms.specs.Atoms.{fixed_names, name_of, with_name, names_entered}
+use Rattle.pf_tokens.specs.Bytes.{backslash, double_quote, escape_of, is_digit, is_lower, is_quotable, is_upper, is_visible, is_word_byte, single_quote}
 use Rattle.pf_tokens.specs.TokenKinds as kinds
-use Rattle.pf_tokens.specs.TokenKinds.{Placed, TokenKind, put_first}
-use Rattle.pf_tokens.specs.Rules.{Begins, HasTokens, IsName, IsPiece, IsToken, Operand, Writes, WritesAll, is_plain_in, tokens_from}
-use Rattle.pf_intern.specs.NumberedTokens.{atom_name, atoms_of}
+use Rattle.pf_tokens.specs.TokenKinds.{PlacedToken, TokenKind, put_first}
+use Rattle.pf_tokens.specs.Rules.{BeginsWithParts, HasTokens, IsName, IsPiece, IsToken, RulePart, WritesByte, WritesAll, is_plain_in, tokens_from}
+use Rattle.pf_tokens.specs.NumberedTokens.{atom_name, atoms_of}
 use Rattle.pf_printable.proofs.Bytes.{passes_append, passes_too}
 
 abbrev pub Quotable : List ℕ → Type 0
@@ -43,14 +43,14 @@ upper_visible : (b : ℕ) → is_upper b ≡ true → is_visible b ≡ true
 upper_visible b =
     either (nat_le 65 b && nat_le b 90) (b == 95) (in_range 65 90 b (omega arith) (omega arith)) (is_one is_visible 95 b refl)
 
-pub word_visible : (b : ℕ) → is_word b ≡ true → is_visible b ≡ true
+pub word_visible : (b : ℕ) → is_word_byte b ≡ true → is_visible b ≡ true
 word_visible b =
     either (is_lower b || is_upper b || is_digit b) (b == 64)
     (either (is_lower b || is_upper b) (is_digit b) (either (is_lower b) (is_upper b) (lower_visible b) (upper_visible b))
     (in_range 48 57 b (omega arith) (omega arith)))
     (is_one is_visible 64 b refl)
 
-word_quotable : (b : ℕ) → is_word b ≡ true → is_quotable b ≡ true
+word_quotable : (b : ℕ) → is_word_byte b ≡ true → is_quotable b ≡ true
 word_quotable b e = or_left (is_visible b || b == 9) (b == 10) (or_left (is_visible b) (b == 9) (word_visible b e))
 
 -- ---- names in quotes
@@ -77,7 +77,7 @@ escape_quotable b c =
     by false false false true h e = this b (h refl) e
     by false false false false h e = absurd (cc)
 
-written_quotable : (quote c : ℕ) (bytes : List ℕ) → Writes (is_plain_in quote) c bytes → is_quotable c ≡ true
+written_quotable : (quote c : ℕ) (bytes : List ℕ) → WritesByte (is_plain_in quote) c bytes → is_quotable c ≡ true
 written_quotable quote c bytes (inl w) = (and_parts (is_quotable c) (not (c == quote || c == backslash)) w.0).0
 written_quotable quote c bytes (inr w) = escape_quotable w.0 c w.1
 
@@ -90,7 +90,7 @@ all_written quote (c ∷ meant) bytes w =
 
 word_name : (name rest : List ℕ) → IsName is_lower name rest → Quotable name
 word_name [] rest h = refl
-word_name (b ∷ bs) rest h = passes_too is_word is_quotable word_quotable (b ∷ bs) h.1.each
+word_name (b ∷ bs) rest h = passes_too is_word_byte is_quotable word_quotable (b ∷ bs) h.1.each
 
 atom_quotable : (kind : TokenKind) (bytes rest : List ℕ) → IsToken kind bytes rest → AreQuotable (atom_name kind)
 atom_quotable (kinds.atom name) bytes rest (inl h) =
@@ -107,16 +107,16 @@ atom_quotable (kinds.reserved r) bytes rest h = refl
 
 -- ---- names of a source
 
-abbrev names_in : List Placed → List (List ℕ)
+abbrev names_in : List PlacedToken → List (List ℕ)
 names_in ts = flat_map (λ t. atom_name t.kind) ts
 
-put_quotable : (kind : Option TokenKind) (bytes rest : List ℕ) (start end : ℕ) (ts : List Placed) → IsPiece kind bytes rest → AreQuotable (names_in ts)
+put_quotable : (kind : Option TokenKind) (bytes rest : List ℕ) (start end : ℕ) (ts : List PlacedToken) → IsPiece kind bytes rest → AreQuotable (names_in ts)
     → AreQuotable (names_in (put_first kind start end ts))
 put_quotable None bytes rest start end ts h all = all
 put_quotable (Some kind) bytes rest start end ts h all =
     passes_append (list_all is_quotable) (atom_name kind) (names_in ts) (atom_quotable kind bytes rest h) all
 
-tokens_quotable : (offset : ℕ) (ps : List Operand) (text rest : List ℕ) → Begins ps text rest → AreQuotable (names_in (tokens_from offset ps))
+tokens_quotable : (offset : ℕ) (ps : List RulePart) (text rest : List ℕ) → BeginsWithParts ps text rest → AreQuotable (names_in (tokens_from offset ps))
 tokens_quotable offset [] text rest h = refl
 tokens_quotable offset (p ∷ ps) text rest h =
     put_quotable p.kind p.bytes h.0 offset (offset + length p.bytes) (tokens_from (offset + length p.bytes) ps) h.2
@@ -129,13 +129,13 @@ with_quotable names name h q = by (list_any (bytes_eq name) names)
     by true = h
     by false = passes_append (list_all is_quotable) names (name ∷ []) h (and_from (list_all is_quotable name) true q refl)
 
-all_with : (names more : List (List ℕ)) → AreQuotable names → AreQuotable more → AreQuotable (with_names names more)
+all_with : (names more : List (List ℕ)) → AreQuotable names → AreQuotable more → AreQuotable (names_entered names more)
 all_with names [] h k = h
 all_with names (name ∷ more) h k =
     let parts = and_parts (list_all is_quotable name) (list_all (list_all is_quotable) more) k in
     all_with (with_name names name) more (with_quotable names name h parts.0) parts.1
 
-pub atoms_quotable : (text : List ℕ) (ts : List Placed) → HasTokens text ts → AreQuotable (atoms_of ts)
+pub atoms_quotable : (text : List ℕ) (ts : List PlacedToken) → HasTokens text ts → AreQuotable (atoms_of ts)
 atoms_quotable text ts h =
     all_with fixed_names (names_in ts) refl
     (subst (λ us. AreQuotable (names_in us)) (sym h.tokens_are) (tokens_quotable 0 h.parts text [] h.whole))

@@ -1,17 +1,17 @@
 -- The texts of a module that is read.
 use Rattle.std.proofs.Common.{ℕ, List, [], refl, sym, subst}
 use Rattle.pf_terms.specs.Atoms.{name_of}
-use Rattle.pf_check.specs.Reads.{Outcome, accepted, refused, Reads, token_fault, no_head, no_tree, static, checked}
+use Rattle.pf_check.specs.Reads.{ReadOutcome, accepted, refused, Reads, token_fault, no_head, no_tree, static, checked}
 use Rattle.pf_printable.specs.Printable.{ReadModulesPrintVisibly}
 use Rattle.pf_printable.proofs.Names.{AreQuotable, atoms_quotable, name_quotable}
 use Rattle.pf_printable.proofs.Texts.{prints_visibly}
 
 -- the atoms of a source that is a module
-abbrev atoms_in : Outcome → List (List ℕ)
+abbrev atoms_in : ReadOutcome → List (List ℕ)
 atoms_in (accepted name atoms functions) = atoms
 atoms_in (refused code at) = []
 
-read_quotable : (bytes : List ℕ) (o : Outcome) → Reads bytes o → AreQuotable (atoms_in o)
+read_quotable : (bytes : List ℕ) (o : ReadOutcome) → Reads bytes o → AreQuotable (atoms_in o)
 read_quotable bytes _ (token_fault code at h) = refl
 read_quotable bytes _ (no_head ts has h) = refl
 read_quotable bytes _ (no_tree ts at has head h i) = refl

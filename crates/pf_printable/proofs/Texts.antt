@@ -5,7 +5,7 @@ use Rattle.std.specs.Fmt.{decimal}
 use Rattle.std.specs.List.{flat_map, list_all}
 use Rattle.std.proofs.lemmas.Bool.{and_from, and_parts}
 use Rattle.pf_terms.specs.Value.{Value, Values, int, atom, ref, pid, tuple, list, none, more}
-use Rattle.pf_tokens.specs.Bytes.{backslash, is_lower, is_quotable, is_visible, is_word, single_quote}
+use Rattle.pf_tokens.specs.Bytes.{backslash, is_lower, is_quotable, is_visible, is_word_byte, single_quote}
 use Rattle.pf_tokens.specs.TokenKinds.{reserved_of}
 use Rattle.pf_ops.specs.Operations.{truth}
 use Rattle.pf_model.specs.Channels.{Signal, message, link, unlink, monitor, demonitor, down, exit}
@@ -53,9 +53,9 @@ all_quoted_seen (b ∷ bs) h =
 plain_seen : (name : List ℕ) → is_plain_name name ≡ true → Seen name
 plain_seen [] e = refl
 plain_seen (b ∷ bs) e =
-    let words = (and_parts (is_lower b && list_all is_word bs) (not (is_some (reserved_of (b ∷ bs)))) e).0 in
-    let parts = and_parts (is_lower b) (list_all is_word bs) words in
-    and_from (is_visible b) (list_all is_visible bs) (lower_visible b parts.0) (passes_too is_word is_visible word_visible bs parts.1)
+    let words = (and_parts (is_lower b && list_all is_word_byte bs) (not (is_some (reserved_of (b ∷ bs)))) e).0 in
+    let parts = and_parts (is_lower b) (list_all is_word_byte bs) words in
+    and_from (is_visible b) (list_all is_visible bs) (lower_visible b parts.0) (passes_too is_word_byte is_visible word_visible bs parts.1)
 
 atom_seen : (name : List ℕ) → Quotable name → Seen (atom_text name)
 atom_seen name h = by (is_plain_name name) (plain_seen name)

@@ -5,15 +5,15 @@ use Rattle.std.specs.Cmp.Lexicographic.{pointwise}
 use Rattle.std.specs.Str.{bytes_eq}
 use Rattle.std.proofs.lemmas.Slice.Eq.{bytes_eq-Decides, starts_is}
 use Rattle.std.proofs.lemmas.Bool.Decides.{Decides-eqb}
-use Rattle.pf_fault.specs.declared.code.Code.TheVariants.{NoProperty}
-use Rattle.pf_fault.specs.declared.fault.OrNoMemory.TheVariants.{Fault}
-use Rattle.pf_tokens.specs.TokenKinds.{TokenKind, Placed, own_module}
+use Rattle.pf_errors.specs.declared.code.Code.TheVariants.{NoProperty}
+use Rattle.pf_errors.specs.declared.fault.OrNoMemory.TheVariants.{Fault}
+use Rattle.pf_tokens.specs.TokenKinds.{TokenKind, PlacedToken, own_module}
 use Rattle.pf_tokens.specs.Rules.{HasTokens}
 use Rattle.pf_tokens.specs.Scan.{Read, tokens}
 use Rattle.pf_tokens.proofs.Texts.{Tells, tokens_tell}
 use Rattle.pf_syntax.specs.Pattern.{Pattern}
 use Rattle.pf_syntax.specs.ExprPattern.{ExprPattern}
-use Rattle.pf_intern.specs.NumberedTokens.{atoms_after, numbered_after}
+use Rattle.pf_tokens.specs.NumberedTokens.{atoms_after, numbered_after}
 use Rattle.pf_reader.specs.PatternAlone.{DerivesPatternAlone, LacksModule}
 use Rattle.pf_reader.proofs.Alone.{alone_complete, alone_sound, read_by}
 use Rattle.pf_lower.proofs.Patterns_alone.{some_alone}
@@ -28,7 +28,7 @@ module_or_other : (kind : TokenKind) → (kind ≡ own_module) ⊎ (kind ≡ own
 module_or_other own_module = inl refl
 module_or_other _ = inr (λ e. cc)
 
-lacks_or_has : (ts : List Placed) → LacksModule ts ⊎ (LacksModule ts → ⊥)
+lacks_or_has : (ts : List PlacedToken) → LacksModule ts ⊎ (LacksModule ts → ⊥)
 lacks_or_has [] = inl tt
 lacks_or_has (t ∷ ts) = both (module_or_other t.kind) (lacks_or_has ts)
   where
@@ -44,7 +44,7 @@ module _ (names : List (List ℕ)) where
     abbrev PatternOrNone : Type 0
     PatternOrNone = ((p : Pattern) × ReadsPattern names text p) ⊎ ((p : Pattern) → ReadsPattern names text p → ⊥)
 
-    module _ (ts : List Placed) (has : HasTokens text ts) where
+    module _ (ts : List PlacedToken) (has : HasTokens text ts) where
       none_derives : ((q : ExprPattern) → DerivesPatternAlone names q ts → ⊥) → PatternOrNone
       none_derives none = inr (without_pattern names text ts has (Fault NoProperty) (refl, none)).1
 
@@ -58,7 +58,7 @@ module _ (names : List (List ℕ)) where
       by_module (inl lacks) = by_reading lacks (read_by (atoms_after names ts) (numbered_after names ts)) refl
       by_module (inr stands) = none_derives (λ q d. stands d.no_module)
 
-    by_tokens : (read : Read (List Placed)) → Tells text read → PatternOrNone
+    by_tokens : (read : Read (List PlacedToken)) → Tells text read → PatternOrNone
     by_tokens (Ok ts) has = by_module ts has (lacks_or_has ts)
     by_tokens (Err e) fault = inr (λ p r. no_tokens text (record { code = e.0; offset = e.1 }) fault (r.tokens, r.has_tokens))
 

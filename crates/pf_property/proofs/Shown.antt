@@ -4,7 +4,7 @@ use Rattle.std.specs.Prelude.{map}
 use Rattle.pf_model.specs.Labels.{Label}
 use Rattle.pf_model.specs.Meaning as meaning
 use Rattle.pf_model.specs.Properties.{Property, some_label}
-use Rattle.pf_model.specs.Reports.{event_of, label_of}
+use Rattle.pf_model.specs.Reports.{view_of_event, label_of}
 use Rattle.pf_model.specs.Runs.{Transition}
 use Rattle.pf_model.specs.declared.report.Event.{Event}
 use Rattle.pf_property.specs.Judging.{rules_out}
@@ -32,13 +32,13 @@ one_event_more so (d ∷ es) e =
 
 -- ---- what the events of a run show is what its transitions do
 
-pub of_events : (es : List Event) → labels_in (map event_of es) ≡ labels_of es
+pub of_events : (es : List Event) → labels_in (map view_of_event es) ≡ labels_of es
 of_events [] = refl
 of_events (e ∷ es) = ap (λ (ls : List Label). label_of e.label ∷ ls) (of_events es)
 
-of_transitions : (ts : List Transition) → labels_in (map meaning.event_of ts) ≡ map (λ t. t.label) ts
+of_transitions : (ts : List Transition) → labels_in (map meaning.event_of_transition ts) ≡ map (λ t. t.label) ts
 of_transitions [] = refl
 of_transitions (t ∷ ts) = ap (λ (ls : List Label). t.label ∷ ls) (of_transitions ts)
 
-pub labels_of_run : (es : List meaning.Event) (ts : List Transition) → es ≡ map meaning.event_of ts → labels_in es ≡ map (λ t. t.label) ts
+pub labels_of_run : (es : List meaning.Event) (ts : List Transition) → es ≡ map meaning.event_of_transition ts → labels_in es ≡ map (λ t. t.label) ts
 labels_of_run es ts e = ap labels_in e ∙ of_transitions ts

@@ -1,10 +1,10 @@
 -- The texts of properties: which property the bytes are, where a table names the atoms of a run.
 use Rattle.std.specs.Prelude.{◌≡◌, ℕ, List, ◌++◌, Option, Some, None, codes}
-use Rattle.pf_fault.specs.declared.code.Code.{Code}
-use Rattle.pf_fault.specs.declared.code.Code.TheVariants.{NoProperty}
-use Rattle.pf_fault.specs.declared.fault.OrNoMemory.{OrNoMemory}
-use Rattle.pf_fault.specs.declared.fault.OrNoMemory.TheVariants.{NoMemory, Fault}
-use Rattle.pf_tokens.specs.TokenKinds.{Placed}
+use Rattle.pf_errors.specs.declared.code.Code.{Code}
+use Rattle.pf_errors.specs.declared.code.Code.TheVariants.{NoProperty}
+use Rattle.pf_errors.specs.declared.fault.OrNoMemory.{OrNoMemory}
+use Rattle.pf_errors.specs.declared.fault.OrNoMemory.TheVariants.{NoMemory, Fault}
+use Rattle.pf_tokens.specs.TokenKinds.{PlacedToken}
 use Rattle.pf_tokens.specs.Rules.{HasTokens, HasSomeTokens}
 use Rattle.pf_syntax.specs.Pattern.{Pattern}
 use Rattle.pf_syntax.specs.ExprPattern.{ExprPattern}
@@ -17,7 +17,7 @@ use Rattle.pf_model.specs.Properties.{Property, returns, returns_true, no_crash,
 -- the text is a pattern: its tokens are a pattern by itself, and this is what that becomes where no variable is bound.
 -- Its atoms go by their numbers in the table, where those that the table lacks go on
 pub record ReadsPattern (names : List (List ℕ)) (text : List ℕ) (p : Pattern) : Type 0 where
-  pub tokens : List Placed
+  pub tokens : List PlacedToken
   pub has_tokens : HasTokens text tokens
   pub written : ExprPattern
   pub derives : DerivesPatternAlone names written tokens

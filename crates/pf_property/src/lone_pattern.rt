@@ -9,7 +9,7 @@ ghost use Rattle.pf_lower.specs.Alone.{BecomesAlone};
 ghost use Rattle.pf_reader.specs.PatternAlone.{pattern_of};
 ghost use Rattle.pf_property.specs.Texts.{HasNoTokens, IsNoPatternText, ReadsPattern};
 
-use pf_fault::{Code, OrNoMemory};
+use pf_errors::{Code, OrNoMemory};
 use pf_lower::pattern_alone;
 use pf_patterns::{fits, same_patterns};
 use pf_reader::{ReadPattern, read_pattern};

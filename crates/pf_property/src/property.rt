@@ -5,7 +5,7 @@ ghost use Rattle.pf_property.specs.Texts.{IsNoPropertyText, ReadsProperty};
 ghost use Rattle.pf_property.specs.Views.{property_of};
 
 use crate::lone_pattern::LonePattern;
-use pf_fault::{Code, OrNoMemory};
+use pf_errors::{Code, OrNoMemory};
 use pf_terms::{AtomTable, NoMemory};
 use std::alloc::Global;
 use std::sync::Arc;

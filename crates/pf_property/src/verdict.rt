@@ -4,7 +4,7 @@ ghost use Rattle.std.specs.Prelude.{◌≡◌, List};
 ghost use Rattle.pf_model.specs.Labels as labels;
 ghost use Rattle.pf_model.specs.Properties as spec;
 ghost use Rattle.pf_model.specs.Properties.{some_label};
-ghost use Rattle.pf_model.specs.Reports.{label_of, outcome_of};
+ghost use Rattle.pf_model.specs.Reports.{label_of, view_of_outcome};
 ghost use Rattle.pf_property.specs.Judging.{rules_out};
 ghost use Rattle.pf_property.specs.Views.{labels_of, property_of};
 
@@ -37,7 +37,7 @@ fn is_sent_as(pattern: &LonePattern, label: &Label) -> bool
 
 /// Whether the root returned `true`.
 fn is_finished_true(outcome: &Outcome) -> bool
-    ensures { result ≡ spec.is_finished_true (outcome_of outcome.now) }
+    ensures { result ≡ spec.is_finished_true (view_of_outcome outcome.now) }
 {
     match outcome {
         Outcome::Finished(value) => equal(value, &Term::Atom(AtomId::TRUE)),
@@ -60,7 +60,7 @@ impl Property {
     /// Whether it holds of a run with this outcome, whose labels rule it out or don't.
     fn holds(&self, ruled_out: bool, outcome: &Outcome) -> bool
         ensures { (ls : List labels.Label) → ruled_out ≡ some_label (rules_out (property_of self.now)) ls
-            → result ≡ spec.holds (property_of self.now) ls (outcome_of outcome.now) }
+            → result ≡ spec.holds (property_of self.now) ls (view_of_outcome outcome.now) }
     {
         match self {
             Property::Returns => matches!(outcome, Outcome::Finished(_)),
@@ -75,7 +75,7 @@ impl Property {
     /// ran out.
     pub fn judge(&self, ruled_out: bool, outcome: &Outcome) -> Option<bool>
         ensures { (ls : List labels.Label) → ruled_out ≡ some_label (rules_out (property_of self.now)) ls
-            → result ≡ spec.verdict (property_of self.now) ls (outcome_of outcome.now) }
+            → result ≡ spec.verdict (property_of self.now) ls (view_of_outcome outcome.now) }
     {
         match outcome {
             Outcome::Memory => None,
@@ -97,7 +97,7 @@ impl Property {
 
     /// Whether it holds of the events of a run and its outcome; none where memory ran out.
     pub fn verdict(&self, events: &[Event], outcome: &Outcome) -> Option<bool>
-        ensures { result ≡ spec.verdict (property_of self.now) (labels_of events.now) (outcome_of outcome.now) }
+        ensures { result ≡ spec.verdict (property_of self.now) (labels_of events.now) (view_of_outcome outcome.now) }
     {
         self.judge(self.is_ruled_out(events), outcome)
     }

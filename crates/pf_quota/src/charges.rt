@@ -16,7 +16,7 @@ pub enum Charge {
 
 /// What a project holds, until it is given up.
 #[derive(Clone, Copy, Debug, PartialEq, Eq)]
-pub enum Held {
+pub enum Holding {
     /// A module with n bytes of source.
     Module { bytes: u64 },
     /// A trial with n steps.

@@ -6,9 +6,9 @@ mod charges;
 mod refusals;
 mod usage;
 
-pub use charges::{Charge, Held, trial_steps};
+pub use charges::{Charge, Holding, trial_steps};
 pub use refusals::{
-    MOST_CALLS, MOST_MODULE_BYTES, MOST_MODULES, MOST_MODULES_FIRST, MOST_TRIAL_STEPS, MOST_TRIALS,
-    Refusal, limits_are,
+    LimitRefusal, MOST_CALLS, MOST_MODULE_BYTES, MOST_MODULES, MOST_MODULES_FIRST,
+    MOST_TRIAL_STEPS, MOST_TRIALS, limits_are,
 };
 pub use usage::{Usage, limits_hold, most_modules, usage_follows_held};

@@ -10,7 +10,7 @@ use Rattle.pf_syntax.specs.ExprPattern.{ExprPattern, ExprPatterns}
 use Rattle.pf_syntax.specs.Scope.{Scope, has, is_new, binding, after_expr_pattern, after_expr_patterns}
 use Rattle.pf_syntax.specs.Naming.{Names, conses_of, empty_list, ExprPatternIs, ExprPatternsAre, integer, atom, text, anything, bound, fresh, tuple, list, list_on, no_more_expr_patterns, and_expr_patterns}
 use Rattle.pf_rules.specs.Static.{parameters_of}
-use Rattle.pf_model.specs.Closed.{binds, all_bind, PatternIsClosed, PatternsAreClosed, patterns_in}
+use Rattle.pf_model.specs.Closed.{binds, all_bind, PatternIsClosed, PatternsAreClosed, pattern_count}
 
 -- how many variables are bound
 abbrev pub many : Scope → ℕ
@@ -41,7 +41,7 @@ abbrev pub Binds : Scope → ExprPattern → Pattern → Type 0
 Binds g q y = PatternIsClosed (many g) y × (many (after_expr_pattern g q) ≡ many g + binds y)
 
 abbrev pub AllBind : Scope → ExprPatterns → Patterns → Type 0
-AllBind g qs ys = PatternsAreClosed (many g) ys × (many (after_expr_patterns g qs) ≡ many g + all_bind ys) × (patterns_in ys ≡ parameters_of qs)
+AllBind g qs ys = PatternsAreClosed (many g) ys × (many (after_expr_patterns g qs) ≡ many g + all_bind ys) × (pattern_count ys ≡ parameters_of qs)
 
 conses_closed : (n k : ℕ) (ys : Patterns) (y : Pattern) → k ≡ n + all_bind ys → PatternsAreClosed n ys → PatternIsClosed k y
     → PatternIsClosed n (conses_of ys y) × (binds (conses_of ys y) ≡ all_bind ys + binds y)

@@ -4,20 +4,20 @@ use Rattle.std.specs.Prelude.{◌&&◌, if◌then◌else◌}
 use Rattle.std.specs.Str.{bytes_eq}
 use Rattle.std.proofs.lemmas.Bool.{and_parts, eqb-true}
 use Rattle.pf_syntax.specs.Tree.{Builtin}
-use Rattle.pf_builtins.specs.Forms.{Row, builtins, named_in, builtin_named}
+use Rattle.pf_syntax.specs.Forms.{BuiltinRow, builtins, named_in, builtin_named}
 use Rattle.pf_model.specs.Closed.{builtin_arity}
 
 -- ---- numbers of arguments
 
 -- each row has the number of arguments that its function takes
-abbrev are_right : List Row → Bool
+abbrev are_right : List BuiltinRow → Bool
 are_right [] = true
 are_right (r ∷ rows) = (builtin_arity r.builtin == r.arity) && are_right rows
 
 rows_right : are_right builtins ≡ true
 rows_right = refl
 
-named_takes : (name : List ℕ) (k : ℕ) (rows : List Row) (f : Builtin) → are_right rows ≡ true → named_in name k rows ≡ Some f → builtin_arity f ≡ k
+named_takes : (name : List ℕ) (k : ℕ) (rows : List BuiltinRow) (f : Builtin) → are_right rows ≡ true → named_in name k rows ≡ Some f → builtin_arity f ≡ k
 named_takes name k [] f right e = cc
 named_takes name k (r ∷ rows) f right e = by (bytes_eq r.name name && (r.arity == k)) refl e (λ h. named_takes name k rows f both.1 h)
   where

@@ -8,7 +8,7 @@ use Rattle.std.proofs.lemmas.Grind.{common_steps}
 use Rattle.std.proofs.lemmas.List.Elements.{All-nil, All-cons}
 use Rattle.std.proofs.lemmas.List.Quantifiers.{position-Some}
 use Rattle.std.proofs.lemmas.Option.{slice_get-get_or}
-use Rattle.pf_fault.specs.declared.code.Code.TheVariants.{HeadsDiffer}
+use Rattle.pf_errors.specs.declared.code.Code.TheVariants.{HeadsDiffer}
 use Rattle.pf_terms.specs.Atoms.{name_of}
 use Rattle.pf_syntax.specs.Tree.{Function, FunctionClause, Program}
 use Rattle.pf_syntax.specs.Module.{Checked}
@@ -16,9 +16,9 @@ use Rattle.pf_syntax.specs.Root.{root_of, root_at}
 use Rattle.pf_syntax.specs.SyntaxTree.{Head}
 use Rattle.pf_syntax.specs.Naming.{Names, HeadIs}
 use Rattle.pf_syntax.specs.ExprModule.{Tree}
-use Rattle.pf_rules.specs.Static.{fault_if, parameters_of, is_named, own_in, unlike_fault, unlike_faults, names_of, faults_of}
+use Rattle.pf_rules.specs.Static.{fault_if, parameters_of, is_named_by_head, own_in, unlike_fault, unlike_faults, names_of_module, faults_of}
 use Rattle.pf_rules.specs.Checks.{Pairwise, FunctionIs, IsModule}
-use Rattle.pf_check.specs.Reads.{Outcome, accepted, refused, Reads, token_fault, no_head, no_tree, static, checked}
+use Rattle.pf_check.specs.Reads.{ReadOutcome, accepted, refused, Reads, token_fault, no_head, no_tree, static, checked}
 use Rattle.pf_model.specs.Closed.{HasArity, FunctionClauseIsClosed, ModuleIsClosed}
 use Rattle.pf_model.proofs.Spawned.{exported_has}
 use Rattle.pf_model.proofs.Closed.{closed_states_stay_closed}
@@ -60,17 +60,17 @@ same_parameters : (h : Head) (hs : List Head) → unlike_faults (h ∷ hs) ≡ [
 same_parameters h hs d = All-cons (AsMany h) h hs refl (others_as_many h hs d)
 
 -- a function that is named so has that number of parameters
-module _ (atoms : List (List ℕ)) (m : Tree) (fs : Program) (all : Pairwise (FunctionIs (names_of atoms m.functions) m.exports) m.functions fs) where
+module _ (atoms : List (List ℕ)) (m : Tree) (fs : Program) (all : Pairwise (FunctionIs (names_of_module atoms m.functions) m.exports) m.functions fs) where
   abbrev names : Names
-  names = names_of atoms m.functions
+  names = names_of_module atoms m.functions
 
-  named_takes : (f k : ℕ) (hs : List Head) (g : Function) → is_named f k hs ≡ true → FunctionIs names m.exports hs g → g.arity ≡ k
+  named_takes : (f k : ℕ) (hs : List Head) (g : Function) → is_named_by_head f k hs ≡ true → FunctionIs names m.exports hs g → g.arity ≡ k
   named_takes f k [] g e h = absurd h
   named_takes f k (x ∷ hs) g e h = let d = h.1 in grind (arith, common_steps)
 
   own_has : (f k i : ℕ) → own_in m.functions f k ≡ Some i → HasArity fs i k
   own_has f k i e =
-      let p = position-Some (is_named f k) m.functions i [] e in
+      let p = position-Some (is_named_by_head f k) m.functions i [] e in
       let r = like (FunctionIs names m.exports) m.functions fs i _ all (slice_get-get_or m.functions i [] p.0) in
       ap (option_map (λ g. g.arity)) r.1 ∙ ap (λ j. Some j) (named_takes f k _ r.0 p.1 r.2)
 
@@ -112,11 +112,11 @@ module _ (atoms : List (List ℕ)) (m : Tree) (fs : Program) (all : Pairwise (Fu
 module_closed : (atoms : List (List ℕ)) (m : Tree) (c : Checked) → faults_of atoms m ≡ [] → IsModule atoms m c → ModuleIsClosed c.functions
 module_closed atoms m c none h = functions_closed atoms m c.functions h.functions m.functions c.functions h.functions (none_unlike atoms m none)
 
-abbrev OutcomeIsClosed : Outcome → Type 0
+abbrev OutcomeIsClosed : ReadOutcome → Type 0
 OutcomeIsClosed (accepted name atoms functions) = ModuleIsClosed functions
 OutcomeIsClosed (refused code at) = Unit {0}
 
-read_is_closed : (bytes : List ℕ) (o : Outcome) → Reads bytes o → OutcomeIsClosed o
+read_is_closed : (bytes : List ℕ) (o : ReadOutcome) → Reads bytes o → OutcomeIsClosed o
 read_is_closed bytes _ (token_fault code at h) = tt
 read_is_closed bytes _ (no_head ts h k) = tt
 read_is_closed bytes _ (no_tree ts at h k l i) = tt

@@ -7,13 +7,13 @@ use Rattle.pf_syntax.specs.Expr.{Expr, Exprs, Condition, Branches}
 use Rattle.pf_syntax.specs.SyntaxTree.{Head}
 use Rattle.pf_syntax.specs.Scope.{Scope, no_scope, after_expr_pattern, after_expr_patterns, after, after_all}
 use Rattle.pf_syntax.specs.Naming as e
-use Rattle.pf_syntax.specs.Naming.{Names, arity_of, conses, empty_list, behind, ending, ExprIs, ExprsAre, no_more, and_more, ElementIs, plain, BodyIs, last, before, GuardIs, no_more_tests, or_tests, BranchesAre, no_more_branches, and_branches, HeadIs}
+use Rattle.pf_syntax.specs.Naming.{Names, arity_of, conses, empty_list, with_pattern, ending, ExprIs, ExprsAre, no_more, and_more, ElementIs, plain, BodyIs, last, before, GuardIs, no_more_tests, or_tests, BranchesAre, no_more_branches, and_branches, HeadIs}
 use Rattle.pf_rules.specs.Static.{parameters_of}
-use Rattle.pf_model.specs.Closed.{binds, all_bind, PatternIsClosed, PatternsAreClosed, trees_in, HasArity, builtin_arity, IsClosed, AllAreClosed, ClausesAreClosed, GuardIsClosed, FunctionClauseIsClosed}
+use Rattle.pf_model.specs.Closed.{binds, all_bind, PatternIsClosed, PatternsAreClosed, tree_count, HasArity, builtin_arity, IsClosed, AllAreClosed, ClausesAreClosed, GuardIsClosed, FunctionClauseIsClosed}
 use Rattle.pf_read_modules.proofs.Bindings.{many, pattern_binds, patterns_bind}
 
 behind_closed : (n k : ℕ) (ys : Patterns) (y : Pattern) → k ≡ n + all_bind ys → PatternsAreClosed n ys → PatternIsClosed k y
-    → PatternsAreClosed n (behind ys y) × (all_bind (behind ys y) ≡ all_bind ys + binds y)
+    → PatternsAreClosed n (with_pattern ys y) × (all_bind (with_pattern ys y) ≡ all_bind ys + binds y)
 behind_closed n k no_patterns y q h c = let d : k ≡ n = omega arith in ((subst (λ i. PatternIsClosed i y) d c, tt), omega arith)
 behind_closed n k (pattern p ps) y q h c =
     let r = behind_closed (n + binds p) k ps y (omega arith) h.1 c in let d = r.1 in ((h.0, r.0), omega arith)
@@ -37,7 +37,7 @@ module _ (fs : Program) where
   Closes g e x = IsClosed fs (many g) x × (many (after g e) ≡ many g)
 
   abbrev AllClose : Scope → Exprs → Trees → Type 0
-  AllClose g es xs = AllAreClosed fs (many g) xs × (many (after_all g es) ≡ many g) × (trees_in xs ≡ arity_of es)
+  AllClose g es xs = AllAreClosed fs (many g) xs × (many (after_all g es) ≡ many g) × (tree_count xs ≡ arity_of es)
 
   -- an element of a body, which binds what its patterns do
   abbrev ElementCloses : Scope → Expr → Patterns → Tree → Type 0

@@ -2,12 +2,12 @@
 use Rattle.std.proofs.Common.{◌≡◌, ℕ, suc, List, [], ◌∷◌, ◌++◌, Option, Some, None, refl, sym, ap, ◌∙◌, append_assoc}
 use Rattle.std.specs.Prelude.{map}
 use Rattle.std.proofs.lemmas.List.{map-append}
-use Rattle.pf_fault.specs.declared.fault.OrNoMemory.{OrNoMemory}
-use Rattle.pf_fault.specs.declared.fault.OrNoMemory.TheVariants.{NoMemory, Fault}
+use Rattle.pf_errors.specs.declared.fault.OrNoMemory.{OrNoMemory}
+use Rattle.pf_errors.specs.declared.fault.OrNoMemory.TheVariants.{NoMemory, Fault}
 use Rattle.pf_reader.specs.declared.fault.Syntax.{Syntax}
 use Rattle.pf_reader.specs.Given.{Fails, with_front}
-use Rattle.pf_intern.specs.NumberedTokens.{NumberedKind, NumberedToken}
-use Rattle.pf_grammar.specs.Parse.{◌>>=◌, Parse, items, after}
+use Rattle.pf_tokens.specs.NumberedTokens.{NumberedKind, NumberedToken}
+use Rattle.pf_grammar.specs.Parse.{◌>>=◌, Parse, items, after_kind}
 
 -- a fault of a part is a fault of the whole
 pub fails_as : {X Y : Type 0} (e : OrNoMemory Syntax) (a : Option X) (b : Option Y) → (a ≡ None → b ≡ None) → Fails e a → Fails e b
@@ -27,11 +27,11 @@ module _ {A : Type 0} (s : NumberedKind) (item : Parse A) where
   unfolding items
   turn_fails n m ts k e = rw (k, e) refl
 
-  turn_ends : (n m : ℕ) (ts : List NumberedToken) (x : A) (rest : List NumberedToken) → n ≡ suc m → item ts ≡ Some (x, rest) → after s rest ≡ None → items s item n ts ≡ Some (x ∷ [], rest)
+  turn_ends : (n m : ℕ) (ts : List NumberedToken) (x : A) (rest : List NumberedToken) → n ≡ suc m → item ts ≡ Some (x, rest) → after_kind s rest ≡ None → items s item n ts ≡ Some (x ∷ [], rest)
   unfolding items
   turn_ends n m ts x rest k e f = rw (k, e, f) refl
 
-  turn_goes : (n m : ℕ) (ts : List NumberedToken) (x : A) (rest next : List NumberedToken) → n ≡ suc m → item ts ≡ Some (x, rest) → after s rest ≡ Some next
+  turn_goes : (n m : ℕ) (ts : List NumberedToken) (x : A) (rest next : List NumberedToken) → n ≡ suc m → item ts ≡ Some (x, rest) → after_kind s rest ≡ Some next
       → items s item n ts ≡ (items s item m next >>= λ y. Some (x ∷ y.0, y.1))
   unfolding items
   turn_goes n m ts x rest next k e f = rw (k, e, f) refl
@@ -46,12 +46,12 @@ module _ {A : Type 0} (s : NumberedKind) (item : Parse A) where
     seen_pushed same p = ap (map f) p ∙ map-append f found (x ∷ []) ∙ ap (λ xs. xs ++ f x ∷ []) same
 
     pub loop_ends : (n m : ℕ) (ts rest : List NumberedToken) → map f found ≡ map g found → pushed ≡ found ++ x ∷ [] → n ≡ suc m → whole ≡ with_front (map g found) (items s item n ts)
-        → item ts ≡ Some (f x, rest) → after s rest ≡ None → whole ≡ Some (map f pushed, rest)
+        → item ts ≡ Some (f x, rest) → after_kind s rest ≡ None → whole ≡ Some (map f pushed, rest)
     loop_ends n m ts rest same p k w e a =
         w ∙ ap (with_front (map g found)) (turn_ends n m ts (f x) rest k e a) ∙ ap (λ xs. Some (xs, rest)) (sym (seen_pushed same p))
 
     pub loop_goes : (n m : ℕ) (ts rest next : List NumberedToken) → map f found ≡ map g found → pushed ≡ found ++ x ∷ [] → n ≡ suc m → whole ≡ with_front (map g found) (items s item n ts)
-        → item ts ≡ Some (f x, rest) → after s rest ≡ Some next → whole ≡ with_front (map f pushed) (items s item m next)
+        → item ts ≡ Some (f x, rest) → after_kind s rest ≡ Some next → whole ≡ with_front (map f pushed) (items s item m next)
     loop_goes n m ts rest next same p k w e a =
         w ∙ ap (with_front (map g found)) (turn_goes n m ts (f x) rest next k e a) ∙ front_more (map g found) (f x) (items s item m next)
         ∙ ap (λ xs. with_front xs (items s item m next)) (sym (seen_pushed same p))

@@ -3,9 +3,9 @@ use Rattle.std.proofs.Common.{◌≡◌, ℕ, zero, suc, ◌-◌, ◌<◌, List,
 use Rattle.pf_syntax.specs.ExprPattern.{ExprPattern}
 use Rattle.pf_syntax.specs.Expr as p
 use Rattle.pf_syntax.specs.Expr.{Expr}
-use Rattle.pf_intern.specs.NumberedTokens.{NumberedToken}
-use Rattle.pf_grammar.specs.Grammar.{Infix, Names, level_of, right_level, top}
-use Rattle.pf_grammar.specs.Parse.{Parse, infix_ahead, joined, within, more_step, more, unary, level_with, prim, parse_expr, element, element_step, match_ahead, pattern}
+use Rattle.pf_tokens.specs.NumberedTokens.{NumberedToken}
+use Rattle.pf_grammar.specs.Grammar.{Infix, TokenNames, level_of, right_level, top}
+use Rattle.pf_grammar.specs.Parse.{Parse, infix_ahead, joined_exprs, within, more_step, more, unary, level_with, prim, parse_expr, element, element_step, match_ahead, pattern}
 
 -- ---- infixes
 
@@ -25,7 +25,7 @@ module _ (deeper : ℕ → Parse Expr) (guard : Bool) (limit level : ℕ) where
     unfolding more
     more_fails f = let d = rw up at f in rw (k, e, d) refl
 
-    module _ (rest : List NumberedToken) (right : Expr) (f : deeper above next ≡ Some (right, rest)) (j : node ≡ joined i again right) where
+    module _ (rest : List NumberedToken) (right : Expr) (f : deeper above next ≡ Some (right, rest)) (j : node ≡ joined_exprs i again right) where
       pub more_goes : (last : List NumberedToken) (x : Expr) (new_floor : ℕ) → within limit node rest ≡ Some (x, last) → new_floor ≡ level_of i
           → more deeper guard limit level n floor left ts ≡ more deeper guard limit level m new_floor x last
       unfolding more
@@ -43,7 +43,7 @@ module _ (deeper : ℕ → Parse Expr) (guard : Bool) (limit level : ℕ) where
 
 -- ---- expressions
 
-module _ (n : Names) (guard : Bool) where
+module _ (n : TokenNames) (guard : Bool) where
   pub parse_expr_zero : (limit level : ℕ) (ts : List NumberedToken) → limit ≡ 0 → parse_expr n guard limit level ts ≡ None
   unfolding parse_expr
   parse_expr_zero limit level ts k = rw k refl
@@ -62,22 +62,22 @@ module _ (n : Names) (guard : Bool) where
 
 -- ---- elements
 
-pub element_zero : (n : Names) (limit : ℕ) (ts : List NumberedToken) → limit ≡ 0 → element n limit ts ≡ None
+pub element_zero : (n : TokenNames) (limit : ℕ) (ts : List NumberedToken) → limit ≡ 0 → element n limit ts ≡ None
 unfolding element
 element_zero n limit ts k = rw k refl
 
-element_is : (n : Names) (limit : ℕ) (ts : List NumberedToken) → 0 < limit → element n limit ts ≡ element_step (parse_expr n false limit top) (element n (limit - 1)) limit ts (match_ahead (pattern n (limit - 1)) ts)
+element_is : (n : TokenNames) (limit : ℕ) (ts : List NumberedToken) → 0 < limit → element n limit ts ≡ element_step (parse_expr n false limit top) (element n (limit - 1)) limit ts (match_ahead (pattern n (limit - 1)) ts)
 unfolding element parse_expr
 element_is n zero ts lt = absurd (omega arith)
 element_is n (suc d) ts lt = let e : suc d - 1 ≡ d = omega arith in rw e refl
 
-pub element_plain : (n : Names) (limit : ℕ) (ts : List NumberedToken) → 0 < limit → match_ahead (pattern n (limit - 1)) ts ≡ None → element n limit ts ≡ parse_expr n false limit top ts
+pub element_plain : (n : TokenNames) (limit : ℕ) (ts : List NumberedToken) → 0 < limit → match_ahead (pattern n (limit - 1)) ts ≡ None → element n limit ts ≡ parse_expr n false limit top ts
 element_plain n limit ts lt m = element_is n limit ts lt ∙ rw m refl
 
-pub element_fails : (n : Names) (limit : ℕ) (ts next : List NumberedToken) (q : ExprPattern) → 0 < limit → match_ahead (pattern n (limit - 1)) ts ≡ Some (q, next) → element n (limit - 1) next ≡ None → element n limit ts ≡ None
+pub element_fails : (n : TokenNames) (limit : ℕ) (ts next : List NumberedToken) (q : ExprPattern) → 0 < limit → match_ahead (pattern n (limit - 1)) ts ≡ Some (q, next) → element n (limit - 1) next ≡ None → element n limit ts ≡ None
 element_fails n limit ts next q lt m e = element_is n limit ts lt ∙ rw (m, e) refl
 
 -- the pattern is seen again where its tree has grown
-pub element_match : (n : Names) (limit : ℕ) (ts next rest : List NumberedToken) (q again : ExprPattern) (e : Expr) → again ≡ q → 0 < limit → match_ahead (pattern n (limit - 1)) ts ≡ Some (q, next) → element n (limit - 1) next ≡ Some (e, rest)
+pub element_match : (n : TokenNames) (limit : ℕ) (ts next rest : List NumberedToken) (q again : ExprPattern) (e : Expr) → again ≡ q → 0 < limit → match_ahead (pattern n (limit - 1)) ts ≡ Some (q, next) → element n (limit - 1) next ≡ Some (e, rest)
     → element n limit ts ≡ within limit (p.match again e) rest
 element_match n limit ts next rest q again e same lt m f = element_is n limit ts lt ∙ rw (m, f, same) refl

@@ -1,13 +1,13 @@
 -- One turn of the loops over export forms and functions.
 use Rattle.std.proofs.Common.{◌≡◌, ℕ, zero, suc, ◌<◌, List, [], ◌∷◌, ◌++◌, Option, Some, None, true, refl, sym, ap, ◌∙◌, arith, length, append_assoc}
-use Rattle.pf_tokens.specs.declared.marks.Mark.TheVariants as marks
+use Rattle.pf_tokens.specs.declared.marks.TokenMark.TheVariants as marks
 use Rattle.pf_syntax.specs.ExprPattern.{ExprPattern, ExprPatterns}
 use Rattle.pf_syntax.specs.Expr.{Expr, Exprs, Condition}
 use Rattle.pf_syntax.specs.SyntaxTree.{Export, Head}
-use Rattle.pf_intern.specs.declared.limits.TheConstants.{MOST_TREE_DEPTH}
-use Rattle.pf_intern.specs.NumberedTokens.{NumberedToken, mark}
-use Rattle.pf_grammar.specs.Grammar.{Names, top}
-use Rattle.pf_grammar.specs.Parse.{◌>>=◌, after, body, element, export, exports, parse_expr, function, functions, head, named, pattern, exprs_of, expr_patterns_of, until, when}
+use Rattle.pf_tokens.specs.declared.limits.TheConstants.{MOST_TREE_DEPTH}
+use Rattle.pf_tokens.specs.NumberedTokens.{NumberedToken, mark}
+use Rattle.pf_grammar.specs.Grammar.{TokenNames, top}
+use Rattle.pf_grammar.specs.Parse.{◌>>=◌, after_kind, body_parse, element, export, exports, parse_expr, function, functions, head_parse, name_with_offset, pattern, exprs_of, expr_patterns_of, until, when}
 use Rattle.pf_reader.specs.Given.{with_front, with_first}
 
 front_joined : {A : Type 0} (front xs : List A) (o : Option (List A × List NumberedToken)) → with_front front (o >>= λ more. Some (xs ++ more.0, more.1)) ≡ with_front (front ++ xs) o
@@ -22,12 +22,12 @@ right_nil : {A : Type 0} (xs : List A) → xs ++ [] ≡ xs
 right_nil [] = refl
 right_nil (x ∷ xs) = ap (λ ys. x ∷ ys) (right_nil xs)
 
-module _ (n : Names) where
+module _ (n : TokenNames) where
   -- ---- export forms
 
   -- what was read so far comes first
   module _ (front : List Export) (whole : Option (List Export × List NumberedToken)) (k : ℕ) (ts : List NumberedToken) (w : whole ≡ with_front front (exports n k ts)) where
-    pub exports_stop : after (mark marks.Minus) ts ≡ None → whole ≡ Some (front, ts)
+    pub exports_stop : after_kind (mark marks.Minus) ts ≡ None → whole ≡ Some (front, ts)
     unfolding exports
     exports_stop a = w ∙ stops k ∙ ap (λ xs. Some (xs, ts)) (right_nil front)
       where
@@ -39,11 +39,11 @@ module _ (n : Names) where
     unfolding exports
     exports_out e = w ∙ rw e refl ∙ ap (λ xs. Some (xs, ts)) (right_nil front)
 
-    pub exports_fail : (m : ℕ) (form : List NumberedToken) → k ≡ suc m → after (mark marks.Minus) ts ≡ Some form → export n form ≡ None → whole ≡ None
+    pub exports_fail : (m : ℕ) (form : List NumberedToken) → k ≡ suc m → after_kind (mark marks.Minus) ts ≡ Some form → export n form ≡ None → whole ≡ None
     unfolding exports
     exports_fail m form e a f = w ∙ rw (e, a, f) refl
 
-    pub exports_go : (m : ℕ) (form next : List NumberedToken) (es : List Export) → k ≡ suc m → after (mark marks.Minus) ts ≡ Some form → export n form ≡ Some (es, next) → whole ≡ with_front (front ++ es) (exports n m next)
+    pub exports_go : (m : ℕ) (form next : List NumberedToken) (es : List Export) → k ≡ suc m → after_kind (mark marks.Minus) ts ≡ Some form → export n form ≡ Some (es, next) → whole ≡ with_front (front ++ es) (exports n m next)
     unfolding exports
     exports_go m form next es e a f = w ∙ ap (with_front front) turn ∙ front_joined front es (exports n m next)
       where
@@ -90,7 +90,7 @@ module _ (n : Names) where
   -- its parts are seen again where their tree has grown
   pub head_is : (ts r1 r2 r3 r4 r5 r6 : List NumberedToken) (a at : ℕ) (qs : List ExprPattern) (g again : Condition) (es : List Expr) (all_expr_patterns : ExprPatterns) (all_exprs : Exprs)
       → all_expr_patterns ≡ expr_patterns_of qs → again ≡ g → all_exprs ≡ exprs_of es
-      → named n ts ≡ Some ((a, at), r1) → after (mark marks.OpenParenthesis) r1 ≡ Some r2 → until (mark marks.CloseParenthesis) (pattern n MOST_TREE_DEPTH) r2 ≡ Some (qs, r3) → when (parse_expr n true MOST_TREE_DEPTH top) r3 ≡ Some (g, r4)
-      → after (mark marks.Arrow) r4 ≡ Some r5 → body (element n MOST_TREE_DEPTH) r5 ≡ Some (es, r6)
-      → head n ts ≡ Some (record { name = a; offset = at; parameters = all_expr_patterns; condition = again; body = all_exprs }, r6)
+      → name_with_offset n ts ≡ Some ((a, at), r1) → after_kind (mark marks.OpenParenthesis) r1 ≡ Some r2 → until (mark marks.CloseParenthesis) (pattern n MOST_TREE_DEPTH) r2 ≡ Some (qs, r3) → when (parse_expr n true MOST_TREE_DEPTH top) r3 ≡ Some (g, r4)
+      → after_kind (mark marks.Arrow) r4 ≡ Some r5 → body_parse (element n MOST_TREE_DEPTH) r5 ≡ Some (es, r6)
+      → head_parse n ts ≡ Some (record { name = a; offset = at; parameters = all_expr_patterns; condition = again; body = all_exprs }, r6)
   head_is ts r1 r2 r3 r4 r5 r6 a at qs g again es all_expr_patterns all_exprs s c e h1 h2 h3 h4 h5 h6 = rw (s, c, e, h1, h2, h3, h4, h5, h6) refl

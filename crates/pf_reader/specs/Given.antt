@@ -5,20 +5,20 @@ use Rattle.std.specs.List.{All}
 use Rattle.pf_syntax.specs.SyntaxTreeOver.{condition_over, ConditionRepresents, ExprRepresents, ExprPatternRepresents}
 use Rattle.pf_syntax.specs.declared.expr.Branch.{Branch}
 use Rattle.pf_syntax.specs.declared.expr.Tests.{Tests}
-use Rattle.pf_grammar.specs.Parse.{◌>>=◌, Clause, Front}
+use Rattle.pf_grammar.specs.Parse.{◌>>=◌, ParsedClause, ClauseFront}
 use Rattle.pf_syntax.proofs.NodeTableExtends.{GoesOn}
 use Rattle.pf_syntax.specs.ExprPattern.{ExprPattern}
 use Rattle.pf_syntax.specs.Expr.{Expr}
 use Rattle.pf_syntax.specs.SyntaxTree.{NodeTable, ExprArena, expr_pattern_at, expr_at}
 use Rattle.pf_syntax.specs.declared.expr.ExprPatternId.{ExprPatternId}
 use Rattle.pf_syntax.specs.declared.expr.ExprId.{ExprId}
-use Rattle.pf_intern.specs.NumberedTokens.{NumberedToken}
+use Rattle.pf_tokens.specs.NumberedTokens.{NumberedToken}
 use Rattle.pf_reader.specs.View.{tokens_in}
 use Rattle.pf_reader.specs.declared.part.FrontPart.{FrontPart}
-use Rattle.pf_reader.specs.declared.part.Operand.{Operand}
+use Rattle.pf_reader.specs.declared.part.ReadOperand.{ReadOperand}
 use Rattle.pf_reader.specs.declared.part.ExprPatternPart.{ExprPatternPart}
-use Rattle.pf_fault.specs.declared.fault.OrNoMemory.{OrNoMemory}
-use Rattle.pf_fault.specs.declared.fault.OrNoMemory.TheVariants.{NoMemory, Fault}
+use Rattle.pf_errors.specs.declared.fault.OrNoMemory.{OrNoMemory}
+use Rattle.pf_errors.specs.declared.fault.OrNoMemory.TheVariants.{NoMemory, Fault}
 use Rattle.pf_reader.specs.declared.fault.Syntax.{Syntax}
 
 -- out of memory says nothing of the tokens, and a fault of syntax is that nothing is read
@@ -48,8 +48,8 @@ abbrev pub expr_pattern_of : NodeTable → ExprPatternId → ExprPattern
 expr_pattern_of b q = expr_pattern_at b q.0
 
 -- an expression that was read, and the tokens after it
-abbrev pub seen : NodeTable → Operand → Expr × List NumberedToken
-seen b p = (expr_at b p.expr.0, tokens_in p.rest)
+abbrev pub expression_seen : NodeTable → ReadOperand → Expr × List NumberedToken
+expression_seen b p = (expr_at b p.expr.0, tokens_in p.rest)
 
 -- a pattern that was read, and the tokens after it
 abbrev pub seen_expr_pattern : NodeTable → ExprPatternPart → ExprPattern × List NumberedToken
@@ -65,14 +65,14 @@ abbrev pub TestsStand : NodeTable → Tests → Type 0
 TestsStand b g = All (ExprRepresents b) g.tests.items
 
 -- what is before the arrow of a clause, and the tokens after it
-abbrev pub view_of_front : NodeTable → FrontPart → Front × List NumberedToken
+abbrev pub view_of_front : NodeTable → FrontPart → ClauseFront × List NumberedToken
 view_of_front b f = ((expr_pattern_at b f.expr_pattern.0, condition_over b f.condition), tokens_in f.rest)
 
 abbrev pub FrontRepresents : NodeTable → FrontPart → Type 0
 FrontRepresents b f = ExprPatternRepresents b f.expr_pattern × ConditionRepresents b f.condition
 
 -- a clause, over its parts
-abbrev pub clause_of : NodeTable → Branch → Clause
+abbrev pub clause_of : NodeTable → Branch → ParsedClause
 clause_of b c = ((expr_pattern_at b c.expr_pattern.0, condition_over b c.condition), map (expr_of b) c.body.items)
 
 -- ---- what is before what is read

@@ -2,31 +2,30 @@
 
 ghost use Rattle.std.specs.Prelude.{◌≡◌, ◌++◌, length, map, OnOk};
 ghost use Rattle.pf_syntax.specs.SyntaxTreeOver.{export_of};
-ghost use Rattle.pf_tokens.specs.declared.marks.Mark.TheVariants.{CloseBracket, Comma};
-ghost use Rattle.pf_intern.specs.NumberedTokens.{mark};
+ghost use Rattle.pf_tokens.specs.declared.marks.TokenMark.TheVariants.{CloseBracket, Comma};
+ghost use Rattle.pf_tokens.specs.NumberedTokens.{mark};
 ghost use Rattle.pf_grammar.specs.Parse.{entry, export, exports, items, until};
 ghost use Rattle.pf_reader.specs.View.{names_of, tokens_in};
 ghost use Rattle.pf_reader.specs.Given.{with_front, Gives};
 
 use crate::fault::{ReadFault, Syntax};
-use crate::token::{Context, Tokens, behind, read_name, read_number, skip, skip_word};
-use pf_fault::OrNoMemory;
-use pf_intern::NumberedKind;
+use crate::token::{ReadingContext, Tokens, behind, read_name, read_number, skip, skip_word};
+use pf_errors::OrNoMemory;
 use pf_syntax::{Export, SyntaxTree};
 use pf_terms::NoMemory;
-use pf_tokens::Mark;
+use pf_tokens::{NumberedKind, TokenMark};
 use std::alloc::Global;
 
 /// An entry: a name, a slash and a number of arguments.
 fn read_entry<'a, 't>(
-    context: Context,
+    context: ReadingContext,
     tokens: Tokens<'a, 't>,
 ) -> Result<(Export, Tokens<'a, 't>), ReadFault>
     ensures { Gives (λ x. (export_of x.0, tokens_in x.1)) result
         (entry (names_of context.entry) (tokens_in tokens.entry)) }
 {
     let (ident, rest) = read_name(context, tokens)?;
-    let rest = behind(rest, NumberedKind::Mark(Mark::Slash))?;
+    let rest = behind(rest, NumberedKind::Mark(TokenMark::Slash))?;
     match read_number(rest) {
         Some((arity, rest)) => Ok((
             Export {
@@ -42,7 +41,7 @@ fn read_entry<'a, 't>(
 /// Entries with commas between them.
 fn read_entries<'a, 't>(
     alloc: Global,
-    context: Context,
+    context: ReadingContext,
     tokens: Tokens<'a, 't>,
 ) -> Result<(Vec<Export>, Tokens<'a, 't>), ReadFault>
     ensures { Gives (λ x. (map export_of x.0.items, tokens_in x.1)) result
@@ -54,7 +53,7 @@ fn read_entries<'a, 't>(
     for _ in 0..tokens.list.len() {
         let (entry, behind_it) = read_entry(context, rest)?;
         found.push(entry)?;
-        let Some(after) = skip(behind_it, NumberedKind::Mark(Mark::Comma)) else {
+        let Some(after) = skip(behind_it, NumberedKind::Mark(TokenMark::Comma)) else {
             return Ok((found, behind_it));
         };
         rest = after;
@@ -65,24 +64,24 @@ fn read_entries<'a, 't>(
 /// Entries with commas between them, or none, before a closing bracket.
 fn read_entry_list<'a, 't>(
     alloc: Global,
-    context: Context,
+    context: ReadingContext,
     tokens: Tokens<'a, 't>,
 ) -> Result<(Vec<Export>, Tokens<'a, 't>), ReadFault>
     ensures { Gives (λ x. (map export_of x.0.items, tokens_in x.1)) result
         (until (mark CloseBracket) (entry (names_of context.entry)) (tokens_in tokens.entry)) }
 {
-    if let Some(rest) = skip(tokens, NumberedKind::Mark(Mark::CloseBracket)) {
+    if let Some(rest) = skip(tokens, NumberedKind::Mark(TokenMark::CloseBracket)) {
         return Ok((Vec::new(alloc), rest));
     }
     let (entries, rest) = read_entries(alloc, context, tokens)?;
-    let rest = behind(rest, NumberedKind::Mark(Mark::CloseBracket))?;
+    let rest = behind(rest, NumberedKind::Mark(TokenMark::CloseBracket))?;
     Ok((entries, rest))
 }
 
 /// What follows the minus of an export form: its entries.
 fn read_export<'a, 't>(
     alloc: Global,
-    context: Context,
+    context: ReadingContext,
     tokens: Tokens<'a, 't>,
 ) -> Result<(Vec<Export>, Tokens<'a, 't>), ReadFault>
     ensures { Gives (λ x. (map export_of x.0.items, tokens_in x.1)) result
@@ -91,10 +90,10 @@ fn read_export<'a, 't>(
     let Some(rest) = skip_word(context.atoms, b"export", tokens) else {
         return Err(OrNoMemory::Fault(Syntax));
     };
-    let rest = behind(rest, NumberedKind::Mark(Mark::OpenParenthesis))?;
-    let rest = behind(rest, NumberedKind::Mark(Mark::OpenBracket))?;
+    let rest = behind(rest, NumberedKind::Mark(TokenMark::OpenParenthesis))?;
+    let rest = behind(rest, NumberedKind::Mark(TokenMark::OpenBracket))?;
     let (entries, rest) = read_entry_list(alloc, context, rest)?;
-    let rest = behind(rest, NumberedKind::Mark(Mark::CloseParenthesis))?;
+    let rest = behind(rest, NumberedKind::Mark(TokenMark::CloseParenthesis))?;
     let rest = behind(rest, NumberedKind::Dot)?;
     Ok((entries, rest))
 }
@@ -114,7 +113,7 @@ fn add_exports(syntax: &mut SyntaxTree, entries: &[Export]) -> Result<(), NoMemo
 /// Export forms as long as there are some, whose entries go into the syntax tree.
 pub(crate) fn read_exports<'a, 't>(
     alloc: Global,
-    context: Context,
+    context: ReadingContext,
     syntax: &mut SyntaxTree,
     tokens: Tokens<'a, 't>,
 ) -> Result<Tokens<'a, 't>, ReadFault>
@@ -126,7 +125,7 @@ pub(crate) fn read_exports<'a, 't>(
 {
     let mut rest = tokens;
     for _ in 0..tokens.list.len() {
-        let Some(form) = skip(rest, NumberedKind::Mark(Mark::Minus)) else {
+        let Some(form) = skip(rest, NumberedKind::Mark(TokenMark::Minus)) else {
             return Ok(rest);
         };
         let (entries, after) = read_export(alloc, context, form)?;

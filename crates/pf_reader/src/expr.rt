@@ -4,24 +4,24 @@ ghost use Rattle.std.specs.Prelude.{◌≡◌, ◌<◌, length, IfErr, IfOk, map
 ghost use Rattle.std.specs.List.{All};
 ghost use Rattle.pf_syntax.specs.SyntaxTree.{NodeTable};
 ghost use Rattle.pf_syntax.specs.SyntaxTreeOver.{branches_over, condition_over, BranchRepresents, ConditionRepresents, ExprRepresents};
-ghost use Rattle.pf_tokens.specs.declared.marks.Mark.TheVariants.{Comma, OpenParenthesis, Semicolon};
-ghost use Rattle.pf_intern.specs.NumberedTokens.{mark};
+ghost use Rattle.pf_tokens.specs.declared.marks.TokenMark.TheVariants.{Comma, OpenParenthesis, Semicolon};
+ghost use Rattle.pf_tokens.specs.NumberedTokens.{mark};
 ghost use Rattle.pf_grammar.specs.Grammar.{top, unguarded};
 ghost use Rattle.pf_reader.specs.ListItems.{item_at};
-ghost use Rattle.pf_grammar.specs.Parse.{after, body, branches, call_step, case_of, clause, element, parse_expr, front, guard, items, list, marked, prim, readers, unary, until, when, worded};
+ghost use Rattle.pf_grammar.specs.Parse.{after_kind, body_parse, branches, call_parse_step, case_of, clause, element, parse_expr, front, guard, items, list, marked, prim, readers, unary, until, when, reserved_parse};
 ghost use Rattle.pf_reader.specs.View.{names_of, tokens_in};
-ghost use Rattle.pf_reader.specs.Given.{clause_of, view_of_front, seen, expr_of, FrontRepresents, Gives, Grown};
+ghost use Rattle.pf_reader.specs.Given.{clause_of, view_of_front, expression_seen, expr_of, FrontRepresents, Gives, Grown};
 
 use crate::expr_pattern::{read_expr_pattern, read_match_ahead};
 use crate::fault::{ReadFault, Syntax};
 use crate::operator::{infix_ahead, joined};
-use crate::part::{FrontPart, Operand, put, put_expr_pattern, put_text, put_within};
-use crate::token::{Context, Tokens, behind, skip};
-use pf_builtins::{Form, may_stand};
-use pf_fault::{NoMemory, OrNoMemory};
-use pf_intern::NumberedKind;
-use pf_syntax::{Branch, Condition, ExprId, ExprNode, ExprPatternNode, Ident, SyntaxTree, Tests};
-use pf_tokens::{Mark, Reserved};
+use crate::part::{FrontPart, ReadOperand, put, put_expr_pattern, put_text, put_within};
+use crate::token::{ReadingContext, Tokens, behind, skip};
+use pf_errors::{NoMemory, OrNoMemory};
+use pf_syntax::{
+    Branch, Condition, ExprId, ExprNode, ExprPatternNode, Form, Ident, SyntaxTree, Tests, may_stand,
+};
+use pf_tokens::{NumberedKind, Reserved, TokenMark};
 use std::alloc::Global;
 
 /// The level of a whole expression.
@@ -43,16 +43,16 @@ fn unguarded(alloc: Global) -> Result<Condition, NoMemory>
 #[cycle(expr)]
 fn read_prim<'a, 't>(
     alloc: Global,
-    context: Context,
+    context: ReadingContext,
     syntax: &mut SyntaxTree,
     guard: bool,
     limit: u32,
     tokens: Tokens<'a, 't>,
-) -> Result<Operand<'a, 't>, ReadFault>
+) -> Result<ReadOperand<'a, 't>, ReadFault>
     requires { 0 < limit }
     ensures grown { Grown syntax.old syntax.new }
     ensures stands { IfOk result (λ x. ExprRepresents syntax.new.node_table x.expr) }
-    ensures given { Gives (seen syntax.new.node_table) result
+    ensures given { Gives (expression_seen syntax.new.node_table) result
         (prim (names_of context.entry) guard limit (tokens_in tokens.entry)) }
 {
     let Some((first, rest)) = tokens.first() else {
@@ -87,25 +87,25 @@ fn read_prim<'a, 't>(
 #[cycle(expr)]
 fn read_named<'a, 't>(
     alloc: Global,
-    context: Context,
+    context: ReadingContext,
     syntax: &mut SyntaxTree,
     guard: bool,
     limit: u32,
     ident: Ident,
     tokens: Tokens<'a, 't>,
-) -> Result<Operand<'a, 't>, ReadFault>
+) -> Result<ReadOperand<'a, 't>, ReadFault>
     ensures grown { Grown syntax.old syntax.new }
     ensures stands { IfOk result (λ x. ExprRepresents syntax.new.node_table x.expr) }
-    ensures given { Gives (seen syntax.new.node_table) result
-        (call_step (names_of context.entry) guard
+    ensures given { Gives (expression_seen syntax.new.node_table) result
+        (call_parse_step (names_of context.entry) guard
         (parse_expr (names_of context.entry) guard limit top) ident.name.0 ident.offset (tokens_in tokens.entry)
-        (after (mark OpenParenthesis) (tokens_in tokens.entry))) }
+        (after_kind (mark OpenParenthesis) (tokens_in tokens.entry))) }
 {
-    let Some(rest) = skip(tokens, NumberedKind::Mark(Mark::OpenParenthesis)) else {
+    let Some(rest) = skip(tokens, NumberedKind::Mark(TokenMark::OpenParenthesis)) else {
         return put(syntax, ExprNode::Atom(ident.name), tokens);
     };
     let item = Item::Expression(guard);
-    let last = Mark::CloseParenthesis;
+    let last = TokenMark::CloseParenthesis;
     let (arguments, rest) = read_until(alloc, context, syntax, item, limit, last, rest)?;
     if !context.call_stands(guard, ident.name, arguments.len()) {
         return Err(OrNoMemory::Fault(Syntax));
@@ -117,32 +117,32 @@ fn read_named<'a, 't>(
 #[cycle(expr)]
 fn read_marked<'a, 't>(
     alloc: Global,
-    context: Context,
+    context: ReadingContext,
     syntax: &mut SyntaxTree,
     guard: bool,
     limit: u32,
-    first: Mark,
+    first: TokenMark,
     tokens: Tokens<'a, 't>,
-) -> Result<Operand<'a, 't>, ReadFault>
+) -> Result<ReadOperand<'a, 't>, ReadFault>
     ensures grown { Grown syntax.old syntax.new }
     ensures stands { IfOk result (λ x. ExprRepresents syntax.new.node_table x.expr) }
-    ensures given { Gives (seen syntax.new.node_table) result
+    ensures given { Gives (expression_seen syntax.new.node_table) result
         (marked (parse_expr (names_of context.entry) guard limit top) first (tokens_in tokens.entry)) }
 {
     match first {
-        Mark::OpenParenthesis => {
+        TokenMark::OpenParenthesis => {
             let part = read_level(alloc, context, syntax, guard, limit, TOP, tokens)?;
-            let rest = behind(part.rest, NumberedKind::Mark(Mark::CloseParenthesis))?;
+            let rest = behind(part.rest, NumberedKind::Mark(TokenMark::CloseParenthesis))?;
             let node = ExprNode::Parentheses(part.expr);
             put(syntax, node, rest)
         }
-        Mark::OpenBrace => {
+        TokenMark::OpenBrace => {
             let item = Item::Expression(guard);
-            let last = Mark::CloseBrace;
+            let last = TokenMark::CloseBrace;
             let (parts, rest) = read_until(alloc, context, syntax, item, limit, last, tokens)?;
             put(syntax, ExprNode::Tuple(parts), rest)
         }
-        Mark::OpenBracket => read_list(alloc, context, syntax, guard, limit, tokens),
+        TokenMark::OpenBracket => read_list(alloc, context, syntax, guard, limit, tokens),
         _ => Err(OrNoMemory::Fault(Syntax)),
     }
 }
@@ -151,30 +151,30 @@ fn read_marked<'a, 't>(
 #[cycle(expr)]
 fn read_list<'a, 't>(
     alloc: Global,
-    context: Context,
+    context: ReadingContext,
     syntax: &mut SyntaxTree,
     guard: bool,
     limit: u32,
     tokens: Tokens<'a, 't>,
-) -> Result<Operand<'a, 't>, ReadFault>
+) -> Result<ReadOperand<'a, 't>, ReadFault>
     ensures grown { Grown syntax.old syntax.new }
     ensures stands { IfOk result (λ x. ExprRepresents syntax.new.node_table x.expr) }
-    ensures given { Gives (seen syntax.new.node_table) result
+    ensures given { Gives (expression_seen syntax.new.node_table) result
         (list (parse_expr (names_of context.entry) guard limit top) (tokens_in tokens.entry)) }
 {
-    if let Some(rest) = skip(tokens, NumberedKind::Mark(Mark::CloseBracket)) {
+    if let Some(rest) = skip(tokens, NumberedKind::Mark(TokenMark::CloseBracket)) {
         return put(syntax, ExprNode::List(Vec::new(alloc)), rest);
     }
     let item = Item::Expression(guard);
     let (parts, rest) = read_items(alloc, context, syntax, item, limit, tokens)?;
-    match skip(rest, NumberedKind::Mark(Mark::Bar)) {
+    match skip(rest, NumberedKind::Mark(TokenMark::Bar)) {
         None => {
-            let rest = behind(rest, NumberedKind::Mark(Mark::CloseBracket))?;
+            let rest = behind(rest, NumberedKind::Mark(TokenMark::CloseBracket))?;
             put(syntax, ExprNode::List(parts), rest)
         }
         Some(rest) => {
             let tail = read_level(alloc, context, syntax, guard, limit, TOP, rest)?;
-            let rest = behind(tail.rest, NumberedKind::Mark(Mark::CloseBracket))?;
+            let rest = behind(tail.rest, NumberedKind::Mark(TokenMark::CloseBracket))?;
             let node = ExprNode::ListOn(parts, tail.expr);
             put(syntax, node, rest)
         }
@@ -185,19 +185,19 @@ fn read_list<'a, 't>(
 #[cycle(expr)]
 fn read_unary<'a, 't>(
     alloc: Global,
-    context: Context,
+    context: ReadingContext,
     syntax: &mut SyntaxTree,
     guard: bool,
     limit: u32,
     tokens: Tokens<'a, 't>,
-) -> Result<Operand<'a, 't>, ReadFault>
+) -> Result<ReadOperand<'a, 't>, ReadFault>
     requires { 0 < limit }
     ensures grown { Grown syntax.old syntax.new }
     ensures stands { IfOk result (λ x. ExprRepresents syntax.new.node_table x.expr) }
-    ensures given { Gives (seen syntax.new.node_table) result
+    ensures given { Gives (expression_seen syntax.new.node_table) result
         (unary (prim (names_of context.entry) guard limit) limit (tokens_in tokens.entry)) }
 {
-    match skip(tokens, NumberedKind::Mark(Mark::Minus)) {
+    match skip(tokens, NumberedKind::Mark(TokenMark::Minus)) {
         None => read_prim(alloc, context, syntax, guard, limit, tokens),
         Some(rest) => {
             let part = read_prim(alloc, context, syntax, guard, limit, rest)?;
@@ -211,16 +211,16 @@ fn read_unary<'a, 't>(
 #[cycle(expr)]
 fn read_level<'a, 't>(
     alloc: Global,
-    context: Context,
+    context: ReadingContext,
     syntax: &mut SyntaxTree,
     guard: bool,
     limit: u32,
     level: u32,
     tokens: Tokens<'a, 't>,
-) -> Result<Operand<'a, 't>, ReadFault>
+) -> Result<ReadOperand<'a, 't>, ReadFault>
     ensures grown { Grown syntax.old syntax.new }
     ensures stands { IfOk result (λ x. ExprRepresents syntax.new.node_table x.expr) }
-    ensures given { Gives (seen syntax.new.node_table) result
+    ensures given { Gives (expression_seen syntax.new.node_table) result
         (parse_expr (names_of context.entry) guard limit level (tokens_in tokens.entry)) }
 {
     if limit == 0 {
@@ -255,14 +255,14 @@ enum Item {
 #[cycle(expr)]
 fn read_element<'a, 't>(
     alloc: Global,
-    context: Context,
+    context: ReadingContext,
     syntax: &mut SyntaxTree,
     limit: u32,
     tokens: Tokens<'a, 't>,
-) -> Result<Operand<'a, 't>, ReadFault>
+) -> Result<ReadOperand<'a, 't>, ReadFault>
     ensures grown { Grown syntax.old syntax.new }
     ensures stands { IfOk result (λ x. ExprRepresents syntax.new.node_table x.expr) }
-    ensures given { Gives (seen syntax.new.node_table) result
+    ensures given { Gives (expression_seen syntax.new.node_table) result
         (element (names_of context.entry) limit (tokens_in tokens.entry)) }
 {
     if limit == 0 {
@@ -282,15 +282,15 @@ fn read_element<'a, 't>(
 #[cycle(expr)]
 fn read_item<'a, 't>(
     alloc: Global,
-    context: Context,
+    context: ReadingContext,
     syntax: &mut SyntaxTree,
     item: Item,
     limit: u32,
     tokens: Tokens<'a, 't>,
-) -> Result<Operand<'a, 't>, ReadFault>
+) -> Result<ReadOperand<'a, 't>, ReadFault>
     ensures grown { Grown syntax.old syntax.new }
     ensures stands { IfOk result (λ x. ExprRepresents syntax.new.node_table x.expr) }
-    ensures given { Gives (seen syntax.new.node_table) result
+    ensures given { Gives (expression_seen syntax.new.node_table) result
         (item_at (names_of context.entry) item limit (tokens_in tokens.entry)) }
 {
     match item {
@@ -303,7 +303,7 @@ fn read_item<'a, 't>(
 #[cycle(expr)]
 fn read_items<'a, 't>(
     alloc: Global,
-    context: Context,
+    context: ReadingContext,
     syntax: &mut SyntaxTree,
     item: Item,
     limit: u32,
@@ -324,7 +324,7 @@ fn read_items<'a, 't>(
     for _ in 0..tokens.list.len() {
         let part = read_item(alloc, context, syntax, item, limit, rest)?;
         found.push(part.expr)?;
-        let Some(after) = skip(part.rest, NumberedKind::Mark(Mark::Comma)) else {
+        let Some(after) = skip(part.rest, NumberedKind::Mark(TokenMark::Comma)) else {
             return Ok((found, part.rest));
         };
         rest = after;
@@ -336,11 +336,11 @@ fn read_items<'a, 't>(
 #[cycle(expr)]
 fn read_until<'a, 't>(
     alloc: Global,
-    context: Context,
+    context: ReadingContext,
     syntax: &mut SyntaxTree,
     item: Item,
     limit: u32,
-    last: Mark,
+    last: TokenMark,
     tokens: Tokens<'a, 't>,
 ) -> Result<(Vec<ExprId>, Tokens<'a, 't>), ReadFault>
     ensures grown { Grown syntax.old syntax.new }
@@ -363,7 +363,7 @@ fn read_until<'a, 't>(
 /// A body: elements with commas between them.
 pub(crate) fn read_body<'a, 't>(
     alloc: Global,
-    context: Context,
+    context: ReadingContext,
     syntax: &mut SyntaxTree,
     limit: u32,
     tokens: Tokens<'a, 't>,
@@ -375,7 +375,7 @@ pub(crate) fn read_body<'a, 't>(
           (expr_of syntax.new.node_table) x.0.items,
       tokens_in x.1,
     )) result
-        (body (element (names_of context.entry) limit) (tokens_in tokens.entry)) }
+        (body_parse (element (names_of context.entry) limit) (tokens_in tokens.entry)) }
 {
     read_items(alloc, context, syntax, Item::Element, limit, tokens)
 }
@@ -384,7 +384,7 @@ pub(crate) fn read_body<'a, 't>(
 #[cycle(expr)]
 fn read_guard<'a, 't>(
     alloc: Global,
-    context: Context,
+    context: ReadingContext,
     syntax: &mut SyntaxTree,
     limit: u32,
     tokens: Tokens<'a, 't>,
@@ -400,7 +400,7 @@ fn read_guard<'a, 't>(
         let item = Item::Expression(true);
         let (tests, behind_it) = read_items(alloc, context, syntax, item, limit, rest)?;
         alternatives.push(Tests { tests })?;
-        let Some(after) = skip(behind_it, NumberedKind::Mark(Mark::Semicolon)) else {
+        let Some(after) = skip(behind_it, NumberedKind::Mark(TokenMark::Semicolon)) else {
             return Ok((Condition { alternatives }, behind_it));
         };
         rest = after;
@@ -412,7 +412,7 @@ fn read_guard<'a, 't>(
 #[cycle(expr)]
 pub(crate) fn read_when<'a, 't>(
     alloc: Global,
-    context: Context,
+    context: ReadingContext,
     syntax: &mut SyntaxTree,
     limit: u32,
     tokens: Tokens<'a, 't>,
@@ -435,7 +435,7 @@ pub(crate) fn read_when<'a, 't>(
 #[cycle(expr)]
 fn read_front<'a, 't>(
     alloc: Global,
-    context: Context,
+    context: ReadingContext,
     syntax: &mut SyntaxTree,
     choice: bool,
     limit: u32,
@@ -471,7 +471,7 @@ fn read_front<'a, 't>(
 #[cycle(expr)]
 fn read_clause<'a, 't>(
     alloc: Global,
-    context: Context,
+    context: ReadingContext,
     syntax: &mut SyntaxTree,
     choice: bool,
     limit: u32,
@@ -483,7 +483,7 @@ fn read_clause<'a, 't>(
         (clause (readers (names_of context.entry) limit) choice (tokens_in tokens.entry)) }
 {
     let front = read_front(alloc, context, syntax, choice, limit, tokens)?;
-    let rest = behind(front.rest, NumberedKind::Mark(Mark::Arrow))?;
+    let rest = behind(front.rest, NumberedKind::Mark(TokenMark::Arrow))?;
     let (body, rest) = read_items(alloc, context, syntax, Item::Element, limit, rest)?;
     let branch = Branch {
         expr_pattern: front.expr_pattern,
@@ -497,7 +497,7 @@ fn read_clause<'a, 't>(
 #[cycle(expr)]
 fn read_clauses<'a, 't>(
     alloc: Global,
-    context: Context,
+    context: ReadingContext,
     syntax: &mut SyntaxTree,
     choice: bool,
     limit: u32,
@@ -514,7 +514,7 @@ fn read_clauses<'a, 't>(
     for _ in 0..tokens.list.len() {
         let (branch, behind_it) = read_clause(alloc, context, syntax, choice, limit, rest)?;
         found.push(branch)?;
-        let Some(after) = skip(behind_it, NumberedKind::Mark(Mark::Semicolon)) else {
+        let Some(after) = skip(behind_it, NumberedKind::Mark(TokenMark::Semicolon)) else {
             return Ok((found, behind_it));
         };
         rest = after;
@@ -526,7 +526,7 @@ fn read_clauses<'a, 't>(
 #[cycle(expr)]
 fn read_branches<'a, 't>(
     alloc: Global,
-    context: Context,
+    context: ReadingContext,
     syntax: &mut SyntaxTree,
     choice: bool,
     limit: u32,
@@ -546,15 +546,15 @@ fn read_branches<'a, 't>(
 #[cycle(expr)]
 fn read_case<'a, 't>(
     alloc: Global,
-    context: Context,
+    context: ReadingContext,
     syntax: &mut SyntaxTree,
     guard: bool,
     limit: u32,
     tokens: Tokens<'a, 't>,
-) -> Result<Operand<'a, 't>, ReadFault>
+) -> Result<ReadOperand<'a, 't>, ReadFault>
     ensures grown { Grown syntax.old syntax.new }
     ensures stands { IfOk result (λ x. ExprRepresents syntax.new.node_table x.expr) }
-    ensures given { Gives (seen syntax.new.node_table) result
+    ensures given { Gives (expression_seen syntax.new.node_table) result
         (case_of (readers (names_of context.entry) limit) (parse_expr (names_of context.entry) guard limit top)
         (tokens_in tokens.entry)) }
 {
@@ -569,17 +569,17 @@ fn read_case<'a, 't>(
 #[cycle(expr)]
 fn read_worded<'a, 't>(
     alloc: Global,
-    context: Context,
+    context: ReadingContext,
     syntax: &mut SyntaxTree,
     guard: bool,
     limit: u32,
     first: Reserved,
     tokens: Tokens<'a, 't>,
-) -> Result<Operand<'a, 't>, ReadFault>
+) -> Result<ReadOperand<'a, 't>, ReadFault>
     ensures grown { Grown syntax.old syntax.new }
     ensures stands { IfOk result (λ x. ExprRepresents syntax.new.node_table x.expr) }
-    ensures given { Gives (seen syntax.new.node_table) result
-        (worded (readers (names_of context.entry) limit) guard
+    ensures given { Gives (expression_seen syntax.new.node_table) result
+        (reserved_parse (readers (names_of context.entry) limit) guard
         (parse_expr (names_of context.entry) guard limit top) first (tokens_in tokens.entry)) }
 {
     match first {

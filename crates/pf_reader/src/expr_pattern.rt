@@ -3,20 +3,19 @@
 ghost use Rattle.std.specs.Prelude.{◌≡◌, ℕ, length, IfErr, IfOk, map, option_map, IfSome, None, true};
 ghost use Rattle.std.specs.List.{All};
 ghost use Rattle.pf_syntax.specs.SyntaxTreeOver.{ExprPatternRepresents};
-ghost use Rattle.pf_tokens.specs.declared.marks.Mark.TheVariants.{Comma};
-ghost use Rattle.pf_intern.specs.NumberedTokens.{mark};
-ghost use Rattle.pf_grammar.specs.Grammar.{Names};
+ghost use Rattle.pf_tokens.specs.declared.marks.TokenMark.TheVariants.{Comma};
+ghost use Rattle.pf_tokens.specs.NumberedTokens.{mark};
+ghost use Rattle.pf_grammar.specs.Grammar.{TokenNames};
 ghost use Rattle.pf_grammar.specs.Parse.{items, list_expr_pattern, marked_expr_pattern, match_ahead, negative, pattern, pattern_with, until};
 ghost use Rattle.pf_reader.specs.View.{names_of, tokens_in};
 ghost use Rattle.pf_reader.specs.Given.{seen_expr_pattern, expr_pattern_of, Gives, Grown};
 
 use crate::fault::{ReadFault, Syntax};
 use crate::part::{ExprPatternPart, put_expr_pattern, put_expr_pattern_text};
-use crate::token::{Context, Tokens, behind, read_number, skip};
-use pf_fault::{NoMemory, OrNoMemory};
-use pf_intern::NumberedKind;
+use crate::token::{ReadingContext, Tokens, behind, read_number, skip};
+use pf_errors::{NoMemory, OrNoMemory};
 use pf_syntax::{ExprPatternId, ExprPatternNode, Ident, SyntaxTree};
-use pf_tokens::Mark;
+use pf_tokens::{NumberedKind, TokenMark};
 use std::alloc::Global;
 
 /// An integer after a minus, as a pattern.
@@ -43,7 +42,7 @@ fn read_negative<'a, 't>(
 #[cycle(expr_pattern)]
 pub(crate) fn read_expr_pattern<'a, 't>(
     alloc: Global,
-    context: Context,
+    context: ReadingContext,
     syntax: &mut SyntaxTree,
     limit: u32,
     tokens: Tokens<'a, 't>,
@@ -63,7 +62,7 @@ pub(crate) fn read_expr_pattern<'a, 't>(
 #[cycle(expr_pattern)]
 fn read_begun<'a, 't>(
     alloc: Global,
-    context: Context,
+    context: ReadingContext,
     syntax: &mut SyntaxTree,
     limit: u32,
     tokens: Tokens<'a, 't>,
@@ -103,10 +102,10 @@ fn read_begun<'a, 't>(
 #[cycle(expr_pattern)]
 fn read_marked<'a, 't>(
     alloc: Global,
-    context: Context,
+    context: ReadingContext,
     syntax: &mut SyntaxTree,
     limit: u32,
-    first: Mark,
+    first: TokenMark,
     tokens: Tokens<'a, 't>,
 ) -> Result<ExprPatternPart<'a, 't>, ReadFault>
     ensures grown { Grown syntax.old syntax.new }
@@ -115,19 +114,19 @@ fn read_marked<'a, 't>(
         (marked_expr_pattern (pattern (names_of context.entry) limit) first (tokens_in tokens.entry)) }
 {
     match first {
-        Mark::Minus => read_negative(syntax, tokens),
-        Mark::OpenBrace => {
+        TokenMark::Minus => read_negative(syntax, tokens),
+        TokenMark::OpenBrace => {
             let (parts, rest) = read_expr_patterns(
                 alloc,
                 context,
                 syntax,
                 limit,
-                Mark::CloseBrace,
+                TokenMark::CloseBrace,
                 tokens,
             )?;
             put_expr_pattern(syntax, ExprPatternNode::Tuple(parts), rest)
         }
-        Mark::OpenBracket => read_list(alloc, context, syntax, limit, tokens),
+        TokenMark::OpenBracket => read_list(alloc, context, syntax, limit, tokens),
         _ => Err(OrNoMemory::Fault(Syntax)),
     }
 }
@@ -136,7 +135,7 @@ fn read_marked<'a, 't>(
 #[cycle(expr_pattern)]
 fn read_list<'a, 't>(
     alloc: Global,
-    context: Context,
+    context: ReadingContext,
     syntax: &mut SyntaxTree,
     limit: u32,
     tokens: Tokens<'a, 't>,
@@ -146,18 +145,18 @@ fn read_list<'a, 't>(
     ensures given { Gives (seen_expr_pattern syntax.new.node_table) result
         (list_expr_pattern (pattern (names_of context.entry) limit) (tokens_in tokens.entry)) }
 {
-    if let Some(rest) = skip(tokens, NumberedKind::Mark(Mark::CloseBracket)) {
+    if let Some(rest) = skip(tokens, NumberedKind::Mark(TokenMark::CloseBracket)) {
         return put_expr_pattern(syntax, ExprPatternNode::List(Vec::new(alloc)), rest);
     }
     let (parts, rest) = read_expr_pattern_items(alloc, context, syntax, limit, tokens)?;
-    match skip(rest, NumberedKind::Mark(Mark::Bar)) {
+    match skip(rest, NumberedKind::Mark(TokenMark::Bar)) {
         None => {
-            let rest = behind(rest, NumberedKind::Mark(Mark::CloseBracket))?;
+            let rest = behind(rest, NumberedKind::Mark(TokenMark::CloseBracket))?;
             put_expr_pattern(syntax, ExprPatternNode::List(parts), rest)
         }
         Some(rest) => {
             let tail = read_expr_pattern(alloc, context, syntax, limit, rest)?;
-            let rest = behind(tail.rest, NumberedKind::Mark(Mark::CloseBracket))?;
+            let rest = behind(tail.rest, NumberedKind::Mark(TokenMark::CloseBracket))?;
             let node = ExprPatternNode::ListOn(parts, tail.expr_pattern);
             put_expr_pattern(syntax, node, rest)
         }
@@ -168,7 +167,7 @@ fn read_list<'a, 't>(
 #[cycle(expr_pattern)]
 fn read_expr_pattern_items<'a, 't>(
     alloc: Global,
-    context: Context,
+    context: ReadingContext,
     syntax: &mut SyntaxTree,
     limit: u32,
     tokens: Tokens<'a, 't>,
@@ -188,7 +187,7 @@ fn read_expr_pattern_items<'a, 't>(
     for _ in 0..tokens.list.len() {
         let part = read_expr_pattern(alloc, context, syntax, limit, rest)?;
         found.push(part.expr_pattern)?;
-        let Some(after) = skip(part.rest, NumberedKind::Mark(Mark::Comma)) else {
+        let Some(after) = skip(part.rest, NumberedKind::Mark(TokenMark::Comma)) else {
             return Ok((found, part.rest));
         };
         rest = after;
@@ -200,10 +199,10 @@ fn read_expr_pattern_items<'a, 't>(
 #[cycle(expr_pattern)]
 pub(crate) fn read_expr_patterns<'a, 't>(
     alloc: Global,
-    context: Context,
+    context: ReadingContext,
     syntax: &mut SyntaxTree,
     limit: u32,
-    last: Mark,
+    last: TokenMark,
     tokens: Tokens<'a, 't>,
 ) -> Result<(Vec<ExprPatternId>, Tokens<'a, 't>), ReadFault>
     ensures grown { Grown syntax.old syntax.new }
@@ -225,13 +224,13 @@ pub(crate) fn read_expr_patterns<'a, 't>(
 
 /// Whether two tokens show that no match begins here: the first is a pattern alone or none, and no `=` follows it.
 fn has_no_match(tokens: Tokens) -> bool
-    ensures { result ≡ true → (n : Names) → (limit : ℕ) → match_ahead (pattern n limit)
+    ensures { result ≡ true → (n : TokenNames) → (limit : ℕ) → match_ahead (pattern n limit)
         (tokens_in tokens.entry) ≡ None }
 {
     match tokens.first() {
         Some((first, rest)) => match first.kind {
             NumberedKind::Mark(_) => false,
-            _ => skip(rest, NumberedKind::Mark(Mark::Match)).is_none(),
+            _ => skip(rest, NumberedKind::Mark(TokenMark::Match)).is_none(),
         },
         None => true,
     }
@@ -240,7 +239,7 @@ fn has_no_match(tokens: Tokens) -> bool
 /// A pattern before `=`, where one comes first, and what follows both.
 pub(crate) fn read_match_ahead<'a, 't>(
     alloc: Global,
-    context: Context,
+    context: ReadingContext,
     syntax: &mut SyntaxTree,
     limit: u32,
     tokens: Tokens<'a, 't>,
@@ -255,7 +254,7 @@ pub(crate) fn read_match_ahead<'a, 't>(
         return Ok(None);
     }
     match read_expr_pattern(alloc, context, syntax, limit, tokens) {
-        Ok(part) => match skip(part.rest, NumberedKind::Mark(Mark::Match)) {
+        Ok(part) => match skip(part.rest, NumberedKind::Mark(TokenMark::Match)) {
             Some(rest) => Ok(Some(ExprPatternPart {
                 expr_pattern: part.expr_pattern,
                 rest,

@@ -1,6 +1,6 @@
 //! Why a part was not read.
 
-use pf_fault::OrNoMemory;
+use pf_errors::OrNoMemory;
 
 /// No rule allows what is there.
 #[derive(Clone, Copy, Debug, PartialEq, Eq)]

@@ -2,42 +2,41 @@
 
 ghost use Rattle.std.specs.Prelude.{◌≡◌, length, map, IfOk};
 ghost use Rattle.std.specs.List.{All};
-ghost use Rattle.pf_tokens.specs.declared.marks.Mark.TheVariants.{Semicolon};
-ghost use Rattle.pf_intern.specs.NumberedTokens.{mark};
+ghost use Rattle.pf_tokens.specs.declared.marks.TokenMark.TheVariants.{Semicolon};
+ghost use Rattle.pf_tokens.specs.NumberedTokens.{mark};
 ghost use Rattle.pf_syntax.specs.SyntaxTreeOver.{head_over, heads_over, HeadRepresents, HeadsStand};
-ghost use Rattle.pf_grammar.specs.Parse.{function, functions, head, items};
+ghost use Rattle.pf_grammar.specs.Parse.{function, functions, head_parse, items};
 ghost use Rattle.pf_reader.specs.View.{names_of, tokens_in};
 ghost use Rattle.pf_reader.specs.Given.{with_first, Gives, Grown};
 
 use crate::expr::{read_body, read_when};
 use crate::expr_pattern::read_expr_patterns;
 use crate::fault::{ReadFault, Syntax};
-use crate::token::{Context, Tokens, behind, read_name, skip};
-use pf_fault::OrNoMemory;
-use pf_intern::{MOST_TREE_DEPTH, NumberedKind};
+use crate::token::{ReadingContext, Tokens, behind, read_name, skip};
+use pf_errors::OrNoMemory;
 use pf_syntax::{ExprFunction, Head, SyntaxTree};
-use pf_tokens::Mark;
+use pf_tokens::{MOST_TREE_DEPTH, NumberedKind, TokenMark};
 use std::alloc::Global;
 
 /// A clause of a function.
 fn read_head<'a, 't>(
     alloc: Global,
-    context: Context,
+    context: ReadingContext,
     syntax: &mut SyntaxTree,
     tokens: Tokens<'a, 't>,
 ) -> Result<(Head, Tokens<'a, 't>), ReadFault>
     ensures grown { Grown syntax.old syntax.new }
     ensures stands { IfOk result (λ x. HeadRepresents syntax.new.node_table x.0) }
     ensures given { Gives (λ x. (head_over syntax.new.node_table x.0, tokens_in x.1)) result
-        (head (names_of context.entry) (tokens_in tokens.entry)) }
+        (head_parse (names_of context.entry) (tokens_in tokens.entry)) }
 {
     let limit = MOST_TREE_DEPTH;
-    let last = Mark::CloseParenthesis;
+    let last = TokenMark::CloseParenthesis;
     let (ident, rest) = read_name(context, tokens)?;
-    let rest = behind(rest, NumberedKind::Mark(Mark::OpenParenthesis))?;
+    let rest = behind(rest, NumberedKind::Mark(TokenMark::OpenParenthesis))?;
     let (parameters, rest) = read_expr_patterns(alloc, context, syntax, limit, last, rest)?;
     let (condition, rest) = read_when(alloc, context, syntax, limit, rest)?;
-    let rest = behind(rest, NumberedKind::Mark(Mark::Arrow))?;
+    let rest = behind(rest, NumberedKind::Mark(TokenMark::Arrow))?;
     let (body, rest) = read_body(alloc, context, syntax, limit, rest)?;
     let head = Head {
         ident,
@@ -51,14 +50,14 @@ fn read_head<'a, 't>(
 /// Clauses of a function, with semicolons between them.
 fn read_heads<'a, 't>(
     alloc: Global,
-    context: Context,
+    context: ReadingContext,
     syntax: &mut SyntaxTree,
     tokens: Tokens<'a, 't>,
 ) -> Result<(Vec<Head>, Tokens<'a, 't>), ReadFault>
     ensures grown { Grown syntax.old syntax.new }
     ensures stands { IfOk result (λ x. All (HeadRepresents syntax.new.node_table) x.0.items) }
     ensures given { Gives (λ x. (map (head_over syntax.new.node_table) x.0.items, tokens_in x.1)) result
-        (items (mark Semicolon) (head (names_of context.entry)) (length (tokens_in tokens.entry))
+        (items (mark Semicolon) (head_parse (names_of context.entry)) (length (tokens_in tokens.entry))
         (tokens_in tokens.entry)) }
 {
     let mut found = Vec::new(alloc);
@@ -66,7 +65,7 @@ fn read_heads<'a, 't>(
     for _ in 0..tokens.list.len() {
         let (head, behind_it) = read_head(alloc, context, syntax, rest)?;
         found.push(head)?;
-        let Some(after) = skip(behind_it, NumberedKind::Mark(Mark::Semicolon)) else {
+        let Some(after) = skip(behind_it, NumberedKind::Mark(TokenMark::Semicolon)) else {
             return Ok((found, behind_it));
         };
         rest = after;
@@ -77,7 +76,7 @@ fn read_heads<'a, 't>(
 /// A function: clauses and a dot.
 fn read_function<'a, 't>(
     alloc: Global,
-    context: Context,
+    context: ReadingContext,
     syntax: &mut SyntaxTree,
     tokens: Tokens<'a, 't>,
 ) -> Result<(ExprFunction, Tokens<'a, 't>), ReadFault>
@@ -94,7 +93,7 @@ fn read_function<'a, 't>(
 /// Functions up to the end, which go into the syntax tree.
 pub(crate) fn read_functions(
     alloc: Global,
-    context: Context,
+    context: ReadingContext,
     syntax: &mut SyntaxTree,
     tokens: Tokens,
 ) -> Result<(), ReadFault>

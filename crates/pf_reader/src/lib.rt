@@ -16,4 +16,4 @@ mod read;
 mod token;
 
 pub use pattern_alone::{ReadPattern, read_pattern};
-pub use read::{ReadModule, read_tree};
+pub use read::{ParsedModule, read_tree};

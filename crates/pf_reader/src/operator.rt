@@ -1,7 +1,7 @@
 //! Infixes: the one that comes first, and the node of one and its operands.
 
 ghost use Rattle.std.specs.Prelude.{◌≡◌, option_map};
-ghost use Rattle.pf_grammar.specs.Parse.{infix_ahead, joined};
+ghost use Rattle.pf_grammar.specs.Parse.{infix_ahead, joined_exprs};
 ghost use Rattle.pf_grammar.specs.View.{view_of_infix};
 ghost use Rattle.pf_syntax.specs.SyntaxTree.{expr_at, NodeTable};
 ghost use Rattle.pf_syntax.specs.SyntaxTreeOver.{expr_over, ExprPartsStand, ExprRepresents};
@@ -13,7 +13,7 @@ use pf_syntax::{ExprId, ExprNode};
 
 /// The node of an infix and its operands.
 pub(crate) fn joined(joint: Infix, left: ExprId, right: ExprId) -> ExprNode
-    ensures meaning { (b : NodeTable) → expr_over b result ≡ joined (view_of_infix joint)
+    ensures meaning { (b : NodeTable) → expr_over b result ≡ joined_exprs (view_of_infix joint)
         (expr_at b left.0) (expr_at b right.0) }
     ensures stands { (b : NodeTable) → ExprRepresents b left → ExprRepresents b right
         → ExprPartsStand b result }

@@ -6,18 +6,18 @@ ghost use Rattle.pf_grammar.specs.Parse.{is_short, within};
 ghost use Rattle.pf_syntax.specs.Expr as expressions;
 ghost use Rattle.pf_syntax.specs.ExprPattern as patterns;
 ghost use Rattle.pf_reader.specs.View.{tokens_in};
-ghost use Rattle.pf_reader.specs.Given.{seen, seen_expr_pattern, Gives, Grown};
+ghost use Rattle.pf_reader.specs.Given.{expression_seen, seen_expr_pattern, Gives, Grown};
 
 use crate::fault::{ReadFault, Syntax};
 use crate::token::Tokens;
-use pf_fault::OrNoMemory;
-use pf_intern::MOST_TEXT_CHARACTERS;
+use pf_errors::OrNoMemory;
 use pf_syntax::{Condition, ExprId, ExprNode, ExprPatternId, ExprPatternNode, SyntaxTree};
+use pf_tokens::MOST_TEXT_CHARACTERS;
 use std::alloc::Global;
 
 /// An expression that was read, and what follows it.
 #[derive(Clone, Copy)]
-pub(crate) struct Operand<'a, 't> {
+pub(crate) struct ReadOperand<'a, 't> {
     pub expr: ExprId,
     pub rest: Tokens<'a, 't>,
 }
@@ -58,15 +58,15 @@ pub(crate) fn put<'a, 't>(
     syntax: &mut SyntaxTree,
     node: ExprNode,
     rest: Tokens<'a, 't>,
-) -> Result<Operand<'a, 't>, ReadFault>
+) -> Result<ReadOperand<'a, 't>, ReadFault>
     requires { ExprPartsStand syntax.old.node_table node }
     ensures grown { Grown syntax.old syntax.new }
     ensures stands { IfOk result (λ p. ExprRepresents syntax.new.node_table p.expr) }
-    ensures given { Gives (seen syntax.new.node_table) result
+    ensures given { Gives (expression_seen syntax.new.node_table) result
         (Some (expr_over syntax.old.node_table node, tokens_in rest.entry)) }
 {
     let expr = syntax.add_expr(node)?;
-    Ok(Operand { expr, rest })
+    Ok(ReadOperand { expr, rest })
 }
 
 /// Adds an expression, which may be no deeper than the limit.
@@ -75,11 +75,11 @@ pub(crate) fn put_within<'a, 't>(
     limit: u32,
     node: ExprNode,
     rest: Tokens<'a, 't>,
-) -> Result<Operand<'a, 't>, ReadFault>
+) -> Result<ReadOperand<'a, 't>, ReadFault>
     requires { ExprPartsStand syntax.old.node_table node }
     ensures grown { Grown syntax.old syntax.new }
     ensures stands { IfOk result (λ p. ExprRepresents syntax.new.node_table p.expr) }
-    ensures given { Gives (seen syntax.new.node_table) result
+    ensures given { Gives (expression_seen syntax.new.node_table) result
         (within limit (expr_over syntax.old.node_table node) (tokens_in rest.entry)) }
 {
     let part = put(syntax, node, rest)?;
@@ -121,10 +121,10 @@ pub(crate) fn put_text<'a, 't>(
     syntax: &mut SyntaxTree,
     text: &[u8],
     rest: Tokens<'a, 't>,
-) -> Result<Operand<'a, 't>, ReadFault>
+) -> Result<ReadOperand<'a, 't>, ReadFault>
     ensures grown { Grown syntax.old syntax.new }
     ensures stands { IfOk result (λ p. ExprRepresents syntax.new.node_table p.expr) }
-    ensures given { Gives (seen syntax.new.node_table) result
+    ensures given { Gives (expression_seen syntax.new.node_table) result
         (if is_short text.now then Some (expressions.text text.now, tokens_in rest.entry) else None) }
 {
     let characters = read_characters(alloc, text)?;

@@ -5,20 +5,19 @@ ghost use Rattle.std.specs.Bool.{Decides};
 ghost use Rattle.pf_tokens.specs.TokenKinds.{placed_of};
 ghost use Rattle.pf_syntax.specs.SyntaxTreeOver.{ExprPatternRepresents};
 ghost use Rattle.pf_syntax.specs.ExprPattern.{ExprPattern};
-ghost use Rattle.pf_intern.specs.View.{token_list};
+ghost use Rattle.pf_tokens.specs.View.{token_list};
 ghost use Rattle.pf_grammar.specs.Parse.{pattern};
 ghost use Rattle.pf_reader.specs.View.{names_of};
 ghost use Rattle.pf_reader.specs.Given.{Gives};
-ghost use Rattle.pf_reader.specs.PatternAlone.{alone, pattern_of, DerivesPatternAlone, IsNoPattern, IsPatternReadAs, LacksModule};
+ghost use Rattle.pf_reader.specs.PatternAlone.{pattern_alone, pattern_of, DerivesPatternAlone, IsNoPattern, IsPatternReadAs, LacksModule};
 
 use crate::expr_pattern::read_expr_pattern;
 use crate::fault::{ReadFault, Syntax};
-use crate::token::{Context, Tokens};
-use pf_fault::{Code, OrNoMemory};
-use pf_intern::{MOST_TREE_DEPTH, NumberedToken, number_tokens_after};
+use crate::token::{ReadingContext, Tokens};
+use pf_errors::{Code, OrNoMemory};
 use pf_syntax::{ExprPatternId, SyntaxTree};
 use pf_terms::{AtomId, AtomTable};
-use pf_tokens::{Kind, Token};
+use pf_tokens::{MOST_TREE_DEPTH, NumberedToken, Token, TokenForm, number_tokens_after};
 use std::alloc::Global;
 
 /// A pattern by itself, in a syntax tree of its own.
@@ -33,7 +32,7 @@ fn lacks_module(tokens: &[Token]) -> bool
     ensures { Decides result (LacksModule (map placed_of tokens.now)) }
 {
     for token in tokens {
-        if let Kind::Module = token.kind {
+        if let TokenForm::Module = token.kind {
             return false;
         }
     }
@@ -43,12 +42,12 @@ fn lacks_module(tokens: &[Token]) -> bool
 /// The pattern that these tokens are, from the first to the last.
 fn read_alone(
     alloc: Global,
-    context: Context,
+    context: ReadingContext,
     tokens: &[NumberedToken],
 ) -> Result<ReadPattern, ReadFault>
     ensures stands { IfOk result (λ r. ExprPatternRepresents r.syntax.node_table r.pattern) }
     ensures given { Gives pattern_of result
-        (alone (pattern (names_of context.entry) MOST_TREE_DEPTH (token_list tokens.now))) }
+        (pattern_alone (pattern (names_of context.entry) MOST_TREE_DEPTH (token_list tokens.now))) }
 {
     let mut syntax = SyntaxTree::new(alloc, context.own);
     let tokens = Tokens { list: tokens };
@@ -84,7 +83,7 @@ pub fn read_pattern(
     let (names, found) = number_tokens_after(alloc, tokens, atoms)?;
     // The own name is asked for at `?MODULE` alone, which no token is.
     let own = AtomId::TRUE;
-    let context = Context { atoms: &names, own };
+    let context = ReadingContext { atoms: &names, own };
     match read_alone(alloc, context, &found) {
         Ok(read) => Ok(read),
         Err(OrNoMemory::NoMemory) => Err(OrNoMemory::NoMemory),

@@ -2,29 +2,28 @@
 
 ghost use Rattle.std.specs.Prelude.{◌≡◌, map, option_map, IfErr, IfOk, None};
 ghost use Rattle.pf_tokens.specs.TokenKinds.{placed_of};
-ghost use Rattle.pf_intern.specs.NumberedTokens.{atoms_of, numbered};
+ghost use Rattle.pf_tokens.specs.NumberedTokens.{atoms_of, numbered_tokens};
 ghost use Rattle.pf_grammar.specs.Grammar.{tree_of, DerivesTree, Tree};
-ghost use Rattle.pf_grammar.specs.Parse.{any_atom, begins, tree};
-ghost use Rattle.pf_intern.specs.View.{token_list};
+ghost use Rattle.pf_grammar.specs.Parse.{any_atom, first_form, tree};
+ghost use Rattle.pf_tokens.specs.View.{token_list};
 ghost use Rattle.pf_reader.specs.View.{tokens_in};
 ghost use Rattle.pf_reader.specs.Given.{Gives};
-ghost use Rattle.pf_reader.specs.Outcome.{IsReadAs, IsTreeFault};
+ghost use Rattle.pf_reader.specs.Outcome.{IsParsedAs, IsTreeFault};
 
 use crate::export::read_exports;
 use crate::fault::{ReadFault, Syntax};
 use crate::function::read_functions;
-use crate::token::{Context, Tokens, skip, skip_word};
-use pf_fault::{Code, NoMemory, OrNoMemory, Refusal};
-use pf_intern::{MOST_NAME_BYTES, NumberedKind, NumberedToken, number_tokens};
+use crate::token::{ReadingContext, Tokens, skip, skip_word};
+use pf_errors::{Code, NoMemory, OrNoMemory, SourceRefusal};
 use pf_syntax::SyntaxTree;
 use pf_syntax_error::fault_offset;
 use pf_terms::{AtomId, AtomTable};
-use pf_tokens::{Mark, Token};
+use pf_tokens::{MOST_NAME_BYTES, NumberedKind, NumberedToken, Token, TokenMark, number_tokens};
 use std::alloc::Global;
 
 /// A module as it is read: its syntax tree, and the names of its atoms by number.
 #[derive(Drop)]
-pub struct ReadModule {
+pub struct ParsedModule {
     pub syntax: SyntaxTree,
     pub atoms: AtomTable,
 }
@@ -42,13 +41,13 @@ fn any_atom<'a, 't>(tokens: Tokens<'a, 't>) -> Option<(AtomId, Tokens<'a, 't>)>
 
 /// The module's name, where the first form comes first, and what follows that.
 fn first_form<'a, 't>(atoms: &AtomTable, tokens: Tokens<'a, 't>) -> Option<(AtomId, Tokens<'a, 't>)>
-    ensures { option_map (λ x. (x.0.0, tokens_in x.1)) result ≡ begins atoms.now (tokens_in tokens.entry) }
+    ensures { option_map (λ x. (x.0.0, tokens_in x.1)) result ≡ first_form atoms.now (tokens_in tokens.entry) }
 {
-    let rest = skip(tokens, NumberedKind::Mark(Mark::Minus))?;
+    let rest = skip(tokens, NumberedKind::Mark(TokenMark::Minus))?;
     let rest = skip_word(atoms, b"module", rest)?;
-    let rest = skip(rest, NumberedKind::Mark(Mark::OpenParenthesis))?;
+    let rest = skip(rest, NumberedKind::Mark(TokenMark::OpenParenthesis))?;
     let (name, rest) = any_atom(rest)?;
-    let rest = skip(rest, NumberedKind::Mark(Mark::CloseParenthesis))?;
+    let rest = skip(rest, NumberedKind::Mark(TokenMark::CloseParenthesis))?;
     let rest = skip(rest, NumberedKind::Dot)?;
     Some((name, rest))
 }
@@ -64,7 +63,7 @@ fn read_module(
     let Some((own, rest)) = first_form(atoms, Tokens { list: tokens }) else {
         return Err(OrNoMemory::Fault(Syntax));
     };
-    let context = Context { atoms, own };
+    let context = ReadingContext { atoms, own };
     let mut syntax = SyntaxTree::new(alloc, own);
     let rest = read_exports(alloc, context, &mut syntax, rest)?;
     read_functions(alloc, context, &mut syntax, rest)?;
@@ -80,7 +79,7 @@ fn tree_fault(
     atoms: &AtomTable,
     tokens: &[NumberedToken],
     end: usize,
-) -> OrNoMemory<Refusal>
+) -> OrNoMemory<SourceRefusal>
     requires { tree atoms.now (token_list tokens.now) ≡ None }
     ensures { IsTreeFault atoms.now (token_list tokens.now) end result }
 {
@@ -98,20 +97,20 @@ pub fn read_tree(
     alloc: Global,
     tokens: &[Token],
     end: usize,
-) -> Result<ReadModule, OrNoMemory<Refusal>>
+) -> Result<ParsedModule, OrNoMemory<SourceRefusal>>
     ensures found { IfOk result (λ t. DerivesTree (atoms_of (map placed_of tokens.now)) (tree_of t.syntax)
-        (numbered (map placed_of tokens.now))) }
+        (numbered_tokens (map placed_of tokens.now))) }
     ensures atoms { IfOk result (λ t. t.atoms ≡ atoms_of (map placed_of tokens.now)) }
 
     // What derives the tokens is read, unless memory runs out.
     ensures only { (m : Tree) → DerivesTree (atoms_of (map placed_of tokens.now)) m
-        (numbered (map placed_of tokens.now)) → IsReadAs m result }
+        (numbered_tokens (map placed_of tokens.now)) → IsParsedAs m result }
     ensures fault { IfErr result (IsTreeFault (atoms_of (map placed_of tokens.now))
-        (numbered (map placed_of tokens.now)) end) }
+        (numbered_tokens (map placed_of tokens.now)) end) }
 {
     let (atoms, found) = number_tokens(alloc, tokens)?;
     match read_module(alloc, &atoms, &found) {
-        Ok(syntax) => Ok(ReadModule { syntax, atoms }),
+        Ok(syntax) => Ok(ParsedModule { syntax, atoms }),
         Err(OrNoMemory::NoMemory) => Err(OrNoMemory::NoMemory),
         Err(OrNoMemory::Fault(Syntax)) => Err(tree_fault(alloc, &atoms, &found, end)),
     }

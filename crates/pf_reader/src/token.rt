@@ -2,22 +2,20 @@
 
 ghost use Rattle.std.specs.Prelude.{◌≡◌, [], ◌∷◌, option_map, MatchOption};
 ghost use Rattle.pf_grammar.specs.Grammar.{call_stands};
-ghost use Rattle.pf_grammar.specs.Parse.{after, atom_in, is, is_word, named, number, word};
-ghost use Rattle.pf_intern.specs.View.{kind_of, numbered_token_of};
+ghost use Rattle.pf_grammar.specs.Parse.{after_kind, atom_in, is, follows_word, name_with_offset, number, word_parse};
+ghost use Rattle.pf_tokens.specs.View.{kind_of, numbered_token_of};
 ghost use Rattle.pf_reader.specs.View.{names_of, tokens_in};
 ghost use Rattle.pf_reader.specs.Given.{Gives};
 
 use crate::fault::{ReadFault, Syntax};
-use pf_builtins::{Form, builtin_named, may_stand};
-use pf_fault::OrNoMemory;
-use pf_intern::{MOST_NAME_BYTES, NumberedKind, NumberedToken};
-use pf_syntax::Ident;
+use pf_errors::OrNoMemory;
+use pf_syntax::{Form, Ident, builtin_named, may_stand};
 use pf_terms::{AtomId, AtomTable};
-use pf_tokens::Integer;
+use pf_tokens::{Integer, MOST_NAME_BYTES, NumberedKind, NumberedToken};
 
 /// What the numbers in tokens stand for: the names of atoms, and the number of the module's own name.
 #[derive(Clone, Copy)]
-pub(crate) struct Context<'a> {
+pub(crate) struct ReadingContext<'a> {
     pub atoms: &'a AtomTable,
     pub own: AtomId,
 }
@@ -62,7 +60,7 @@ fn is_kind(wanted: NumberedKind, kind: NumberedKind) -> bool
 
 /// What follows the kind of token, where it comes first.
 pub(crate) fn skip<'a, 't>(tokens: Tokens<'a, 't>, wanted: NumberedKind) -> Option<Tokens<'a, 't>>
-    ensures { option_map (λ rest. tokens_in rest) result ≡ after (kind_of wanted.entry)
+    ensures { option_map (λ rest. tokens_in rest) result ≡ after_kind (kind_of wanted.entry)
         (tokens_in tokens.entry) }
 {
     let (first, rest) = tokens.first()?;
@@ -78,7 +76,7 @@ pub(crate) fn behind<'a, 't>(
     tokens: Tokens<'a, 't>,
     wanted: NumberedKind,
 ) -> Result<Tokens<'a, 't>, ReadFault>
-    ensures { Gives (λ rest. tokens_in rest) result (after (kind_of wanted.entry) (tokens_in tokens.entry)) }
+    ensures { Gives (λ rest. tokens_in rest) result (after_kind (kind_of wanted.entry) (tokens_in tokens.entry)) }
 {
     match skip(tokens, wanted) {
         Some(rest) => Ok(rest),
@@ -86,7 +84,7 @@ pub(crate) fn behind<'a, 't>(
     }
 }
 
-impl Context<'_> {
+impl ReadingContext<'_> {
     /// The atom that a kind of token is.
     pub(crate) fn atom(self, kind: NumberedKind) -> Option<AtomId>
         ensures { option_map (λ a. a.0) result ≡ atom_in (names_of self.entry) (kind_of kind.entry) }
@@ -120,11 +118,11 @@ impl Context<'_> {
 
 /// A name with its offset, which must come first, and what follows it.
 pub(crate) fn read_name<'a, 't>(
-    context: Context,
+    context: ReadingContext,
     tokens: Tokens<'a, 't>,
 ) -> Result<(Ident, Tokens<'a, 't>), ReadFault>
     ensures { Gives (λ x. ((x.0.name.0, x.0.offset), tokens_in x.1)) result
-        (named (names_of context.entry) (tokens_in tokens.entry)) }
+        (name_with_offset (names_of context.entry) (tokens_in tokens.entry)) }
 {
     let Some((first, rest)) = tokens.first() else {
         return Err(OrNoMemory::Fault(Syntax));
@@ -154,7 +152,7 @@ pub(crate) fn read_number<'a, 't>(tokens: Tokens<'a, 't>) -> Option<(Integer, To
 
 /// Whether the kind of token is an atom of these bytes.
 fn is_word(atoms: &AtomTable, bytes: &[u8], kind: NumberedKind) -> bool
-    ensures { result ≡ is_word atoms.now bytes.now (kind_of kind.entry) }
+    ensures { result ≡ follows_word atoms.now bytes.now (kind_of kind.entry) }
 {
     match kind {
         NumberedKind::Atom(atom) => atoms.name(atom) == bytes,
@@ -168,7 +166,7 @@ pub(crate) fn skip_word<'a, 't>(
     bytes: &[u8],
     tokens: Tokens<'a, 't>,
 ) -> Option<Tokens<'a, 't>>
-    ensures { option_map (λ rest. tokens_in rest) result ≡ word atoms.now bytes.now (tokens_in tokens.entry) }
+    ensures { option_map (λ rest. tokens_in rest) result ≡ word_parse atoms.now bytes.now (tokens_in tokens.entry) }
 {
     let (first, rest) = tokens.first()?;
     if is_word(atoms, bytes, first.kind) {

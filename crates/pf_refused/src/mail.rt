@@ -1,6 +1,6 @@
 //! A mail list that holds more items than its pool keeps nodes, and is dropped while it holds some.
 
-use crate::Answer;
+use crate::Stop;
 use pf_nodes::{MailList, Pool};
 use std::alloc::Global;
 
@@ -8,15 +8,15 @@ use std::alloc::Global;
 const ITEMS: u32 = 1030;
 
 /// Puts an item at the end, and looks at what comes back where that is refused.
-fn push(list: &mut MailList<u32>, pool: &mut Pool<u32>, item: u32) -> Result<(), Answer> {
+fn push(list: &mut MailList<u32>, pool: &mut Pool<u32>, item: u32) -> Result<(), Stop> {
     let len = list.len();
     match list.push_back(pool, item) {
         Ok(()) => Ok(()),
         Err(back) => {
             if back == item && list.len() == len && list.mark() == 0 {
-                Err(Answer::Refused)
+                Err(Stop::Refused)
             } else {
-                Err(Answer::Changed)
+                Err(Stop::Changed)
             }
         }
     }
@@ -24,7 +24,7 @@ fn push(list: &mut MailList<u32>, pool: &mut Pool<u32>, item: u32) -> Result<(),
 
 /// Fills a list, drains it, fills it again from the pool's nodes and drops it. The answer is how many nodes the pool
 /// kept from the first time.
-pub fn spare_after(alloc: Global) -> Result<usize, Answer> {
+pub fn spare_after(alloc: Global) -> Result<usize, Stop> {
     let mut pool = Pool::new(alloc);
     let mut list = MailList::new(alloc);
     for item in 0..ITEMS {

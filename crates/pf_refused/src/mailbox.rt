@@ -1,6 +1,6 @@
 //! A mailbox that messages are placed in and taken from, and that is packed and unpacked.
 
-use crate::{Answer, pair};
+use crate::{Stop, pair};
 use pf_mailbox::Mailbox;
 use pf_nodes::Pool;
 use pf_stepper::Inbox;
@@ -10,17 +10,17 @@ use std::alloc::Global;
 
 /// `receive {exit, X} -> X end`, in a module of its own.
 #[derive(Drop)]
-struct Receive {
+struct ReceiveModule {
     module: Module,
     clauses: Vec<Clause>,
 }
 
-fn receive_pair(alloc: Global) -> Result<Receive, Answer> {
+fn receive_pair(alloc: Global) -> Result<ReceiveModule, Stop> {
     let mut module = Module::new(alloc, AtomId::UNDEFINED, AtomTable::new(alloc)?);
     let first = module.add_pattern(PatternNode::Atom(AtomId::EXIT))?;
     let second = module.add_pattern(PatternNode::New)?;
     let Ok(parts) = vec![in alloc; first, second] else {
-        return Err(Answer::Refused);
+        return Err(Stop::Refused);
     };
     let pattern = module.add_pattern(PatternNode::Tuple(parts))?;
     let clause = Clause {
@@ -31,21 +31,21 @@ fn receive_pair(alloc: Global) -> Result<Receive, Answer> {
         body: Operand::Slot(0),
     };
     let Ok(clauses) = vec![in alloc; clause] else {
-        return Err(Answer::Refused);
+        return Err(Stop::Refused);
     };
-    Ok(Receive { module, clauses })
+    Ok(ReceiveModule { module, clauses })
 }
 
 /// Places a message, and looks at the mailbox where that is refused.
-fn deliver(mailbox: &mut Mailbox, pool: &mut Pool<Term>, message: Term) -> Result<(), Answer> {
+fn deliver(mailbox: &mut Mailbox, pool: &mut Pool<Term>, message: Term) -> Result<(), Stop> {
     let before = (mailbox.len(), mailbox.mark(), mailbox.tests(), pool.len());
     match mailbox.deliver(pool, message) {
         Ok(()) => Ok(()),
         Err(NoMemory) => {
             if (mailbox.len(), mailbox.mark(), mailbox.tests(), pool.len()) == before {
-                Err(Answer::Refused)
+                Err(Stop::Refused)
             } else {
-                Err(Answer::Changed)
+                Err(Stop::Changed)
             }
         }
     }
@@ -56,28 +56,28 @@ fn take(
     alloc: Global,
     mailbox: &mut Mailbox,
     pool: &mut Pool<Term>,
-    wanted: &Receive,
-) -> Result<bool, Answer> {
+    wanted: &ReceiveModule,
+) -> Result<bool, Stop> {
     let before = (mailbox.len(), pool.len());
     mailbox.reset_mark();
     let mut bound = Vec::new(alloc);
     let mut message = Term::Int(0);
-    let Receive { module, clauses } = wanted;
+    let ReceiveModule { module, clauses } = wanted;
     let clauses = clauses.as_slice();
     match mailbox.select(alloc, pool, module, clauses, &mut bound, 0, 0, &mut message) {
         Ok(picked) => Ok(picked.is_some()),
         Err(NoMemory) => {
             if (mailbox.len(), pool.len()) == before {
-                Err(Answer::Refused)
+                Err(Stop::Refused)
             } else {
-                Err(Answer::Changed)
+                Err(Stop::Changed)
             }
         }
     }
 }
 
 /// An atom and `{exit, NUMBER}`, four times.
-fn filled(alloc: Global, pool: &mut Pool<Term>) -> Result<Mailbox, Answer> {
+fn filled(alloc: Global, pool: &mut Pool<Term>) -> Result<Mailbox, Stop> {
     let mut mailbox = Mailbox::new(alloc);
     for number in 0..4i64 {
         deliver(&mut mailbox, pool, Term::Atom(AtomId::KILL))?;
@@ -88,14 +88,14 @@ fn filled(alloc: Global, pool: &mut Pool<Term>) -> Result<Mailbox, Answer> {
 }
 
 /// The mailbox over nodes of another pool.
-fn moved(alloc: Global, mailbox: Mailbox, pool: &mut Pool<Term>) -> Result<Mailbox, Answer> {
+fn moved(alloc: Global, mailbox: Mailbox, pool: &mut Pool<Term>) -> Result<Mailbox, Stop> {
     let packed = mailbox.pack(pool, alloc)?;
     let mut other = Pool::new(alloc);
     Ok(Mailbox::unpack(&mut other, alloc, packed)?)
 }
 
 /// How many pairs were taken, and how many messages are left.
-pub fn taken_and_left(alloc: Global) -> Result<(u32, usize), Answer> {
+pub fn taken_and_left(alloc: Global) -> Result<(u32, usize), Stop> {
     let mut pool = Pool::new(alloc);
     let mailbox = filled(alloc, &mut pool)?;
     let mut mailbox = moved(alloc, mailbox, &mut pool)?;

@@ -6,7 +6,7 @@
 mod mail;
 mod mailbox;
 
-use pf_fault::OrNoMemory;
+use pf_errors::OrNoMemory;
 use pf_terms::{AtomId, AtomTable, List, NoMemory, Term, TooLarge, copy, list_of, nodes, tuple_of};
 use std::alloc::Global;
 use std::io;
@@ -14,7 +14,7 @@ use std::process::ExitCode;
 
 /// Why a run of calls did not end.
 #[derive(Clone, Copy, PartialEq, Eq)]
-enum Answer {
+enum Stop {
     Refused,
     /// A refused call changed its value.
     Changed,
@@ -28,61 +28,61 @@ struct Made {
     mail: (u32, usize),
 }
 
-impl From<NoMemory> for Answer {
-    fn from(_refused: NoMemory) -> Answer {
-        Answer::Refused
+impl From<NoMemory> for Stop {
+    fn from(_refused: NoMemory) -> Stop {
+        Stop::Refused
     }
 }
 
-impl From<OrNoMemory<TooLarge>> for Answer {
-    fn from(fault: OrNoMemory<TooLarge>) -> Answer {
+impl From<OrNoMemory<TooLarge>> for Stop {
+    fn from(fault: OrNoMemory<TooLarge>) -> Stop {
         match fault {
-            OrNoMemory::NoMemory => Answer::Refused,
-            OrNoMemory::Fault(TooLarge) => Answer::Changed,
+            OrNoMemory::NoMemory => Stop::Refused,
+            OrNoMemory::Fault(TooLarge) => Stop::Changed,
         }
     }
 }
 
 /// Enters a name, and looks at the table where that is refused.
-fn enter(alloc: Global, atoms: &mut AtomTable, name: &[u8]) -> Result<AtomId, Answer> {
+fn enter(alloc: Global, atoms: &mut AtomTable, name: &[u8]) -> Result<AtomId, Stop> {
     let len = atoms.len();
     if len > 99 {
-        return Err(Answer::Changed);
+        return Err(Stop::Changed);
     }
     match atoms.enter(alloc, name) {
         Ok(atom) => Ok(atom),
         Err(NoMemory) => {
             if atoms.len() == len && atoms.find(name).is_none() {
-                Err(Answer::Refused)
+                Err(Stop::Refused)
             } else {
-                Err(Answer::Changed)
+                Err(Stop::Changed)
             }
         }
     }
 }
 
-fn pair(alloc: Global, first: Term, second: Term) -> Result<Term, Answer> {
+fn pair(alloc: Global, first: Term, second: Term) -> Result<Term, Stop> {
     let Ok(items) = vec![in alloc; first, second] else {
-        return Err(Answer::Refused);
+        return Err(Stop::Refused);
     };
     Ok(tuple_of(alloc, items)?)
 }
 
-fn make(alloc: Global) -> Result<u32, Answer> {
+fn make(alloc: Global) -> Result<u32, Stop> {
     let mut atoms = AtomTable::new(alloc)?;
     let m = enter(alloc, &mut atoms, b"m")?;
     let kid = enter(alloc, &mut atoms, b"a kid with a longer name")?;
     let first = pair(alloc, Term::Atom(m), Term::Int(7))?;
     let second = pair(alloc, Term::Atom(kid), copy(&first)?)?;
     let Ok(items) = vec![in alloc; first, second] else {
-        return Err(Answer::Refused);
+        return Err(Stop::Refused);
     };
     let list = list_of(alloc, items)?;
     let longer = List::cons(alloc, Term::Pid(0), list.share()?)?;
     Ok(nodes(&Term::List(longer)))
 }
 
-fn made_all(alloc: Global) -> Result<Made, Answer> {
+fn made_all(alloc: Global) -> Result<Made, Stop> {
     Ok(Made {
         nodes: make(alloc)?,
         spare: mail::spare_after(alloc)?,
@@ -101,11 +101,11 @@ fn main(rt: HostRuntime) -> io::Result<ExitCode> {
             println!(rt; "kept {left} messages")?;
             Ok(ExitCode::SUCCESS)
         }
-        Err(Answer::Refused) => {
+        Err(Stop::Refused) => {
             println!(rt; "NoMemory")?;
             Ok(ExitCode::from(2))
         }
-        Err(Answer::Changed) => {
+        Err(Stop::Changed) => {
             println!(rt; "changed")?;
             Ok(ExitCode::from(3))
         }

@@ -4,7 +4,7 @@ use denote.Param.Send.{IsSend, IsSync, sendable}
 use Rattle.std.proofs.Crossing as heap
 use Rattle.pf_request.specs.contracts.source.Source as Source
 use Rattle.pf_request.specs.contracts.choices.RunChoices as RunChoices
-use Rattle.pf_request.specs.contracts.request.Kind as Kind
+use Rattle.pf_request.specs.contracts.request.RequestKind as Kind
 use Rattle.pf_request.specs.contracts.request.Request as Request
 use Rattle.pf_request.specs.contracts.call.Order as Order
 use Rattle.pf_request.specs.contracts.call.Call as Call

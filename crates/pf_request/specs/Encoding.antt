@@ -10,7 +10,7 @@ use Rattle.pf_model.specs.Meaning as model
 use Rattle.pf_model.specs.Meaning.{Choices, seed, schedule, weighted_seed}
 use Rattle.pf_model.specs.Properties.{Property, returns, returns_true, no_crash, no_deadlock, within_limit, never}
 use Rattle.pf_request.specs.Module.{ReadModule}
-use Rattle.pf_request.specs.Request.{Kind, run, shrink, Request}
+use Rattle.pf_request.specs.Request.{RequestKind, run, shrink, Request}
 use Rattle.pf_request.specs.Job.{Job}
 use Rattle.pf_request.specs.Calls.{Call, submit, order, fetch, status, drop_trial, withdraw, usage, log, edition}
 
@@ -87,19 +87,19 @@ coded_job = code_by _ (coded× (coded_list coded_ℕ) coded_asked) (λ j. (j.sou
 
 -- ---- requests and calls
 
-abbrev pub parts_of_kind : Kind → Choices ⊎ (List ℕ × ℕ)
+abbrev pub parts_of_kind : RequestKind → Choices ⊎ (List ℕ × ℕ)
 parts_of_kind (run cs) = inl cs
 parts_of_kind (shrink ns k) = inr (ns, k)
 
-abbrev pub kind_from : Choices ⊎ (List ℕ × ℕ) → Kind
+abbrev pub kind_from : Choices ⊎ (List ℕ × ℕ) → RequestKind
 kind_from (inl cs) = run cs
 kind_from (inr p) = shrink p.0 p.1
 
-pub kind_from-parts_of : (k : Kind) → kind_from (parts_of_kind k) ≡ k
+pub kind_from-parts_of : (k : RequestKind) → kind_from (parts_of_kind k) ≡ k
 kind_from-parts_of (run cs) = refl
 kind_from-parts_of (shrink ns k) = refl
 
-abbrev pub coded_kind : Coded Kind
+abbrev pub coded_kind : Coded RequestKind
 coded_kind = code_by _ (coded⊎ coded_choices (coded× (coded_list coded_ℕ) coded_ℕ)) parts_of_kind kind_from kind_from-parts_of
 
 abbrev pub coded_request : Coded Request

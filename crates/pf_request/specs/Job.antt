@@ -1,7 +1,7 @@
 -- Jobs: what a request results in for a module, or the first of what it is refused for.
 use Rattle.std.specs.Prelude.{ℕ, zero, if◌then◌else◌, List, [], Option, Some, None, Result, Ok, Err}
-use Rattle.pf_fault.specs.declared.code.Code.{Code}
-use Rattle.pf_fault.specs.declared.code.Code.TheVariants as code
+use Rattle.pf_errors.specs.declared.code.Code.{Code}
+use Rattle.pf_errors.specs.declared.code.Code.TheVariants as code
 use Rattle.pf_syntax.specs.Root.{root_of}
 use Rattle.pf_model.specs.Meaning as model
 use Rattle.pf_model.specs.Meaning.{Choices, Report, seed, schedule, weighted_seed}

@@ -4,8 +4,8 @@ use Rattle.pf_request.specs.Request as request
 use Rattle.pf_request.specs.Calls as calls
 use Rattle.pf_request.specs.declared.choices.RunChoices.{RunChoices}
 use Rattle.pf_request.specs.declared.choices.RunChoices.TheVariants.{Seed, Schedule, Weighted}
-use Rattle.pf_request.specs.declared.request.Kind.{Kind}
-use Rattle.pf_request.specs.declared.request.Kind.TheVariants.{Run, Shrink}
+use Rattle.pf_request.specs.declared.request.RequestKind.{RequestKind}
+use Rattle.pf_request.specs.declared.request.RequestKind.TheVariants.{Run, Shrink}
 use Rattle.pf_request.specs.declared.request.Request.{Request}
 use Rattle.pf_request.specs.declared.call.Order.{Order}
 use Rattle.pf_request.specs.declared.call.Call.{Call}
@@ -16,7 +16,7 @@ view_of_choices (Seed n) = model.seed n
 view_of_choices (Schedule numbers) = model.schedule numbers.value.items
 view_of_choices (Weighted n run deliver) = model.weighted_seed n run deliver
 
-abbrev pub view_of_kind : Kind → request.Kind
+abbrev pub view_of_kind : RequestKind → request.RequestKind
 view_of_kind (Run cs) = request.run (view_of_choices cs)
 view_of_kind (Shrink numbers runs) = request.shrink numbers.value.items runs
 

@@ -9,6 +9,6 @@ mod step;
 
 pub use call::{Call, Order};
 pub use choices::RunChoices;
-pub use request::{Kind, Request, ShortBytes};
+pub use request::{Request, RequestKind, ShortBytes};
 pub use source::Source;
 pub use step::{Chore, Step};

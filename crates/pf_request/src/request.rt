@@ -17,21 +17,21 @@ pub type ShortBytes = SmallVec<u8, 16>;
 
 /// Whether one run is asked for, or the shrinking of a schedule.
 #[derive(Drop)]
-pub enum Kind {
+pub enum RequestKind {
     /// One run, by these choices.
     Run(RunChoices),
     /// The shrinking of a schedule within n runs, of which its own is the first.
     Shrink { schedule: Arc<Vec<u32>>, runs: u32 },
 }
 
-impl Kind {
+impl RequestKind {
     /// How many numbers are given: those of a schedule.
     pub fn count(&self) -> usize
         ensures { result ≡ count_of (choices_in (view_of_kind self.now)) }
     {
         match self {
-            Kind::Run(choices) => choices.count(),
-            Kind::Shrink { schedule, .. } => schedule.len(),
+            RequestKind::Run(choices) => choices.count(),
+            RequestKind::Shrink { schedule, .. } => schedule.len(),
         }
     }
 
@@ -40,8 +40,8 @@ impl Kind {
         ensures { result ≡ runs_in (view_of_kind self.now) }
     {
         match self {
-            Kind::Run(_) => 0,
-            Kind::Shrink { runs, .. } => *runs,
+            RequestKind::Run(_) => 0,
+            RequestKind::Shrink { runs, .. } => *runs,
         }
     }
 
@@ -50,8 +50,8 @@ impl Kind {
         ensures { result ≡ may_weigh (choices_in (view_of_kind self.now)) }
     {
         match self {
-            Kind::Run(choices) => choices.may_weigh(),
-            Kind::Shrink { .. } => true,
+            RequestKind::Run(choices) => choices.may_weigh(),
+            RequestKind::Shrink { .. } => true,
         }
     }
 
@@ -60,8 +60,8 @@ impl Kind {
         ensures { result ≡ may_shrink (view_of_kind self.now) }
     {
         match self {
-            Kind::Run(_) => true,
-            Kind::Shrink { runs, .. } => 1 <= *runs && *runs <= MOST_RUNS,
+            RequestKind::Run(_) => true,
+            RequestKind::Shrink { runs, .. } => 1 <= *runs && *runs <= MOST_RUNS,
         }
     }
 
@@ -70,21 +70,21 @@ impl Kind {
         ensures { view_of_choices result ≡ reseeded (choices_in (view_of_kind self.now)) seed }
     {
         match self {
-            Kind::Run(choices) => choices.reseeded(seed),
-            Kind::Shrink { .. } => RunChoices::Seed(seed),
+            RequestKind::Run(choices) => choices.reseeded(seed),
+            RequestKind::Shrink { .. } => RunChoices::Seed(seed),
         }
     }
 
     /// Whether the same is asked for: a run by the same choices, or the shrinking of the same schedule within as many
     /// runs.
-    pub fn same(&self, other: &Kind) -> bool
+    pub fn same(&self, other: &RequestKind) -> bool
         ensures { Decides result (view_of_kind self.now ≡ view_of_kind other.now) }
     {
         match (self, other) {
-            (Kind::Run(a), Kind::Run(b)) => a.same(b),
+            (RequestKind::Run(a), RequestKind::Run(b)) => a.same(b),
             (
-                Kind::Shrink { schedule, runs },
-                Kind::Shrink {
+                RequestKind::Shrink { schedule, runs },
+                RequestKind::Shrink {
                     schedule: other_schedule,
                     runs: other_runs,
                 },
@@ -94,12 +94,12 @@ impl Kind {
     }
 
     /// The same once more.
-    pub fn share(&self) -> Result<Kind, NoMemory>
+    pub fn share(&self) -> Result<RequestKind, NoMemory>
         ensures { IfOk result (λ k. view_of_kind k ≡ view_of_kind self.now) }
     {
         match self {
-            Kind::Run(choices) => Ok(Kind::Run(choices.share()?)),
-            Kind::Shrink { schedule, runs } => Ok(Kind::Shrink {
+            RequestKind::Run(choices) => Ok(RequestKind::Run(choices.share()?)),
+            RequestKind::Shrink { schedule, runs } => Ok(RequestKind::Shrink {
                 schedule: Arc::try_clone(schedule)?,
                 runs: *runs,
             }),
@@ -113,7 +113,7 @@ impl Kind {
 pub struct Request {
     pub root: ShortBytes,
     pub property: ShortBytes,
-    pub kind: Kind,
+    pub kind: RequestKind,
     pub limit: u32,
 }
 

@@ -18,7 +18,7 @@ pub enum Chore {
     /// It files the run, which is over.
     File,
     /// It hands the run back; the trial is queued again.
-    GiveBack,
+    HandBack,
 }
 
 /// A step: what one client or one worker does.

@@ -6,7 +6,7 @@ use Rattle.pf_syntax.specs.Module.{Checked}
 use Rattle.pf_syntax.specs.SyntaxTree.{Export, Head}
 use Rattle.pf_syntax.specs.Naming.{Names, HeadIs}
 use Rattle.pf_syntax.specs.ExprModule.{Tree}
-use Rattle.pf_rules.specs.Static.{parameters_of, names_of}
+use Rattle.pf_rules.specs.Static.{parameters_of, names_of_module}
 
 -- two lists of the same length, each item of one to its item of the other
 abbrev pub Pairwise : {A B : Type 0} → (A → B → Type 0) → List A → List B → Type 0
@@ -29,4 +29,4 @@ FunctionIs n exports (h ∷ hs) f =
 pub record IsModule (atoms : List (List ℕ)) (m : Tree) (c : Checked) : Type 0 where
   pub name : c.name ≡ m.name
   pub atoms_are : c.atoms ≡ atoms
-  pub functions : Pairwise (FunctionIs (names_of atoms m.functions) m.exports) m.functions c.functions
+  pub functions : Pairwise (FunctionIs (names_of_module atoms m.functions) m.exports) m.functions c.functions

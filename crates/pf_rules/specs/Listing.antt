@@ -11,7 +11,7 @@ abbrev pub lists : Signatures → ℕ → ℕ → Bool
 lists o f arity = list_any (λ k. (f == k.name) && (arity == k.arity)) o.signatures.keys
 
 -- those of these functions are kept, and no others
-pub record Lists (o : Signatures) (fs : List (List Head)) : Type 0 where
+pub record ListsFunctions (o : Signatures) (fs : List (List Head)) : Type 0 where
   pub same : (f arity : ℕ) → lists o f arity ≡ is_some (own_in fs f arity)
 
 -- the exported functions are kept, and no others

@@ -3,28 +3,28 @@ use Rattle.std.proofs.Common.{◌≡◌, ◌⊎◌, inl, inr, ℕ, zero, ◌≤�
 use Rattle.std.specs.Prelude.{nat_le}
 use Rattle.std.proofs.lemmas.Bool.{and_parts, leb-true}
 use Rattle.pf_choice.specs.Chosen.{IsProfile}
-use Rattle.pf_fault.specs.declared.code.Code.{Code}
-use Rattle.pf_fault.specs.declared.code.Code.TheVariants as code
-use Rattle.pf_fault.specs.declared.fault.OrNoMemory.{OrNoMemory}
-use Rattle.pf_fault.specs.declared.fault.OrNoMemory.TheVariants.{NoMemory, Fault}
+use Rattle.pf_errors.specs.declared.code.Code.{Code}
+use Rattle.pf_errors.specs.declared.code.Code.TheVariants as code
+use Rattle.pf_errors.specs.declared.fault.OrNoMemory.{OrNoMemory}
+use Rattle.pf_errors.specs.declared.fault.OrNoMemory.TheVariants.{NoMemory, Fault}
 use Rattle.pf_model.specs.Limits.{IsEdition, is_in_range}
 use Rattle.pf_model.specs.Meaning.{Choices, schedule, seed, weighted_seed, profile_of}
 use Rattle.pf_model.specs.Properties.{Property}
-use Rattle.pf_module.specs.Reading.{IsReadAs}
+use Rattle.pf_check.specs.Reading.{IsReadAs}
 use Rattle.pf_property.specs.Texts.{IsPropertyOf, ReadsProperty}
 use Rattle.pf_property.proofs.AnyProperty.{any_property}
 use Rattle.pf_request.specs.Module.{ReadModule}
-use Rattle.pf_request.specs.Request.{Kind, run, shrink, Request, choices_in, count_of, is_within, may_shrink, may_weigh, runs_in}
+use Rattle.pf_request.specs.Request.{RequestKind, run, shrink, Request, choices_in, count_of, is_within, may_shrink, may_weigh, runs_in}
 use Rattle.pf_request.specs.Job.{Job, job_from, reseeded, root_in, with_root, within_bounds as bounded}
 use Rattle.pf_sched.specs.declared.refusal.JobRefusal.{JobRefusal}
-use Rattle.pf_sched.specs.Asked.{Asks, IsRefusal, IsValid, NoSuch, module_of}
+use Rattle.pf_sched.specs.Asked.{Asks, IsRefusal, IsValid, NoSuch, module_of_job}
 
 -- what is shrunk is a schedule
-is_schedule : (k : Kind) → (runs_in k ≡ zero) ⊎ ((ns : List ℕ) × (choices_in k ≡ schedule ns))
+is_schedule : (k : RequestKind) → (runs_in k ≡ zero) ⊎ ((ns : List ℕ) × (choices_in k ≡ schedule ns))
 is_schedule (run cs) = inl refl
 is_schedule (shrink ns runs) = inr (ns, refl)
 
-few_runs : (k : Kind) → may_shrink k ≡ true → runs_in k ≤ 1000
+few_runs : (k : RequestKind) → may_shrink k ≡ true → runs_in k ≤ 1000
 few_runs (run cs) e = omega arith
 few_runs (shrink ns k) e = leb-true k 1000 (and_parts (nat_le 1 k) (nat_le k 1000) e).1
 
@@ -66,16 +66,16 @@ module _ (m : ReadModule) (e : ℕ) (r : Request) where
       -- ---- jobs
 
       -- the job of a request whose kind is shared
-      abbrev pub shared : Kind → Job
+      abbrev pub shared : RequestKind → Job
       shared k = job_from m e i q (record r { kind = k })
 
-      pub is_asked : (k : Kind) → k ≡ r.kind → is_within r ≡ true → may_weigh (choices_in r.kind) ≡ true → Asks m e r (Ok (shared k))
+      pub is_asked : (k : RequestKind) → k ≡ r.kind → is_within r ≡ true → may_weigh (choices_in r.kind) ≡ true → Asks m e r (Ok (shared k))
       is_asked k same fits weighs =
           within (Ok (shared k)) fits
           (ap (λ b. if b then Ok (job_from m e i q r) else Err code.WeightsOutOfRange) weighs ∙ ap (λ z. Ok (shared z)) (sym same))
 
       -- and it is valid
-      pub is_valid : (name : List ℕ) → root_in m name ≡ Some i → IsReadAs m.source m → (k : Kind) → k ≡ r.kind → is_within r ≡ true
+      pub is_valid : (name : List ℕ) → root_in m name ≡ Some i → IsReadAs m.source m → (k : RequestKind) → k ≡ r.kind → is_within r ≡ true
           → may_weigh (choices_in r.kind) ≡ true → IsEdition e → IsValid (shared k) × (may_shrink k ≡ true)
       is_valid name named read k same fits weighs edition =
           let parts = and_parts (is_in_range r.limit (count_of (choices_in r.kind))) (may_shrink r.kind) fits in
@@ -128,7 +128,7 @@ none_given (schedule ns) s = refl
 none_given (weighted_seed n process channel) s = refl
 
 -- the run by a seed of a valid job is valid
-pub valid_by_seed : (j : Job) (m : ReadModule) (q : Property) (cs : Choices) (s : ℕ) → m ≡ module_of j → cs ≡ reseeded j.asked.choices s → IsValid j
+pub valid_by_seed : (j : Job) (m : ReadModule) (q : Property) (cs : Choices) (s : ℕ) → m ≡ module_of_job j → cs ≡ reseeded j.asked.choices s → IsValid j
     → IsValid (job_from m j.asked.edition j.asked.root q (record { root = []; property = []; kind = run cs; limit = j.asked.limit }))
 valid_by_seed j m q cs s e c valid =
     let range = and_parts (nat_le 1 j.asked.limit) (nat_le j.asked.limit 100000 && nat_le (count_of j.asked.choices) 100000) valid.limit in

@@ -6,25 +6,25 @@ use Rattle.pf_syntax.proofs.node.FunctionId.TheSendSync as function
 use Rattle.pf_model.proofs.Crossing as model
 use Rattle.pf_property.proofs.Crossing as property
 use Rattle.pf_request.proofs.Crossing as request
-use Rattle.pf_module.proofs.Crossing as read
+use Rattle.pf_check.proofs.Crossing as read
 use Rattle.pf_sched.proofs.SystemCrossing as system
 use Rattle.pf_trace.specs.contracts.event_lines.EventLines as EventLines
 use Rattle.pf_trace.specs.contracts.lines.LinesSoFar as LinesSoFar
 use Rattle.pf_trace.specs.contracts.lines.WrittenReport as WrittenReport
-use Rattle.pf_shrink.specs.contracts.hunt.Hunt as Hunt
+use Rattle.pf_shrink.specs.contracts.hunt.ShrinkingSearch as Hunt
 use Rattle.pf_sched.specs.contracts.execution.Execution as Execution
-use Rattle.pf_sched.specs.contracts.finished.Ending as Ending
+use Rattle.pf_sched.specs.contracts.finished.JobEnd as Ending
 use Rattle.pf_sched.specs.contracts.finished.Finished as Finished
 use Rattle.pf_sched.specs.contracts.job.Job as Job
 use Rattle.pf_sched.specs.contracts.parked.Parked as Parked
-use Rattle.pf_sched.specs.contracts.parked.Work as Work
+use Rattle.pf_sched.specs.contracts.parked.ParkedWork as Work
 use Rattle.pf_sched.specs.contracts.result.JobResult as JobResult
-use Rattle.pf_sched.specs.contracts.result_block.Came as Came
+use Rattle.pf_sched.specs.contracts.result_block.JobWithResult as Came
 use Rattle.pf_sched.specs.contracts.result_block.Whole as Whole
 use Rattle.pf_sched.specs.contracts.run.Run as Run
 use Rattle.pf_sched.specs.contracts.scratch.Scratch as Scratch
 use Rattle.pf_sched.specs.contracts.shrinking.Shrinking as Shrinking
-use Rattle.pf_sched.specs.contracts.trace.Written as Written
+use Rattle.pf_sched.specs.contracts.trace.WrittenEvents as Written
 
 pub job_send : IsSend Job.the_row
 job_send = search (read.crosses, function.the_field_send, property.crosses, request.crosses, sendable) depth 30

@@ -1,21 +1,21 @@
 -- A run that is made to its end.
 use Rattle.std.proofs.Common.{◌≡◌, ℕ, zero, ◌-◌, ◌≤◌, inr, Bool, false, List, [], length, subst, arith}
 use Rattle.pf_model.specs.Meaning.{Choices, Event, Means, picks_of}
-use Rattle.pf_model.specs.Reports.{report_of}
+use Rattle.pf_model.specs.Reports.{view_of_report}
 use Rattle.pf_model.specs.Runs.{start}
 use Rattle.pf_model.specs.declared.report.Report.{Report}
 use Rattle.pf_request.specs.Job.{Job}
 use Rattle.pf_sched.specs.Parts.{Executes}
-use Rattle.pf_sched.specs.Slices.{Advances, IsOver}
+use Rattle.pf_sched.specs.Slices.{Advances, IsRunOver}
 use Rattle.pf_sched.specs.declared.execution.Execution.{Execution}
 use Rattle.pf_sched.proofs.Past.{as_many_steps}
 use Rattle.pf_sched.proofs.Sliced.{made}
 
 -- it is over after as many events as the limit has steps
 pub over_at_limit : (j : Job) (cs : Choices) (turns limit : ℕ) → turns ≡ j.asked.limit → limit ≡ j.asked.limit → (es : List Event) (x : Execution) → Executes j cs es x
-    → (over : Bool) → over ≡ false → Advances 0 (length es) turns over (IsOver limit x) → ⊥
+    → (over : Bool) → over ≡ false → Advances 0 (length es) turns over (IsRunOver limit x) → ⊥
 over_at_limit j cs turns limit all same es x g over off went =
-    let a : Advances 0 (length es) turns false (IsOver limit x) = subst (λ b. Advances 0 (length es) turns b (IsOver limit x)) off went in
+    let a : Advances 0 (length es) turns false (IsRunOver limit x) = subst (λ b. Advances 0 (length es) turns b (IsRunOver limit x)) off went in
     let count = a.0 in
     let events = made j cs es x g in
     let steps : length g.transitions ≤ x.system.steps =
@@ -25,5 +25,5 @@ over_at_limit j cs turns limit all same es x g over off went =
 
 -- what is a report by whichever choices a run begins by is so by these
 pub means_by : (j : Job) (cs : Choices) (x : Execution) → Executes j cs [] x → (r : Report)
-    → ((ds : Choices) → Executes j ds [] x → Means (record j.asked { choices = ds }) (report_of r)) → Means (record j.asked { choices = cs }) (report_of r)
+    → ((ds : Choices) → Executes j ds [] x → Means (record j.asked { choices = ds }) (view_of_report r)) → Means (record j.asked { choices = cs }) (view_of_report r)
 means_by j cs x first r told = told cs first

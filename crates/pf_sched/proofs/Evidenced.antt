@@ -8,9 +8,9 @@ use Rattle.pf_model.specs.Meaning.{Event}
 use Rattle.pf_property.specs.Views.{labels_in}
 use Rattle.pf_request.specs.Job.{Job}
 use Rattle.pf_sched.specs.Asked.{IsValid}
-use Rattle.pf_sched.specs.Evidence.{Counts, most}
+use Rattle.pf_sched.specs.Evidence.{CountsProcesses, most}
 use Rattle.pf_sched.specs.Waiting.{is_begin, is_end, living}
-use Rattle.pf_sched.specs.declared.evidence.Processes.{Processes}
+use Rattle.pf_sched.specs.declared.evidence.ProcessCounts.{ProcessCounts}
 use Rattle.pf_sched.proofs.Asking.{within_bounds}
 
 -- a count with its bound, and one more with the same bound
@@ -28,8 +28,8 @@ counts_on so ls l n m so_far more =
     bounded n (count_by so ls) m (cond (so l) 1 0) so_far more (at_most_one (so l))
     ∙ ap (λ k. min k most) (sym (sum_by_push (λ x. cond (so x) 1 0) ls l))
 
-pub counts_more : (n m : Processes) (ls : List Label) (l : Label) → Counts n ls → m.begun ≡ min (n.begun + cond (is_begin l) 1 0) most
-    → m.ended ≡ min (n.ended + cond (is_end l) 1 0) most → Counts m (ls ++ l ∷ [])
+pub counts_more : (n m : ProcessCounts) (ls : List Label) (l : Label) → CountsProcesses n ls → m.begun ≡ min (n.begun + cond (is_begin l) 1 0) most
+    → m.ended ≡ min (n.ended + cond (is_end l) 1 0) most → CountsProcesses m (ls ++ l ∷ [])
 counts_more n m ls l so_far begun ended =
     (counts_on is_begin ls l n.begun m.begun so_far.0 begun, counts_on is_end ls l n.ended m.ended so_far.1 ended)
 
@@ -38,7 +38,7 @@ pub labels_more : (es : List Event) (e : Event) (l : Label) → e.label ≡ l �
 labels_more es e l same = map-append (λ (x : Event). x.label) es (e ∷ []) ∙ ap (λ k. labels_in es ++ k ∷ []) same
 
 -- few labels are counted as they are
-pub all_counted : (n : Processes) (ls : List Label) (k : ℕ) → Counts n ls → length ls < most → k ≡ min (n.begun + 1) most - n.ended → k ≡ living ls
+pub all_counted : (n : ProcessCounts) (ls : List Label) (k : ℕ) → CountsProcesses n ls → length ls < most → k ≡ min (n.begun + 1) most - n.ended → k ≡ living ls
 all_counted n ls k counts few is =
     let begun = count_by-le-length is_begin ls in
     let ended = count_by-le-length is_end ls in

@@ -5,21 +5,21 @@ use Rattle.std.proofs.lemmas.List.{length-map}
 use Rattle.std.proofs.lemmas.Option.{same_Some}
 use Rattle.pf_model.specs.Module.{Module, module_of}
 use Rattle.pf_model.specs.Configuration.{Configuration}
-use Rattle.pf_model.specs.Meaning.{Event, Report, event_of, outcome_of}
+use Rattle.pf_model.specs.Meaning.{Event, Report, event_of_transition, outcome_of}
 use Rattle.pf_model.specs.Properties.{Outcome, verdict}
 use Rattle.pf_model.specs.Runs.{Passes, Stops, Transition, channel, enabled, process, start, transition}
 use Rattle.pf_property.proofs.Shown.{labels_of_run}
 use Rattle.pf_request.specs.Job.{Job}
-use Rattle.pf_priorities.specs.Keys.{channel_key, keys_among}
-use Rattle.pf_priorities.specs.Priorities.{first}
-use Rattle.pf_strategy.specs.Keys.{keys_of}
-use Rattle.pf_strategy.specs.Runs.{GoesBy, MeansByPriorities, later, picked, stays}
+use Rattle.pf_strategy.specs.Keys.{channel_key, keys_among}
+use Rattle.pf_strategy.specs.Priorities.{first}
+use Rattle.pf_strategy.specs.ActorKeys.{keys_of}
+use Rattle.pf_strategy.specs.Runs.{GoesBy, MeansByPriorities, state_later, actor_picked, stays}
 use Rattle.pf_strategy.proofs.Longer.{goes_on}
 use Rattle.pf_strategy.proofs.Replayed.{by_numbers, choices, replayed}
 use Rattle.pf_system.specs.Steps.{PassesTo}
 use Rattle.pf_system.specs.View.{SystemView}
 use Rattle.pf_system.proofs.Bodies.{map_more}
-use Rattle.pf_sched.specs.Closing.{Closes}
+use Rattle.pf_sched.specs.Closing.{ClosesRun}
 use Rattle.pf_sched.specs.Guided.{GoingBy, WentBy, priorities_in}
 use Rattle.pf_sched.specs.Told.{event}
 use Rattle.pf_sched.specs.declared.guided.Guided.{Guided}
@@ -74,9 +74,9 @@ module _ (j : Job) (seed : ℕ) where
         stands = ap (λ z. z.standing) p.becomes;
         goes =
             subst (λ q. GoesBy m (first seed) limit c (g.transitions ++ t ∷ []) p.passed.after x'.system.steps q) (ap (λ z. z.1) w.chooses)
-            (subst (λ n. GoesBy m (first seed) limit c (g.transitions ++ t ∷ []) p.passed.after n (later (priorities_in x) g.last)) steps longer);
+            (subst (λ n. GoesBy m (first seed) limit c (g.transitions ++ t ∷ []) p.passed.after n (state_later (priorities_in x) g.last)) steps longer);
         within = let u = p.within in let z = ap (λ y. y.steps) p.becomes in omega arith;
-        events = ap (λ l. l ++ e ∷ []) g.events ∙ ap (λ y. map event_of g.transitions ++ y ∷ []) tells ∙ sym (map_more event_of g.transitions t);
+        events = ap (λ l. l ++ e ∷ []) g.events ∙ ap (λ y. map event_of_transition g.transitions ++ y ∷ []) tells ∙ sym (map_more event_of_transition g.transitions t);
       }
     where
       s : SystemView
@@ -86,7 +86,7 @@ module _ (j : Job) (seed : ℕ) where
       p = w.passes
 
       k : ℕ
-      k = picked (priorities_in x) g.last
+      k = actor_picked (priorities_in x) g.last
 
       t : Transition
       t = transition k (enabled g.last) e.actor p.passed
@@ -106,7 +106,7 @@ module _ (j : Job) (seed : ℕ) where
           (subst (λ z. Passes (module_of s.checked) (suc (limit - s.steps - 1)) z e.actor p.passed) from_last
           (subst (λ n. Passes (module_of s.checked) n p.before e.actor p.passed) left p.passes))
 
-      longer : GoesBy m (first seed) limit c (g.transitions ++ t ∷ []) p.passed.after (s.steps + p.passed.used) (later (priorities_in x) g.last)
+      longer : GoesBy m (first seed) limit c (g.transitions ++ t ∷ []) p.passed.after (s.steps + p.passed.used) (state_later (priorities_in x) g.last)
       longer =
           goes_on m (first seed) limit c g.transitions g.last s.steps (priorities_in x) g.goes (limit - s.steps - 1) e.actor p.passed
           (ap (slice_get (enabled g.last)) (sym chosen_is) ∙ w.chosen) (omega arith) passes
@@ -114,7 +114,7 @@ module _ (j : Job) (seed : ℕ) where
       steps : s.steps + p.passed.used ≡ x'.system.steps
       steps = let z = ap (λ y. y.steps) p.becomes in let u = p.counts in omega arith
 
-      tells : e ≡ event_of t
+      tells : e ≡ event_of_transition t
       tells =
           ap (λ i. event i e.count e.actor e.label) chosen_is
           ∙ ap (λ n. event k n e.actor e.label) w.counts
@@ -123,7 +123,7 @@ module _ (j : Job) (seed : ℕ) where
   -- each event is a step at least
   as_many_events : (es : List Event) (x : Guided) → GoingBy j seed es x → length es ≤ x.system.steps
   as_many_events es x g =
-      let count : length es ≡ length g.transitions = ap length g.events ∙ length-map g.transitions event_of in
+      let count : length es ≡ length g.transitions = ap length g.events ∙ length-map g.transitions event_of_transition in
       let few = as_many_steps m (by_numbers (choices g.transitions)) limit c g.transitions g.last x.system.steps
       (replayed m (first seed) limit c g.transitions g.last x.system.steps (priorities_in x) g.goes) in
       omega arith
@@ -137,7 +137,7 @@ module _ (j : Job) (seed : ℕ) where
   ends_by_limit es x g all = let few = as_many_events es x g in inr (omega arith)
 
   -- the report of one that is over is what the job means
-  pub means : (es : List Event) (x : Guided) (g : GoingBy j seed es x) → Stops (limit - x.system.steps) g.last → (r : Report) → Closes j es x.system r
+  pub means : (es : List Event) (x : Guided) (g : GoingBy j seed es x) → Stops (limit - x.system.steps) g.last → (r : Report) → ClosesRun j es x.system r
       → MeansByPriorities j.asked seed r
   means es x g stops r told =
       record {
@@ -154,7 +154,7 @@ module _ (j : Job) (seed : ℕ) where
       reported xs o w = record { events = xs; outcome = o; steps = r.steps; verdict = w }
 
       events : List Event
-      events = map event_of g.transitions
+      events = map event_of_transition g.transitions
 
       v : r.verdict ≡ verdict j.asked.property (map (λ t. t.label) g.transitions) (outcome_of g.last)
       v =

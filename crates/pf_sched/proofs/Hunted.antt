@@ -6,7 +6,7 @@ use Rattle.pf_choice.specs.Chosen.{IsProfile}
 use Rattle.pf_model.specs.Meaning.{Job, Report, Means, profile_of, schedule}
 use Rattle.pf_model.specs.Shrinking.{by_schedule, candidates, Found, is_failure, search, shrunk, Result, IsResult, smaller, no_failure}
 use Rattle.pf_model.proofs.Meanings.{one_meaning}
-use Rattle.pf_shrink.specs.Hunts.{Hunting, begins, searches, ended, searching, next_of, told_of, found_of, comes_to}
+use Rattle.pf_shrink.specs.Hunts.{Hunting, begins, searches, ended, searching, next_of, after_answer, found_of, search_result}
 use Rattle.pf_shrink.specs.Tried.{tried, tried_from}
 use Rattle.pf_shrink.proofs.Tried.{tried_within_runs, tries_in_order}
 use Rattle.pf_request.specs.Job as request
@@ -26,42 +26,42 @@ stands_searching zero ns (c ∷ cs) = refl
 stands_searching (suc k) ns (c ∷ cs) = refl
 
 -- at the schedule that failed
-pub stands_at_failed : (h : Hunting) (ns : List ℕ) → next_of h ≡ Some ns → stands_at (told_of true h) ≡ Some ns
+pub stands_at_failed : (h : Hunting) (ns : List ℕ) → next_of h ≡ Some ns → stands_at (after_answer true h) ≡ Some ns
 stands_at_failed (begins k ms) ns e = stands_searching k ms (candidates ms) ∙ e
 stands_at_failed (searches k ms c cs) ns e = stands_searching k c (candidates c) ∙ e
 stands_at_failed (ended f) ns e = absurd (cc)
 
 -- where it was
-pub stands_as_it_was : (h : Hunting) (ns : List ℕ) → next_of h ≡ Some ns → stands_at (told_of false h) ≡ stands_at h
+pub stands_as_it_was : (h : Hunting) (ns : List ℕ) → next_of h ≡ Some ns → stands_at (after_answer false h) ≡ stands_at h
 stands_as_it_was (begins k ms) ns e = refl
 stands_as_it_was (searches k ms c cs) ns e = stands_searching k ms cs
 stands_as_it_was (ended f) ns e = absurd (cc)
 
 -- ---- what a hunt finds
 
-comes_searching : (fails : List ℕ → Bool) (k : ℕ) (ns : List ℕ) (left : List (List ℕ)) → comes_to fails (searching k ns left) ≡ Some (search fails k ns left)
+comes_searching : (fails : List ℕ → Bool) (k : ℕ) (ns : List ℕ) (left : List (List ℕ)) → search_result fails (searching k ns left) ≡ Some (search fails k ns left)
 comes_searching fails k ns [] = refl
 comes_searching fails zero ns (c ∷ cs) = refl
 comes_searching fails (suc k) ns (c ∷ cs) = refl
 
 -- a true answer changes nothing of it
-comes_on : (fails : List ℕ → Bool) (h : Hunting) (ns : List ℕ) → next_of h ≡ Some ns → comes_to fails (told_of (fails ns) h) ≡ comes_to fails h
+comes_on : (fails : List ℕ → Bool) (h : Hunting) (ns : List ℕ) → next_of h ≡ Some ns → search_result fails (after_answer (fails ns) h) ≡ search_result fails h
 comes_on fails (begins k ms) ns e =
-    ap (λ z. comes_to fails (told_of (fails z) (begins k ms))) (same_Some ns ms (sym e)) ∙ by (fails ms)
+    ap (λ z. search_result fails (after_answer (fails z) (begins k ms))) (same_Some ns ms (sym e)) ∙ by (fails ms)
   where
-    by : (b : Bool) → comes_to fails (told_of b (begins k ms)) ≡ (if b then Some (search fails k ms (candidates ms)) else None)
+    by : (b : Bool) → search_result fails (after_answer b (begins k ms)) ≡ (if b then Some (search fails k ms (candidates ms)) else None)
     by true = comes_searching fails k ms (candidates ms)
     by false = refl
 comes_on fails (searches k ms c cs) ns e =
-    ap (λ z. comes_to fails (told_of (fails z) (searches k ms c cs))) (same_Some ns c (sym e)) ∙ by (fails c)
+    ap (λ z. search_result fails (after_answer (fails z) (searches k ms c cs))) (same_Some ns c (sym e)) ∙ by (fails c)
   where
-    by : (b : Bool) → comes_to fails (told_of b (searches k ms c cs)) ≡ Some (if b then search fails k c (candidates c) else search fails k ms cs)
+    by : (b : Bool) → search_result fails (after_answer b (searches k ms c cs)) ≡ Some (if b then search fails k c (candidates c) else search fails k ms cs)
     by true = comes_searching fails k c (candidates c)
     by false = comes_searching fails k ms cs
 comes_on fails (ended f) ns e = absurd (cc)
 
 -- at its end it is what was found
-comes_found : (fails : List ℕ → Bool) (h : Hunting) → next_of h ≡ None → found_of h ≡ comes_to fails h
+comes_found : (fails : List ℕ → Bool) (h : Hunting) → next_of h ≡ None → found_of h ≡ search_result fails h
 comes_found fails (begins k ms) e = absurd (cc)
 comes_found fails (searches k ms c cs) e = absurd (cc)
 comes_found fails (ended f) e = refl
@@ -86,9 +86,9 @@ module _ (j : Job) where
       }
 
   module _ (h : Hunting) (before : ℕ) (hunt : IsHuntOf j h before) where
-    told_so : (ns : List ℕ) → next_of h ≡ Some ns → (r : Report) → Means (by_schedule j ns) r → IsHuntOf j (told_of (hunt.fails ns) h) (before + length r.events)
+    told_so : (ns : List ℕ) → next_of h ≡ Some ns → (r : Report) → Means (by_schedule j ns) r → IsHuntOf j (after_answer (hunt.fails ns) h) (before + length r.events)
     told_so ns e r means =
-        let rest = tried_from hunt.fails (told_of (hunt.fails ns) h) in
+        let rest = tried_from hunt.fails (after_answer (hunt.fails ns) h) in
         record {
           further = hunt.further;
           given = hunt.given;
@@ -104,8 +104,8 @@ module _ (j : Job) where
 
     -- after the answer by the next run's report
     pub hunt_told : (ns : List ℕ) → next_of h ≡ Some ns → (r : Report) → Means (by_schedule j ns) r
-        → IsHuntOf j (told_of (is_failure r.verdict) h) (before + length r.events)
-    hunt_told ns e r means = subst (λ b. IsHuntOf j (told_of b h) (before + length r.events)) (hunt.tells ns r means) (told_so ns e r means)
+        → IsHuntOf j (after_answer (is_failure r.verdict) h) (before + length r.events)
+    hunt_told ns e r means = subst (λ b. IsHuntOf j (after_answer b h) (before + length r.events)) (hunt.tells ns r means) (told_so ns e r means)
 
     -- the events of the whole shrinking are those of the runs before it and of those to come
     all_events : (m : ℕ) → HasEvents j m → RunsHave j (hunt.behind ++ tried_from hunt.fails h) m
@@ -123,7 +123,7 @@ module _ (j : Job) where
     pub hunt_goes_past : (ns : List ℕ) → next_of h ≡ Some ns → (n : ℕ) → ((r : Report) → Means (by_schedule j ns) r → n < length r.events)
         → (m : ℕ) → HasEvents j m → before + n < m
     hunt_goes_past ns e n past m has =
-        let rest = tried_from hunt.fails (told_of (hunt.fails ns) h) in
+        let rest = tried_from hunt.fails (after_answer (hunt.fails ns) h) in
         let p = parts j hunt.behind (tried_from hunt.fails h) m (all_events m has) in
         let x = first_run j ns rest p.later (subst (λ nss. RunsHave j nss p.later) ((tries_in_order hunt.fails h).first ns e) p.rest) in
         let ahead : p.ahead ≡ before = only_so_many j hunt.behind p.ahead before p.first hunt.events in

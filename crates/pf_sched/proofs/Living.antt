@@ -8,7 +8,7 @@ use Rattle.pf_syntax.specs.Tree.{Clauses}
 use Rattle.pf_model.specs.Module.{Module}
 use Rattle.pf_model.specs.Channels as signal
 use Rattle.pf_model.specs.Channels.{Signal, Channels, heads}
-use Rattle.pf_model.specs.Context.{Frame, State, running, waiting, ending, ended, End, returned, failed, Move, goes_on, asks, awaits, returns}
+use Rattle.pf_model.specs.Context.{Frame, ProcessState, running, waiting, ending, ended, End, returned, failed, Move, goes_on, asks, awaits, returns}
 use Rattle.pf_model.specs.Configuration.{Configuration, Core, Process, fresh, is_alive, of, with_process, with_state}
 use Rattle.pf_model.specs.Actions.{Acted, acted}
 use Rattle.pf_model.specs.Deliveries.{Deed, at_ended, at_living, changes, delivered, down_at, drops, ends_with, exit_at, exit_by_link_at, exit_message, with_message, woken}
@@ -18,8 +18,8 @@ use Rattle.pf_model.specs.Maps.{got, has, without_number}
 use Rattle.pf_model.specs.Meaning.{Job, Means, Report, outcome_of, outcome_with, picks_of}
 use Rattle.pf_model.specs.Properties.{is_finished}
 use Rattle.pf_model.specs.Receive.{Taken, selected}
-use Rattle.pf_model.specs.Runs.{Actor, process, channel, Goes, stays, more, Passed, Passes, turn, delivery, Picks, Transition, can_go, enabled, is_waiting, numbers_of, start}
-use Rattle.pf_model.specs.Turns.{Turn, cut_running, cut_ending, end, contraction, act, after_act, answered, ended_so, last_of_turn, received}
+use Rattle.pf_model.specs.Runs.{Actor, process, channel, Goes, stays, more, Passed, Passes, turn, delivery, Picks, Transition, can_go, enabled, is_waiting, pids_in_state, start}
+use Rattle.pf_model.specs.Turns.{Turn, cut_running, cut_ending, end, contraction, act, after_act, with_answer, ended_so, last_of_turn, received}
 use Rattle.pf_property.specs.Views.{labels_in}
 use Rattle.pf_property.proofs.Shown.{labels_of_run}
 use Rattle.pf_sched.specs.Waiting.{is_begin, is_end, living, waiting_in}
@@ -32,13 +32,13 @@ Counts c d = alive d.left.core + one (is_end d.label) ≡ alive c + one (is_begi
 -- ---- turns
 
 module _ (a : ℕ) (c : Core) (here : lives (of c a) ≡ true) where
-  state_kept : (s : State) → is_alive s ≡ true → alive (with_state c a s) + 0 ≡ alive c + 0
+  state_kept : (s : ProcessState) → is_alive s ≡ true → alive (with_state c a s) + 0 ≡ alive c + 0
   state_kept s l = ap (λ n. n + 0) (counts_kept c a (record (of c a) { state = s }) here l)
 
   ends_fewer : (e : End) → alive (ended_by c a e).core + 1 ≡ alive c + 0
   ends_fewer e = let f = counts_fewer c a (fresh (ended e) []) here refl in omega arith
 
-  answer_lives : (fs : List Frame) (r : Result Value Value) → is_alive (answered fs r) ≡ true
+  answer_lives : (fs : List Frame) (r : Result Value Value) → is_alive (with_answer fs r) ≡ true
   answer_lives fs (Ok v) = refl
   answer_lives fs (Err e) = refl
 
@@ -49,7 +49,7 @@ module _ (a : ℕ) (c : Core) (here : lives (of c a) ≡ true) where
   act_counts : (m : Module) (fs : List Frame) (x : Acted) → x ≡ x → (steady : lives (of x.left.core a) ≡ true)
       → alive x.left.core + one (is_end x.label) ≡ alive c + one (is_begin x.label) → Counts c (after_act a fs x)
   act_counts m fs x _ steady counts =
-      ap (λ n. n + one (is_end x.label)) (counts_kept x.left.core a (record (of x.left.core a) { state = answered fs x.answer }) steady (answer_lives fs x.answer)) ∙ counts
+      ap (λ n. n + one (is_end x.label)) (counts_kept x.left.core a (record (of x.left.core a) { state = with_answer fs x.answer }) steady (answer_lives fs x.answer)) ∙ counts
 
   last_counts : (m : Module) (x : Move) (d : Deed) → last_of_turn m c a x ≡ Some d → Counts c d
   last_counts m (goes_on s) d e = absurd (cc)
@@ -62,7 +62,7 @@ module _ (a : ℕ) (c : Core) (here : lives (of c a) ≡ true) where
       subst (Counts c) same (received_counts fs ks (selected m a ks (of c a).mailbox))
   last_counts m (returns v) d e = let same : ended_so c a (returned v) ≡ d = cc in subst (Counts c) same (ends_fewer (returned v))
 
-  turn_counts : (m : Module) (n : ℕ) (s : State) (d : Deed) (k : ℕ) → Turn m a c n s d k → Counts c d
+  turn_counts : (m : Module) (n : ℕ) (s : ProcessState) (d : Deed) (k : ℕ) → Turn m a c n s d k → Counts c d
   turn_counts m _ _ _ _ (cut_running t) = state_kept (running t) refl
   turn_counts m _ _ _ _ (cut_ending r) = state_kept (ending r) refl
   turn_counts m _ _ _ _ (end n r) = ends_fewer (failed r)
@@ -70,7 +70,7 @@ module _ (a : ℕ) (c : Core) (here : lives (of c a) ≡ true) where
   turn_counts m _ _ _ _ (act n t x d h e) = last_counts m x d e
 
 -- who has a turn lives
-turn_lives : (m : Module) (a : ℕ) (c : Core) (n : ℕ) (s : State) (d : Deed) (k : ℕ) → Turn m a c n s d k → is_alive s ≡ true
+turn_lives : (m : Module) (a : ℕ) (c : Core) (n : ℕ) (s : ProcessState) (d : Deed) (k : ℕ) → Turn m a c n s d k → is_alive s ≡ true
 turn_lives m a c _ _ _ _ (cut_running t) = refl
 turn_lives m a c _ _ _ _ (cut_ending r) = refl
 turn_lives m a c _ _ _ _ (end n r) = refl
@@ -79,7 +79,7 @@ turn_lives m a c _ _ _ _ (act n t x d h e) = refl
 
 -- ---- deliveries
 
-woken_lives : (s : State) → is_alive s ≡ true → is_alive (woken s) ≡ true
+woken_lives : (s : ProcessState) → is_alive s ≡ true → is_alive (woken s) ≡ true
 woken_lives (running t) h = refl
 woken_lives (waiting t) h = refl
 woken_lives (ending r) h = refl
@@ -170,8 +170,8 @@ living_is_right m ps n root edition ts d k goes = let counts = goes_count m ps n
 -- ---- the end
 
 -- a process that can't go lives exactly if it waits
-wait_step : (s : State) (n : ℕ) (ps : List Process) → (if can_go s then n ∷ numbers_of can_go (suc n) ps else numbers_of can_go (suc n) ps) ≡ []
-    → (numbers_of can_go (suc n) ps ≡ []) × (one (is_alive s) ≡ one (is_waiting s))
+wait_step : (s : ProcessState) (n : ℕ) (ps : List Process) → (if can_go s then n ∷ pids_in_state can_go (suc n) ps else pids_in_state can_go (suc n) ps) ≡ []
+    → (pids_in_state can_go (suc n) ps ≡ []) × (one (is_alive s) ≡ one (is_waiting s))
 wait_step (running t) n ps h = absurd (cc)
 wait_step (ending r) n ps h = absurd (cc)
 wait_step (waiting t) n ps h = (h, refl)
@@ -182,14 +182,14 @@ length_step true n ns = omega arith
 length_step false n ns = omega arith
 
 -- where nobody can go, those that live wait
-all_wait : (n : ℕ) (ps : List Process) → numbers_of can_go n ps ≡ [] → count_by lives ps ≡ length (numbers_of is_waiting n ps)
+all_wait : (n : ℕ) (ps : List Process) → pids_in_state can_go n ps ≡ [] → count_by lives ps ≡ length (pids_in_state is_waiting n ps)
 all_wait n [] h = refl
 all_wait n (p ∷ ps) h =
     let first = wait_step p.state n ps h in
     let others = all_wait (suc n) ps first.0 in
     let here = first.1 in
     let counts = sum_by-cons (λ q. one (lives q)) p ps in
-    let numbers = length_step (is_waiting p.state) n (numbers_of is_waiting (suc n) ps) in
+    let numbers = length_step (is_waiting p.state) n (pids_in_state is_waiting (suc n) ps) in
     omega arith
 
 finished_none : (xs : List Actor) (c : Core) → is_finished (outcome_with xs c) ≡ true → xs ≡ []
@@ -201,11 +201,11 @@ empty_first [] xs h = refl
 empty_first (n ∷ ns) xs h = absurd (cc)
 
 -- where the root returned nobody can go
-none_goes : (c : Configuration) → is_finished (outcome_of c) ≡ true → numbers_of can_go zero c.core.processes ≡ []
-none_goes c h = empty_first (numbers_of can_go zero c.core.processes) (map (λ x. channel x.0 x.1) (heads c.channels)) (finished_none (enabled c) c.core h)
+none_goes : (c : Configuration) → is_finished (outcome_of c) ≡ true → pids_in_state can_go zero c.core.processes ≡ []
+none_goes c h = empty_first (pids_in_state can_go zero c.core.processes) (map (λ x. channel x.0 x.1) (heads c.channels)) (finished_none (enabled c) c.core h)
 
 pub waiting_is_right : (j : Job) (r : Report) (h : Means j r)
-    → waiting_in r ≡ (if is_finished r.outcome then length (numbers_of is_waiting zero h.last.core.processes) else 0)
+    → waiting_in r ≡ (if is_finished r.outcome then length (pids_in_state is_waiting zero h.last.core.processes) else 0)
 waiting_is_right j r h = by (is_finished r.outcome) refl
   where
     ls : List Label
@@ -218,7 +218,7 @@ waiting_is_right j r h = by (is_finished r.outcome) refl
     left = let counts = living_is_right j.code (picks_of j.choices) j.limit j.root j.edition h.transitions h.last r.steps h.run.goes in omega arith
 
     by : (b : Bool) → is_finished r.outcome ≡ b
-        → (if b then living (labels_in r.events) else 0) ≡ (if b then length (numbers_of is_waiting zero h.last.core.processes) else 0)
+        → (if b then living (labels_in r.events) else 0) ≡ (if b then length (pids_in_state is_waiting zero h.last.core.processes) else 0)
     by true e =
         ap living same ∙ left ∙ all_wait zero h.last.core.processes (none_goes h.last (ap (λ z. is_finished z.outcome) (sym h.report) ∙ e))
     by false e = refl

@@ -5,7 +5,7 @@ use Rattle.std.proofs.Math.Nat.{sub-zero}
 use Rattle.pf_model.specs.Module.{Module}
 use Rattle.pf_model.specs.Configuration.{Configuration}
 use Rattle.pf_model.specs.Evaluation.{pass_of}
-use Rattle.pf_model.specs.Runs.{Actor, Passed, Passes, Transition, transition, Picks, later, first_pick, Goes, stays, more, Stops, enabled}
+use Rattle.pf_model.specs.Runs.{Actor, Passed, Passes, Transition, transition, Picks, picks_later, first_pick, Goes, stays, more, Stops, enabled}
 use Rattle.pf_model.proofs.Turned.{pass_only, pass_uses}
 
 -- each transition takes a step at least
@@ -13,7 +13,7 @@ pub within_steps : (m : Module) (ps : Picks) (n : ℕ) (c : Configuration) (ts :
 within_steps m _ _ _ _ _ _ (stays ps n c) = omega arith
 within_steps m _ _ _ _ _ _ (more ps n c x p ts d k e pass rest) =
     let one = pass_uses m n c x p pass in
-    let more = within_steps m (later ps) (suc n - p.used) p.after ts d k rest in
+    let more = within_steps m (picks_later ps) (suc n - p.used) p.after ts d k rest in
     omega arith
 
 -- so there are no more transitions than steps
@@ -21,7 +21,7 @@ pub as_many_steps : (m : Module) (ps : Picks) (n : ℕ) (c : Configuration) (ts 
 as_many_steps m _ _ _ _ _ _ (stays ps n c) = omega arith
 as_many_steps m _ _ _ _ _ _ (more ps n c x p ts d k e pass rest) =
     let one = pass_uses m n c x p pass in
-    let more = as_many_steps m (later ps) (suc n - p.used) p.after ts d k rest in
+    let more = as_many_steps m (picks_later ps) (suc n - p.used) p.after ts d k rest in
     omega arith
 
 module _ (m : Module) where
@@ -42,7 +42,7 @@ module _ (m : Module) where
     sums : k ≡ passed.used + steps
     chosen : slice_get (enabled c) (first_pick ps c) ≡ Some actor
     passes : Passes m n c actor passed
-    rest : Goes m (later ps) (n - passed.used) passed.after others d steps
+    rest : Goes m (picks_later ps) (n - passed.used) passed.after others d steps
 
   first_of : (ps : Picks) (n : ℕ) (c : Configuration) (ts : List Transition) (d : Configuration) (k : ℕ) → Goes m ps n c ts d k
       → None n c d k ⊎ First ps n c ts d k
@@ -72,7 +72,7 @@ module _ (m : Module) where
   goes_first : (ps : Picks) (n : ℕ) (c : Configuration) (x : Actor) (p : Passed) → slice_get (enabled c) (first_pick ps c) ≡ Some x → Passes m (suc n) c x p
       → (us : List Transition) (e : Configuration) (l : ℕ) → Goes m ps (suc n) c us e l → Stops (suc n - l) e
       → (others : List Transition) × (steps : ℕ) × (us ≡ transition (first_pick ps c) (enabled c) x p ∷ others)
-      × Goes m (later ps) (suc n - p.used) p.after others e steps × Stops (suc n - p.used - steps) e
+      × Goes m (picks_later ps) (suc n - p.used) p.after others e steps × Stops (suc n - p.used - steps) e
   goes_first ps n c x p chosen pass us e l whole stops = by (first_of ps (suc n) c us e l whole)
     where
       stands : None (suc n) c e l → Stops (suc n) c
@@ -84,7 +84,7 @@ module _ (m : Module) where
 
       by : None (suc n) c e l ⊎ First ps (suc n) c us e l
           → (others : List Transition) × (steps : ℕ) × (us ≡ transition (first_pick ps c) (enabled c) x p ∷ others)
-          × Goes m (later ps) (suc n - p.used) p.after others e steps × Stops (suc n - p.used - steps) e
+          × Goes m (picks_later ps) (suc n - p.used) p.after others e steps × Stops (suc n - p.used - steps) e
       by (inl none) = absurd (never (stands none))
       by (inr first) =
           let actor = same_actor first.actor x (sym first.chosen ∙ chosen) in
@@ -96,7 +96,7 @@ module _ (m : Module) where
             first.steps,
             first.events ∙ ap (λ a. transition (first_pick ps c) (enabled c) a first.passed ∷ first.others) actor
                 ∙ ap (λ z. transition (first_pick ps c) (enabled c) x z ∷ first.others) same,
-            subst (λ z. Goes m (later ps) (suc n - z.used) z.after first.others e first.steps) same first.rest,
+            subst (λ z. Goes m (picks_later ps) (suc n - z.used) z.after first.others e first.steps) same first.rest,
             subst (λ z. Stops (suc n - z.used - first.steps) e) same (subst (λ z. Stops z e) left stops),
           )
 
@@ -110,7 +110,7 @@ module _ (m : Module) where
       by (inr first) = let h = ap length first.events in omega arith
   longer _ _ _ _ _ _ (more ps n c x p ts d k chosen pass rest) goes us e l whole stops =
       let first = goes_first ps n c x p chosen pass us e l whole stops in
-      let behind = longer (later ps) (suc n - p.used) p.after ts d k rest goes_behind first.0 e first.1 first.3 first.4 in
+      let behind = longer (picks_later ps) (suc n - p.used) p.after ts d k rest goes_behind first.0 e first.1 first.3 first.4 in
       let counts = ap length first.2 in
       omega arith
     where
@@ -123,5 +123,5 @@ module _ (m : Module) where
   first_transitions _ _ _ _ _ _ (stays ps n c) us e l whole stops = (us, refl)
   first_transitions _ _ _ _ _ _ (more ps n c x p ts d k chosen pass rest) us e l whole stops =
       let first = goes_first ps n c x p chosen pass us e l whole stops in
-      let behind = first_transitions (later ps) (suc n - p.used) p.after ts d k rest first.0 e first.1 first.3 first.4 in
+      let behind = first_transitions (picks_later ps) (suc n - p.used) p.after ts d k rest first.0 e first.1 first.3 first.4 in
       (behind.0, first.2 ∙ ap (λ (vs : List Transition). transition (first_pick ps c) (enabled c) x p ∷ vs) behind.1)

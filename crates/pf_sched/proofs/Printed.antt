@@ -3,26 +3,26 @@ use Rattle.std.proofs.Common.{◌≡◌, ◌<◌, ◌-◌, ℕ, List, [], ◌∷
 use Rattle.std.specs.Io.KnownBytes.{Appends}
 use Rattle.std.proofs.KnownBytes.{Appends-nil}
 use Rattle.std.proofs.lemmas.List.{map-append}
-use Rattle.pf_fault.specs.declared.fault.OrNoMemory.{OrNoMemory}
-use Rattle.pf_fault.specs.declared.fault.OrNoMemory.TheVariants.{NoMemory}
+use Rattle.pf_errors.specs.declared.fault.OrNoMemory.{OrNoMemory}
+use Rattle.pf_errors.specs.declared.fault.OrNoMemory.TheVariants.{NoMemory}
 use Rattle.pf_terms.specs.Atoms.{name_of}
 use Rattle.pf_terms.specs.Streams.{LeavesFront}
 use Rattle.pf_terms.specs.declared.stream.StreamFault.{StreamFault}
 use Rattle.pf_terms.proofs.Writes.{appends_both}
-use Rattle.pf_model.specs.Meaning.{Choices, Event, Means, Report, event_of, picks_of, profile_of, words_of}
-use Rattle.pf_model.specs.Reports.{event_of as code_event_of}
+use Rattle.pf_model.specs.Meaning.{Choices, Event, Means, Report, event_of_transition, picks_of, profile_of, words_of}
+use Rattle.pf_model.specs.Reports.{view_of_event as code_event_of}
 use Rattle.pf_model.specs.Properties.{Outcome}
 use Rattle.pf_model.specs.Runs.{start}
 use Rattle.pf_model.proofs.Meanings.{one_meaning}
 use Rattle.pf_request.specs.Job.{Job}
-use Rattle.pf_trace.specs.Written.{AreWrittenSoFar, GoesOut, all_told, end_text, gone_from, last_lines, lines_text, told_so_far}
+use Rattle.pf_trace.specs.Written.{AreWrittenSoFar, GoesOut, all_told, report_end_text, gone_from, last_lines, lines_text, told_so_far}
 use Rattle.pf_trace.specs.declared.pieces.Pieces.{Pieces}
 use Rattle.pf_trace.proofs.Fronts.{lines_of_both, stops_among, stops_at_end, whole_text}
 use Rattle.pf_sched.specs.Asked.{IsValid}
-use Rattle.pf_sched.specs.Closing.{Closes}
+use Rattle.pf_sched.specs.Closing.{ClosesRun}
 use Rattle.pf_sched.specs.Parts.{Executes}
-use Rattle.pf_sched.specs.Printing.{CutsShort, HasPrinted, HasStopped, IsPrinted, Prints, names_in}
-use Rattle.pf_sched.specs.Slices.{IsOver}
+use Rattle.pf_sched.specs.Printing.{CutsShort, HasPrinted, HasStopped, IsPrinted, PrintsRun, atom_names_of}
+use Rattle.pf_sched.specs.Slices.{IsRunOver}
 use Rattle.pf_sched.specs.Traces.{Went}
 use Rattle.pf_sched.specs.Waiting.{waiting_in}
 use Rattle.pf_sched.specs.declared.execution.Execution.{Execution}
@@ -39,46 +39,46 @@ first_events j cs es x g r h =
     let f =
     first_transitions j.asked.code (picks_of cs) j.asked.limit (start j.asked.root j.asked.edition) g.transitions g.last x.system.steps g.goes
     h.transitions h.last r.steps h.run.goes h.run.stops in (
-      map event_of f.0,
-      ap (λ z. z.events) h.report ∙ ap (map event_of) f.1 ∙ map-append event_of g.transitions f.0 ∙ ap (λ (xs : List Event). xs ++ map event_of f.0) (sym g.events),
+      map event_of_transition f.0,
+      ap (λ z. z.events) h.report ∙ ap (map event_of_transition) f.1 ∙ map-append event_of_transition g.transitions f.0 ∙ ap (λ (xs : List Event). xs ++ map event_of_transition f.0) (sym g.events),
     )
 
 -- the lines that wait are written by the names of the job's module
 pub waiting_written : (j : Job) (cs : Choices) (es : List Event) (x : Execution) (p : Printer) (w0 w : Option (List ℕ)) → IsPrinted j cs es x p w0 w
-    → AreWrittenSoFar (names_in j) p.pieces.lines
+    → AreWrittenSoFar (atom_names_of j) p.pieces.lines
 waiting_written j cs es x p w0 w printed = subst (λ a. AreWrittenSoFar (name_of a) p.pieces.lines) printed.told.1 printed.told.3
 
 -- the lines that wait didn't go out, or a beginning of them did
 pub cut : (e : OrNoMemory StreamFault) (j : Job) (cs : Choices) (es : List Event) (x : Execution) (p : Printer) (w0 w w1 : Option (List ℕ)) (n0 n1 : ℕ)
-    → IsPrinted j cs es x p w0 w → LeavesFront e (lines_text (names_in j) (told_so_far p.pieces.lines)) w w1 n0 n1 → CutsShort e j cs w0 w1 n0 n1
+    → IsPrinted j cs es x p w0 w → LeavesFront e (lines_text (atom_names_of j) (told_so_far p.pieces.lines)) w w1 n0 n1 → CutsShort e j cs w0 w1 n0 n1
 cut e j cs es x p w0 w w1 n0 n1 printed leaves r means =
     let f = first_events j cs es x printed.run r means in
-    stops_among (names_in j) e r (gone_from p.pieces) (told_so_far p.pieces.lines) f.0 w0 w w1 n0 n1
+    stops_among (atom_names_of j) e r (gone_from p.pieces) (told_so_far p.pieces.lines) f.0 w0 w w1 n0 n1
     (f.1 ∙ ap (λ (xs : List Event). xs ++ f.0) (sym printed.told.2)) printed.out leaves
 
 -- one event more was received, of which the line waits
 pub told_next : (j : Job) (cs : Choices) (es : List Event) (e : Event) (x x' : Execution) (p p' : Printer) (w0 w : Option (List ℕ)) (limit : ℕ)
     → j.asked.limit ≡ limit → x.system.steps < limit → (printed : IsPrinted j cs es x p w0 w) → Went (limit - x.system.steps) printed.run.last x e x'
-    → (Prints p j.asked es → Prints p' j.asked (es ++ e ∷ [])) → p'.pieces.gone ≡ p.pieces.gone → IsPrinted j cs (es ++ e ∷ []) x' p' w0 w
+    → (PrintsRun p j.asked es → PrintsRun p' j.asked (es ++ e ∷ [])) → p'.pieces.gone ≡ p.pieces.gone → IsPrinted j cs (es ++ e ∷ []) x' p' w0 w
 told_next j cs es e x x' p p' w0 w limit same some printed went told gone =
     record {
       run =
           next j.asked.code (profile_of cs) (words_of cs) j.asked.limit (start j.asked.root j.asked.edition) es x x' printed.run e (omega arith)
           (subst (λ n. Went (n - x.system.steps) printed.run.last x e x') (sym same) went);
       told = told printed.told;
-      out = subst (λ v. Appends w0 w (lines_text (names_in j) (map (λ s. code_event_of s.value) v.items))) (sym gone) printed.out;
+      out = subst (λ v. Appends w0 w (lines_text (atom_names_of j) (map (λ s. code_event_of s.value) v.items))) (sym gone) printed.out;
     }
 
 -- lines that waited went out
 pub printed_out : (j : Job) (cs : Choices) (es : List Event) (x : Execution) (p : Printer) (q : Pieces) (w0 w w1 : Option (List ℕ)) → IsPrinted j cs es x p w0 w
-    → GoesOut (names_in j) p.pieces q w w1 → IsPrinted j cs es x (record p { pieces = q }) w0 w1
+    → GoesOut (atom_names_of j) p.pieces q w w1 → IsPrinted j cs es x (record p { pieces = q }) w0 w1
 printed_out j cs es x p q w0 w w1 printed out =
     record {
       run = printed.run;
       told = (printed.told.0, printed.told.1, out.2 ∙ printed.told.2, subst (λ a. AreWrittenSoFar (name_of a) q.lines) (sym printed.told.1) out.3);
       out =
-          subst (Appends w0 w1) (sym (lines_of_both (names_in j) (gone_from p.pieces) out.0) ∙ ap (lines_text (names_in j)) (sym out.1))
-          (appends_both w0 w w1 (lines_text (names_in j) (gone_from p.pieces)) (lines_text (names_in j) out.0) printed.out out.4);
+          subst (Appends w0 w1) (sym (lines_of_both (atom_names_of j) (gone_from p.pieces) out.0) ∙ ap (lines_text (atom_names_of j)) (sym out.1))
+          (appends_both w0 w w1 (lines_text (atom_names_of j) (gone_from p.pieces)) (lines_text (atom_names_of j) out.0) printed.out out.4);
     }
 
 -- nothing went out before the first event
@@ -95,7 +95,7 @@ stopped_kept e j w0 w1 n0 n n1 same h = subst (λ k. HasStopped e j w0 w1 k n1) 
 -- ---- the end of a run
 
 module _ (j : Job) (es : List Event) (x : Execution) (p : Printer) (q : Pieces) (w0 w w1 : Option (List ℕ)) (atoms : List (List ℕ)) (r : Report)
-    (same : p.pieces ≡ q) (printed : IsPrinted j j.asked.choices es x p w0 w) (over : IsOver j.asked.limit x) (closes : Closes j es x.system r)
+    (same : p.pieces ≡ q) (printed : IsPrinted j j.asked.choices es x p w0 w) (over : IsRunOver j.asked.limit x) (closes : ClosesRun j es x.system r)
     (of_job : atoms ≡ j.asked.code.atoms) where
   it_means : Means j.asked r
   it_means = means j j.asked.choices es x printed.run over r closes.events closes.outcome closes.steps closes.verdict
@@ -103,12 +103,12 @@ module _ (j : Job) (es : List Event) (x : Execution) (p : Printer) (q : Pieces) 
   all_events : r.events ≡ gone_from q ++ told_so_far q.lines
   all_events = closes.events ∙ sym printed.told.2 ∙ ap all_told same
 
-  out : Appends w0 w (lines_text (names_in j) (gone_from q))
-  out = subst (λ z. Appends w0 w (lines_text (names_in j) (gone_from z))) same printed.out
+  out : Appends w0 w (lines_text (atom_names_of j) (gone_from q))
+  out = subst (λ z. Appends w0 w (lines_text (atom_names_of j) (gone_from z))) same printed.out
 
   module _ (o : Outcome) (s : ℕ) (v : Option Bool) (ends : r.outcome ≡ o) (steps : r.steps ≡ s) (judged : r.verdict ≡ v) where
     last_text : lines_text (name_of atoms) (told_so_far q.lines) ++ last_lines (name_of atoms) o s v
-        ≡ lines_text (names_in j) (told_so_far q.lines) ++ end_text (names_in j) r
+        ≡ lines_text (atom_names_of j) (told_so_far q.lines) ++ report_end_text (atom_names_of j) r
     last_text = rw (of_job, ends, steps, judged) refl
 
     -- what was left of its report went out
@@ -119,8 +119,8 @@ module _ (j : Job) (es : List Event) (x : Execution) (p : Printer) (q : Pieces) 
       it_means,
       judged,
       waits,
-      subst (Appends w0 w1) (sym (whole_text (names_in j) r (gone_from q) (told_so_far q.lines) all_events))
-          (appends_both w0 w w1 (lines_text (names_in j) (gone_from q)) (lines_text (names_in j) (told_so_far q.lines) ++ end_text (names_in j) r) out
+      subst (Appends w0 w1) (sym (whole_text (atom_names_of j) r (gone_from q) (told_so_far q.lines) all_events))
+          (appends_both w0 w w1 (lines_text (atom_names_of j) (gone_from q)) (lines_text (atom_names_of j) (told_so_far q.lines) ++ report_end_text (atom_names_of j) r) out
           (subst (Appends w w1) last_text rest)),
     )
 
@@ -130,5 +130,5 @@ module _ (j : Job) (es : List Event) (x : Execution) (p : Printer) (q : Pieces) 
     ends_short e n0 n1 leaves = (
       r,
       it_means,
-      stops_at_end (names_in j) e r (gone_from q) (told_so_far q.lines) w0 w w1 n0 n1 all_events out (subst (λ t. LeavesFront e t w w1 n0 n1) last_text leaves),
+      stops_at_end (atom_names_of j) e r (gone_from q) (told_so_far q.lines) w0 w w1 n0 n1 all_events out (subst (λ t. LeavesFront e t w w1 n0 n1) last_text leaves),
     )

@@ -1,7 +1,7 @@
 -- The report of a run that is over.
 use Rattle.std.proofs.Common.{◌≡◌, ◌-◌, List, map, Option, Some, Bool, sym, ap, ◌∙◌, subst}
 use Rattle.pf_model.specs.Configuration.{Configuration}
-use Rattle.pf_model.specs.Meaning.{Choices, Event, Means, Report, event_of, outcome_of, picks_of}
+use Rattle.pf_model.specs.Meaning.{Choices, Event, Means, Report, event_of_transition, outcome_of, picks_of}
 use Rattle.pf_model.specs.Properties.{Outcome, verdict}
 use Rattle.pf_model.specs.Runs.{Run, Stops, start}
 use Rattle.pf_property.specs.Views.{labels_in}
@@ -9,14 +9,14 @@ use Rattle.pf_property.proofs.Shown.{labels_of_run}
 use Rattle.pf_request.specs.Job.{Job}
 use Rattle.pf_sched.specs.declared.execution.Execution.{Execution}
 use Rattle.pf_sched.specs.Parts.{Executes}
-use Rattle.pf_sched.specs.Slices.{IsOver}
+use Rattle.pf_sched.specs.Slices.{IsRunOver}
 
 -- there is one current configuration only
 pub one_stands : (o : Option Configuration) (c d : Configuration) → o ≡ Some c → o ≡ Some d → c ≡ d
 one_stands o c d a b = cc
 
 -- the report with the events of a whole run and how it ended is what the job means by its choices
-pub means : (j : Job) (cs : Choices) (es : List Event) (x : Execution) → Executes j cs es x → IsOver j.asked.limit x → (r : Report) → r.events ≡ es
+pub means : (j : Job) (cs : Choices) (es : List Event) (x : Execution) → Executes j cs es x → IsRunOver j.asked.limit x → (r : Report) → r.events ≡ es
     → ((d : Configuration) → x.system.standing ≡ Some d → r.outcome ≡ outcome_of d) → r.steps ≡ x.system.steps
     → r.verdict ≡ verdict j.asked.property (labels_in es) r.outcome
     → Means (record j.asked { choices = cs }) r
@@ -36,7 +36,7 @@ means j cs es x g over r same out steps told =
     reported xs o w = record { events = xs; outcome = o; steps = r.steps; verdict = w }
 
     events : List Event
-    events = map event_of g.transitions
+    events = map event_of_transition g.transitions
 
     v : r.verdict ≡ verdict j.asked.property (map (λ t. t.label) g.transitions) (outcome_of g.last)
     v =

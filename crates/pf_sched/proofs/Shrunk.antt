@@ -6,18 +6,18 @@ use Rattle.pf_choice.specs.declared.choices.Choices.{Choices}
 use Rattle.pf_model.specs.Meaning.{Means, schedule}
 use Rattle.pf_model.specs.Meaning as meaning
 use Rattle.pf_model.specs.Shrinking.{by_schedule, candidates, is_failure}
-use Rattle.pf_shrink.specs.Hunts.{Hunting, begins, searches, ended, searching, next_of, told_of}
+use Rattle.pf_shrink.specs.Hunts.{Hunting, begins, searches, ended, searching, next_of, after_answer}
 use Rattle.pf_request.specs.Job.{Job}
 use Rattle.pf_trace.specs.Written.{AreWritten, events_of, report_in}
 use Rattle.pf_trace.specs.declared.lines.WrittenReport.{WrittenReport}
-use Rattle.pf_sched.specs.declared.progress.Progress.{Progress}
+use Rattle.pf_sched.specs.declared.progress.ShrinkingProgress.{ShrinkingProgress}
 use Rattle.pf_sched.specs.declared.run.Run.{Run}
-use Rattle.pf_sched.specs.declared.shrinking.Advance.{Advance}
-use Rattle.pf_sched.specs.declared.shrinking.Advance.TheVariants as advance
+use Rattle.pf_sched.specs.declared.shrinking.ShrinkingAdvance.{ShrinkingAdvance}
+use Rattle.pf_sched.specs.declared.shrinking.ShrinkingAdvance.TheVariants as advance
 use Rattle.pf_sched.specs.declared.shrinking.Shrinking.{Shrinking}
 use Rattle.pf_sched.specs.Asked.{IsValid}
 use Rattle.pf_sched.specs.Parts.{IsHuntOf, IsRunBy, IsShrinkingOf, KeepsReport, events_in, events_so_far, stands_at}
-use Rattle.pf_sched.specs.Slices.{Advances, ComesTo, Follows, GoesOn, IsOver, OpensNext, RunAdvances, runs_left}
+use Rattle.pf_sched.specs.Slices.{Advances, JobEvaluatesTo, NextRunFollows, ShrinkingGoesOn, IsRunOver, OpensNext, RunAdvances, runs_left}
 use Rattle.pf_sched.specs.Traces.{Makes}
 use Rattle.pf_sched.proofs.Sliced.{run_goes_past}
 use Rattle.pf_sched.proofs.Hunted.{HasNoFewer, has_more, hunt_begins, hunt_told, hunt_goes_past, stands_at_failed, stands_as_it_was}
@@ -39,7 +39,7 @@ searches_fewer zero ns (c ∷ cs) = omega arith
 searches_fewer (suc k) ns (c ∷ cs) = omega arith
 
 -- an answer leaves one run less
-pub fewer_runs : (h : Hunting) (ns : List ℕ) → next_of h ≡ Some ns → (b : Bool) → runs_left (told_of b h) ≤ runs_left h - 1
+pub fewer_runs : (h : Hunting) (ns : List ℕ) → next_of h ≡ Some ns → (b : Bool) → runs_left (after_answer b h) ≤ runs_left h - 1
 fewer_runs (begins k ms) ns e true = let h = searches_fewer k ms (candidates ms) in omega arith
 fewer_runs (begins k ms) ns e false = omega arith
 fewer_runs (searches k ms c cs) ns e true = let h = searches_fewer k c (candidates c) in omega arith
@@ -56,7 +56,7 @@ some_runs (ended f) ns e = absurd (cc)
 module _ (j : meaning.Job) where
   -- that of the schedule that failed, or the one from before
   pub keeps_on : (h : Hunting) (ns : List ℕ) → next_of h ≡ Some ns → (kept : Option WrittenReport) (r : WrittenReport) → Means (by_schedule j ns) (report_in r)
-      → AreWritten (name_of j.code.atoms) r.lines → KeepsReport j (stands_at h) kept → (b : Bool) → KeepsReport j (stands_at (told_of b h)) (if b then Some r else kept)
+      → AreWritten (name_of j.code.atoms) r.lines → KeepsReport j (stands_at h) kept → (b : Bool) → KeepsReport j (stands_at (after_answer b h)) (if b then Some r else kept)
   keeps_on h ns e kept r means written k true = subst (λ o. KeepsReport j o (Some r)) (sym (stands_at_failed h ns e)) (means, written)
   keeps_on h ns e kept r means written k false = subst (λ o. KeepsReport j o kept) (sym (stands_as_it_was h ns e)) k
 
@@ -69,13 +69,13 @@ module _ (j : Job) where
       subst (IsShrinkingOf j) (sym e) same
 
   -- where its run isn't over it has more events
-  pub shrinking_goes_past : (s : Shrinking) → IsShrinkingOf j s → (IsOver j.asked.limit s.run.execution → ⊥) → HasNoFewer j (events_so_far s)
+  pub shrinking_goes_past : (s : Shrinking) → IsShrinkingOf j s → (IsRunOver j.asked.limit s.run.execution → ⊥) → HasNoFewer j (events_so_far s)
   shrinking_goes_past s x going m has =
       hunt_goes_past j.asked s.hunt s.before x.hunt x.next x.is_next (length (events_in s.run))
       (λ r means. run_goes_past j (schedule x.next) (events_in s.run) s.run.execution x.run.run going r means) m has
 
   -- before its first event
-  pub shrinking_begins : (h : Hunting) (r : Run) (c : Progress) (runs : ℕ) (ns items : List ℕ) → 0 < runs → j.asked.runs ≡ runs → j.asked.choices ≡ schedule ns → items ≡ ns
+  pub shrinking_begins : (h : Hunting) (r : Run) (c : ShrinkingProgress) (runs : ℕ) (ns items : List ℕ) → 0 < runs → j.asked.runs ≡ runs → j.asked.choices ≡ schedule ns → items ≡ ns
       → h ≡ begins (runs - 1) items → IsRunBy j (schedule ns) r → IsShrinkingOf j (record { hunt = h; run = r; report = None; before = zero; progress = c })
   shrinking_begins h r c runs ns items some asked shrinks same is run =
       let begun : begins (runs - 1) ns ≡ h = ap (begins (runs - 1)) (sym same) ∙ sym is in
@@ -86,33 +86,33 @@ module _ (j : Job) where
 
   -- after a run the hunt received true answers only
   pub hunt_goes_on : (s : Shrinking) (x : IsShrinkingOf j s) (r : WrittenReport) → Means (by_schedule j.asked x.next) (report_in r)
-      → events_of r.lines ≡ events_in s.run → (h : Hunting) → h ≡ told_of (is_failure r.verdict) s.hunt → (behind : ℕ) → behind ≡ events_so_far s
+      → events_of r.lines ≡ events_in s.run → (h : Hunting) → h ≡ after_answer (is_failure r.verdict) s.hunt → (behind : ℕ) → behind ≡ events_so_far s
       → IsHuntOf j.asked h behind
   hunt_goes_on s x r means same h told behind count =
-      let told_it : IsHuntOf j.asked (told_of (is_failure r.verdict) s.hunt) (s.before + length (events_of r.lines)) =
+      let told_it : IsHuntOf j.asked (after_answer (is_failure r.verdict) s.hunt) (s.before + length (events_of r.lines)) =
       hunt_told j.asked s.hunt s.before x.hunt x.next x.is_next (report_in r) means in
       let at : s.before + length (events_of r.lines) ≡ behind = ap (λ es. s.before + length es) same ∙ sym count in
-      subst (λ z. IsHuntOf j.asked z behind) (sym told) (subst (IsHuntOf j.asked (told_of (is_failure r.verdict) s.hunt)) at told_it)
+      subst (λ z. IsHuntOf j.asked z behind) (sym told) (subst (IsHuntOf j.asked (after_answer (is_failure r.verdict) s.hunt)) at told_it)
 
   -- and the report of its current schedule is kept
   pub report_goes_on : (s : Shrinking) (x : IsShrinkingOf j s) (r : WrittenReport) → Means (by_schedule j.asked x.next) (report_in r)
-      → AreWritten (name_of j.asked.code.atoms) r.lines → (h : Hunting) → h ≡ told_of (is_failure r.verdict) s.hunt
+      → AreWritten (name_of j.asked.code.atoms) r.lines → (h : Hunting) → h ≡ after_answer (is_failure r.verdict) s.hunt
       → (kept : Option WrittenReport) → kept ≡ (if is_failure r.verdict then Some r else s.report) → KeepsReport j.asked (stands_at h) kept
   report_goes_on s x r means written h told kept is =
       let k = keeps_on j.asked s.hunt x.next x.is_next s.report r means written x.report (is_failure r.verdict) in
       subst (λ z. KeepsReport j.asked (stands_at z) kept) (sym told)
-      (subst (KeepsReport j.asked (stands_at (told_of (is_failure r.verdict) s.hunt))) (sym is) k)
+      (subst (KeepsReport j.asked (stands_at (after_answer (is_failure r.verdict) s.hunt))) (sym is) k)
 
   module _ (s t : Shrinking) (x : IsShrinkingOf j s) (turns : ℕ) (rest : t ≡ record s { run = t.run }) where
     before_same : t.before ≡ s.before
     before_same = ap (λ z. z.before) rest
 
     -- its run isn't over
-    pub goes_further : IsValid j → (over : Bool) → over ≡ false → RunAdvances j s.run t.run turns over → GoesOn j (events_so_far s + turns) (advance.More t)
+    pub goes_further : IsValid j → (over : Bool) → over ≡ false → RunAdvances j s.run t.run turns over → ShrinkingGoesOn j (events_so_far s + turns) (advance.More t)
     goes_further valid over off went =
         let a = went (schedule x.next) x.run in
-        let b : Advances (length (events_in s.run)) (length (events_in t.run)) turns false (IsOver j.asked.limit t.run.execution) =
-        subst (λ v. Advances (length (events_in s.run)) (length (events_in t.run)) turns v (IsOver j.asked.limit t.run.execution)) off a.1 in
+        let b : Advances (length (events_in s.run)) (length (events_in t.run)) turns false (IsRunOver j.asked.limit t.run.execution) =
+        subst (λ v. Advances (length (events_in s.run)) (length (events_in t.run)) turns v (IsRunOver j.asked.limit t.run.execution)) off a.1 in
         let y = with_run s t x rest a.0 in
         let e = before_same in
         let count = b.0 in
@@ -122,7 +122,7 @@ module _ (j : Job) where
     -- or it is
     pub record AtEdge : Type 0 where
       pub shrinking : IsShrinkingOf j t
-      pub over : IsOver j.asked.limit t.run.execution
+      pub over : IsRunOver j.asked.limit t.run.execution
       pub from : length (events_in s.run) ≤ length (events_in t.run)
       pub within : length (events_in t.run) ≤ length (events_in s.run) + turns
       pub before : t.before ≡ s.before
@@ -131,8 +131,8 @@ module _ (j : Job) where
     pub at_edge : (over : Bool) → over ≡ true → RunAdvances j s.run t.run turns over → AtEdge
     at_edge over on went =
         let a = went (schedule x.next) x.run in
-        let b : Advances (length (events_in s.run)) (length (events_in t.run)) turns true (IsOver j.asked.limit t.run.execution) =
-        subst (λ v. Advances (length (events_in s.run)) (length (events_in t.run)) turns v (IsOver j.asked.limit t.run.execution)) on a.1 in
+        let b : Advances (length (events_in s.run)) (length (events_in t.run)) turns true (IsRunOver j.asked.limit t.run.execution) =
+        subst (λ v. Advances (length (events_in s.run)) (length (events_in t.run)) turns v (IsRunOver j.asked.limit t.run.execution)) on a.1 in
         record {
           shrinking = with_run s t x rest a.0;
           over = b.2;
@@ -143,6 +143,6 @@ module _ (j : Job) where
         }
 
   -- what follows, by other numbers
-  pub follows_so : (n m k l : ℕ) → n ≡ m → k ≤ l → (p : Advance) → Follows j n k p → Follows j m l p
+  pub follows_so : (n m k l : ℕ) → n ≡ m → k ≤ l → (p : ShrinkingAdvance) → NextRunFollows j n k p → NextRunFollows j m l p
   follows_so n m k l e h (advance.More s) f = (f.0, f.1 ∙ e, (let few = f.2 in omega arith))
-  follows_so n m k l e h (advance.Over r) f = subst (λ z. ComesTo j z r) e f
+  follows_so n m k l e h (advance.Over r) f = subst (λ z. JobEvaluatesTo j z r) e f

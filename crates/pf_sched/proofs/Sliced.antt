@@ -18,8 +18,8 @@ use Rattle.pf_trace.specs.declared.lines.WrittenReport.{WrittenReport}
 use Rattle.pf_sched.specs.Asked.{IsValid}
 use Rattle.pf_sched.specs.Events.{of_run, of_shrinking}
 use Rattle.pf_sched.specs.Parts.{Executes, IsRunBy, IsRunOf, events_in}
-use Rattle.pf_sched.specs.Slices.{Advances, Continues, EndsBy, GoesPast, IsOver, IsReportBy, RunAdvances}
-use Rattle.pf_sched.specs.Told.{Writes}
+use Rattle.pf_sched.specs.Slices.{Advances, Continues, EndsBy, GoesPast, IsRunOver, IsReportBy, RunAdvances}
+use Rattle.pf_sched.specs.Told.{WritesEvents}
 use Rattle.pf_sched.specs.Views.{without_memory}
 use Rattle.pf_sched.specs.declared.execution.Execution.{Execution}
 use Rattle.pf_sched.specs.declared.run.Run as code
@@ -30,10 +30,10 @@ use Rattle.pf_sched.proofs.Reported.{one_stands}
 
 -- as many events as transitions
 pub made : (j : Job) (cs : meaning.Choices) (es : List meaning.Event) (x : Execution) (g : Executes j cs es x) → length es ≡ length g.transitions
-made j cs es x g = ap length g.events ∙ length-map g.transitions meaning.event_of
+made j cs es x g = ap length g.events ∙ length-map g.transitions meaning.event_of_transition
 
 -- a run that isn't over has more events to come
-pub run_goes_past : (j : Job) (cs : meaning.Choices) (es : List meaning.Event) (x : Execution) → Executes j cs es x → (IsOver j.asked.limit x → ⊥)
+pub run_goes_past : (j : Job) (cs : meaning.Choices) (es : List meaning.Event) (x : Execution) → Executes j cs es x → (IsRunOver j.asked.limit x → ⊥)
     → (report : meaning.Report) → Means (record j.asked { choices = cs }) report → length es < length report.events
 run_goes_past j cs es x g going report h = omega (arith, more, made j cs es x g, all)
   where
@@ -43,7 +43,7 @@ run_goes_past j cs es x g going report h = omega (arith, more, made j cs es x g,
         h.transitions h.last report.steps h.run.goes h.run.stops
 
     all : length report.events ≡ length h.transitions
-    all = ap (λ z. length z.events) h.report ∙ length-map h.transitions meaning.event_of
+    all = ap (λ z. length z.events) h.report ∙ length-map h.transitions meaning.event_of_transition
 
 -- few events are those of a run so far
 pub few_so_far : (j : Job) (cs : meaning.Choices) (es : List meaning.Event) (x : Execution) → Executes j cs es x → length es ≤ j.asked.limit
@@ -53,13 +53,13 @@ few_so_far j cs es x g = omega (arith, made j cs es x g, within)
     within = within_steps j.asked.code (picks_of cs) j.asked.limit (start j.asked.root j.asked.edition) g.transitions g.last x.system.steps g.goes
 
 -- so has the job, where it is no shrinking
-goes_past : (j : Job) (es : List meaning.Event) (x : Execution) → j.asked.runs ≡ zero → Executes j j.asked.choices es x → (IsOver j.asked.limit x → ⊥) → HasNoFewer j (length es)
+goes_past : (j : Job) (es : List meaning.Event) (x : Execution) → j.asked.runs ≡ zero → Executes j j.asked.choices es x → (IsRunOver j.asked.limit x → ⊥) → HasNoFewer j (length es)
 goes_past j es x plain g going _ (of_run report e h) = run_goes_past j j.asked.choices es x g going report h
 goes_past j es x plain g going m (of_shrinking k ns fails _ e c tells has) = absurd (let some : j.asked.runs ≡ suc k = e in cc)
 
 -- where n events were made, a test of where the run is says whether it is over
 pub ended : (limit before after turns : ℕ) (x : Execution) (c : Configuration) → x.system.standing ≡ Some c → after ≡ before + turns → (over : Bool)
-    → MatchBool over (Stops (limit - x.system.steps) c) (Stops (limit - x.system.steps) c → ⊥) → Advances before after turns over (IsOver limit x)
+    → MatchBool over (Stops (limit - x.system.steps) c) (Stops (limit - x.system.steps) c → ⊥) → Advances before after turns over (IsRunOver limit x)
 ended limit before after turns x c stands count true stops = (omega arith, omega arith, (c, stands, stops))
 ended limit before after turns x c stands count false goes = (count, λ over. goes (subst (Stops (limit - x.system.steps)) (one_stands x.system.standing over.0 c over.1 stands) over.2))
 
@@ -73,11 +73,11 @@ continues_alike Told limit turns old new t u s r e f over went =
 -- a run has the events that its trace received
 pub advances_written : (j : Job) (turns limit : ℕ) → limit ≡ j.asked.limit → (old new : code.Run) (t u : Writer) → property_of t.property.now ≡ j.asked.property
     → t.atoms.now ≡ j.asked.code.atoms → t.written ≡ old.written → u.written ≡ new.written → (over : Bool)
-    → Continues Writes limit old.execution t new.execution u turns over → RunAdvances j old new turns over
+    → Continues WritesEvents limit old.execution t new.execution u turns over → RunAdvances j old new turns over
 advances_written j turns limit same old new t u property atoms before after over went cs run = (
   record { run = subst (λ es. Executes j cs es new.execution) (sym events) w.1; written = written; ruled_out = ruled_out },
-  subst (λ n. Advances (length (events_in old)) n turns over (IsOver j.asked.limit new.execution)) (ap length (sym events))
-      (subst (λ l. Advances (length (events_in old)) (length w.0) turns over (IsOver l new.execution)) same w.3),
+  subst (λ n. Advances (length (events_in old)) n turns over (IsRunOver j.asked.limit new.execution)) (ap length (sym events))
+      (subst (λ l. Advances (length (events_in old)) (length w.0) turns over (IsRunOver l new.execution)) same w.3),
 )
   where
     lines : AreWrittenSoFar (name_of t.atoms.now) t.written.lines
@@ -85,10 +85,10 @@ advances_written j turns limit same old new t u property atoms before after over
         subst (λ x. AreWrittenSoFar (name_of t.atoms.now) x.lines) (sym before)
         (subst (λ ns. AreWrittenSoFar (name_of ns) old.written.lines) (sym atoms) run.written)
 
-    told : Writes t j.asked (events_in old)
+    told : WritesEvents t j.asked (events_in old)
     told = ((property, ap (λ x. x.ruled_out) before ∙ run.ruled_out), atoms, ap (λ x. told_so_far x.lines) before, lines)
 
-    w : (es : List meaning.Event) × Executes j cs es new.execution × Writes u j.asked es × Advances (length (events_in old)) (length es) turns over (IsOver limit new.execution)
+    w : (es : List meaning.Event) × Executes j cs es new.execution × WritesEvents u j.asked es × Advances (length (events_in old)) (length es) turns over (IsRunOver limit new.execution)
     w = went j cs (events_in old) (sym same) run.run told
 
     events : events_in new ≡ w.0
@@ -105,19 +105,19 @@ advances_written j turns limit same old new t u property atoms before after over
 
 -- if it isn't over the job goes on after n events more, and has more than those
 pub goes_on : (j : Job) → IsValid j → (before turns : ℕ) (run : code.Run) → j.asked.runs ≡ zero → IsRunBy j j.asked.choices run → (over : Bool) → over ≡ false
-    → Advances before (length (events_in run)) turns over (IsOver j.asked.limit run.execution) → (length (events_in run) ≡ before + turns) × GoesPast j (before + turns)
+    → Advances before (length (events_in run)) turns over (IsRunOver j.asked.limit run.execution) → (length (events_in run) ≡ before + turns) × GoesPast j (before + turns)
 goes_on j valid before turns run plain is over off went =
-    let a : Advances before (length (events_in run)) turns false (IsOver j.asked.limit run.execution) =
-    subst (λ b. Advances before (length (events_in run)) turns b (IsOver j.asked.limit run.execution)) off went in
+    let a : Advances before (length (events_in run)) turns false (IsRunOver j.asked.limit run.execution) =
+    subst (λ b. Advances before (length (events_in run)) turns b (IsRunOver j.asked.limit run.execution)) off went in
     (a.0, has_more j valid (before + turns) (subst (HasNoFewer j) a.0 (goes_past j (events_in run) run.execution plain is.run a.1)))
 
 -- the report of a run that is over is the job's result, where it is no shrinking
-pub run_ends : (j k : Job) → k ≡ j → (run : code.Run) → IsRunOf j run → IsOver j.asked.limit run.execution → (r : WrittenReport)
-    → ((cs : meaning.Choices) → IsRunBy k cs run → IsOver k.asked.limit run.execution → IsReportBy k cs r × (events_of r.lines ≡ events_in run))
+pub run_ends : (j k : Job) → k ≡ j → (run : code.Run) → IsRunOf j run → IsRunOver j.asked.limit run.execution → (r : WrittenReport)
+    → ((cs : meaning.Choices) → IsRunBy k cs run → IsRunOver k.asked.limit run.execution → IsReportBy k cs r × (events_of r.lines ≡ events_in run))
     → EndsBy j (length (events_in run)) (shrinking.report (report_in r)) × AreWritten (name_of j.asked.code.atoms) r.lines
 run_ends j k e run going over r told =
     let h =
-    subst (λ z. (cs : meaning.Choices) → IsRunBy z cs run → IsOver z.asked.limit run.execution → IsReportBy z cs r × (events_of r.lines ≡ events_in run)) e told
+    subst (λ z. (cs : meaning.Choices) → IsRunBy z cs run → IsRunOver z.asked.limit run.execution → IsReportBy z cs r × (events_of r.lines ≡ events_in run)) e told
     j.asked.choices going.1 over in
     let count : length (events_of r.lines) ≡ length (events_in run) = ap length h.1 in
     let within : length (events_of r.lines) ≤ length (events_in run) = omega arith in
@@ -125,10 +125,10 @@ run_ends j k e run going over r told =
 
 -- where it is over it has n events at most
 pub is_over : (j : Job) (before after turns limit : ℕ) (new : Execution) → limit ≡ j.asked.limit → (over : Bool) → over ≡ true
-    → Advances before after turns over (IsOver limit new) → IsOver j.asked.limit new × (after ≤ before + turns)
+    → Advances before after turns over (IsRunOver limit new) → IsRunOver j.asked.limit new × (after ≤ before + turns)
 is_over j before after turns limit new same over on went =
-    let a : Advances before after turns true (IsOver limit new) = subst (λ b. Advances before after turns b (IsOver limit new)) on went in
-    (subst (λ n. IsOver n new) same a.2, a.1)
+    let a : Advances before after turns true (IsRunOver limit new) = subst (λ b. Advances before after turns b (IsRunOver limit new)) on went in
+    (subst (λ n. IsRunOver n new) same a.2, a.1)
 
 -- what ends by n events ends by more
 pub ends_sooner : (j : Job) (n m : ℕ) (r : shrinking.Result) → n ≤ m → EndsBy j n r ⊎ (r ≡ without_memory) → EndsBy j m r ⊎ (r ≡ without_memory)

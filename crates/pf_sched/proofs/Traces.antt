@@ -5,12 +5,12 @@ use Rattle.rand_pcg.specs.Pcg.{pcg32}
 use Rattle.rand_pcg.specs.Lcg.{Lcg}
 use Rattle.pf_choice.specs.Choices as choice
 use Rattle.pf_choice.specs.Choices.{Chooses, IsAt}
-use Rattle.pf_choice.specs.Chosen.{Profile, chosen}
+use Rattle.pf_choice.specs.Chosen.{Weighting, chosen}
 use Rattle.pf_choice.specs.declared.choices.Choices.{Choices}
 use Rattle.pf_model.specs.Module.{Module, module_of}
 use Rattle.pf_model.specs.Configuration.{Configuration}
 use Rattle.pf_model.specs.Channels.{heads}
-use Rattle.pf_model.specs.Meaning.{Event, event_of, picks}
+use Rattle.pf_model.specs.Meaning.{Event, event_of_transition, picks}
 use Rattle.pf_model.specs.Runs.{enabled, Goes, stays, Passes, transition, Transition, Words}
 use Rattle.pf_system.specs.Steps.{IsNoteOf, PassesTo}
 use Rattle.pf_system.specs.View.{SystemView}
@@ -28,7 +28,7 @@ length_last (y ∷ xs) x = let e = length_last xs x in omega arith
 
 -- ---- one transition more
 
-module _ (m : Module) (f : Profile) (ws : Words) (limit : ℕ) (c : Configuration) where
+module _ (m : Module) (f : Weighting) (ws : Words) (limit : ℕ) (c : Configuration) where
   -- before the first
   pub begins : (x : Execution) → module_of x.system.checked ≡ m → x.system.standing ≡ Some c → x.system.steps ≡ 0 → IsAt pcg32 ws 0 x.choices
       → choice.profile_of x.choices ≡ f → Going m f ws limit c [] x
@@ -58,7 +58,7 @@ module _ (m : Module) (f : Profile) (ws : Words) (limit : ℕ) (c : Configuratio
         within = let u = p.within in let z = ap (λ y. y.steps) p.becomes in omega arith;
         at = subst (λ k. IsAt pcg32 ws k x'.choices) (sym (length_last g.transitions t)) (w.chooses.moves ws (length g.transitions) g.at);
         profile = w.chooses.keeps ∙ g.profile;
-        events = ap (λ l. l ++ e ∷ []) g.events ∙ ap (λ y. map event_of g.transitions ++ y ∷ []) tells ∙ sym (map_more event_of g.transitions t);
+        events = ap (λ l. l ++ e ∷ []) g.events ∙ ap (λ y. map event_of_transition g.transitions ++ y ∷ []) tells ∙ sym (map_more event_of_transition g.transitions t);
       }
     where
       s : SystemView
@@ -98,7 +98,7 @@ module _ (m : Module) (f : Profile) (ws : Words) (limit : ℕ) (c : Configuratio
       steps : s.steps + p.passed.used ≡ x'.system.steps
       steps = let z = ap (λ y. y.steps) p.becomes in let u = p.counts in omega arith
 
-      tells : e ≡ event_of t
+      tells : e ≡ event_of_transition t
       tells =
           ap (λ i. event i e.count e.actor e.label) chosen_is
           ∙ ap (λ n. event k n e.actor e.label) w.counts

@@ -1,7 +1,7 @@
 -- The runs of a job by schedules: how many events they have in all, and which of them fail.
 use Rattle.std.proofs.Common.{◌≡◌, ℕ, zero, ◌+◌, ◌*◌, ◌≤◌, Bool, List, [], ◌∷◌, ◌++◌, length, refl, sym, ap, ◌∙◌, subst, arith}
 use Rattle.std.proofs.lemmas.List.{length-map}
-use Rattle.pf_model.specs.Meaning.{Job, Report, Means, event_of, picks_of}
+use Rattle.pf_model.specs.Meaning.{Job, Report, Means, event_of_transition, picks_of}
 use Rattle.pf_model.specs.Runs.{start}
 use Rattle.pf_model.specs.Shrinking.{by_schedule, is_failure, TellsFailures}
 use Rattle.pf_model.proofs.Meanings.{one_meaning, only_evaluated}
@@ -17,7 +17,7 @@ pub few_events : (j : Job) (r : Report) → Means j r → length r.events ≤ j.
 few_events j r h = omega (arith, all, within)
   where
     all : length r.events ≡ length h.transitions
-    all = ap (λ z. length z.events) h.report ∙ length-map h.transitions event_of
+    all = ap (λ z. length z.events) h.report ∙ length-map h.transitions event_of_transition
 
     within : length h.transitions ≤ j.limit
     within = within_steps j.code (picks_of j.choices) j.limit (start j.root j.edition) h.transitions h.last r.steps h.run.goes

@@ -1,9 +1,9 @@
 -- Which job a request results in, where the bytes of its property are read, or why it results in none.
 use Rattle.std.specs.Prelude.{◌≡◌, ◌⊎◌, ◌≤◌, ℕ, zero, true, List, Option, Some, Result, Err}
-use Rattle.pf_fault.specs.declared.code.Code.{Code}
-use Rattle.pf_fault.specs.declared.code.Code.TheVariants as code
-use Rattle.pf_fault.specs.declared.fault.OrNoMemory.{OrNoMemory}
-use Rattle.pf_fault.specs.declared.fault.OrNoMemory.TheVariants.{NoMemory, Fault}
+use Rattle.pf_errors.specs.declared.code.Code.{Code}
+use Rattle.pf_errors.specs.declared.code.Code.TheVariants as code
+use Rattle.pf_errors.specs.declared.fault.OrNoMemory.{OrNoMemory}
+use Rattle.pf_errors.specs.declared.fault.OrNoMemory.TheVariants.{NoMemory, Fault}
 use Rattle.pf_model.specs.Meaning.{schedule}
 use Rattle.pf_model.specs.Limits.{IsEdition, is_in_range}
 use Rattle.pf_model.specs.Properties.{Property}
@@ -12,7 +12,7 @@ use Rattle.pf_request.specs.Module.{ReadModule}
 use Rattle.pf_request.specs.Request.{Request, count_of, may_weigh}
 use Rattle.pf_request.specs.Job.{Job, job_of, root_in}
 use Rattle.pf_shrink.specs.declared.hunt.TheConstants.{MOST_RUNS}
-use Rattle.pf_module.specs.Reading.{IsReadAs}
+use Rattle.pf_check.specs.Reading.{IsReadAs}
 use Rattle.pf_sched.specs.declared.refusal.JobRefusal.{JobRefusal}
 use Rattle.pf_sched.specs.Views.{code_of}
 
@@ -26,16 +26,16 @@ IsRefusal P NoMemory = Unit {0}
 IsRefusal P (Fault e) = P (Err (code_of e))
 
 -- the module of a job
-abbrev pub module_of : Job → ReadModule
-module_of j = record { source = j.source; code = j.asked.code }
+abbrev pub module_of_job : Job → ReadModule
+module_of_job j = record { source = j.source; code = j.asked.code }
 
 -- what is true of each job: its module is what its source is read as; its root is an exported function without
 -- arguments; its limit, its schedule, its runs and its weights are within bounds; what is shrunk is a schedule; there
 -- is its edition
 pub record IsValid (j : Job) : Type 0 where
-  pub read : IsReadAs j.source (module_of j)
+  pub read : IsReadAs j.source (module_of_job j)
   pub name : List ℕ
-  pub root : root_in (module_of j) name ≡ Some j.asked.root
+  pub root : root_in (module_of_job j) name ≡ Some j.asked.root
   pub limit : is_in_range j.asked.limit (count_of j.asked.choices) ≡ true
   pub runs : j.asked.runs ≤ MOST_RUNS
   pub shrinks : (j.asked.runs ≡ zero) ⊎ ((ns : List ℕ) × (j.asked.choices ≡ schedule ns))

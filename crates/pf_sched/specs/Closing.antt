@@ -8,7 +8,7 @@ use Rattle.pf_request.specs.Job.{Job}
 use Rattle.pf_system.specs.View.{SystemView}
 
 -- a report has these events, and says of the rest how a job's run with them ended that ends with this system
-pub record Closes (j : Job) (es : List Event) (s : SystemView) (r : Report) : Type 0 where
+pub record ClosesRun (j : Job) (es : List Event) (s : SystemView) (r : Report) : Type 0 where
   pub events : r.events ≡ es
   pub outcome : (c : Configuration) → s.standing ≡ Some c → r.outcome ≡ outcome_of c
   pub steps : r.steps ≡ s.steps

@@ -8,17 +8,17 @@ use Rattle.pf_property.specs.Views.{labels_in}
 use Rattle.pf_sched.specs.Told.{Decides}
 use Rattle.pf_sched.specs.Waiting.{is_begin, is_end}
 use Rattle.pf_sched.specs.declared.evidence.Evidence.{Evidence}
-use Rattle.pf_sched.specs.declared.evidence.Processes.{Processes}
+use Rattle.pf_sched.specs.declared.evidence.ProcessCounts.{ProcessCounts}
 
 -- the largest count, which no run reaches
 abbrev pub most : ℕ
 most = 4294967295
 
 -- so many processes began, and so many ended
-abbrev pub Counts : Processes → List Label → Type 0
-Counts n ls = (n.begun ≡ min (count_by is_begin ls) most) × (n.ended ≡ min (count_by is_end ls) most)
+abbrev pub CountsProcesses : ProcessCounts → List Label → Type 0
+CountsProcesses n ls = (n.begun ≡ min (count_by is_begin ls) most) × (n.ended ≡ min (count_by is_end ls) most)
 
 -- of a property, which is that of the job, it is known whether an event rules it out; and how many processes began and
 -- ended
 abbrev pub Shows : (of : Property) → Evidence → Job → List meaning.Event → Type 0
-Shows p v j told = Decides p v.ruled_out j told × Counts v.processes (labels_in told)
+Shows p v j told = Decides p v.ruled_out j told × CountsProcesses v.processes (labels_in told)

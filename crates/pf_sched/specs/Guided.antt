@@ -7,15 +7,15 @@ use Rattle.pf_model.specs.Meaning as meaning
 use Rattle.pf_model.specs.Module.{module_of}
 use Rattle.pf_model.specs.Runs.{enabled, start, Stops, Transition}
 use Rattle.pf_request.specs.Job.{Job}
-use Rattle.pf_priorities.specs.Priorities.{State, choice, first, state_of}
-use Rattle.pf_strategy.specs.Keys.{keys_of}
+use Rattle.pf_strategy.specs.Priorities.{PriorityState, choice, first, state_of}
+use Rattle.pf_strategy.specs.ActorKeys.{keys_of}
 use Rattle.pf_strategy.specs.Runs.{GoesBy}
 use Rattle.pf_system.specs.Steps.{PassesTo}
 use Rattle.pf_sched.specs.declared.guided.Guided.{Guided}
 use Rattle.pf_sched.specs.Told.{Hears}
 
 -- what is known of its priorities
-abbrev pub priorities_in : Guided → State Lcg
+abbrev pub priorities_in : Guided → PriorityState Lcg
 priorities_in x = state_of x.priorities
 
 -- of the actors that may go the one that the priorities choose went, within n steps, as the event says
@@ -39,7 +39,7 @@ pub record GoingBy (j : Job) (seed : ℕ) (es : List meaning.Event) (x : Guided)
   pub stands : x.system.standing ≡ Some last
   pub goes : GoesBy j.asked.code (first seed) j.asked.limit (start j.asked.root j.asked.edition) transitions last x.system.steps (priorities_in x)
   pub within : x.system.steps ≤ j.asked.limit
-  pub events : es ≡ map meaning.event_of transitions
+  pub events : es ≡ map meaning.event_of_transition transitions
 
 -- it is over, and a trace received all its events
 abbrev pub IsCompleteBy : {T : Type 0} (Told : T → meaning.Job → List meaning.Event → Type 0) → Job → (seed : ℕ) → Guided → T → Type 0

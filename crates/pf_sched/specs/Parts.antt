@@ -11,7 +11,7 @@ use Rattle.pf_property.specs.Judging.{rules_out}
 use Rattle.pf_property.specs.Views.{labels_in}
 use Rattle.pf_trace.specs.Written.{AreWritten, AreWrittenSoFar, report_in, told_so_far}
 use Rattle.pf_trace.specs.declared.lines.WrittenReport.{WrittenReport}
-use Rattle.pf_shrink.specs.Hunts.{Hunting, begins, searches, ended, next_of, comes_to}
+use Rattle.pf_shrink.specs.Hunts.{Hunting, begins, searches, ended, next_of, search_result}
 use Rattle.pf_shrink.specs.Tried.{tried, tried_from}
 use Rattle.pf_request.specs.Job.{Job}
 use Rattle.pf_sched.specs.declared.execution.Execution.{Execution}
@@ -52,7 +52,7 @@ pub record IsHuntOf (j : meaning.Job) (h : Hunting) (before : ℕ) : Type 0 wher
   pub runs : j.runs ≡ suc further
   pub choices : j.choices ≡ schedule given
   pub tells : TellsFailures j fails
-  pub comes : comes_to fails h ≡ shrunk fails (suc further) given
+  pub comes : search_result fails h ≡ shrunk fails (suc further) given
   pub events : RunsHave j behind before
   pub order : tried fails (suc further) given ≡ behind ++ tried_from fails h
 
@@ -84,5 +84,5 @@ events_so_far s = s.before + length (events_in s.run)
 -- ---- the end
 
 -- it is the job's result, or memory ran out
-abbrev pub Ends : Job → shrinking.Result → Type 0
-Ends j r = IsResult j.asked r ⊎ (r ≡ without_memory)
+abbrev pub EndsJob : Job → shrinking.Result → Type 0
+EndsJob j r = IsResult j.asked r ⊎ (r ≡ without_memory)

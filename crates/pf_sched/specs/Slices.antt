@@ -16,8 +16,8 @@ use Rattle.pf_trace.specs.declared.lines.WrittenReport.{WrittenReport}
 use Rattle.pf_sched.specs.declared.execution.Execution.{Execution}
 use Rattle.pf_sched.specs.declared.result.JobResult.{JobResult}
 use Rattle.pf_sched.specs.declared.run.Run.{Run}
-use Rattle.pf_sched.specs.declared.shrinking.Advance.{Advance}
-use Rattle.pf_sched.specs.declared.shrinking.Advance.TheVariants as advance
+use Rattle.pf_sched.specs.declared.shrinking.ShrinkingAdvance.{ShrinkingAdvance}
+use Rattle.pf_sched.specs.declared.shrinking.ShrinkingAdvance.TheVariants as advance
 use Rattle.pf_sched.specs.declared.slice.Slice.{Slice}
 use Rattle.pf_sched.specs.declared.slice.Slice.TheVariants.{More, Done}
 use Rattle.pf_sched.specs.Views.{IsWritten, ParkedView, view_of_parked, result_of, without_memory}
@@ -47,24 +47,24 @@ Advances before after turns true stops = (before ≤ after) × (after ≤ before
 Advances before after turns false stops = (after ≡ before + turns) × (stops → ⊥)
 
 -- a run is over where it is
-abbrev pub IsOver : (limit : ℕ) → Execution → Type 0
-IsOver limit x = (c : Configuration) × (x.system.standing ≡ Some c) × Stops (limit - x.system.steps) c
+abbrev pub IsRunOver : (limit : ℕ) → Execution → Type 0
+IsRunOver limit x = (c : Configuration) × (x.system.standing ≡ Some c) × Stops (limit - x.system.steps) c
 
 -- a run goes on, whichever job's it is and by whichever choices, and a trace receives all its events
 abbrev pub Continues : {T : Type 0} (Told : T → meaning.Job → List Event → Type 0) (limit : ℕ) (old : Execution) (t : T) (new : Execution) (u : T) (turns : ℕ) (over : Bool) → Type 0
 Continues Told limit old t new u turns over =
     (j : Job) (cs : meaning.Choices) (es : List Event) → j.asked.limit ≡ limit → Executes j cs es old → Told t j.asked es
-    → (es' : List Event) × Executes j cs es' new × Told u j.asked es' × Advances (length es) (length es') turns over (IsOver limit new)
+    → (es' : List Event) × Executes j cs es' new × Told u j.asked es' × Advances (length es) (length es') turns over (IsRunOver limit new)
 
 -- a run of a job by these choices is over, and a trace received all its events
 abbrev pub IsComplete : {T : Type 0} (Told : T → meaning.Job → List Event → Type 0) → Job → meaning.Choices → Execution → T → Type 0
-IsComplete Told j cs x t = (es : List Event) × Executes j cs es x × Told t j.asked es × IsOver j.asked.limit x
+IsComplete Told j cs x t = (es : List Event) × Executes j cs es x × Told t j.asked es × IsRunOver j.asked.limit x
 
 -- a run of a job goes on with what is written of its events, by whichever choices
 abbrev pub RunAdvances : Job → (old new : Run) (turns : ℕ) (over : Bool) → Type 0
 RunAdvances j old new turns over =
     (cs : meaning.Choices) → IsRunBy j cs old
-    → IsRunBy j cs new × Advances (length (events_in old)) (length (events_in new)) turns over (IsOver j.asked.limit new.execution)
+    → IsRunBy j cs new × Advances (length (events_in old)) (length (events_in new)) turns over (IsRunOver j.asked.limit new.execution)
 
 -- a report is the one of a job's run by these choices, written by the names of its module
 abbrev pub IsReportBy : Job → meaning.Choices → WrittenReport → Type 0
@@ -85,13 +85,13 @@ TellsFound j None r = r ≡ nothing_fails
 TellsFound j (Some f) r = (report : Report) × Means (by_schedule j f.schedule) report × (r ≡ shrunk_to f report)
 
 -- a job has this result after n events, and its report is written by the names of its module
-abbrev pub ComesTo : Job → ℕ → JobResult → Type 0
-ComesTo j n r = EndsBy j n (result_of r) × IsWritten (name_of j.asked.code.atoms) r
+abbrev pub JobEvaluatesTo : Job → ℕ → JobResult → Type 0
+JobEvaluatesTo j n r = EndsBy j n (result_of r) × IsWritten (name_of j.asked.code.atoms) r
 
 -- a shrinking goes on at n events, if it has more than those; or it is over, after n at most
-abbrev pub GoesOn : Job → (at : ℕ) → Advance → Type 0
-GoesOn j n (advance.More s) = IsShrinkingOf j s × (events_so_far s ≡ n) × GoesPast j n
-GoesOn j n (advance.Over r) = ComesTo j n r
+abbrev pub ShrinkingGoesOn : Job → (at : ℕ) → ShrinkingAdvance → Type 0
+ShrinkingGoesOn j n (advance.More s) = IsShrinkingOf j s × (events_so_far s ≡ n) × GoesPast j n
+ShrinkingGoesOn j n (advance.Over r) = JobEvaluatesTo j n r
 
 -- how many runs a hunt may still make
 abbrev pub runs_left : Hunting → ℕ
@@ -100,6 +100,6 @@ runs_left (searches k ns c cs) = suc k
 runs_left (ended f) = zero
 
 -- the next run of a shrinking begins after n events, as one of m at most; or it is over, with n events in all
-abbrev pub Follows : Job → (at runs : ℕ) → Advance → Type 0
-Follows j n k (advance.More s) = IsShrinkingOf j s × (events_so_far s ≡ n) × (runs_left s.hunt ≤ k)
-Follows j n k (advance.Over r) = ComesTo j n r
+abbrev pub NextRunFollows : Job → (at runs : ℕ) → ShrinkingAdvance → Type 0
+NextRunFollows j n k (advance.More s) = IsShrinkingOf j s × (events_so_far s ≡ n) × (runs_left s.hunt ≤ k)
+NextRunFollows j n k (advance.Over r) = JobEvaluatesTo j n r

@@ -6,7 +6,7 @@ use Rattle.pf_model.specs.Labels.{Label}
 use Rattle.pf_model.specs.Meaning as meaning
 use Rattle.pf_model.specs.Meaning.{Job}
 use Rattle.pf_model.specs.Properties.{Property, some_label}
-use Rattle.pf_model.specs.Reports.{event_of}
+use Rattle.pf_model.specs.Reports.{view_of_event}
 use Rattle.pf_model.specs.Runs.{Actor}
 use Rattle.pf_model.specs.declared.report.Event.{Event}
 use Rattle.pf_property.specs.Judging.{rules_out}
@@ -22,8 +22,8 @@ abbrev pub Hears : {T : Type 0} (Told : T → Job → List meaning.Event → Typ
 Hears Told t e u = (j : Job) (es : List meaning.Event) → Told t j es → Told u j (es ++ e ∷ [])
 
 -- a list has all events
-abbrev pub Lists : Vec Event → Job → List meaning.Event → Type 0
-Lists es j told = map event_of es.items ≡ told
+abbrev pub ListsEvents : Vec Event → Job → List meaning.Event → Type 0
+ListsEvents es j told = map view_of_event es.items ≡ told
 
 -- of a property, which is that of the job, it is known whether the label of an event rules it out
 abbrev pub Decides : (of : Property) → Bool → Job → List meaning.Event → Type 0
@@ -31,7 +31,7 @@ Decides p b j told = (p ≡ j.property) × (b ≡ some_label (rules_out j.proper
 
 -- all events are written, a line each, by the names of the job's module, and it is known whether the label of one rules
 -- the property out
-abbrev pub Writes : Writer → Job → List meaning.Event → Type 0
-Writes w j told =
+abbrev pub WritesEvents : Writer → Job → List meaning.Event → Type 0
+WritesEvents w j told =
     Decides (property_of w.property.now) w.written.ruled_out j told × (w.atoms.now ≡ j.code.atoms)
     × (told_so_far w.written.lines ≡ told) × AreWrittenSoFar (name_of w.atoms.now) w.written.lines

@@ -4,7 +4,7 @@ use Rattle.rand_pcg.specs.Pcg.{pcg32}
 use Rattle.rand_pcg.specs.Lcg.{Lcg}
 use Rattle.pf_choice.specs.Choices as choice
 use Rattle.pf_choice.specs.Choices.{Chooses, IsAt}
-use Rattle.pf_choice.specs.Chosen.{Profile}
+use Rattle.pf_choice.specs.Chosen.{Weighting}
 use Rattle.pf_choice.specs.declared.choices.Choices.{Choices}
 use Rattle.pf_model.specs.Module.{Module, module_of}
 use Rattle.pf_model.specs.Configuration.{Configuration}
@@ -13,7 +13,7 @@ use Rattle.pf_model.specs.Reports.{actor_of}
 use Rattle.pf_model.specs.Channels.{heads}
 use Rattle.pf_model.specs.Meaning as meaning
 use Rattle.pf_model.specs.Meaning.{picks, profile_of, words_of}
-use Rattle.pf_model.specs.Runs.{can_go, enabled, numbers_of, Goes, Transition, Words}
+use Rattle.pf_model.specs.Runs.{can_go, enabled, pids_in_state, Goes, Transition, Words}
 use Rattle.pf_system.specs.Steps.{PassesTo}
 use Rattle.pf_sched.specs.declared.execution.Execution.{Execution}
 use Rattle.pf_sched.specs.declared.execution.Chosen.{Chosen}
@@ -26,7 +26,7 @@ pub record Makes (cs : meaning.Choices) (q : Choices Lcg) : Type 0 where
 
 -- how many processes may go, and how many channels aren't empty
 abbrev pub ready_in : Configuration → ℕ
-ready_in c = length (numbers_of can_go zero c.core.processes)
+ready_in c = length (pids_in_state can_go zero c.core.processes)
 
 abbrev pub heads_in : Configuration → ℕ
 heads_in c = length (heads c.channels)
@@ -51,7 +51,7 @@ MayHaveGone Told left c x t false x' t' = (enabled c ≡ []) × (x' ≡ x) × (t
 
 -- a run by these words, which a profile chooses by, so far: it is at some configuration, the next word is that of the
 -- next transition, and these events show its transitions
-pub record Going (m : Module) (p : Profile) (ws : Words) (limit : ℕ) (c : Configuration) (es : List meaning.Event) (x : Execution) : Type 0 where
+pub record Going (m : Module) (p : Weighting) (ws : Words) (limit : ℕ) (c : Configuration) (es : List meaning.Event) (x : Execution) : Type 0 where
   pub transitions : List Transition
   pub last : Configuration
   pub code : module_of x.system.checked ≡ m
@@ -60,4 +60,4 @@ pub record Going (m : Module) (p : Profile) (ws : Words) (limit : ℕ) (c : Conf
   pub within : x.system.steps ≤ limit
   pub at : IsAt pcg32 ws (length transitions) x.choices
   pub profile : choice.profile_of x.choices ≡ p
-  pub events : es ≡ map meaning.event_of transitions
+  pub events : es ≡ map meaning.event_of_transition transitions

@@ -5,7 +5,7 @@ use Rattle.pf_model.specs.Configuration.{Configuration, is_alive}
 use Rattle.pf_model.specs.Meaning.{Job, Means, Report}
 use Rattle.pf_model.specs.Module.{Module}
 use Rattle.pf_model.specs.Properties.{Outcome, is_finished}
-use Rattle.pf_model.specs.Runs.{Goes, Picks, Transition, is_waiting, numbers_of, start}
+use Rattle.pf_model.specs.Runs.{Goes, Picks, Transition, is_waiting, pids_in_state, start}
 use Rattle.pf_property.specs.Views.{labels_in}
 
 -- a process begins; one that is refused shows that its spawn raises, and nothing begins
@@ -44,4 +44,4 @@ LivingIsRight =
 abbrev pub WaitingIsRight : Type 0
 WaitingIsRight =
     (j : Job) (r : Report) (h : Means j r)
-    → waiting_in r ≡ (if is_finished r.outcome then length (numbers_of is_waiting zero h.last.core.processes) else 0)
+    → waiting_in r ≡ (if is_finished r.outcome then length (pids_in_state is_waiting zero h.last.core.processes) else 0)

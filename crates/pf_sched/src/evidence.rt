@@ -3,10 +3,10 @@
 ghost use Rattle.std.specs.Prelude.{◌≡◌, ◌<◌, ◌+◌, ◌||◌, ◌∷◌, ◌++◌, [], List, cond, length, min};
 ghost use Rattle.pf_model.specs.Labels as labels;
 ghost use Rattle.pf_model.specs.Meaning as model;
-ghost use Rattle.pf_model.specs.Reports.{label_of, outcome_of};
+ghost use Rattle.pf_model.specs.Reports.{label_of, view_of_outcome};
 ghost use Rattle.pf_property.specs.Judging.{rules_out};
 ghost use Rattle.pf_property.specs.Views.{property_of};
-ghost use Rattle.pf_sched.specs.Evidence.{Counts, Shows, most};
+ghost use Rattle.pf_sched.specs.Evidence.{CountsProcesses, Shows, most};
 ghost use Rattle.pf_sched.specs.Told.{Hears};
 ghost use Rattle.pf_sched.specs.Waiting.{is_begin, is_end, waiting_at};
 
@@ -39,22 +39,22 @@ fn with_one(count: u32, more: bool) -> u32
 
 /// How many processes began after the root, and how many ended.
 #[derive(Drop, Clone, Copy)]
-pub(crate) struct Processes {
+pub(crate) struct ProcessCounts {
     begun: u32,
     ended: u32,
 }
 
-impl Processes {
+impl ProcessCounts {
     /// The root alone.
-    fn new() -> Processes
-        ensures { Counts result [] }
+    fn new() -> ProcessCounts
+        ensures { CountsProcesses result [] }
     {
-        Processes { begun: 0, ended: 0 }
+        ProcessCounts { begun: 0, ended: 0 }
     }
 
     /// Counts what one label more says.
     fn see(&mut self, label: &Label)
-        ensures { (ls : List labels.Label) → Counts self.old ls → Counts self.new (ls ++ label_of label.now ∷ []) }
+        ensures { (ls : List labels.Label) → CountsProcesses self.old ls → CountsProcesses self.new (ls ++ label_of label.now ∷ []) }
     {
         self.begun = with_one(self.begun, is_begin(label));
         self.ended = with_one(self.ended, is_end(label));
@@ -63,8 +63,8 @@ impl Processes {
     /// How many still wait at the end of a run with this outcome though its root returned; no run has more labels than
     /// are counted.
     pub fn waiting(self, outcome: &Outcome) -> u32
-        ensures { (ls : List labels.Label) → Counts self ls → length ls < most
-            → result ≡ waiting_at (outcome_of outcome.now) ls }
+        ensures { (ls : List labels.Label) → CountsProcesses self ls → length ls < most
+            → result ≡ waiting_at (view_of_outcome outcome.now) ls }
     {
         match outcome {
             Outcome::Finished(_) => self.begun.saturating_add(1).saturating_sub(self.ended),
@@ -85,7 +85,7 @@ fn is_ruled_out(so_far: bool, property: &Property, label: &Label) -> bool
 #[derive(Drop, Clone, Copy)]
 pub(crate) struct Evidence {
     pub ruled_out: bool,
-    pub processes: Processes,
+    pub processes: ProcessCounts,
 }
 
 impl Evidence {
@@ -95,7 +95,7 @@ impl Evidence {
     {
         Evidence {
             ruled_out: false,
-            processes: Processes::new(),
+            processes: ProcessCounts::new(),
         }
     }
 

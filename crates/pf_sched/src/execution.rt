@@ -7,7 +7,7 @@ ghost use Rattle.pf_model.specs.Configuration.{Configuration};
 ghost use Rattle.pf_model.specs.Meaning as model;
 ghost use Rattle.pf_model.specs.Reports.{label_of};
 ghost use Rattle.pf_model.specs.Runs.{Stops};
-ghost use Rattle.pf_system.specs.Steps.{IsNoteOf, noted};
+ghost use Rattle.pf_system.specs.Steps.{IsNoteOf, noted_actors};
 ghost use Rattle.pf_sched.specs.Parts.{Executes};
 ghost use Rattle.pf_sched.specs.Slices.{Continues, IsComplete};
 ghost use Rattle.pf_sched.specs.Traces.{Makes, MayHaveGone, MayHavePassed, heads_in, ready_in};
@@ -30,10 +30,10 @@ pub(crate) struct Execution {
 
 /// Which of the actors that may go the next word chooses, from 0 on. A word is drawn if there is but one, too.
 fn choose(choices: &mut Choices, enabled: &Enabled<'_>) -> usize
-    requires { 0 < length (noted enabled.now) }
+    requires { 0 < length (noted_actors enabled.now) }
     ensures chooses { (c : Configuration) → IsNoteOf enabled.now c
         → Chooses pcg32 choices.old (ready_in c) (heads_in c) result choices.new }
-    ensures one { result < length (noted enabled.now) }
+    ensures one { result < length (noted_actors enabled.now) }
 {
     choices.next_of(enabled.processes(), enabled.channels())
 }

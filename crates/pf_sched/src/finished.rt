@@ -15,7 +15,7 @@ use std::sync::Arc;
 
 /// How a job ended: its result is whole, or memory ran out for it.
 #[derive(Drop)]
-pub enum Ending {
+pub enum JobEnd {
     Whole(Whole),
     Memory(Arc<Job>),
 }
@@ -23,7 +23,7 @@ pub enum Ending {
 /// A job whose runs are over, and its result; or the result is that memory ran out. Many may hold both.
 #[derive(Drop)]
 pub struct Finished {
-    ending: Ending,
+    ending: JobEnd,
 }
 
 impl Model for Finished {
@@ -48,7 +48,7 @@ impl Finished {
         ensures result { (result.result ≡ result_of came) ⊎ (result.result ≡ without_memory) }
     {
         match Whole::new(alloc, job, came) {
-            Ok(whole) => Finished::from_ending(Ending::Whole(whole)),
+            Ok(whole) => Finished::from_ending(JobEnd::Whole(whole)),
             Err(job) => Finished::without_memory(job),
         }
     }
@@ -57,18 +57,18 @@ impl Finished {
     pub(crate) fn without_memory(job: Arc<Job>) -> Finished
         ensures { result ≡ view_of_finished job.value without_memory }
     {
-        Finished::from_ending(Ending::Memory(job))
+        Finished::from_ending(JobEnd::Memory(job))
     }
 
     /// The job that ended so.
-    pub fn from_ending(ending: Ending) -> Finished
+    pub fn from_ending(ending: JobEnd) -> Finished
         ensures { result ≡ ended_as ending }
     {
         Finished { ending }
     }
 
     /// How it ended.
-    pub fn into_ending(self) -> Ending
+    pub fn into_ending(self) -> JobEnd
         ensures { ended_as result ≡ self }
     {
         self.ending
@@ -79,8 +79,8 @@ impl Finished {
         ensures { result.now.value ≡ self.now.job }
     {
         match &self.ending {
-            Ending::Whole(whole) => whole.job(),
-            Ending::Memory(job) => job,
+            JobEnd::Whole(whole) => whole.job(),
+            JobEnd::Memory(job) => job,
         }
     }
 
@@ -101,8 +101,8 @@ impl Finished {
             × IsWritten (name_of self.now.job.asked.code.atoms) r.now) }
     {
         match &self.ending {
-            Ending::Whole(whole) => Some(whole.result()),
-            Ending::Memory(_) => None,
+            JobEnd::Whole(whole) => Some(whole.result()),
+            JobEnd::Memory(_) => None,
         }
     }
 
@@ -111,8 +111,8 @@ impl Finished {
         ensures { IfOk result (λ f. f ≡ self.now) }
     {
         let ending = match &self.ending {
-            Ending::Whole(whole) => Ending::Whole(whole.share()?),
-            Ending::Memory(job) => Ending::Memory(Arc::try_clone(job)?),
+            JobEnd::Whole(whole) => JobEnd::Whole(whole.share()?),
+            JobEnd::Memory(job) => JobEnd::Memory(Arc::try_clone(job)?),
         };
         Ok(Finished::from_ending(ending))
     }

@@ -7,7 +7,7 @@ ghost use Rattle.pf_sched.specs.Guided.{GoingBy, IsCompleteBy, MayHaveGoneBy};
 use crate::job::Job;
 use crate::trace::Trace;
 use pf_model::report::Label;
-use pf_priorities::Priorities;
+use pf_strategy::Priorities;
 use pf_system::{Spare, System};
 use pf_terms::NoMemory;
 use std::alloc::Global;

@@ -1,10 +1,10 @@
 //! Runs and shrinkings that may be asked for.
 
 ghost use Rattle.std.specs.Prelude.{◌≡◌, IfOk, Ok, MatchResult, option_map};
-ghost use Rattle.pf_fault.specs.declared.code.Code.TheVariants as code;
+ghost use Rattle.pf_errors.specs.declared.code.Code.TheVariants as code;
 ghost use Rattle.pf_model.specs.Module.{module_of as module_in};
 ghost use Rattle.pf_model.specs.Limits.{IsEdition};
-ghost use Rattle.pf_module.specs.Reading.{IsReadAs};
+ghost use Rattle.pf_check.specs.Reading.{IsReadAs};
 ghost use Rattle.pf_property.specs.Texts.{ReadsProperty};
 ghost use Rattle.pf_property.specs.Views.{property_of};
 ghost use Rattle.pf_request.specs.Job.{by_seed, root_in};
@@ -12,10 +12,10 @@ ghost use Rattle.pf_request.specs.View.{view_of_request};
 ghost use Rattle.pf_sched.specs.Asked.{Asks, IsRefusal, IsValid, NoSuch};
 
 use crate::refusal::JobRefusal;
-use pf_fault::OrNoMemory;
-use pf_module::ReadModule;
+use pf_check::ReadModule;
+use pf_errors::OrNoMemory;
 use pf_property::Property;
-use pf_request::{Kind, Request};
+use pf_request::{Request, RequestKind};
 use pf_syntax::{FunctionId, Module};
 use pf_terms::NoMemory;
 use std::alloc::Global;
@@ -31,7 +31,7 @@ pub struct Job {
     pub(crate) module: ReadModule,
     pub(crate) root: FunctionId,
     pub(crate) property: Property,
-    pub(crate) kind: Kind,
+    pub(crate) kind: RequestKind,
     limit: u32,
     edition: u32,
 }
@@ -119,7 +119,7 @@ impl Job {
             module: self.module.share()?,
             root: self.root,
             property: self.property.share()?,
-            kind: Kind::Run(self.kind.reseeded(seed)),
+            kind: RequestKind::Run(self.kind.reseeded(seed)),
             limit: self.limit,
             edition: self.edition,
         })

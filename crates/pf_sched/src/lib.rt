@@ -22,11 +22,11 @@ mod slice;
 mod trace;
 mod whole;
 
-pub use finished::{Ending, Finished};
+pub use finished::{Finished, JobEnd};
 pub use job::Job;
 pub use parked::{Parked, start};
 pub use printing::{PrintedRun, print_run};
-pub use progress::{Observer, Progress, Silent};
+pub use progress::{Observer, ShrinkingProgress, Silent};
 pub use refusal::JobRefusal;
 pub use result::{JobResult, memory_report};
 pub use result_block::Whole;

@@ -7,11 +7,11 @@ ghost use Rattle.pf_sched.specs.Views.{view_of_parked};
 
 use crate::choices::open;
 use crate::job::{Job, needs_send};
-use crate::progress::Progress;
+use crate::progress::ShrinkingProgress;
 use crate::run::Run;
 use crate::scratch::Scratch;
 use crate::shrinking::Shrinking;
-use pf_request::Kind;
+use pf_request::RequestKind;
 use pf_terms::NoMemory;
 use std::alloc::Global;
 use std::marker::Model;
@@ -20,7 +20,7 @@ use std::sync::Arc;
 /// What a job goes on with: its run, or its shrinking. Each is in a block of its own, so a parked job is moved at the
 /// cost of a few words.
 #[derive(Drop)]
-pub(crate) enum Work {
+pub(crate) enum ParkedWork {
     Run(Box<Run>),
     Shrinking(Box<Shrinking>),
 }
@@ -30,7 +30,7 @@ pub(crate) enum Work {
 #[derive(Drop)]
 pub struct Parked {
     pub(crate) job: Arc<Job>,
-    pub(crate) work: Work,
+    pub(crate) work: ParkedWork,
 }
 
 impl Model for Parked {
@@ -48,28 +48,28 @@ impl Model for Parked {
 
 impl Parked {
     /// The progress of a shrinking; none of a run.
-    pub fn progress(&self) -> Option<Progress> {
+    pub fn progress(&self) -> Option<ShrinkingProgress> {
         match &self.work {
-            Work::Run(_) => None,
-            Work::Shrinking(shrinking) => Some(shrinking.progress),
+            ParkedWork::Run(_) => None,
+            ParkedWork::Shrinking(shrinking) => Some(shrinking.progress),
         }
     }
 }
 
 /// What a job begins with.
-fn first_work(alloc: Global, job: &Job) -> Result<Work, NoMemory>
+fn first_work(alloc: Global, job: &Job) -> Result<ParkedWork, NoMemory>
     ensures work { IfOk result (λ w. IsWorkOf job.now w) }
     ensures first { IfOk result (λ w. at_of w ≡ 0) }
     ensures valid { OnOk result (IsValid job.now) }
 {
     match &job.kind {
-        Kind::Run(choices) => {
+        RequestKind::Run(choices) => {
             let run = Run::new(alloc, job, open(alloc, choices)?)?;
-            Ok(Work::Run(Box::new(alloc, run)?))
+            Ok(ParkedWork::Run(Box::new(alloc, run)?))
         }
-        Kind::Shrink { schedule, runs } => {
+        RequestKind::Shrink { schedule, runs } => {
             let shrinking = Shrinking::new(alloc, job, schedule.as_slice(), *runs)?;
-            Ok(Work::Shrinking(Box::new(alloc, shrinking)?))
+            Ok(ParkedWork::Shrinking(Box::new(alloc, shrinking)?))
         }
     }
 }

@@ -2,13 +2,13 @@
 
 ghost use Rattle.std.specs.Prelude.{◌≡◌, ◌++◌, ◌∷◌, ◌<◌, [], List, ℕ, zero, IfErr, IfOk, Option, OnOk};
 ghost use Rattle.pf_model.specs.Meaning as model;
-ghost use Rattle.pf_model.specs.Reports.{actor_of, event_of, label_of};
+ghost use Rattle.pf_model.specs.Reports.{actor_of, view_of_event, label_of};
 ghost use Rattle.pf_request.specs.Job as request;
 ghost use Rattle.pf_trace.specs.Written.{AreWrittenSoFar, gone_from};
 ghost use Rattle.pf_sched.specs.Asked.{IsValid};
 ghost use Rattle.pf_sched.specs.Parts.{Executes};
-ghost use Rattle.pf_sched.specs.Printing.{CutsShort, HasPrinted, HasStopped, IsPrinted, Prints, PrintsOn, names_in};
-ghost use Rattle.pf_sched.specs.Slices.{IsOver};
+ghost use Rattle.pf_sched.specs.Printing.{CutsShort, HasPrinted, HasStopped, IsPrinted, PrintsRun, PrintsOn, atom_names_of};
+ghost use Rattle.pf_sched.specs.Slices.{IsRunOver};
 ghost use Rattle.pf_sched.specs.Told.{event};
 ghost use Rattle.pf_sched.specs.declared.printing.Printer.{Printer};
 
@@ -17,7 +17,7 @@ use crate::execution::{Chosen, Execution};
 use crate::job::Job;
 use crate::scratch::Scratch;
 use crate::whole::{Judged, first_execution, judge};
-use pf_fault::OrNoMemory;
+use pf_errors::OrNoMemory;
 use pf_model::report::{Event, Label};
 use pf_property::Property;
 use pf_terms::{AtomTable, Counted, NoMemory, StreamFault};
@@ -39,7 +39,7 @@ pub(crate) struct Printer<'a> {
 impl<'a> Printer<'a> {
     /// No event.
     pub fn new(alloc: Global, job: &'a Job) -> Printer<'a>
-        ensures told { Prints result job.now.asked [] }
+        ensures told { PrintsRun result job.now.asked [] }
         ensures gone { gone_from result.pieces ≡ [] }
     {
         Printer {
@@ -52,8 +52,8 @@ impl<'a> Printer<'a> {
 
     /// Adds the line of an event, and keeps what a verdict needs of it.
     fn add(&mut self, told: &Event) -> Result<(), NoMemory>
-        ensures told { OnOk result ((j : model.Job) (es : List model.Event) → Prints self.old j es
-            → Prints self.new j (es ++ event_of told.now ∷ [])) }
+        ensures told { OnOk result ((j : model.Job) (es : List model.Event) → PrintsRun self.old j es
+            → PrintsRun self.new j (es ++ view_of_event told.now ∷ [])) }
         ensures gone { self.new.pieces.gone ≡ self.old.pieces.gone }
     {
         self.pieces.add(self.atoms, told)?;
@@ -63,8 +63,8 @@ impl<'a> Printer<'a> {
 
     /// The same of an event that an actor showed, of which the label is taken.
     fn tell(&mut self, chosen: Chosen, shown: &mut Label) -> Result<(), NoMemory>
-        ensures told { OnOk result ((j : model.Job) (es : List model.Event) → Prints self.old j es
-            → Prints self.new j (es ++ event chosen.index chosen.among (actor_of chosen.actor) (label_of shown.old) ∷ [])) }
+        ensures told { OnOk result ((j : model.Job) (es : List model.Event) → PrintsRun self.old j es
+            → PrintsRun self.new j (es ++ event chosen.index chosen.among (actor_of chosen.actor) (label_of shown.old) ∷ [])) }
         ensures gone { self.new.pieces.gone ≡ self.old.pieces.gone }
     {
         let label = mem::replace(shown, Label::Waits);
@@ -120,11 +120,11 @@ fn print_events<W: Write, M: Ledger>(
 ) -> Result<(), OrNoMemory<StreamFault>>
     requires limit { job.now.asked.limit ≡ limit }
     requires first { Executes job.now job.now.asked.choices [] execution.old }
-    requires told { Prints printer.old job.now.asked [] }
+    requires told { PrintsRun printer.old job.now.asked [] }
     requires gone { gone_from printer.old.pieces ≡ [] }
     ensures printed { OnOk result ((es : List model.Event) × IsPrinted job.now job.now.asked.choices es
         execution.new printer.new (W.contents writer.old.inner) (W.contents writer.new.inner)
-        × IsOver job.now.asked.limit execution.new) }
+        × IsRunOver job.now.asked.limit execution.new) }
     ensures kept { OnOk result (writer.new.failures.total ≡ writer.old.failures.total) }
     ensures fault { IfErr result (λ e. CutsShort e job.now job.now.asked.choices
         (W.contents writer.old.inner) (W.contents writer.new.inner)
@@ -160,17 +160,17 @@ fn print_rest<W: Write, M: Ledger>(
     writer: &mut Counted<W, M>,
 ) -> Result<PrintedRun, OrNoMemory<StreamFault>>
     requires valid { IsValid job.now }
-    requires written { AreWrittenSoFar (names_in job.now) pieces.lines }
+    requires written { AreWrittenSoFar (atom_names_of job.now) pieces.lines }
     ensures printed { IfOk result (λ v. (es : List model.Event) (p : Printer) (w0 : Option (List ℕ))
         → p.pieces ≡ pieces → p.evidence ≡ evidence
         → IsPrinted job.now job.now.asked.choices es execution.now p w0 (W.contents writer.old.inner)
-        → IsOver job.now.asked.limit execution.now
+        → IsRunOver job.now.asked.limit execution.now
         → HasPrinted job.now v w0 (W.contents writer.new.inner)) }
     ensures kept { OnOk result (writer.new.failures.total ≡ writer.old.failures.total) }
     ensures fault { IfErr result (λ e. (es : List model.Event) (p : Printer) (w0 : Option (List ℕ))
         → p.pieces ≡ pieces → p.evidence ≡ evidence
         → IsPrinted job.now job.now.asked.choices es execution.now p w0 (W.contents writer.old.inner)
-        → IsOver job.now.asked.limit execution.now
+        → IsRunOver job.now.asked.limit execution.now
         → HasStopped e job.now w0 (W.contents writer.new.inner)
         writer.old.failures.total writer.new.failures.total) }
 {

@@ -3,7 +3,7 @@
 ghost use Rattle.std.specs.Prelude.{◌≡◌};
 ghost use Rattle.pf_sched.specs.Views.{code_of};
 
-use pf_fault::Code;
+use pf_errors::Code;
 
 /// Why a run can't be asked for.
 #[derive(Clone, Copy, Debug, PartialEq, Eq)]

@@ -14,7 +14,7 @@ use std::sync::Arc;
 
 /// A job, and its result.
 #[derive(Drop)]
-struct Came {
+struct JobWithResult {
     job: Arc<Job>,
     result: JobResult,
 }
@@ -22,7 +22,7 @@ struct Came {
 /// A job whose result is whole. Both are in one block, which many may hold.
 #[derive(Drop)]
 pub struct Whole {
-    came: Arc<Came>,
+    came: Arc<JobWithResult>,
 }
 
 impl Model for Whole {
@@ -46,10 +46,10 @@ impl Whole {
         ensures whole { IfOk result (λ w. w ≡ view_of_finished job.value (result_of came)) }
         ensures job { IfErr result (λ j. j ≡ job) }
     {
-        match Arc::new(alloc, Came { job, result: came }) {
+        match Arc::new(alloc, JobWithResult { job, result: came }) {
             Ok(came) => Ok(Whole { came }),
             Err(failed) => {
-                let Came { job, result: _ } = failed.value;
+                let JobWithResult { job, result: _ } = failed.value;
                 Err(job)
             }
         }

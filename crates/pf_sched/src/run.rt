@@ -5,13 +5,13 @@ ghost use Rattle.pf_model.specs.Meaning as model;
 ghost use Rattle.pf_trace.specs.Written.{events_of};
 ghost use Rattle.pf_sched.specs.Asked.{IsValid};
 ghost use Rattle.pf_sched.specs.Parts.{IsRunBy, events_in};
-ghost use Rattle.pf_sched.specs.Slices.{IsOver, IsReportBy, RunAdvances};
+ghost use Rattle.pf_sched.specs.Slices.{IsRunOver, IsReportBy, RunAdvances};
 ghost use Rattle.pf_sched.specs.Traces.{Makes};
 
 use crate::execution::Execution;
 use crate::job::Job;
 use crate::scratch::Scratch;
-use crate::trace::{Writer, Written};
+use crate::trace::{Writer, WrittenEvents};
 use pf_choice::Choices;
 use pf_system::Spare;
 use pf_terms::NoMemory;
@@ -23,7 +23,7 @@ use std::mem;
 #[derive(Drop)]
 pub(crate) struct Run {
     pub execution: Execution,
-    pub written: Written,
+    pub written: WrittenEvents,
 }
 
 impl Run {
@@ -34,7 +34,7 @@ impl Run {
         ensures first { IfOk result (λ r. length (events_in r) ≡ 0) }
     {
         let execution = Execution::new(alloc, job, choices, Spare::new(alloc))?;
-        let written = Written::new(alloc);
+        let written = WrittenEvents::new(alloc);
         Ok(Run { execution, written })
     }
 
@@ -57,7 +57,7 @@ impl Run {
         ensures run { IfOk result (RunAdvances job.now self.old self.new turns) }
         ensures valid { OnOk result (IsValid job.now) }
     {
-        let written = mem::replace(&mut self.written, Written::new(alloc));
+        let written = mem::replace(&mut self.written, WrittenEvents::new(alloc));
         let mut writer = Writer::new(job, written);
         let went = self
             .execution
@@ -69,7 +69,7 @@ impl Run {
     /// The report of a run that is over.
     pub fn report(self, alloc: Global, job: &Job) -> Result<WrittenReport, NoMemory>
         ensures { IfOk result (λ r. (cs : model.Choices) → IsRunBy job.now cs self
-            → IsOver job.now.asked.limit self.execution
+            → IsRunOver job.now.asked.limit self.execution
             → IsReportBy job.now cs r × (events_of r.lines ≡ events_in self)) }
     {
         let Run { execution, written } = self;

@@ -4,20 +4,20 @@ ghost use Rattle.std.specs.Prelude.{◌≡◌, ◌+◌, ◌-◌, ◌<◌, IfOk, 
 ghost use Rattle.pf_terms.specs.Atoms.{name_of};
 ghost use Rattle.pf_model.specs.Meaning as model;
 ghost use Rattle.pf_model.specs.Shrinking.{is_failure};
-ghost use Rattle.pf_shrink.specs.Hunts.{found_of, next_of, told_of};
+ghost use Rattle.pf_shrink.specs.Hunts.{found_of, next_of, after_answer};
 ghost use Rattle.pf_request.specs.Job as request;
 ghost use Rattle.pf_sched.specs.Asked.{IsValid};
 ghost use Rattle.pf_sched.specs.Parts.{IsHuntOf, IsShrinkingOf, KeepsReport, events_so_far, stands_at};
-ghost use Rattle.pf_sched.specs.Slices.{Follows, GoesOn, IsOver, OpensNext, RunAdvances, TellsFound, runs_left};
+ghost use Rattle.pf_sched.specs.Slices.{NextRunFollows, ShrinkingGoesOn, IsRunOver, OpensNext, RunAdvances, TellsFound, runs_left};
 ghost use Rattle.pf_sched.specs.Views.{IsWritten, result_of};
 
 use crate::job::Job;
-use crate::progress::Progress;
+use crate::progress::ShrinkingProgress;
 use crate::result::JobResult;
 use crate::run::Run;
 use crate::scratch::Scratch;
 use pf_choice::Choices;
-use pf_shrink::Hunt;
+use pf_shrink::ShrinkingSearch;
 use pf_terms::NoMemory;
 use pf_trace::WrittenReport;
 use std::alloc::Global;
@@ -27,16 +27,16 @@ use std::alloc::Global;
 /// observer.
 #[derive(Drop)]
 pub(crate) struct Shrinking {
-    pub hunt: Hunt,
+    pub hunt: ShrinkingSearch,
     pub run: Run,
     pub report: Option<WrittenReport>,
     pub before: u64,
-    pub progress: Progress,
+    pub progress: ShrinkingProgress,
 }
 
 /// What a shrinking goes on to.
 #[derive(Drop)]
-pub(crate) enum Advance {
+pub(crate) enum ShrinkingAdvance {
     /// It has more events.
     More(Shrinking),
     /// It is over.
@@ -44,7 +44,7 @@ pub(crate) enum Advance {
 }
 
 /// The choices of a hunt's next schedule; none at its end.
-fn next_choices(alloc: Global, hunt: &Hunt) -> Result<Option<Choices>, NoMemory>
+fn next_choices(alloc: Global, hunt: &ShrinkingSearch) -> Result<Option<Choices>, NoMemory>
     ensures { IfOk result (λ o. OpensNext (next_of hunt.now) o) }
 {
     match hunt.next() {
@@ -54,7 +54,11 @@ fn next_choices(alloc: Global, hunt: &Hunt) -> Result<Option<Choices>, NoMemory>
 }
 
 /// What a hunt found, with the report of its schedule.
-fn found(alloc: Global, hunt: &Hunt, report: Option<WrittenReport>) -> Result<JobResult, NoMemory>
+fn found(
+    alloc: Global,
+    hunt: &ShrinkingSearch,
+    report: Option<WrittenReport>,
+) -> Result<JobResult, NoMemory>
     requires ended { IsNone (next_of hunt.now) }
     requires report { IsSome (found_of hunt.now) → IsSome report }
     ensures told { IfOk result (λ r. (j : request.Job) → KeepsReport j.asked (stands_at hunt.now) report
@@ -74,9 +78,13 @@ fn found(alloc: Global, hunt: &Hunt, report: Option<WrittenReport>) -> Result<Jo
 
 /// Answers a hunt whether its next schedule fails, by the report of its run; the report of the schedule that is the
 /// hunt's current one then.
-fn tell(hunt: &mut Hunt, kept: Option<WrittenReport>, ended: WrittenReport) -> Option<WrittenReport>
+fn tell(
+    hunt: &mut ShrinkingSearch,
+    kept: Option<WrittenReport>,
+    ended: WrittenReport,
+) -> Option<WrittenReport>
     requires { IsSome (next_of hunt.old) }
-    ensures told { hunt.new ≡ told_of (is_failure ended.verdict) hunt.old }
+    ensures told { hunt.new ≡ after_answer (is_failure ended.verdict) hunt.old }
     ensures kept { result ≡ (if is_failure ended.verdict then Some ended else kept) }
 {
     let fails = matches!(ended.verdict, Some(false));
@@ -88,24 +96,24 @@ fn tell(hunt: &mut Hunt, kept: Option<WrittenReport>, ended: WrittenReport) -> O
 fn begin(
     alloc: Global,
     job: &Job,
-    hunt: Hunt,
+    hunt: ShrinkingSearch,
     report: Option<WrittenReport>,
     before: u64,
-    progress: Progress,
-) -> Result<Advance, NoMemory>
+    progress: ShrinkingProgress,
+) -> Result<ShrinkingAdvance, NoMemory>
     requires hunt { IsHuntOf job.now.asked hunt before }
     requires report { KeepsReport job.now.asked (stands_at hunt) report }
-    ensures { IfOk result (λ p. Follows job.now before (runs_left hunt) p) }
+    ensures { IfOk result (λ p. NextRunFollows job.now before (runs_left hunt) p) }
 {
     match next_choices(alloc, &hunt)? {
-        Some(choices) => Ok(Advance::More(Shrinking {
+        Some(choices) => Ok(ShrinkingAdvance::More(Shrinking {
             run: Run::new(alloc, job, choices)?,
             hunt,
             report,
             before,
             progress,
         })),
-        None => Ok(Advance::Over(found(alloc, &hunt, report)?)),
+        None => Ok(ShrinkingAdvance::Over(found(alloc, &hunt, report)?)),
     }
 }
 
@@ -120,11 +128,11 @@ impl Shrinking {
     {
         let choices = Choices::schedule(Vec::from_slice(alloc, schedule)?);
         Ok(Shrinking {
-            hunt: Hunt::new(Vec::from_slice(alloc, schedule)?, runs),
+            hunt: ShrinkingSearch::new(Vec::from_slice(alloc, schedule)?, runs),
             run: Run::new(alloc, job, choices)?,
             report: None,
             before: 0,
-            progress: Progress::new(schedule.len()),
+            progress: ShrinkingProgress::new(schedule.len()),
         })
     }
 
@@ -145,11 +153,11 @@ impl Shrinking {
 
     /// What follows a run that is over: the hunt gets the answer whether it failed, and the report of one that did is
     /// kept.
-    fn follow(self, alloc: Global, job: &Job) -> Result<Advance, NoMemory>
+    fn follow(self, alloc: Global, job: &Job) -> Result<ShrinkingAdvance, NoMemory>
         requires valid { IsValid job.now }
         requires shrinking { IsShrinkingOf job.now self }
-        requires over { IsOver job.now.asked.limit self.run.execution }
-        ensures { IfOk result (λ p. Follows job.now (events_so_far self) (runs_left self.hunt - 1) p) }
+        requires over { IsRunOver job.now.asked.limit self.run.execution }
+        ensures { IfOk result (λ p. NextRunFollows job.now (events_so_far self) (runs_left self.hunt - 1) p) }
     {
         let Shrinking {
             mut hunt,
@@ -173,21 +181,21 @@ impl Shrinking {
         job: &Job,
         scratch: &mut Scratch,
         turns: u32,
-    ) -> Result<Advance, NoMemory>
+    ) -> Result<ShrinkingAdvance, NoMemory>
         requires { IsShrinkingOf job.now self }
-        ensures { IfOk result (λ p. GoesOn job.now (events_so_far self + turns) p) }
+        ensures { IfOk result (λ p. ShrinkingGoesOn job.now (events_so_far self + turns) p) }
     {
         let mut shrinking = self;
         let mut left = turns;
         loop {
             let had = shrinking.run.len();
             if !shrinking.go(alloc, job, scratch, left)? {
-                return Ok(Advance::More(shrinking));
+                return Ok(ShrinkingAdvance::More(shrinking));
             }
             left -= (shrinking.run.len() - had) as u32;
             match shrinking.follow(alloc, job)? {
-                Advance::More(next) => shrinking = next,
-                Advance::Over(result) => return Ok(Advance::Over(result)),
+                ShrinkingAdvance::More(next) => shrinking = next,
+                ShrinkingAdvance::Over(result) => return Ok(ShrinkingAdvance::Over(result)),
             }
         }
     }

@@ -2,17 +2,17 @@
 
 ghost use Rattle.std.specs.Prelude.{◌≡◌, ◌⊎◌, ◌<◌, IfOk, length};
 ghost use Rattle.pf_sched.specs.Parts.{IsRunOf, IsShrinkingOf, events_in, events_so_far};
-ghost use Rattle.pf_sched.specs.Slices.{EndsBy, IsOver, Sliced};
+ghost use Rattle.pf_sched.specs.Slices.{EndsBy, IsRunOver, Sliced};
 ghost use Rattle.pf_sched.specs.Views.{view_of_parked, without_memory};
 
 use crate::finished::Finished;
 use crate::job::Job;
-use crate::parked::{Parked, Work, start};
+use crate::parked::{Parked, ParkedWork, start};
 use crate::progress::Observer;
 use crate::result::JobResult;
 use crate::run::Run;
 use crate::scratch::Scratch;
-use crate::shrinking::{Advance, Shrinking};
+use crate::shrinking::{Shrinking, ShrinkingAdvance};
 use pf_terms::NoMemory;
 use std::alloc::Global;
 use std::sync::Arc;
@@ -32,7 +32,7 @@ const TURNS: u32 = 256;
 /// The end of a run that is over.
 fn finish(alloc: Global, job: Arc<Job>, run: Run) -> Finished
     requires run { IsRunOf job.value run }
-    requires over { IsOver job.value.asked.limit run.execution }
+    requires over { IsRunOver job.value.asked.limit run.execution }
     ensures job { result.job ≡ job.value }
     ensures result { EndsBy job.value (length (events_in run)) result.result
         ⊎ (result.result ≡ without_memory) }
@@ -57,7 +57,7 @@ fn slice_of_run(
     match run.go_on(alloc, &job, scratch, turns) {
         Ok(false) => Slice::More(Parked {
             job,
-            work: Work::Run(run),
+            work: ParkedWork::Run(run),
         }),
         Ok(true) => Slice::Done(finish(alloc, job, Box::into_inner(run))),
         Err(NoMemory) => Slice::Done(Finished::without_memory(job)),
@@ -76,14 +76,14 @@ fn slice_of_shrinking(
     ensures { Sliced (view_of_parked job.value (events_so_far shrinking.value)) turns result }
 {
     match Box::into_inner(shrinking).advance(alloc, &job, scratch, turns) {
-        Ok(Advance::More(shrinking)) => match Box::new(alloc, shrinking) {
+        Ok(ShrinkingAdvance::More(shrinking)) => match Box::new(alloc, shrinking) {
             Ok(shrinking) => Slice::More(Parked {
                 job,
-                work: Work::Shrinking(shrinking),
+                work: ParkedWork::Shrinking(shrinking),
             }),
             Err(_) => Slice::Done(Finished::without_memory(job)),
         },
-        Ok(Advance::Over(result)) => Slice::Done(Finished::whole(alloc, job, result)),
+        Ok(ShrinkingAdvance::Over(result)) => Slice::Done(Finished::whole(alloc, job, result)),
         Err(NoMemory) => Slice::Done(Finished::without_memory(job)),
     }
 }
@@ -97,8 +97,10 @@ pub fn run_slice(alloc: Global, parked: Parked, scratch: &mut Scratch, turns: u3
 {
     let Parked { job, work } = parked;
     match work {
-        Work::Run(run) => slice_of_run(alloc, job, run, scratch, turns),
-        Work::Shrinking(shrinking) => slice_of_shrinking(alloc, job, shrinking, scratch, turns),
+        ParkedWork::Run(run) => slice_of_run(alloc, job, run, scratch, turns),
+        ParkedWork::Shrinking(shrinking) => slice_of_shrinking(
+            alloc, job, shrinking, scratch, turns,
+        ),
     }
 }
 

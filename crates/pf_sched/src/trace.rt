@@ -2,12 +2,12 @@
 
 ghost use Rattle.std.specs.Prelude.{◌≡◌, ◌||◌, ℕ, List, [], false, OnOk, map};
 ghost use Rattle.pf_model.specs.Meaning as model;
-ghost use Rattle.pf_model.specs.Reports.{actor_of, event_of, label_of};
+ghost use Rattle.pf_model.specs.Reports.{actor_of, view_of_event, label_of};
 ghost use Rattle.pf_property.specs.Judging.{rules_out};
 ghost use Rattle.pf_property.specs.Views.{property_of};
 ghost use Rattle.pf_trace.specs.Written.{AreWrittenSoFar, told_so_far};
 ghost use Rattle.pf_sched.specs.Evidence.{Shows};
-ghost use Rattle.pf_sched.specs.Told.{Hears, Lists, Writes, event};
+ghost use Rattle.pf_sched.specs.Told.{Hears, ListsEvents, WritesEvents, event};
 
 use crate::evidence::Evidence;
 use crate::job::Job;
@@ -38,7 +38,7 @@ pub(crate) trait Trace {
 
 /// The events themselves.
 impl Trace for Vec<Event> {
-    ghost Told = { Lists };
+    ghost Told = { ListsEvents };
 
     fn tell(
         &mut self,
@@ -76,25 +76,25 @@ impl Trace for Vec<u32> {
 
 /// What a verdict needs of the events, of which none is kept.
 #[derive(Drop)]
-pub(crate) struct Seen<'a> {
+pub(crate) struct SeenEvents<'a> {
     property: &'a Property,
     pub evidence: Evidence,
 }
 
-impl<'a> Seen<'a> {
+impl<'a> SeenEvents<'a> {
     /// No event.
-    pub fn new(property: &'a Property) -> Seen<'a>
+    pub fn new(property: &'a Property) -> SeenEvents<'a>
         ensures { (j : model.Job) → property_of property.now ≡ j.property
             → Shows (property_of result.property.now) result.evidence j [] }
     {
-        Seen {
+        SeenEvents {
             property,
             evidence: Evidence::new(),
         }
     }
 }
 
-impl Trace for Seen<'_> {
+impl Trace for SeenEvents<'_> {
     ghost Told = { λ s. Shows (property_of s.property.now) s.evidence };
 
     fn tell(
@@ -112,19 +112,19 @@ impl Trace for Seen<'_> {
 /// What is written of the events of a run, of which none is kept: their lines, and whether the label of one rules the
 /// property out.
 #[derive(Drop)]
-pub(crate) struct Written {
+pub(crate) struct WrittenEvents {
     pub lines: LinesSoFar,
     pub ruled_out: bool,
 }
 
-impl Written {
+impl WrittenEvents {
     /// No event.
-    pub fn new(alloc: Global) -> Written
+    pub fn new(alloc: Global) -> WrittenEvents
         ensures none { told_so_far result.lines ≡ [] }
         ensures written { (name : ℕ → List ℕ) → AreWrittenSoFar name result.lines }
         ensures clear { result.ruled_out ≡ false }
     {
-        Written {
+        WrittenEvents {
             lines: LinesSoFar::new(alloc),
             ruled_out: false,
         }
@@ -145,12 +145,12 @@ impl Written {
 pub(crate) struct Writer<'a> {
     property: &'a Property,
     atoms: &'a AtomTable,
-    pub written: Written,
+    pub written: WrittenEvents,
 }
 
 impl<'a> Writer<'a> {
     /// Goes on with what is written so far.
-    pub fn new(job: &'a Job, written: Written) -> Writer<'a>
+    pub fn new(job: &'a Job, written: WrittenEvents) -> Writer<'a>
         ensures property { property_of result.property.now ≡ job.now.asked.property }
         ensures atoms { result.atoms.now ≡ job.now.asked.code.atoms }
         ensures written { result.written ≡ written }
@@ -164,7 +164,7 @@ impl<'a> Writer<'a> {
 
     /// Writes the line of an event, and keeps whether its label rules the property out.
     fn add(&mut self, told: &Event) -> Result<(), NoMemory>
-        ensures { OnOk result (Hears Writes self.old (event_of told.now) self.new) }
+        ensures { OnOk result (Hears WritesEvents self.old (view_of_event told.now) self.new) }
     {
         self.written.lines.add(self.atoms, told)?;
         self.written.see(self.property, &told.label);
@@ -173,7 +173,7 @@ impl<'a> Writer<'a> {
 }
 
 impl Trace for Writer<'_> {
-    ghost Told = { Writes };
+    ghost Told = { WritesEvents };
 
     fn tell(
         &mut self,

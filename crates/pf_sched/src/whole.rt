@@ -3,10 +3,10 @@
 ghost use Rattle.std.specs.Prelude.{◌≡◌, ◌≤◌, [], ℕ, zero, IfOk, List, length, map};
 ghost use Rattle.pf_model.specs.Meaning as model;
 ghost use Rattle.pf_model.specs.Meaning.{Means};
-ghost use Rattle.pf_model.specs.Reports.{event_of, report_of};
+ghost use Rattle.pf_model.specs.Reports.{view_of_event, view_of_report};
 ghost use Rattle.pf_model.specs.Shrinking.{by_schedule};
 ghost use Rattle.pf_strategy.specs.Runs.{MeansByPriorities};
-ghost use Rattle.pf_sched.specs.Closing.{Closes};
+ghost use Rattle.pf_sched.specs.Closing.{ClosesRun};
 ghost use Rattle.pf_sched.specs.Evidence.{Shows};
 ghost use Rattle.pf_sched.specs.Guided.{GoingBy};
 ghost use Rattle.pf_sched.specs.Judging.{IsJudged, Judges, JudgesByPriorities};
@@ -18,9 +18,9 @@ use crate::execution::Execution;
 use crate::guided::Guided;
 use crate::job::Job;
 use crate::scratch::Scratch;
-use crate::trace::Seen;
+use crate::trace::SeenEvents;
 use pf_model::report::{Event, Outcome, Report};
-use pf_request::Kind;
+use pf_request::RequestKind;
 use pf_system::{Spare, System};
 use pf_terms::NoMemory;
 use std::alloc::Global;
@@ -40,8 +40,8 @@ pub(crate) fn first_execution(alloc: Global, job: &Job, spare: Spare) -> Result<
     ensures { IfOk result (λ x. Executes job.now job.now.asked.choices [] x) }
 {
     match &job.kind {
-        Kind::Run(choices) => Execution::new(alloc, job, open(alloc, choices)?, spare),
-        Kind::Shrink { .. } => unreachable!(),
+        RequestKind::Run(choices) => Execution::new(alloc, job, open(alloc, choices)?, spare),
+        RequestKind::Shrink { .. } => unreachable!(),
     }
 }
 
@@ -52,7 +52,7 @@ fn report_of_events(
     system: &System,
     mut events: Vec<Event>,
 ) -> Result<Report, NoMemory>
-    ensures { IfOk result (λ r. Closes job.now (map event_of events.items) system.now (report_of r)) }
+    ensures { IfOk result (λ r. ClosesRun job.now (map view_of_event events.items) system.now (view_of_report r)) }
 {
     let outcome = system.outcome(alloc)?;
     let steps = system.steps();
@@ -75,7 +75,7 @@ pub(crate) fn judge(
 ) -> Result<Judged, NoMemory>
     ensures { IfOk result (λ v. (es : List model.Event) → length es ≤ job.now.asked.limit
         → Shows job.now.asked.property evidence job.now.asked es
-        → (r : model.Report) × Closes job.now es system.now r × IsJudged r v) }
+        → (r : model.Report) × ClosesRun job.now es system.now r × IsJudged r v) }
 {
     let outcome = system.outcome(alloc)?;
     let verdict = job.property.judge(evidence.ruled_out, &outcome);
@@ -95,7 +95,7 @@ fn report_of_execution(
 ) -> Result<Report, NoMemory>
     requires { (cs : model.Choices) × Executes job.now cs [] execution.old }
     ensures { IfOk result (λ r. (cs : model.Choices) → Executes job.now cs [] execution.old
-        → Means (record job.now.asked { choices = cs }) (report_of r)) }
+        → Means (record job.now.asked { choices = cs }) (view_of_report r)) }
 {
     let mut events = Vec::new(alloc);
     execution.complete(alloc, job, &mut events)?;
@@ -112,7 +112,7 @@ fn report_to_end(
 ) -> Result<Report, NoMemory>
     requires { (cs : model.Choices) × Executes job.now cs [] execution }
     ensures { IfOk result (λ r. (cs : model.Choices) → Executes job.now cs [] execution
-        → Means (record job.now.asked { choices = cs }) (report_of r)) }
+        → Means (record job.now.asked { choices = cs }) (view_of_report r)) }
 {
     let report = report_of_execution(alloc, job, &mut execution);
     scratch.put_spare(execution.system.into_spare());
@@ -122,7 +122,7 @@ fn report_to_end(
 /// The report of a job that is one run. What is in the scratch makes no difference.
 pub fn report_of_run(alloc: Global, job: &Job, scratch: &mut Scratch) -> Result<Report, NoMemory>
     requires { job.now.asked.runs ≡ zero }
-    ensures { IfOk result (λ r. Means job.now.asked (report_of r)) }
+    ensures { IfOk result (λ r. Means job.now.asked (view_of_report r)) }
 {
     let execution = first_execution(alloc, job, scratch.take_spare(alloc))?;
     report_to_end(alloc, job, execution, scratch)
@@ -136,7 +136,7 @@ pub fn report_by_schedule(
     schedule: &[u32],
     scratch: &mut Scratch,
 ) -> Result<Report, NoMemory>
-    ensures { IfOk result (λ r. Means (by_schedule job.now.asked schedule.now) (report_of r)) }
+    ensures { IfOk result (λ r. Means (by_schedule job.now.asked schedule.now) (view_of_report r)) }
 {
     let choices = of_schedule(alloc, schedule)?;
     let execution = Execution::new(alloc, job, choices, scratch.take_spare(alloc))?;
@@ -148,7 +148,7 @@ fn judge_execution(alloc: Global, job: &Job, execution: &mut Execution) -> Resul
     requires { Executes job.now job.now.asked.choices [] execution.old }
     ensures { IfOk result (λ v. Judges job.now.asked v) }
 {
-    let mut seen = Seen::new(&job.property);
+    let mut seen = SeenEvents::new(&job.property);
     execution.complete(alloc, job, &mut seen)?;
     let judged = judge(alloc, job, &execution.system, seen.evidence)?;
     Ok(judged)
@@ -169,7 +169,7 @@ pub fn judged_run(alloc: Global, job: &Job, scratch: &mut Scratch) -> Result<Jud
 /// The report of a run by the priorities of a seed, from its first event on.
 fn report_of_guided(alloc: Global, job: &Job, guided: &mut Guided) -> Result<Report, NoMemory>
     ensures { IfOk result (λ r. (seed : ℕ) → GoingBy job.now seed [] guided.old
-        → MeansByPriorities job.now.asked seed (report_of r)) }
+        → MeansByPriorities job.now.asked seed (view_of_report r)) }
 {
     let mut events = Vec::new(alloc);
     guided.complete(alloc, job, &mut events)?;
@@ -182,7 +182,7 @@ fn judge_guided(alloc: Global, job: &Job, guided: &mut Guided) -> Result<Judged,
     ensures { IfOk result (λ v. (seed : ℕ) → GoingBy job.now seed [] guided.old
         → JudgesByPriorities job.now.asked seed v) }
 {
-    let mut seen = Seen::new(&job.property);
+    let mut seen = SeenEvents::new(&job.property);
     guided.complete(alloc, job, &mut seen)?;
     let judged = judge(alloc, job, &guided.system, seen.evidence)?;
     Ok(judged)
@@ -196,7 +196,7 @@ pub fn report_by_priorities(
     seed: u64,
     scratch: &mut Scratch,
 ) -> Result<Report, NoMemory>
-    ensures { IfOk result (λ r. MeansByPriorities job.now.asked seed (report_of r)) }
+    ensures { IfOk result (λ r. MeansByPriorities job.now.asked seed (view_of_report r)) }
 {
     let mut guided = Guided::new(alloc, job, seed, scratch.take_spare(alloc))?;
     let report = report_of_guided(alloc, job, &mut guided);

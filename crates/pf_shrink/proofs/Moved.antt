@@ -3,7 +3,7 @@ use Rattle.std.proofs.Common.{◌≡◌, ℕ, zero, suc, ◌+◌, ◌-◌, ◌/�
 use Rattle.std.specs.List.{slice_rotate_right, swap}
 use Rattle.std.proofs.lemmas.List.{drop_more, drop_all, length-set, get_or-set_same, take-set, get_or_push, take_at, length_push}
 use Rattle.std.proofs.lemmas.List.Edits.{swap_is}
-use Rattle.pf_model.specs.Shrinking.{behind, without_last, without_one, halved, candidates}
+use Rattle.pf_model.specs.Shrinking.{with_beginnings, without_last, without_one, halved, candidates}
 use Rattle.pf_shrink.specs.Rounds.{from_position}
 use Rattle.pf_shrink.specs.Kept.{with_last_at}
 
@@ -58,7 +58,7 @@ without_last_is l [] e = absurd (omega arith)
 without_last_is zero (n ∷ []) e = refl
 without_last_is (suc l) (n ∷ []) e = absurd (omega arith)
 without_last_is zero (n ∷ m ∷ ns) e = absurd (omega arith)
-without_last_is (suc l) (n ∷ m ∷ ns) e = ap (behind n) (without_last_is l (m ∷ ns) (omega arith))
+without_last_is (suc l) (n ∷ m ∷ ns) e = ap (with_beginnings n) (without_last_is l (m ∷ ns) (omega arith))
 
 pub candidates_are : (l : ℕ) (ns : List ℕ) → length ns ≡ suc l → candidates ns ≡ take l ns ∷ (without_one ns ++ halved ns)
 candidates_are l ns e = ap (λ cs. cs ++ without_one ns ++ halved ns) (without_last_is l ns e)
@@ -71,30 +71,30 @@ without_moved i (suc l) [] e h = absurd (omega arith)
 without_moved zero (suc l) (n ∷ ns) e h =
     let r : with_last_at 0 (n ∷ ns) ≡ get_or ns l 0 ∷ n ∷ take l ns = rotated (suc l) (n ∷ ns) e in
     ap without_one r ∙ ap (λ s. (n ∷ take l ns) ∷ from_position without_one 1 s) (sym r)
-without_moved (suc i) (suc l) (n ∷ ns) e h = ap (behind n) (without_moved i l ns (omega arith) (omega arith))
+without_moved (suc i) (suc l) (n ∷ ns) e h = ap (with_beginnings n) (without_moved i l ns (omega arith) (omega arith))
 
 -- the last number is left out first, and not again
 pub without_end : (i : ℕ) (ns : List ℕ) → suc i ≡ length ns → from_position without_one i ns ≡ []
 without_end i [] e = absurd (omega arith)
 without_end zero (n ∷ []) e = refl
 without_end zero (n ∷ m ∷ ns) e = absurd (omega arith)
-without_end (suc i) (n ∷ ns) e = ap (behind n) (without_end i ns (omega arith))
+without_end (suc i) (n ∷ ns) e = ap (with_beginnings n) (without_end i ns (omega arith))
 
 pub halved_at : (i : ℕ) (ns : List ℕ) → i < length ns → 0 < get_or ns i 0
     → from_position halved i ns ≡ slice_set ns i (get_or ns i 0 / 2) ∷ from_position halved (suc i) ns
 halved_at i [] l h = absurd (omega arith)
 halved_at zero (zero ∷ ns) l h = absurd (omega arith)
 halved_at zero (suc n ∷ ns) l h = refl
-halved_at (suc i) (n ∷ ns) l h = ap (behind n) (halved_at i ns (omega arith) h)
+halved_at (suc i) (n ∷ ns) l h = ap (with_beginnings n) (halved_at i ns (omega arith) h)
 
 pub zero_is_not_halved : (i : ℕ) (ns : List ℕ) → i < length ns → get_or ns i 0 ≡ 0 → from_position halved i ns ≡ from_position halved (suc i) ns
 zero_is_not_halved i [] l e = absurd (omega arith)
 zero_is_not_halved zero (zero ∷ ns) l e = refl
 zero_is_not_halved zero (suc n ∷ ns) l e = absurd (omega arith)
-zero_is_not_halved (suc i) (n ∷ ns) l e = ap (behind n) (zero_is_not_halved i ns (omega arith) e)
+zero_is_not_halved (suc i) (n ∷ ns) l e = ap (with_beginnings n) (zero_is_not_halved i ns (omega arith) e)
 
 pub halved_end : (i : ℕ) (ns : List ℕ) → length ns ≤ i → from_position halved i ns ≡ []
 halved_end zero [] l = refl
 halved_end zero (n ∷ ns) l = absurd (omega arith)
 halved_end (suc i) [] l = refl
-halved_end (suc i) (n ∷ ns) l = ap (behind n) (halved_end i ns (omega arith))
+halved_end (suc i) (n ∷ ns) l = ap (with_beginnings n) (halved_end i ns (omega arith))

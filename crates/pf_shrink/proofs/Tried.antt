@@ -2,7 +2,7 @@
 use Rattle.std.proofs.Common.{◌≡◌, ◌≤◌, ◌<◌, ◌-◌, ℕ, zero, suc, Bool, true, false, List, [], ◌∷◌, Some, None, length, refl, sym, ap, ◌∙◌, arith, if◌then◌else◌}
 use Rattle.std.specs.Prelude.{◌↔◌}
 use Rattle.pf_model.specs.Shrinking.{candidates}
-use Rattle.pf_shrink.specs.Hunts.{Hunting, begins, searches, ended, searching, next_of, told_of}
+use Rattle.pf_shrink.specs.Hunts.{Hunting, begins, searches, ended, searching, next_of, after_answer}
 use Rattle.pf_shrink.specs.Tried.{tried, tried_of_search, tried_from, TriesInOrder}
 
 module _ (fails : List ℕ → Bool) where
@@ -14,22 +14,22 @@ module _ (fails : List ℕ → Bool) where
   tried_from_search (suc k) ns (c ∷ cs) = refl
 
   after_first : (b : Bool) (k : ℕ) (ns : List ℕ)
-      → (if b then tried_of_search fails k (candidates ns) else []) ≡ tried_from fails (told_of b (begins k ns))
+      → (if b then tried_of_search fails k (candidates ns) else []) ≡ tried_from fails (after_answer b (begins k ns))
   after_first true k ns = sym (tried_from_search k ns (candidates ns))
   after_first false k ns = refl
 
   after_candidate : (b : Bool) (k : ℕ) (ns c : List ℕ) (cs : List (List ℕ))
-      → (if b then tried_of_search fails k (candidates c) else tried_of_search fails k cs) ≡ tried_from fails (told_of b (searches k ns c cs))
+      → (if b then tried_of_search fails k (candidates c) else tried_of_search fails k cs) ≡ tried_from fails (after_answer b (searches k ns c cs))
   after_candidate true k ns c cs = sym (tried_from_search k c (candidates c))
   after_candidate false k ns c cs = sym (tried_from_search k ns cs)
 
-  first_tried : (h : Hunting) (ns : List ℕ) → next_of h ≡ Some ns → tried_from fails h ≡ ns ∷ tried_from fails (told_of (fails ns) h)
+  first_tried : (h : Hunting) (ns : List ℕ) → next_of h ≡ Some ns → tried_from fails h ≡ ns ∷ tried_from fails (after_answer (fails ns) h)
   first_tried (begins k ns) ms e =
       let same : ns ≡ ms = cc in
-      ap (λ x. ns ∷ x) (after_first (fails ns) k ns) ∙ ap (λ x. x ∷ tried_from fails (told_of (fails x) (begins k ns))) same
+      ap (λ x. ns ∷ x) (after_first (fails ns) k ns) ∙ ap (λ x. x ∷ tried_from fails (after_answer (fails x) (begins k ns))) same
   first_tried (searches k ns c cs) ms e =
       let same : c ≡ ms = cc in
-      ap (λ x. c ∷ x) (after_candidate (fails c) k ns c cs) ∙ ap (λ x. x ∷ tried_from fails (told_of (fails x) (searches k ns c cs))) same
+      ap (λ x. c ∷ x) (after_candidate (fails c) k ns c cs) ∙ ap (λ x. x ∷ tried_from fails (after_answer (fails x) (searches k ns c cs))) same
   first_tried (ended f) ms e = absurd (cc)
 
   none_tried : (h : Hunting) → (next_of h ≡ None) ↔ (tried_from fails h ≡ [])

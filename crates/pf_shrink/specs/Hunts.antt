@@ -23,10 +23,10 @@ next_of (searches k ns c cs) = Some c
 next_of (ended f) = None
 
 -- after the answer whether it fails
-abbrev pub told_of : (fails : Bool) → Hunting → Hunting
-told_of b (begins k ns) = if b then searching k ns (candidates ns) else ended None
-told_of b (searches k ns c cs) = if b then searching k c (candidates c) else searching k ns cs
-told_of b (ended f) = ended f
+abbrev pub after_answer : (fails : Bool) → Hunting → Hunting
+after_answer b (begins k ns) = if b then searching k ns (candidates ns) else ended None
+after_answer b (searches k ns c cs) = if b then searching k c (candidates c) else searching k ns cs
+after_answer b (ended f) = ended f
 
 -- what has been found
 abbrev pub found_of : Hunting → Option Found
@@ -42,10 +42,10 @@ NextIsSmaller (searches k ns c cs) = IsSmaller c ns
 NextIsSmaller (ended f) = Unit {0}
 
 -- what a hunt finds in the end, where this function says which schedules fail
-abbrev pub comes_to : (List ℕ → Bool) → Hunting → Option Found
-comes_to fails (begins k ns) = shrunk fails (suc k) ns
-comes_to fails (searches k ns c cs) = Some (search fails (suc k) ns (c ∷ cs))
-comes_to fails (ended f) = f
+abbrev pub search_result : (List ℕ → Bool) → Hunting → Option Found
+search_result fails (begins k ns) = shrunk fails (suc k) ns
+search_result fails (searches k ns c cs) = Some (search fails (suc k) ns (c ∷ cs))
+search_result fails (ended f) = f
 
 -- an answer is that of this function
 abbrev pub IsAnswerOf : (List ℕ → Bool) → (fails : Bool) → Hunting → Type 0

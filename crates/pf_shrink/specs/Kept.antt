@@ -18,21 +18,21 @@ schedule_in ns (Halved i n) = slice_set ns i n
 schedule_in ns End = ns
 
 -- the candidates of a schedule from this position on
-abbrev pub left_from : Position → List ℕ → List (List ℕ)
-left_from WithoutLast ns = candidates ns
-left_from (Without i) ns = from_position without_one i ns ++ halved ns
-left_from (Halved i n) ns = from_position halved i ns
-left_from End ns = []
+abbrev pub candidates_from : Position → List ℕ → List (List ℕ)
+candidates_from WithoutLast ns = candidates ns
+candidates_from (Without i) ns = from_position without_one i ns ++ halved ns
+candidates_from (Halved i n) ns = from_position halved i ns
+candidates_from End ns = []
 
-abbrev pub left_in : List ℕ → Position → List (List ℕ)
-left_in ns p = left_from p (schedule_in ns p)
+abbrev pub candidates_left : List ℕ → Position → List (List ℕ)
+candidates_left ns p = candidates_from p (schedule_in ns p)
 
-abbrev pub kept : List ℕ → Position → Round
-kept ns p = round (schedule_in ns p) (left_in ns p)
+abbrev pub round_kept : List ℕ → Position → Round
+round_kept ns p = round (schedule_in ns p) (candidates_left ns p)
 
 -- there is such a candidate
-abbrev pub IsValid : List ℕ → Position → Type 0
-IsValid ns WithoutLast = 0 < length ns
-IsValid ns (Without i) = suc i < length ns
-IsValid ns (Halved i n) = (i < length ns) × (0 < n) × (slice_index ns i ≡ n / 2)
-IsValid ns End = Unit {0}
+abbrev pub IsPositionOf : List ℕ → Position → Type 0
+IsPositionOf ns WithoutLast = 0 < length ns
+IsPositionOf ns (Without i) = suc i < length ns
+IsPositionOf ns (Halved i n) = (i < length ns) × (0 < n) × (slice_index ns i ≡ n / 2)
+IsPositionOf ns End = Unit {0}

@@ -15,9 +15,9 @@ standing k Partial r = ended (Some (found r.schedule false))
 standing k Nothing r = ended None
 
 -- a round has candidates left only within a search, and only while there are runs; they are smaller than its schedule
-abbrev pub Stands : (runs : ℕ) → Phase → Round → Type 0
-Stands k Given r = (0 < k) × (r.left ≡ [])
-Stands zero Search r = r.left ≡ []
-Stands (suc k) Search r = AreSmaller r
-Stands k Partial r = r.left ≡ []
-Stands k Nothing r = Unit {0}
+abbrev pub IsRoundOf : (runs : ℕ) → Phase → Round → Type 0
+IsRoundOf k Given r = (0 < k) × (r.left ≡ [])
+IsRoundOf zero Search r = r.left ≡ []
+IsRoundOf (suc k) Search r = AreSmaller r
+IsRoundOf k Partial r = r.left ≡ []
+IsRoundOf k Nothing r = Unit {0}

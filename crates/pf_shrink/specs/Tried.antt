@@ -1,7 +1,7 @@
 -- The schedules that are run, in their order.
 use Rattle.std.specs.Prelude.{◌≡◌, ◌↔◌, ℕ, zero, suc, Bool, if◌then◌else◌, List, [], ◌∷◌, Some, None}
 use Rattle.pf_model.specs.Shrinking.{candidates}
-use Rattle.pf_shrink.specs.Hunts.{Hunting, begins, searches, ended, next_of, told_of}
+use Rattle.pf_shrink.specs.Hunts.{Hunting, begins, searches, ended, next_of, after_answer}
 
 -- the candidates that a search runs until it ends
 abbrev pub tried_of_search : (List ℕ → Bool) → (runs : ℕ) → List (List ℕ) → List (List ℕ)
@@ -23,5 +23,5 @@ tried_from fails (ended f) = []
 -- the next of a hunt is the first of them, and a true answer leaves the others; there are none exactly where there is
 -- no next
 pub record TriesInOrder (fails : List ℕ → Bool) (h : Hunting) : Type 0 where
-  pub first : (ns : List ℕ) → next_of h ≡ Some ns → tried_from fails h ≡ ns ∷ tried_from fails (told_of (fails ns) h)
+  pub first : (ns : List ℕ) → next_of h ≡ Some ns → tried_from fails h ≡ ns ∷ tried_from fails (after_answer (fails ns) h)
   pub none : (next_of h ≡ None) ↔ (tried_from fails h ≡ [])

@@ -1,9 +1,9 @@
-//! [`Hunt`]: the search for a small schedule that fails.
+//! [`ShrinkingSearch`]: the search for a small schedule that fails.
 
 ghost use Rattle.std.specs.Prelude.{◌≡◌, ◌<◌, ◌-◌, ℕ, suc, Bool, List, [], IsSome, IsNone, option_map};
 ghost use Rattle.pf_model.specs.Shrinking.{shrunk, found as found_at};
-ghost use Rattle.pf_shrink.specs.Hunts.{begins, next_of, told_of, found_of, comes_to, IsAnswerOf, NextIsSmaller};
-ghost use Rattle.pf_shrink.specs.Standing.{standing, Stands};
+ghost use Rattle.pf_shrink.specs.Hunts.{begins, next_of, after_answer, found_of, search_result, IsAnswerOf, NextIsSmaller};
+ghost use Rattle.pf_shrink.specs.Standing.{standing, IsRoundOf};
 
 use crate::round::Round;
 use std::marker::Model;
@@ -27,33 +27,33 @@ enum Phase {
 /// The search for a small schedule that fails, within n runs. It runs nothing: it gives the schedule
 /// that is to be run next, and is answered whether it fails.
 #[derive(Drop)]
-pub struct Hunt {
+pub struct ShrinkingSearch {
     round: Round,
     phase: Phase,
     runs: u32,
 }
 
-impl Model for Hunt {
+impl Model for ShrinkingSearch {
     ghost use Rattle.pf_shrink.specs.Hunts.{Hunting};
 
     ghost Value = { Hunting };
 
-    ghost use Rattle.pf_shrink.specs.Standing.{standing, Stands};
+    ghost use Rattle.pf_shrink.specs.Standing.{standing, IsRoundOf};
 
     ghost view = { λ h. standing h.runs h.phase h.round };
 
-    ghost invariant = { λ h. Stands h.runs h.phase h.round };
+    ghost invariant = { λ h. IsRoundOf h.runs h.phase h.round };
 }
 
-impl Hunt {
+impl ShrinkingSearch {
     /// The hunt from this schedule, within n runs. The run of the schedule is the first of them.
-    pub fn new(schedule: Vec<u32>, runs: u32) -> Hunt
+    pub fn new(schedule: Vec<u32>, runs: u32) -> ShrinkingSearch
         requires { 0 < runs }
         ensures begins { result ≡ begins (runs - 1) schedule.items }
-        ensures comes_to { (fails : List ℕ → Bool)
-            → comes_to fails result ≡ shrunk fails runs schedule.items }
+        ensures search_result { (fails : List ℕ → Bool)
+            → search_result fails result ≡ shrunk fails runs schedule.items }
     {
-        Hunt {
+        ShrinkingSearch {
             round: Round::new(schedule),
             phase: Phase::Given,
             runs,
@@ -75,9 +75,9 @@ impl Hunt {
     /// Takes the answer whether the next schedule fails. It takes no memory.
     pub fn told(&mut self, fails: bool)
         requires { IsSome (next_of self.old) }
-        ensures told { self.new ≡ told_of fails self.old }
-        ensures comes_to { (f : List ℕ → Bool) → IsAnswerOf f fails self.old
-            → comes_to f self.new ≡ comes_to f self.old }
+        ensures told { self.new ≡ after_answer fails self.old }
+        ensures search_result { (f : List ℕ → Bool) → IsAnswerOf f fails self.old
+            → search_result f self.new ≡ search_result f self.old }
     {
         self.phase = answered(&mut self.round, self.phase, fails);
         self.runs -= 1;
@@ -91,8 +91,8 @@ impl Hunt {
     pub fn found(&self) -> Option<(&[u32], bool)>
         requires { IsNone (next_of self.now) }
         ensures found { option_map (λ f. found_at f.0.now f.1) result ≡ found_of self.now }
-        ensures comes_to { (fails : List ℕ → Bool)
-            → option_map (λ f. found_at f.0.now f.1) result ≡ comes_to fails self.now }
+        ensures search_result { (fails : List ℕ → Bool)
+            → option_map (λ f. found_at f.0.now f.1) result ≡ search_result fails self.now }
     {
         match self.phase {
             Phase::Search => Some((self.round.schedule(), true)),
@@ -104,10 +104,10 @@ impl Hunt {
 
 // What an answer makes of a round and a phase, before the run is counted.
 fn answered(round: &mut Round, phase: Phase, fails: bool) -> Phase
-    requires stands { Stands 1 phase round.old }
+    requires stands { IsRoundOf 1 phase round.old }
     requires next { IsSome (next_of (standing 1 phase round.old)) }
-    ensures told { (k : ℕ) → standing k result round.new ≡ told_of fails (standing (suc k) phase round.old) }
-    ensures stands { (k : ℕ) → Stands (suc k) result round.new }
+    ensures told { (k : ℕ) → standing k result round.new ≡ after_answer fails (standing (suc k) phase round.old) }
+    ensures stands { (k : ℕ) → IsRoundOf (suc k) result round.new }
 {
     if fails {
         round.take();
@@ -124,9 +124,9 @@ fn answered(round: &mut Round, phase: Phase, fails: bool) -> Phase
 
 // The phase where no run is left: a search that has candidates left is partial, and leaves them.
 fn cut_off(round: &mut Round, phase: Phase) -> Phase
-    requires { Stands 1 phase round.old }
+    requires { IsRoundOf 1 phase round.old }
     ensures same { standing 0 result round.new ≡ standing 0 phase round.old }
-    ensures stands { Stands 0 result round.new }
+    ensures stands { IsRoundOf 0 result round.new }
 {
     match phase {
         Phase::Search if round.next().is_some() => {

@@ -4,4 +4,4 @@
 mod hunt;
 mod round;
 
-pub use hunt::{Hunt, MOST_RUNS};
+pub use hunt::{MOST_RUNS, ShrinkingSearch};

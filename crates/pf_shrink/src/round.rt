@@ -2,8 +2,8 @@
 //! are made one from another, in the place of the schedule.
 
 ghost use Rattle.std.specs.Prelude.{◌≡◌, ◌<◌, ◌≤◌, [], length, drop, option_map};
-ghost use Rattle.pf_shrink.specs.Rounds.{begun, passed, taken, given_up, head, from_position};
-ghost use Rattle.pf_shrink.specs.Kept.{schedule_in, left_in, IsValid, kept};
+ghost use Rattle.pf_shrink.specs.Rounds.{round_begun, round_passed, round_taken, given_up, first_schedule, from_position};
+ghost use Rattle.pf_shrink.specs.Kept.{schedule_in, candidates_left, IsPositionOf, round_kept};
 ghost use Rattle.pf_model.specs.Shrinking.{halved};
 
 use std::marker::Model;
@@ -33,11 +33,11 @@ impl Model for Round {
 
     ghost Value = { Round };
 
-    ghost use Rattle.pf_shrink.specs.Kept.{kept, IsValid};
+    ghost use Rattle.pf_shrink.specs.Kept.{round_kept, IsPositionOf};
 
-    ghost view = { λ r. kept r.numbers.items r.position };
+    ghost view = { λ r. round_kept r.numbers.items r.position };
 
-    ghost invariant = { λ r. IsValid r.numbers.items r.position };
+    ghost invariant = { λ r. IsPositionOf r.numbers.items r.position };
 }
 
 impl Round {
@@ -61,7 +61,7 @@ impl Round {
 
     /// The next candidate.
     pub(crate) fn next(&self) -> Option<&[u32]>
-        ensures { option_map (λ s. s.now) result ≡ head self.now.left }
+        ensures { option_map (λ s. s.now) result ≡ first_schedule self.now.left }
     {
         match self.position {
             Position::WithoutLast | Position::Without(_) => Some(
@@ -74,7 +74,7 @@ impl Round {
 
     /// Passes over the next candidate.
     pub(crate) fn pass(&mut self)
-        ensures { self.new ≡ passed self.old }
+        ensures { self.new ≡ round_passed self.old }
     {
         self.position = following(&mut self.numbers, self.position);
     }
@@ -82,7 +82,7 @@ impl Round {
     /// Takes the next candidate as the schedule, or the schedule itself where none is left. All its
     /// candidates are left then.
     pub(crate) fn take(&mut self)
-        ensures { self.new ≡ taken self.old }
+        ensures { self.new ≡ round_taken self.old }
     {
         match self.position {
             Position::WithoutLast | Position::Without(_) => {
@@ -104,8 +104,8 @@ impl Round {
 
 // The position of the first candidate of a schedule.
 fn first_position(schedule: &[u32]) -> Position
-    ensures kept { IsValid schedule.now result }
-    ensures begun { kept schedule.now result ≡ begun schedule.now }
+    ensures round_kept { IsPositionOf schedule.now result }
+    ensures round_begun { round_kept schedule.now result ≡ round_begun schedule.now }
 {
     if schedule.is_empty() {
         Position::End
@@ -116,9 +116,9 @@ fn first_position(schedule: &[u32]) -> Position
 
 // Makes the next candidate from that of this position.
 fn following(numbers: &mut [u32], position: Position) -> Position
-    requires { IsValid numbers.old position }
-    ensures kept { IsValid numbers.new result }
-    ensures passed { kept numbers.new result ≡ passed (kept numbers.old position) }
+    requires { IsPositionOf numbers.old position }
+    ensures round_kept { IsPositionOf numbers.new result }
+    ensures round_passed { round_kept numbers.new result ≡ round_passed (round_kept numbers.old position) }
 {
     match position {
         Position::WithoutLast if numbers.len() > 1 => {
@@ -146,9 +146,9 @@ fn following(numbers: &mut [u32], position: Position) -> Position
 // Halves the first number above 0 at or after this position of a schedule.
 fn halved_from(numbers: &mut [u32], start: usize) -> Position
     requires { start ≤ length numbers.old }
-    ensures kept { IsValid numbers.new result }
+    ensures round_kept { IsPositionOf numbers.new result }
     ensures schedule { schedule_in numbers.new result ≡ numbers.old }
-    ensures left { left_in numbers.new result ≡ from_position halved start numbers.old }
+    ensures left { candidates_left numbers.new result ≡ from_position halved start numbers.old }
 {
     for at in start..numbers.len() {
         let number = numbers[at];
@@ -162,7 +162,7 @@ fn halved_from(numbers: &mut [u32], start: usize) -> Position
 
 // Makes the schedule again from the candidate of this position.
 fn restore(numbers: &mut [u32], position: Position)
-    requires { IsValid numbers.old position }
+    requires { IsPositionOf numbers.old position }
     ensures { numbers.new ≡ schedule_in numbers.old position }
 {
     match position {

@@ -7,7 +7,7 @@ ghost use Rattle.pf_sorted.specs.Sorted.{IsRising, IsThere, IsGap};
 ghost use Rattle.pf_sorted.specs.Lends.{lends_value};
 ghost use Rattle.pf_sorted.specs.Values.{IsValueAt};
 
-use pf_fault::NoMemory;
+use pf_errors::NoMemory;
 use std::alloc::Global;
 use std::marker::Model;
 

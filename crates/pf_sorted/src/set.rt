@@ -4,7 +4,7 @@ ghost use Rattle.std.specs.Prelude.{◌≡◌, ◌≤◌, ◌<◌, length, [], O
 ghost use Rattle.pf_model.specs.Maps.{has, with_number, without_number};
 ghost use Rattle.pf_sorted.specs.Sorted.{IsRising, IsThere, IsGap};
 
-use pf_fault::NoMemory;
+use pf_errors::NoMemory;
 use std::alloc::Global;
 use std::marker::Model;
 

@@ -6,19 +6,19 @@ use Rattle.std.proofs.lemmas.Bool.Decides.{nat_tests}
 use Rattle.std.proofs.lemmas.List.{append-nil, take-append-drop, at_drop_all}
 use Rattle.std.proofs.lemmas.List.Folds.{list_any-append}
 use Rattle.std.proofs.lemmas.List.Sums.{fold-append}
-use Rattle.pf_fault.specs.declared.refusal.Refusal.{Refusal}
-use Rattle.pf_fault.specs.declared.code.Code.TheVariants.{DefinedTwice}
+use Rattle.pf_errors.specs.declared.refusal.SourceRefusal.{SourceRefusal}
+use Rattle.pf_errors.specs.declared.code.Code.TheVariants.{DefinedTwice}
 use Rattle.pf_syntax.specs.SyntaxTree.{Head}
 use Rattle.pf_syntax.specs.Scope.{no_scope}
-use Rattle.pf_rules.specs.Static.{fault_if, own_in, is_named, is_builtin, parameters_of, defined_faults}
-use Rattle.pf_static_check.specs.Earliest.{earlier, earliest, kept}
-use Rattle.pf_rules.specs.Listing.{Lists, lists}
+use Rattle.pf_rules.specs.Static.{fault_if, own_in, is_named_by_head, is_builtin, parameters_of, defined_faults}
+use Rattle.pf_static_check.specs.Earliest.{earlier, earliest, earliest_kept}
+use Rattle.pf_rules.specs.Listing.{ListsFunctions, lists}
 use Rattle.pf_static_check.specs.Defines.{Defines, defined_fault}
-use Rattle.pf_static_check.specs.Marks.{Stands}
+use Rattle.pf_static_check.specs.Marks.{KnowsScope}
 use Rattle.pf_static_check.specs.Walking.{BeginsAnew}
-use Rattle.pf_static_check.specs.declared.first.First.{First}
+use Rattle.pf_static_check.specs.declared.first.FirstFault.{FirstFault}
 use Rattle.pf_rules.specs.declared.signatures.Signatures.{Signatures}
-use Rattle.pf_static_check.specs.declared.walk.Walk.{Walk}
+use Rattle.pf_static_check.specs.declared.walk.ClauseWalk.{ClauseWalk}
 
 -- ---- an offset, or none
 
@@ -38,24 +38,24 @@ pub some_position : {X : Type 0} (p : X → Bool) (xs : List X) → is_some (pos
 some_position p xs = some_cond (nat_lt (position_or_len p xs) (length xs)) (position_or_len p xs) ∙ offset_any p xs
 
 -- one more function
-own_push : (fs : List (List Head)) (hs : List Head) (f arity : ℕ) → is_some (own_in (fs ++ hs ∷ []) f arity) ≡ (is_some (own_in fs f arity) || is_named f arity hs)
+own_push : (fs : List (List Head)) (hs : List Head) (f arity : ℕ) → is_some (own_in (fs ++ hs ∷ []) f arity) ≡ (is_some (own_in fs f arity) || is_named_by_head f arity hs)
 own_push fs hs f arity =
-    some_position (is_named f arity) (fs ++ hs ∷ []) ∙ list_any-append (is_named f arity) fs (hs ∷ [])
-    ∙ ap (λ (v : Bool). list_any (is_named f arity) fs || v) (or_no (is_named f arity hs))
-    ∙ ap (λ (v : Bool). v || is_named f arity hs) (sym (some_position (is_named f arity) fs))
+    some_position (is_named_by_head f arity) (fs ++ hs ∷ []) ∙ list_any-append (is_named_by_head f arity) fs (hs ∷ [])
+    ∙ ap (λ (v : Bool). list_any (is_named_by_head f arity) fs || v) (or_no (is_named_by_head f arity hs))
+    ∙ ap (λ (v : Bool). v || is_named_by_head f arity hs) (sym (some_position (is_named_by_head f arity) fs))
   where
     or_no : (a : Bool) → (a || false) ≡ a
     or_no true = refl
     or_no false = refl
 
-pub lists_nothing : (o : Signatures) → ((f arity : ℕ) → lists o f arity ≡ false) → Lists o []
+pub lists_nothing : (o : Signatures) → ((f arity : ℕ) → lists o f arity ≡ false) → ListsFunctions o []
 lists_nothing o h = record { same = h }
 
 -- ---- one function
 
-pub defines : (atoms : List (List ℕ)) (h : Head) (hs : List Head) (k : ℕ) (old new : Signatures) (before after : First)
+pub defines : (atoms : List (List ℕ)) (h : Head) (hs : List Head) (k : ℕ) (old new : Signatures) (before after : FirstFault)
     → ((f a : ℕ) → lists new f a ≡ (lists old f a || ((h.name == f) && (k == a)))) → k ≡ parameters_of h.parameters
-    → kept after ≡ earliest (kept before) (fault_if (lists old h.name k || is_builtin atoms h.name k) DefinedTwice h.offset) → Defines atoms (h ∷ hs) old new before after
+    → earliest_kept after ≡ earliest (earliest_kept before) (fault_if (lists old h.name k || is_builtin atoms h.name k) DefinedTwice h.offset) → Defines atoms (h ∷ hs) old new before after
 defines atoms h hs k old new before after added e found =
     record {
       lists = λ fs l. record {
@@ -65,19 +65,19 @@ defines atoms h hs k old new before after added e found =
       };
       found = λ fs l.
           found
-          ∙ ap (λ (v : Bool). earliest (kept before) (fault_if (v || is_builtin atoms h.name k) DefinedTwice h.offset)) (l.same h.name k)
-          ∙ ap (λ (n : ℕ). earliest (kept before) (fault_if (is_some (own_in fs h.name n) || is_builtin atoms h.name n) DefinedTwice h.offset)) e;
+          ∙ ap (λ (v : Bool). earliest (earliest_kept before) (fault_if (v || is_builtin atoms h.name k) DefinedTwice h.offset)) (l.same h.name k)
+          ∙ ap (λ (n : ℕ). earliest (earliest_kept before) (fault_if (is_some (own_in fs h.name n) || is_builtin atoms h.name n) DefinedTwice h.offset)) e;
     }
 
-pub noted_fault : (b : Bool) (before after : First) (offset : ℕ) → b ≡ true → kept after ≡ earlier (kept before) (record { code = DefinedTwice; offset = offset }) → kept after ≡ earliest (kept before) (fault_if b DefinedTwice offset)
+pub noted_fault : (b : Bool) (before after : FirstFault) (offset : ℕ) → b ≡ true → earliest_kept after ≡ earlier (earliest_kept before) (record { code = DefinedTwice; offset = offset }) → earliest_kept after ≡ earliest (earliest_kept before) (fault_if b DefinedTwice offset)
 noted_fault true before after offset e k = k
 noted_fault false before after offset e k = absurd (cc)
 
-pub noted_nothing : (b : Bool) (before : First) (offset : ℕ) → b ≡ false → kept before ≡ earliest (kept before) (fault_if b DefinedTwice offset)
+pub noted_nothing : (b : Bool) (before : FirstFault) (offset : ℕ) → b ≡ false → earliest_kept before ≡ earliest (earliest_kept before) (fault_if b DefinedTwice offset)
 noted_nothing true before offset e = absurd (cc)
 noted_nothing false before offset e = refl
 
-pub defines_nothing : (atoms : List (List ℕ)) (o : Signatures) (first : First) → Defines atoms [] o o first first
+pub defines_nothing : (atoms : List (List ℕ)) (o : Signatures) (first : FirstFault) → Defines atoms [] o o first first
 defines_nothing atoms o first = record {
   lists = λ fs l. record { same = λ f a. l.same f a ∙ sym (own_push fs [] f a ∙ or_no (is_some (own_in fs f a))) };
   found = λ fs l. refl;
@@ -103,23 +103,23 @@ listed_nowhere fresh false b r e f g h = sym g ∙ h
 -- ---- functions one after another
 
 -- those that are listed, and the faults of those that are left
-pub record Defined (atoms : List (List ℕ)) (o : Signatures) (first now : First) (done left all : List (List Head)) : Type 0 where
-  pub lists : Lists o done
-  pub found : earliest (kept now) (defined_faults atoms done left) ≡ earliest (kept first) (defined_faults atoms [] all)
+pub record Defined (atoms : List (List ℕ)) (o : Signatures) (first now : FirstFault) (done left all : List (List Head)) : Type 0 where
+  pub lists : ListsFunctions o done
+  pub found : earliest (earliest_kept now) (defined_faults atoms done left) ≡ earliest (earliest_kept first) (defined_faults atoms [] all)
 
 defined_next : (atoms : List (List ℕ)) (done left : List (List Head)) (hs : List Head) → defined_faults atoms done (hs ∷ left) ≡ defined_fault atoms done hs ++ defined_faults atoms (done ++ hs ∷ []) left
 defined_next atoms done left [] = refl
 defined_next atoms done left (h ∷ hs) = refl
 
-pub defined_more : (atoms : List (List ℕ)) (o p : Signatures) (first now next : First) (done after rest left all : List (List Head)) (hs : List Head) → left ≡ hs ∷ rest → after ≡ done ++ hs ∷ []
+pub defined_more : (atoms : List (List ℕ)) (o p : Signatures) (first now next : FirstFault) (done after rest left all : List (List Head)) (hs : List Head) → left ≡ hs ∷ rest → after ≡ done ++ hs ∷ []
     → Defined atoms o first now done left all → Defines atoms hs o p now next → Defined atoms p first next after rest all
 defined_more atoms o p first now next done after rest left all hs e a d x =
     subst (λ (fs : List (List Head)). Defined atoms p first next fs rest all) (sym a) (record {
       lists = x.lists done d.lists;
       found =
           ap (λ k. earliest k (defined_faults atoms (done ++ hs ∷ []) rest)) (x.found done d.lists)
-          ∙ sym (fold-append earlier (kept now) (defined_fault atoms done hs) (defined_faults atoms (done ++ hs ∷ []) rest))
-          ∙ ap (earliest (kept now)) (sym (ap (defined_faults atoms done) e ∙ defined_next atoms done rest hs))
+          ∙ sym (fold-append earlier (earliest_kept now) (defined_fault atoms done hs) (defined_faults atoms (done ++ hs ∷ []) rest))
+          ∙ ap (earliest (earliest_kept now)) (sym (ap (defined_faults atoms done) e ∙ defined_next atoms done rest hs))
           ∙ d.found;
     })
 
@@ -130,25 +130,25 @@ whole_front xs i h = sym (append-nil (take i xs)) ∙ ap (λ r. take i xs ++ r) 
 -- ---- parts that begin with no variable
 
 -- the faults of the parts that are left
-pub record Onward (old now : Walk) (left all : List Refusal) : Type 0 where
-  pub stands : Stands old.variables no_scope → Stands now.variables no_scope
-  pub found : Stands old.variables no_scope → earliest (kept now.first) left ≡ earliest (kept old.first) all
+pub record Onward (old now : ClauseWalk) (left all : List SourceRefusal) : Type 0 where
+  pub stands : KnowsScope old.variables no_scope → KnowsScope now.variables no_scope
+  pub found : KnowsScope old.variables no_scope → earliest (earliest_kept now.first) left ≡ earliest (earliest_kept old.first) all
 
-pub onward_first : (w : Walk) (all : List Refusal) → Onward w w all all
+pub onward_first : (w : ClauseWalk) (all : List SourceRefusal) → Onward w w all all
 onward_first w all = record { stands = λ st. st; found = λ st. refl }
 
-pub onward_more : {X : Type 0} (F : X → List Refusal) (old now next : Walk) (left rest : List X) (x : X) (all : List Refusal) → left ≡ x ∷ rest → Onward old now (flat_map F left) all → BeginsAnew now next (F x) → Onward old next (flat_map F rest) all
+pub onward_more : {X : Type 0} (F : X → List SourceRefusal) (old now next : ClauseWalk) (left rest : List X) (x : X) (all : List SourceRefusal) → left ≡ x ∷ rest → Onward old now (flat_map F left) all → BeginsAnew now next (F x) → Onward old next (flat_map F rest) all
 onward_more F old now next left rest x all e u b = record {
   stands = λ st. b.stands (u.stands st);
   found = λ st.
       ap (λ k. earliest k (flat_map F rest)) (b.found (u.stands st))
-      ∙ sym (fold-append earlier (kept now.first) (F x) (flat_map F rest))
-      ∙ ap (λ xs. earliest (kept now.first) (flat_map F xs)) (sym e)
+      ∙ sym (fold-append earlier (earliest_kept now.first) (F x) (flat_map F rest))
+      ∙ ap (λ xs. earliest (earliest_kept now.first) (flat_map F xs)) (sym e)
       ∙ u.found st;
 }
 
-pub onward_all : {X : Type 0} (F : X → List Refusal) (old now : Walk) (left : List X) (all : List Refusal) → left ≡ [] → Onward old now (flat_map F left) all → BeginsAnew old now all
+pub onward_all : {X : Type 0} (F : X → List SourceRefusal) (old now : ClauseWalk) (left : List X) (all : List SourceRefusal) → left ≡ [] → Onward old now (flat_map F left) all → BeginsAnew old now all
 onward_all F old now left all e u = record {
   stands = u.stands;
-  found = λ st. ap (λ xs. earliest (kept now.first) (flat_map F xs)) (sym e) ∙ u.found st;
+  found = λ st. ap (λ xs. earliest (earliest_kept now.first) (flat_map F xs)) (sym e) ∙ u.found st;
 }

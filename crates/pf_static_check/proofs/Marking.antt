@@ -1,7 +1,7 @@
 -- What is known of one variable, before a step and after it.
 use Rattle.std.proofs.Common.{◌≡◌, Bool, true, false, refl, sym, ap, ◌∙◌}
 use Rattle.std.specs.Prelude.{◌||◌, ◌&&◌, not, if◌then◌else◌}
-use Rattle.pf_static_check.specs.Marks.{Moved, is_bound, is_marked_unsafe, is_marked}
+use Rattle.pf_static_check.specs.Marks.{StatusMoved, is_bound, is_marked_unsafe, is_marked}
 use Rattle.pf_static_check.specs.declared.variable_states.Status.{Status}
 use Rattle.pf_static_check.specs.declared.variable_states.Status.TheVariants.{New, Bound, Unsafe}
 
@@ -16,24 +16,24 @@ marked_is Bound = refl
 marked_is Unsafe = refl
 
 -- two moves in turn
-pub moved_then : (h k : Bool) (a b c : Status) → Moved h a b → Moved k b c → Moved (h || k) a c
+pub moved_then : (h k : Bool) (a b c : Status) → StatusMoved h a b → StatusMoved k b c → StatusMoved (h || k) a c
 moved_then true true a b c m n = absurd (cc (m.1, n.0))
 moved_then true false a b c m n = (m.0, ap is_marked n ∙ m.1)
 moved_then false true a b c m n = (ap is_marked (sym m) ∙ n.0, n.1)
 moved_then false false a b c m n = n ∙ m
 
 -- a variable that is set to what marks it
-pub moved_one : (b : Bool) (a c s : Status) → (b ≡ true → is_marked a ≡ false) → is_marked s ≡ true → c ≡ (if b then s else a) → Moved (b || false) a c
+pub moved_one : (b : Bool) (a c s : Status) → (b ≡ true → is_marked a ≡ false) → is_marked s ≡ true → c ≡ (if b then s else a) → StatusMoved (b || false) a c
 moved_one true a c s f m e = (f refl, ap is_marked e ∙ m)
 moved_one false a c s f m e = e
 
 -- names that were moved and are new again
-pub moved_back : (h : Bool) (a b c : Status) → Moved h a b → c ≡ (if h then New else b) → c ≡ a
+pub moved_back : (h : Bool) (a b c : Status) → StatusMoved h a b → c ≡ (if h then New else b) → c ≡ a
 moved_back true a b c m e = e ∙ sym (unmarked_new a m.0)
 moved_back false a b c m e = e ∙ m
 
 -- a name is in the trail where it was new and is marked
-pub moved_named : (h : Bool) (a b : Status) → Moved h a b → h ≡ (not (is_marked a) && is_marked b)
+pub moved_named : (h : Bool) (a b : Status) → StatusMoved h a b → h ≡ (not (is_marked a) && is_marked b)
 moved_named true New Bound m = refl
 moved_named true New Unsafe m = refl
 moved_named true a New m = absurd (cc (m.1))
@@ -43,12 +43,12 @@ moved_named false New b m = sym (ap is_marked m)
 moved_named false Bound b m = refl
 moved_named false Unsafe b m = refl
 
-pub moved_fresh : (h : Bool) (a b : Status) → Moved h a b → h ≡ true → is_marked a ≡ false
+pub moved_fresh : (h : Bool) (a b : Status) → StatusMoved h a b → h ≡ true → is_marked a ≡ false
 moved_fresh true a b m e = m.0
 moved_fresh false a b m e = absurd (cc)
 
 -- names that were new become unsafe
-pub moved_unsafe : (h : Bool) (a c : Status) → (h ≡ true → is_marked a ≡ false) → c ≡ (if h then Unsafe else a) → Moved h a c
+pub moved_unsafe : (h : Bool) (a c : Status) → (h ≡ true → is_marked a ≡ false) → c ≡ (if h then Unsafe else a) → StatusMoved h a c
 moved_unsafe true a c f e = (f refl, ap is_marked e)
 moved_unsafe false a c f e = e
 

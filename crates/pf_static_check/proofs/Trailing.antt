@@ -5,8 +5,8 @@ use Rattle.std.proofs.lemmas.List.{append-nil, length-map}
 use Rattle.std.proofs.lemmas.List.Folds.{list_any-append}
 use Rattle.std.proofs.Math.Seq.{drop-append_seam, take-append_seam}
 use Rattle.pf_terms.specs.declared.atoms.AtomId.{AtomId}
-use Rattle.pf_syntax.specs.Scope.{Scope, has, is_new, leaving, names_of}
-use Rattle.pf_static_check.specs.Marks.{Stands, Trails, Binds, Moved, status_of, trail_of, is_bound, is_marked_unsafe, is_marked}
+use Rattle.pf_syntax.specs.Scope.{Scope, has, is_new, scope_leaving, names_in_scope}
+use Rattle.pf_static_check.specs.Marks.{KnowsScope, Trails, Binds, StatusMoved, status_of, trail_of, is_bound, is_marked_unsafe, is_marked}
 use Rattle.pf_static_check.specs.declared.variable_states.Status.{Status}
 use Rattle.pf_static_check.specs.declared.variable_states.Status.TheVariants.{New, Bound, Unsafe}
 use Rattle.pf_static_check.specs.declared.variable_states.VariableStates.{VariableStates}
@@ -41,11 +41,11 @@ pub trails_then : (a b c : VariableStates) → Trails a b → Trails b c → Tra
 trails_then a b c s t = record {
   names = s.names ++ t.names;
   longer = t.longer ∙ ap (λ (l : List ℕ). l ++ t.names) s.longer ∙ append_assoc (trail_of a) s.names t.names;
-  moved = λ x. subst (λ (h : Bool). Moved h (status_of a x) (status_of c x)) (sym (has_append s.names t.names x)) (moved_then (has s.names x) (has t.names x) (status_of a x) (status_of b x) (status_of c x) (s.moved x) (t.moved x));
+  moved = λ x. subst (λ (h : Bool). StatusMoved h (status_of a x) (status_of c x)) (sym (has_append s.names t.names x)) (moved_then (has s.names x) (has t.names x) (status_of a x) (status_of b x) (status_of c x) (s.moved x) (t.moved x));
 }
 
 -- what is new by the rules is not marked
-pub new_is : (s : VariableStates) (g : Scope) → Stands s g → (x : ℕ) → is_new g x ≡ not (is_marked (status_of s x))
+pub new_is : (s : VariableStates) (g : Scope) → KnowsScope s g → (x : ℕ) → is_new g x ≡ not (is_marked (status_of s x))
 new_is s g st x =
     let b = st.bound x in
     let u = st.unsafe x in
@@ -53,7 +53,7 @@ new_is s g st x =
     ap not (ap (λ (v : Bool). v || has g.unsafe x) b ∙ ap (λ (v : Bool). is_bound (status_of s x) || v) u ∙ m)
 
 -- a name of those that are seen is marked
-pub named_is : (s : VariableStates) (g : Scope) → Stands s g → (x : ℕ) → has (names_of g) x ≡ is_marked (status_of s x)
+pub named_is : (s : VariableStates) (g : Scope) → KnowsScope s g → (x : ℕ) → has (names_in_scope g) x ≡ is_marked (status_of s x)
 named_is s g st x =
     has_append g.bound g.unsafe x ∙ ap (λ (v : Bool). v || has g.unsafe x) (st.bound x) ∙ ap (λ (v : Bool). is_bound (status_of s x) || v) (st.unsafe x) ∙ marked_is (status_of s x)
 
@@ -62,10 +62,10 @@ named_is s g st x =
 pub bound_before : (s : VariableStates) (y : ℕ) → is_marked (status_of s y) ≡ true → Binds s s y
 bound_before s y m = record {
   trails = trails_nothing s;
-  stands = λ g st. subst (λ (v : Bool). Stands s (if v then record { bound = g.bound ++ y ∷ []; unsafe = g.unsafe } else g)) (sym (new_is s g st y ∙ ap not m)) st;
+  stands = λ g st. subst (λ (v : Bool). KnowsScope s (if v then record { bound = g.bound ++ y ∷ []; unsafe = g.unsafe } else g)) (sym (new_is s g st y ∙ ap not m)) st;
 }
 
-stands_push : (old new : VariableStates) (y : ℕ) (g : Scope) → status_of old y ≡ New → ((x : ℕ) → status_of new x ≡ (if y == x then Bound else status_of old x)) → Stands old g → Stands new (record { bound = g.bound ++ y ∷ []; unsafe = g.unsafe })
+stands_push : (old new : VariableStates) (y : ℕ) (g : Scope) → status_of old y ≡ New → ((x : ℕ) → status_of new x ≡ (if y == x then Bound else status_of old x)) → KnowsScope old g → KnowsScope new (record { bound = g.bound ++ y ∷ []; unsafe = g.unsafe })
 stands_push old new y g n set st = record {
   bound = λ x. has_append g.bound (y ∷ []) x ∙ bound_one (y == x) (has g.bound x) (status_of old x) (status_of new x) (st.bound x) (set x);
   unsafe = λ x. unsafe_one (y == x) (has g.unsafe x) (status_of old x) (status_of new x) (λ e. st.unsafe x ∙ ap is_marked_unsafe (ap (status_of old) (sym (eqb-true y x e)) ∙ n)) (st.unsafe x) (set x);
@@ -78,7 +78,7 @@ bound_new old new y n set longer = record {
     longer = longer;
     moved = λ x. moved_one (y == x) (status_of old x) (status_of new x) Bound (λ e. ap is_marked (ap (status_of old) (sym (eqb-true y x e)) ∙ n)) refl (set x);
   };
-  stands = λ g st. subst (λ (v : Bool). Stands new (if v then record { bound = g.bound ++ y ∷ []; unsafe = g.unsafe } else g)) (sym (new_is old g st y ∙ ap (λ (a : Status). not (is_marked a)) n)) (stands_push old new y g n set st);
+  stands = λ g st. subst (λ (v : Bool). KnowsScope new (if v then record { bound = g.bound ++ y ∷ []; unsafe = g.unsafe } else g)) (sym (new_is old g st y ∙ ap (λ (a : Status). not (is_marked a)) n)) (stands_push old new y g n set st);
 }
 
 -- ---- back to what was seen
@@ -87,7 +87,7 @@ bound_new old new y n set longer = record {
 pub record Same (old new : VariableStates) : Type 0 where
   pub same : (x : ℕ) → status_of new x ≡ status_of old x
 
-pub same_stands : (old new : VariableStates) (g : Scope) → Same old new → Stands old g → Stands new g
+pub same_stands : (old new : VariableStates) (g : Scope) → Same old new → KnowsScope old g → KnowsScope new g
 same_stands old new g s st = record {
   bound = λ x. st.bound x ∙ ap is_bound (sym (s.same x));
   unsafe = λ x. st.unsafe x ∙ ap is_marked_unsafe (sym (s.same x));
@@ -132,7 +132,7 @@ has_filter p (n ∷ ns) x = one p n ns x (p n) refl (has_filter p ns x)
     one p n ns x true e ih = ap (λ (v : Bool). (n == x) || v) ih ∙ kept_one (n == x) (has ns x) (p x) (λ q. ap p (sym (eqb-true n x q)) ∙ e)
     one p n ns x false e ih = ih ∙ left_one (n == x) (has ns x) (p x) (λ q. ap p (sym (eqb-true n x q)) ∙ e)
 
-pub stands_leaving : (old new : VariableStates) (g : Scope) (names ends : List ℕ) → Stands old g → ((x : ℕ) → has names x ≡ true → is_marked (status_of old x) ≡ false) → ((x : ℕ) → has names x ≡ (is_new g x && has ends x)) → ((x : ℕ) → status_of new x ≡ (if has names x then Unsafe else status_of old x)) → Stands new (leaving g ends)
+pub stands_leaving : (old new : VariableStates) (g : Scope) (names ends : List ℕ) → KnowsScope old g → ((x : ℕ) → has names x ≡ true → is_marked (status_of old x) ≡ false) → ((x : ℕ) → has names x ≡ (is_new g x && has ends x)) → ((x : ℕ) → status_of new x ≡ (if has names x then Unsafe else status_of old x)) → KnowsScope new (scope_leaving g ends)
 stands_leaving old new g names ends st fresh named set = record {
   bound = λ x. st.bound x ∙ bound_left (has names x) (status_of old x) (status_of new x) (fresh x) (set x);
   unsafe = λ x.

@@ -26,22 +26,22 @@ is_marked New = false
 is_marked _ = true
 
 -- what is known is what the rules see
-pub record Stands (s : VariableStates) (g : Scope) : Type 0 where
+pub record KnowsScope (s : VariableStates) (g : Scope) : Type 0 where
   pub bound : (x : ℕ) → has g.bound x ≡ is_bound (status_of s x)
   pub unsafe : (x : ℕ) → has g.unsafe x ≡ is_marked_unsafe (status_of s x)
 
 -- one variable was new and is marked, or is as it was
-abbrev pub Moved : Bool → Status → Status → Type 0
-Moved true a b = (is_marked a ≡ false) × (is_marked b ≡ true)
-Moved false a b = b ≡ a
+abbrev pub StatusMoved : Bool → Status → Status → Type 0
+StatusMoved true a b = (is_marked a ≡ false) × (is_marked b ≡ true)
+StatusMoved false a b = b ≡ a
 
 -- the trail grew by the names that are no longer new, and of no other variable something else is known
 pub record Trails (old new : VariableStates) : Type 0 where
   pub names : List ℕ
   pub longer : trail_of new ≡ trail_of old ++ names
-  pub moved : (x : ℕ) → Moved (has names x) (status_of old x) (status_of new x)
+  pub moved : (x : ℕ) → StatusMoved (has names x) (status_of old x) (status_of new x)
 
 -- a variable that was new is bound now, and nothing else is changed
 pub record Binds (old new : VariableStates) (y : ℕ) : Type 0 where
   pub trails : Trails old new
-  pub stands : (g : Scope) → Stands old g → Stands new (binding g y)
+  pub stands : (g : Scope) → KnowsScope old g → KnowsScope new (binding g y)

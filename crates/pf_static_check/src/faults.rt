@@ -5,16 +5,16 @@ ghost use Rattle.pf_syntax.specs.SyntaxTree.{NodeTable, Head as HeadTree};
 ghost use Rattle.pf_syntax.specs.SyntaxTreeOver.{head_over, heads_over};
 ghost use Rattle.pf_syntax.specs.ExprModule.{tree_of};
 ghost use Rattle.pf_rules.specs.Static.{defined_faults, export_fault, faults_of, IsFirst};
-ghost use Rattle.pf_static_check.specs.Earliest.{earliest, kept};
+ghost use Rattle.pf_static_check.specs.Earliest.{earliest, earliest_kept};
 ghost use Rattle.pf_static_check.specs.Defines.{Defines};
-ghost use Rattle.pf_rules.specs.Listing.{Lists};
+ghost use Rattle.pf_rules.specs.Listing.{ListsFunctions};
 
-use crate::first::First;
+use crate::first::FirstFault;
 use crate::names::is_builtin;
 use crate::unlike::note_unlike;
 use crate::variable_states::VariableStates;
-use crate::walk::Walk;
-use pf_fault::{Code, Refusal};
+use crate::walk::ClauseWalk;
+use pf_errors::{Code, SourceRefusal};
 use pf_rules::Signatures;
 use pf_syntax::{ExprFunction, Head, SyntaxTree};
 use pf_terms::{AtomTable, NoMemory};
@@ -25,15 +25,15 @@ pub fn first_fault(
     alloc: Global,
     syntax: &SyntaxTree,
     atoms: &AtomTable,
-) -> Result<Option<Refusal>, NoMemory>
+) -> Result<Option<SourceRefusal>, NoMemory>
     ensures none { IfOk result (λ found. IfNone found (faults_of atoms.now (tree_of syntax.now) ≡ [])) }
     ensures first { IfOk result (λ found. IfSome found (λ f. IsFirst (faults_of atoms.now (tree_of syntax.now)) f)) }
 {
-    let mut first = First::new();
+    let mut first = FirstFault::new();
     let own = own_functions(alloc, syntax, atoms, &mut first)?;
     note_exports(syntax, &own, &mut first);
     note_unlike(syntax, &mut first);
-    let mut walk = Walk {
+    let mut walk = ClauseWalk {
         variables: VariableStates::new(alloc),
         first,
     };
@@ -46,10 +46,10 @@ fn own_functions(
     alloc: Global,
     syntax: &SyntaxTree,
     atoms: &AtomTable,
-    first: &mut First,
+    first: &mut FirstFault,
 ) -> Result<Signatures, NoMemory>
-    ensures lists { IfOk result (λ own. Lists own syntax.now.functions) }
-    ensures found { OnOk result (kept first.new ≡ earliest (kept first.old) (defined_faults atoms.now [] syntax.now.functions)) }
+    ensures lists { IfOk result (λ own. ListsFunctions own syntax.now.functions) }
+    ensures found { OnOk result (earliest_kept first.new ≡ earliest (earliest_kept first.old) (defined_faults atoms.now [] syntax.now.functions)) }
 {
     let mut own = Signatures::new(alloc);
     for function in syntax.functions() {
@@ -62,7 +62,7 @@ fn define_function(
     own: &mut Signatures,
     atoms: &AtomTable,
     function: &ExprFunction,
-    first: &mut First,
+    first: &mut FirstFault,
 ) -> Result<(), NoMemory>
     ensures { OnOk result ((b : NodeTable) → Defines atoms.now (heads_over b function.now) own.old own.new first.old first.new) }
 {
@@ -78,7 +78,7 @@ fn define_head(
     own: &mut Signatures,
     atoms: &AtomTable,
     head: &Head,
-    first: &mut First,
+    first: &mut FirstFault,
 ) -> Result<(), NoMemory>
     ensures { OnOk result ((b : NodeTable) (hs : List HeadTree) → Defines atoms.now (head_over b head.now ∷ hs) own.old own.new first.old first.new) }
 {
@@ -91,9 +91,9 @@ fn define_head(
 }
 
 /// Notes each export of no function.
-fn note_exports(syntax: &SyntaxTree, own: &Signatures, first: &mut First)
-    requires { Lists own.now syntax.now.functions }
-    ensures { kept first.new ≡ earliest (kept first.old) (flat_map (export_fault syntax.now.functions) syntax.now.exports) }
+fn note_exports(syntax: &SyntaxTree, own: &Signatures, first: &mut FirstFault)
+    requires { ListsFunctions own.now syntax.now.functions }
+    ensures { earliest_kept first.new ≡ earliest (earliest_kept first.old) (flat_map (export_fault syntax.now.functions) syntax.now.exports) }
 {
     for export in syntax.exports() {
         if !own.has(export.ident.name, export.arity) {

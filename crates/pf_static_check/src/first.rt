@@ -1,13 +1,13 @@
 //! The first of several faults.
 
 ghost use Rattle.std.specs.Prelude.{◌≡◌, None};
-ghost use Rattle.pf_static_check.specs.Earliest.{before, earlier, kept};
+ghost use Rattle.pf_static_check.specs.Earliest.{is_earlier, earlier, earliest_kept};
 
-use pf_fault::{Code, Refusal};
+use pf_errors::{Code, SourceRefusal};
 
 /// Whether a fault comes before another: at a lower offset, or there with a code that comes earlier in the table.
-fn is_before(fault: Refusal, other: Refusal) -> bool
-    ensures { result ≡ before fault other }
+fn is_before(fault: SourceRefusal, other: SourceRefusal) -> bool
+    ensures { result ≡ is_earlier fault other }
 {
     fault.offset < other.offset
         || (fault.offset == other.offset && fault.code.rank() < other.code.rank())
@@ -15,23 +15,23 @@ fn is_before(fault: Refusal, other: Refusal) -> bool
 
 /// The first of the faults that were noted.
 #[derive(Clone, Copy)]
-pub(crate) struct First {
-    found: Option<Refusal>,
+pub(crate) struct FirstFault {
+    found: Option<SourceRefusal>,
 }
 
-impl First {
+impl FirstFault {
     /// Of no fault.
-    pub(crate) fn new() -> First
-        ensures { kept result ≡ None }
+    pub(crate) fn new() -> FirstFault
+        ensures { earliest_kept result ≡ None }
     {
-        First { found: None }
+        FirstFault { found: None }
     }
 
     /// Notes one more.
     pub(crate) fn note(&mut self, code: Code, offset: u32)
-        ensures { kept self.new ≡ earlier (kept self.old) (record { code = code; offset = offset }) }
+        ensures { earliest_kept self.new ≡ earlier (earliest_kept self.old) (record { code = code; offset = offset }) }
     {
-        let fault = Refusal {
+        let fault = SourceRefusal {
             code,
             offset: offset as usize,
         };
@@ -42,8 +42,8 @@ impl First {
     }
 
     /// The first of those that were noted.
-    pub(crate) fn found(self) -> Option<Refusal>
-        ensures { result ≡ kept self }
+    pub(crate) fn found(self) -> Option<SourceRefusal>
+        ensures { result ≡ earliest_kept self }
     {
         self.found
     }

@@ -4,8 +4,8 @@ ghost use Rattle.std.specs.Prelude.{◌≡◌, ◌||◌};
 ghost use Rattle.pf_rules.specs.Static.{is_builtin as is_built_in};
 ghost use Rattle.pf_rules.specs.Listing.{lists};
 
-use pf_builtins::builtin_named;
 use pf_rules::Signatures;
+use pf_syntax::builtin_named;
 use pf_terms::{AtomId, AtomTable};
 
 /// Whether a built-in function of this name takes this number of arguments.

@@ -4,15 +4,15 @@ ghost use Rattle.std.specs.Prelude.{◌≡◌, flat_map, map};
 ghost use Rattle.pf_syntax.specs.SyntaxTree.{NodeTable};
 ghost use Rattle.pf_syntax.specs.SyntaxTreeOver.{head_over};
 ghost use Rattle.pf_rules.specs.Static.{is_alike as heads_are_alike, unlike_fault, unlike_faults};
-ghost use Rattle.pf_static_check.specs.Earliest.{earliest, kept};
+ghost use Rattle.pf_static_check.specs.Earliest.{earliest, earliest_kept};
 
-use crate::first::First;
-use pf_fault::Code;
+use crate::first::FirstFault;
+use pf_errors::Code;
 use pf_syntax::{Head, SyntaxTree};
 
 /// Notes each clause whose name or number of arguments isn't that of its function's first.
-pub(crate) fn note_unlike(syntax: &SyntaxTree, first: &mut First)
-    ensures { kept first.new ≡ earliest (kept first.old) (flat_map unlike_faults syntax.now.functions) }
+pub(crate) fn note_unlike(syntax: &SyntaxTree, first: &mut FirstFault)
+    ensures { earliest_kept first.new ≡ earliest (earliest_kept first.old) (flat_map unlike_faults syntax.now.functions) }
 {
     for function in syntax.functions() {
         note_unlike_heads(&function.heads, first);
@@ -20,8 +20,8 @@ pub(crate) fn note_unlike(syntax: &SyntaxTree, first: &mut First)
 }
 
 /// Notes those of one function.
-fn note_unlike_heads(heads: &[Head], first: &mut First)
-    ensures { (b : NodeTable) → kept first.new ≡ earliest (kept first.old) (unlike_faults (map (head_over b) heads.now)) }
+fn note_unlike_heads(heads: &[Head], first: &mut FirstFault)
+    ensures { (b : NodeTable) → earliest_kept first.new ≡ earliest (earliest_kept first.old) (unlike_faults (map (head_over b) heads.now)) }
 {
     match heads {
         [] => {}
@@ -30,8 +30,8 @@ fn note_unlike_heads(heads: &[Head], first: &mut First)
 }
 
 /// Notes those that differ from this head.
-fn note_unlike_to(head: &Head, others: &[Head], first: &mut First)
-    ensures { (b : NodeTable) → kept first.new ≡ earliest (kept first.old)
+fn note_unlike_to(head: &Head, others: &[Head], first: &mut FirstFault)
+    ensures { (b : NodeTable) → earliest_kept first.new ≡ earliest (earliest_kept first.old)
         (flat_map (unlike_fault (head_over b head.now)) (map (head_over b) others.now)) }
 {
     for other in others {

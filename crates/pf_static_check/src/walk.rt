@@ -4,29 +4,29 @@ ghost use Rattle.std.specs.Prelude.{OnOk};
 ghost use Rattle.pf_syntax.specs.Expr as expr;
 ghost use Rattle.pf_syntax.specs.SyntaxTree.{expr_at, expr_pattern_at};
 ghost use Rattle.pf_syntax.specs.SyntaxTreeOver.{branches_over, condition_over, expr_over, exprs_at};
-ghost use Rattle.pf_rules.specs.Static.{names_of};
-ghost use Rattle.pf_rules.specs.Listing.{Lists};
+ghost use Rattle.pf_rules.specs.Static.{names_of_module};
+ghost use Rattle.pf_rules.specs.Listing.{ListsFunctions};
 ghost use Rattle.pf_static_check.specs.Walking.{branch_of, AnonymousWalked, BranchWalked, BranchesWalked, CallWalked, ConditionWalked, PairWalked, ExprWalked, ExprsWalked, TestsWalked, VariableWalked};
 
 mod heads;
 mod patterns;
 
-use crate::first::First;
+use crate::first::FirstFault;
 use crate::names::is_defined;
 use crate::variable_states::{Status, VariableStates};
-use pf_fault::Code;
+use pf_errors::Code;
 use pf_rules::Signatures;
 use pf_syntax::{Branch, Condition, ExprId, ExprNode, ExprPatternId, Ident, SyntaxTree};
 use pf_terms::{AtomTable, NoMemory};
 
 /// What is seen at a point of a function's clause, and the first fault up to there.
 #[derive(Drop)]
-pub(crate) struct Walk {
+pub(crate) struct ClauseWalk {
     pub variables: VariableStates,
-    pub first: First,
+    pub first: FirstFault,
 }
 
-impl Walk {
+impl ClauseWalk {
     /// Through an expression.
     #[cycle(exprs)]
     fn expr(
@@ -36,8 +36,8 @@ impl Walk {
         own: &Signatures,
         id: ExprId,
     ) -> Result<(), NoMemory>
-        requires { Lists own.now syntax.now.functions }
-        ensures { OnOk result (ExprWalked (names_of atoms.now syntax.now.functions) self.old self.new (expr_at syntax.now.node_table id.0)) }
+        requires { ListsFunctions own.now syntax.now.functions }
+        ensures { OnOk result (ExprWalked (names_of_module atoms.now syntax.now.functions) self.old self.new (expr_at syntax.now.node_table id.0)) }
     {
         match syntax.expr(id) {
             Some(node) => self.expr_node(syntax, atoms, own, node),
@@ -54,8 +54,8 @@ impl Walk {
         own: &Signatures,
         node: &ExprNode,
     ) -> Result<(), NoMemory>
-        requires { Lists own.now syntax.now.functions }
-        ensures { OnOk result (ExprWalked (names_of atoms.now syntax.now.functions) self.old self.new (expr_over syntax.now.node_table node.now)) }
+        requires { ListsFunctions own.now syntax.now.functions }
+        ensures { OnOk result (ExprWalked (names_of_module atoms.now syntax.now.functions) self.old self.new (expr_over syntax.now.node_table node.now)) }
     {
         match node {
             ExprNode::Variable(ident) => self.variable(*ident),
@@ -104,8 +104,8 @@ impl Walk {
         left: ExprId,
         right: ExprId,
     ) -> Result<(), NoMemory>
-        requires { Lists own.now syntax.now.functions }
-        ensures { OnOk result (PairWalked (names_of atoms.now syntax.now.functions) self.old self.new (expr_at syntax.now.node_table left.0) (expr_at syntax.now.node_table right.0)) }
+        requires { ListsFunctions own.now syntax.now.functions }
+        ensures { OnOk result (PairWalked (names_of_module atoms.now syntax.now.functions) self.old self.new (expr_at syntax.now.node_table left.0) (expr_at syntax.now.node_table right.0)) }
     {
         self.expr(syntax, atoms, own, left)?;
         self.expr(syntax, atoms, own, right)
@@ -121,8 +121,8 @@ impl Walk {
         expr_pattern: ExprPatternId,
         value: ExprId,
     ) -> Result<(), NoMemory>
-        requires { Lists own.now syntax.now.functions }
-        ensures { OnOk result (ExprWalked (names_of atoms.now syntax.now.functions) self.old self.new (expr.match (expr_pattern_at syntax.now.node_table expr_pattern.0) (expr_at syntax.now.node_table value.0))) }
+        requires { ListsFunctions own.now syntax.now.functions }
+        ensures { OnOk result (ExprWalked (names_of_module atoms.now syntax.now.functions) self.old self.new (expr.match (expr_pattern_at syntax.now.node_table expr_pattern.0) (expr_at syntax.now.node_table value.0))) }
     {
         self.expr(syntax, atoms, own, value)?;
         self.expr_pattern(syntax, expr_pattern)
@@ -138,8 +138,8 @@ impl Walk {
         part: ExprId,
         branches: &[Branch],
     ) -> Result<(), NoMemory>
-        requires { Lists own.now syntax.now.functions }
-        ensures { OnOk result (ExprWalked (names_of atoms.now syntax.now.functions) self.old self.new (expr.case (expr_at syntax.now.node_table part.0) (branches_over syntax.now.node_table branches.now))) }
+        requires { ListsFunctions own.now syntax.now.functions }
+        ensures { OnOk result (ExprWalked (names_of_module atoms.now syntax.now.functions) self.old self.new (expr.case (expr_at syntax.now.node_table part.0) (branches_over syntax.now.node_table branches.now))) }
     {
         self.expr(syntax, atoms, own, part)?;
         self.branches(syntax, atoms, own, branches)
@@ -154,8 +154,8 @@ impl Walk {
         own: &Signatures,
         parts: &[ExprId],
     ) -> Result<(), NoMemory>
-        requires { Lists own.now syntax.now.functions }
-        ensures { OnOk result (ExprsWalked (names_of atoms.now syntax.now.functions) self.old self.new (exprs_at syntax.now.node_table parts.now)) }
+        requires { ListsFunctions own.now syntax.now.functions }
+        ensures { OnOk result (ExprsWalked (names_of_module atoms.now syntax.now.functions) self.old self.new (exprs_at syntax.now.node_table parts.now)) }
     {
         for part in parts {
             self.expr(syntax, atoms, own, *part)?;
@@ -172,8 +172,8 @@ impl Walk {
         own: &Signatures,
         condition: &Condition,
     ) -> Result<(), NoMemory>
-        requires { Lists own.now syntax.now.functions }
-        ensures { OnOk result (ConditionWalked (names_of atoms.now syntax.now.functions) self.old self.new (condition_over syntax.now.node_table condition.now)) }
+        requires { ListsFunctions own.now syntax.now.functions }
+        ensures { OnOk result (ConditionWalked (names_of_module atoms.now syntax.now.functions) self.old self.new (condition_over syntax.now.node_table condition.now)) }
     {
         for alternative in &condition.alternatives {
             self.tests(syntax, atoms, own, &alternative.tests)?;
@@ -190,8 +190,8 @@ impl Walk {
         own: &Signatures,
         tests: &[ExprId],
     ) -> Result<(), NoMemory>
-        requires { Lists own.now syntax.now.functions }
-        ensures { OnOk result (TestsWalked (names_of atoms.now syntax.now.functions) self.old self.new (exprs_at syntax.now.node_table tests.now)) }
+        requires { ListsFunctions own.now syntax.now.functions }
+        ensures { OnOk result (TestsWalked (names_of_module atoms.now syntax.now.functions) self.old self.new (exprs_at syntax.now.node_table tests.now)) }
     {
         let start = self.variables.trail_len();
         self.exprs(syntax, atoms, own, tests)?;
@@ -209,8 +209,8 @@ impl Walk {
         own: &Signatures,
         branches: &[Branch],
     ) -> Result<(), NoMemory>
-        requires { Lists own.now syntax.now.functions }
-        ensures { OnOk result (BranchesWalked (names_of atoms.now syntax.now.functions) self.old self.new (branches_over syntax.now.node_table branches.now)) }
+        requires { ListsFunctions own.now syntax.now.functions }
+        ensures { OnOk result (BranchesWalked (names_of_module atoms.now syntax.now.functions) self.old self.new (branches_over syntax.now.node_table branches.now)) }
     {
         let start = self.variables.trail_len();
         for branch in branches {
@@ -229,8 +229,8 @@ impl Walk {
         own: &Signatures,
         branch: &Branch,
     ) -> Result<(), NoMemory>
-        requires { Lists own.now syntax.now.functions }
-        ensures { OnOk result (BranchWalked (names_of atoms.now syntax.now.functions) self.old self.new (branch_of syntax.now.node_table branch.now)) }
+        requires { ListsFunctions own.now syntax.now.functions }
+        ensures { OnOk result (BranchWalked (names_of_module atoms.now syntax.now.functions) self.old self.new (branch_of syntax.now.node_table branch.now)) }
     {
         let start = self.variables.trail_len();
         self.expr_pattern(syntax, branch.expr_pattern)?;

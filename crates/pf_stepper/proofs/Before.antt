@@ -2,7 +2,7 @@
 use Rattle.std.proofs.Common.{◌≡◌, ℕ, zero, suc, ◌+◌, ◌-◌, ◌≤◌, subst, arith}
 use Rattle.pf_model.specs.Module.{Module}
 use Rattle.pf_model.specs.Context as index
-use Rattle.pf_model.specs.Context.{State, running, waiting, ending, ended, goes_on, asks, awaits}
+use Rattle.pf_model.specs.Context.{ProcessState, running, waiting, ending, ended, goes_on, asks, awaits}
 use Rattle.pf_model.specs.Configuration.{Core}
 use Rattle.pf_model.specs.Deliveries.{Deed}
 use Rattle.pf_model.specs.Turns.{Turn, contraction}
@@ -39,7 +39,7 @@ module _ (m : Module) (a : ℕ) (c : Core) where
       (subst (TurnFrom (i + suc n) p d) y (steps_before (suc n) (suc j) d i p q s (step_before n j d q r h k)))
 
   -- a turn whose last step is after n steps by itself
-  pub turn_behind : (left used i : ℕ) (s t : State) (d : Deed) → used ≡ suc i → used ≤ left → Steps m a i (goes_on s) (goes_on t)
+  pub turn_behind : (left used i : ℕ) (s t : ProcessState) (d : Deed) → used ≡ suc i → used ≤ left → Steps m a i (goes_on s) (goes_on t)
       → ((n : ℕ) → Turn m a c (suc n) t d 1) → Turn m a c left s d used
   turn_behind left used i s t d e l h last =
       let x : i + suc (left - used) ≡ left = omega arith in

@@ -11,8 +11,8 @@ use Rattle.pf_stepper.specs.contracts.act.Act as Act
 use Rattle.pf_stepper.specs.contracts.frame.Focus as Focus
 use Rattle.pf_stepper.specs.contracts.machine.Machine as Machine
 use Rattle.pf_stepper.specs.contracts.machine.Move as Move
-use Rattle.pf_stepper.specs.contracts.machine.Standing as Standing
-use Rattle.pf_stepper.specs.contracts.room.Room as Room
+use Rattle.pf_stepper.specs.contracts.machine.MachineStatus as Standing
+use Rattle.pf_stepper.specs.contracts.room.MachineRoom as Room
 use Rattle.pf_stepper.specs.contracts.stack.Stack as Stack
 
 -- ---- a machine

@@ -11,12 +11,12 @@ use Rattle.pf_syntax.specs.Over.{part_over}
 use Rattle.pf_syntax.specs.declared.node.NodeId.{NodeId}
 use Rattle.pf_syntax.specs.declared.node.Operand.{Operand}
 use Rattle.pf_syntax.specs.declared.node.Operand.TheVariants as part
-use Rattle.pf_patterns.specs.Fit.{Scope}
+use Rattle.pf_patterns.specs.Fit.{ValueScope}
 use Rattle.pf_patterns.specs.Slots.{activation}
 use Rattle.pf_patterns.specs.Substitution.{sub, value_or_var}
 use Rattle.pf_model.specs.Context.{Frame as Hole, around, fill, after_values, running}
 use Rattle.pf_stepper.specs.Lookups.{applied_to}
-use Rattle.pf_stepper.specs.View.{slots, keeps, kept, hole_of, holes_of, process_of}
+use Rattle.pf_stepper.specs.View.{slots, keeps, operands_kept, hole_of, holes_of, process_of}
 use Rattle.pf_stepper.specs.Inner.{standing_by, standing_in}
 use Rattle.pf_stepper.specs.Points.{IsInPlace, IsWithin, IsPointOf, IsPointAt, node_of, part_of, waits_in, part_in, called_by, point_in}
 use Rattle.pf_stepper.specs.declared.frame.Callee.{Callee}
@@ -24,8 +24,8 @@ use Rattle.pf_stepper.specs.declared.frame.Callee.TheVariants as callee
 use Rattle.pf_stepper.specs.declared.frame.Focus.{Focus}
 use Rattle.pf_stepper.specs.declared.frame.Focus.TheVariants as f
 use Rattle.pf_stepper.specs.declared.frame.Frame.{Frame}
-use Rattle.pf_stepper.specs.declared.machine.Standing.{Standing}
-use Rattle.pf_stepper.specs.declared.machine.Standing.TheVariants as s
+use Rattle.pf_stepper.specs.declared.machine.MachineStatus.{MachineStatus}
+use Rattle.pf_stepper.specs.declared.machine.MachineStatus.TheVariants as s
 use Rattle.pf_stepper.specs.declared.point.Point.{Point}
 use Rattle.pf_stepper.specs.declared.point.Point.TheVariants as p
 use Rattle.pf_stepper.specs.declared.stack.Stack.{Stack}
@@ -90,7 +90,7 @@ waits_so t env ws (x ∷ fs) r i =
     let w = waits_there t env ws x fs r i in
     subst (IsPointOf t (running (fill (holes_of t env ws (x ∷ fs)) r))) (sym w.is) w.within
 
-part_stands : (t : Tables) (e : Scope) (env ws : List Term) (fs : List Frame) (x : Operand) → IsPointOf t (running (fill (holes_of t env ws fs) (sub e (part_over t x)))) (part_in fs x)
+part_stands : (t : Tables) (e : ValueScope) (env ws : List Term) (fs : List Frame) (x : Operand) → IsPointOf t (running (fill (holes_of t env ws fs) (sub e (part_over t x)))) (part_in fs x)
 part_stands t e env ws fs (part.Node n) = record { frames = holes_of t env ws fs; scope = e; is = refl }
 part_stands t e env ws fs (part.Slot x) = waits_so t env ws fs (sub e (part_over t (part.Slot x))) (in_place (slice_get e x) (x - length e))
 part_stands t e env ws fs (part.Int n) = waits_so t env ws fs (sub e (part_over t (part.Int n))) tt
@@ -109,27 +109,27 @@ pub stands_there : (t : Tables) (env ws : List Term) (base : ℕ) (fs : List Fra
 unfolding process_of
 stands_there t env ws base fs (f.Eval x) = part_stands t (activation env base) env ws fs x
 stands_there t env ws base fs (f.Value v) = waits_so t env ws fs (lit (value_of v)) tt
-stands_there t env ws base fs (f.Enter g n) = call_stands t env ws (drop (kept fs) ws) fs g
+stands_there t env ws base fs (f.Enter g n) = call_stands t env ws (drop (operands_kept fs) ws) fs g
 stands_there t env ws base fs (f.Raised r) = tt
 stands_there t env ws base fs (f.Exited r) = tt
 
 -- where a machine with these fields is
-abbrev pub point_from : Stack → Standing → Point
+abbrev pub point_from : Stack → MachineStatus → Point
 point_from a (s.Goes x) = point_in a.frames.items x
 point_from a s.Asking = p.Nowhere
 point_from a s.Over = p.Nowhere
 point_from a s.Spent = p.Nowhere
 
-pub machine_stands : (m : Checked) (a : Stack) (x : Standing) → IsPointAt m.tables (standing_in m a x) (point_from a x)
+pub machine_stands : (m : Checked) (a : Stack) (x : MachineStatus) → IsPointAt m.tables (standing_in m a x) (point_from a x)
 machine_stands m a (s.Goes x) = stands_there m.tables a.env.items a.operands.items a.base a.frames.items x
 machine_stands m a s.Asking = refl
 machine_stands m a s.Over = refl
 machine_stands m a s.Spent = refl
 
-pub stands_as : (m : Checked) (a : Stack) (x : Standing) (q : Point) → q ≡ point_from a x → IsPointAt m.tables (standing_in m a x) q
+pub stands_as : (m : Checked) (a : Stack) (x : MachineStatus) (q : Point) → q ≡ point_from a x → IsPointAt m.tables (standing_in m a x) q
 stands_as m a x q e = subst (IsPointAt m.tables (standing_in m a x)) (sym e) (machine_stands m a x)
 
-pub stands_nowhere : (a : Stack) (x : Standing) → x ≡ s.Asking ⊎ (x ≡ s.Over ⊎ x ≡ s.Spent) → p.Nowhere ≡ point_from a x
+pub stands_nowhere : (a : Stack) (x : MachineStatus) → x ≡ s.Asking ⊎ (x ≡ s.Over ⊎ x ≡ s.Spent) → p.Nowhere ≡ point_from a x
 stands_nowhere a x (inl e) = ap (point_from a) (sym e)
 stands_nowhere a x (inr (inl e)) = ap (point_from a) (sym e)
 stands_nowhere a x (inr (inr e)) = ap (point_from a) (sym e)

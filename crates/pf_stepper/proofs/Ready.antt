@@ -10,30 +10,30 @@ use Rattle.pf_patterns.specs.Slots.{activation}
 use Rattle.pf_patterns.specs.Substitution.{sub_clauses}
 use Rattle.pf_model.specs.Module.{Module, module_of}
 use Rattle.pf_model.specs.Contraction.{Act}
-use Rattle.pf_model.specs.Context.{Frame, State, running, ending, Move, goes_on, asks, awaits, returns, at_value}
+use Rattle.pf_model.specs.Context.{Frame, ProcessState, running, ending, Move, goes_on, asks, awaits, returns, at_value}
 use Rattle.pf_model.proofs.Sought.{one_move}
 use Rattle.pf_stepper.specs.Lookups.{clauses_in}
 use Rattle.pf_stepper.specs.View.{process_of}
 use Rattle.pf_stepper.specs.MicroSteps.{Contracts}
 use Rattle.pf_stepper.specs.Advanced.{AdvancedFrom, RanFrom, Steps, no_step, one_more, stack_process}
 use Rattle.pf_stepper.specs.MachineView.{MachineView, spent, goes}
-use Rattle.pf_stepper.specs.Readiness.{Receive, receive_of, IsReadyForAll, StandsAt, IsReadyAhead}
+use Rattle.pf_stepper.specs.Readiness.{Receive, receive_of, IsReadyForAll, IsAtReceive, IsReadyAhead}
 use Rattle.pf_stepper.specs.Settled.{going, IsReadyAfter, IsReadyToSettle}
 use Rattle.pf_stepper.specs.declared.frame.Focus.{Focus}
 use Rattle.pf_stepper.specs.declared.frame.Focus.TheVariants as f
 use Rattle.pf_stepper.specs.declared.stack.Stack.{Stack}
 use Rattle.pf_stepper.specs.declared.advance.Advance.{Advance}
 use Rattle.pf_stepper.specs.declared.advance.Advance.TheVariants as a
-use Rattle.pf_stepper.specs.declared.machine.Standing.TheVariants as stood
+use Rattle.pf_stepper.specs.declared.machine.MachineStatus.TheVariants as stood
 use Rattle.pf_stepper.proofs.Outer.{advanced_goes, process_goes}
 
-abbrev machine_at : Checked → ℕ → State → MachineView
+abbrev machine_at : Checked → ℕ → ProcessState → MachineView
 machine_at m own x = record { own = own; checked = m; standing = goes x }
 
-not_spent : (x : State) → goes x ≡ spent → ⊥
+not_spent : (x : ProcessState) → goes x ≡ spent → ⊥
 not_spent x e = absurd cc
 
-same_going : (x y : State) → goes x ≡ goes y → x ≡ y
+same_going : (x y : ProcessState) → goes x ≡ goes y → x ≡ y
 same_going x y e = cc
 
 same_awaited : (fs gs : List Frame) (ks ls : Clauses) → awaits fs ks ≡ awaits gs ls → ks ≡ ls
@@ -64,14 +64,14 @@ module _ (m : Module) (own : ℕ) where
       absurd (not_awaiting r fs ks g (one_next p r (awaits fs ks) (subst (λ z. Contracts m own z r) e c) h))
 
 module _ (m : Checked) (own : ℕ) (ready : Receive → Type 0) where
-  awaited_at : (x : State) (ks : Clauses) (t : StandsAt (machine_at m own x) ks) → Contracts (module_of m) own (goes_on x) (awaits t.frames ks)
+  awaited_at : (x : ProcessState) (ks : Clauses) (t : IsAtReceive (machine_at m own x) ks) → Contracts (module_of m) own (goes_on x) (awaits t.frames ks)
   awaited_at x ks t = subst (λ y. Contracts (module_of m) own (goes_on y) (awaits t.frames ks)) (sym (same_going x t.state t.stood)) t.next
 
-  stands_at : (x : State) (fs : List Frame) (ks : Clauses) → Contracts (module_of m) own (goes_on x) (awaits fs ks) → StandsAt (machine_at m own x) ks
+  stands_at : (x : ProcessState) (fs : List Frame) (ks : Clauses) → Contracts (module_of m) own (goes_on x) (awaits fs ks) → IsAtReceive (machine_at m own x) ks
   stands_at x fs ks c = record { state = x; frames = fs; stood = refl; next = c }
 
   -- it stays ready on the way
-  pub ready_later : (j : ℕ) (x y : State) → Steps (module_of m) own j (goes_on x) (goes_on y) → IsReadyAhead ready (machine_at m own x) → IsReadyAhead ready (machine_at m own y)
+  pub ready_later : (j : ℕ) (x y : ProcessState) → Steps (module_of m) own j (goes_on x) (goes_on y) → IsReadyAhead ready (machine_at m own x) → IsReadyAhead ready (machine_at m own y)
   ready_later j x y s h r c =
       h r (record {
         lives = not_spent x;
@@ -82,7 +82,7 @@ module _ (m : Checked) (own : ℕ) (ready : Receive → Type 0) where
       })
 
   -- at a `receive` it is ready for this
-  pub ready_at : (x : State) (fs : List Frame) (ks : Clauses) → Contracts (module_of m) own (goes_on x) (awaits fs ks) → IsReadyAhead ready (machine_at m own x) → ready (receive_of (module_of m) own ks)
+  pub ready_at : (x : ProcessState) (fs : List Frame) (ks : Clauses) → Contracts (module_of m) own (goes_on x) (awaits fs ks) → IsReadyAhead ready (machine_at m own x) → ready (receive_of (module_of m) own ks)
   ready_at x fs ks k h =
       h (receive_of (module_of m) own ks) (record {
         lives = not_spent x;
@@ -90,10 +90,10 @@ module _ (m : Checked) (own : ℕ) (ready : Receive → Type 0) where
       })
 
   -- elsewhere for whatever comes
-  pub ready_elsewhere : (x : State) → ((fs : List Frame) (ks : Clauses) → Contracts (module_of m) own (goes_on x) (awaits fs ks) → ⊥) → IsReadyAhead ready (machine_at m own x) → IsReadyForAll ready
+  pub ready_elsewhere : (x : ProcessState) → ((fs : List Frame) (ks : Clauses) → Contracts (module_of m) own (goes_on x) (awaits fs ks) → ⊥) → IsReadyAhead ready (machine_at m own x) → IsReadyForAll ready
   ready_elsewhere x n h r = h r (record { lives = not_spent x; only = λ ks t. absurd (n t.frames ks (awaited_at x ks t)) })
 
-  pub ready_waiting : (x : State) (fs : List Frame) (ks : Clauses) → Contracts (module_of m) own (goes_on x) (awaits fs ks) → ready (receive_of (module_of m) own ks) → IsReadyAhead ready (machine_at m own x)
+  pub ready_waiting : (x : ProcessState) (fs : List Frame) (ks : Clauses) → Contracts (module_of m) own (goes_on x) (awaits fs ks) → ready (receive_of (module_of m) own ks) → IsReadyAhead ready (machine_at m own x)
   ready_waiting x fs ks k h r c = subst ready (sym (c.only ks (stands_at x fs ks k))) h
 
 -- ready for whatever comes, so also ahead
@@ -114,9 +114,9 @@ module _ (ready : Receive → Type 0) (m : Checked) (own : ℕ) where
   abbrev Before : Move → Type 0
   Before p = IsReadyAhead ready (going m own p)
 
-  module _ (left used : ℕ) (x : State) (s : Stack) (h : Before (goes_on x)) where
+  module _ (left used : ℕ) (x : ProcessState) (s : Stack) (h : Before (goes_on x)) where
     last : (r : Advance) (j : ℕ) (q : Move) → Steps (module_of m) own j (goes_on x) q → AdvancedFrom m own q s r
-        → (y : State) × AdvancedFrom m own (goes_on y) s r × Before (goes_on y)
+        → (y : ProcessState) × AdvancedFrom m own (goes_on y) s r × Before (goes_on y)
     last r j q k d =
         let g = advanced_goes m own left q s r d in (
           g.0,
@@ -142,15 +142,15 @@ module _ (ready : Receive → Type 0) (m : Checked) (own : ℕ) where
       ran_ready left used q.0 s' (subst Before q.1 h) r (subst (λ p. RanFrom m own left p s' r used) q.1 k)
 
   module _ (s : Stack) where
-    no_return : (v : Term) (x : State) → goes_on x ≡ goes_on (running (lit (value_of v))) → (fs : List Frame) (ks : Clauses) → Contracts (module_of m) own (goes_on x) (awaits fs ks) → ⊥
+    no_return : (v : Term) (x : ProcessState) → goes_on x ≡ goes_on (running (lit (value_of v))) → (fs : List Frame) (ks : Clauses) → Contracts (module_of m) own (goes_on x) (awaits fs ks) → ⊥
     no_return v x e fs ks k =
         let l : Contracts (module_of m) own (goes_on (running (lit (value_of v)))) (awaits fs ks) = subst (λ p. Contracts (module_of m) own p (awaits fs ks)) e k in
         let d = one_move (module_of m) own (lit (value_of v)) (awaits fs ks) (returns (value_of v)) l (at_value (value_of v) refl refl) in absurd cc
 
-    no_end : (e : Term) (x : State) → goes_on x ≡ goes_on (ending (value_of e)) → (fs : List Frame) (ks : Clauses) → Contracts (module_of m) own (goes_on x) (awaits fs ks) → ⊥
+    no_end : (e : Term) (x : ProcessState) → goes_on x ≡ goes_on (ending (value_of e)) → (fs : List Frame) (ks : Clauses) → Contracts (module_of m) own (goes_on x) (awaits fs ks) → ⊥
     no_end e x q fs ks k = subst (λ p. Contracts (module_of m) own p (awaits fs ks)) q k
 
-    no_asking : (gs : List Frame) (act : Act) (x : State) → Contracts (module_of m) own (goes_on x) (asks gs act) → (fs : List Frame) (ks : Clauses) → Contracts (module_of m) own (goes_on x) (awaits fs ks) → ⊥
+    no_asking : (gs : List Frame) (act : Act) (x : ProcessState) → Contracts (module_of m) own (goes_on x) (asks gs act) → (fs : List Frame) (ks : Clauses) → Contracts (module_of m) own (goes_on x) (awaits fs ks) → ⊥
     no_asking gs act x c fs ks k = let d = one_next (module_of m) own (goes_on x) (asks gs act) (awaits fs ks) c k in absurd cc
 
     pub ready_sending : (w : Term) → IsReadyToSettle ready m own s (a.Sends w) → IsReadyForAll ready

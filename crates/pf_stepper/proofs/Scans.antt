@@ -14,7 +14,7 @@ use Rattle.pf_patterns.specs.Slots.{activation}
 use Rattle.pf_patterns.specs.Substitution.{sub, sub_clauses}
 use Rattle.pf_model.specs.Module.{Module, module_of}
 use Rattle.pf_model.specs.Contraction.{picked}
-use Rattle.pf_model.specs.Receive.{Takes, and_before, taken_or_later, selected, FitsNone}
+use Rattle.pf_model.specs.Receive.{ReceiveTakes, and_before, taken_or_later, selected, FitsNone}
 use Rattle.pf_model.proofs.Receives.{receive_is_a_relation}
 use Rattle.pf_stepper.specs.MicroSteps.{Picked}
 use Rattle.pf_stepper.specs.Selected.{TakesMessage, TakesNothing}
@@ -60,7 +60,7 @@ module _ (m : Checked) (own base : ℕ) (env : List Term) (ks : Clauses) (xs : L
       let seen = sub_clauses (activation env base) ks in
       let front = map value_of (take i xs) in
       let back = map value_of (drop (i + 1) xs) in
-      let takes : Takes (module_of m) own seen (map value_of xs) (record { body = sub (activation env' base) (part_over m.tables body); message = value_of x; others = map value_of ys }) =
+      let takes : ReceiveTakes (module_of m) own seen (map value_of xs) (record { body = sub (activation env' base) (part_over m.tables body); message = value_of x; others = map value_of ys }) =
       record {
         front = front;
         back = back;

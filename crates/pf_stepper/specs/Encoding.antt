@@ -8,7 +8,7 @@ use Rattle.pf_syntax.specs.Tree.{Tree, lit, tuple, op, call, builtin, match, bin
 use Rattle.pf_syntax.specs.Encoding.{coded_tree}
 use Rattle.pf_syntax.specs.Module.{coded_checked}
 use Rattle.pf_model.specs.Context.{Frame, element_of, first_of, tail_of, left_of, right_of, negation, and_also_of, or_else_of, argument_of, builtin_argument_of, match_of, bind_of, case_of, receiver_of, message_of, running, waiting, ending, ended, returned, failed}
-use Rattle.pf_stepper.specs.MachineView.{Standing, spent, goes, asking, over, MachineView}
+use Rattle.pf_stepper.specs.MachineView.{MachineStatus, spent, goes, asking, over, MachineView}
 
 -- ---- frames, by a number, a tree with their parts, and their values
 
@@ -46,9 +46,9 @@ by_tree (bind ps a r) vs = bind_of ps r
 by_tree (case a ks) vs = case_of ks
 by_tree t vs = negation
 
-abbrev pub left_from : Tree → Frame
-left_from (op o a b) = left_of o b
-left_from t = negation
+abbrev pub left_frame_from : Tree → Frame
+left_frame_from (op o a b) = left_of o b
+left_frame_from t = negation
 
 abbrev pub value_from : (Value → Frame) → Tree → Frame
 value_from f (lit v) = f v
@@ -58,7 +58,7 @@ abbrev pub frame_from : Stored → Frame
 frame_from p =
     if p.0 == 1 then first_of p.1.0
     else (if p.0 == 2 then value_from tail_of p.1.0
-    else (if p.0 == 3 then left_from p.1.0
+    else (if p.0 == 3 then left_frame_from p.1.0
     else (if p.0 == 6 then and_also_of p.1.0
     else (if p.0 == 7 then or_else_of p.1.0
     else (if p.0 == 13 then receiver_of p.1.0
@@ -90,7 +90,7 @@ coded_frame = code_by _ (coded× coded_ℕ (coded× coded_tree coded_values)) st
 abbrev pub Parts : Type 0
 Parts = Tree ⊎ (Tree ⊎ (Value ⊎ (Value ⊎ (Value ⊎ (List Frame ⊎ ℕ)))))
 
-abbrev pub parts_of : Standing → Parts
+abbrev pub parts_of : MachineStatus → Parts
 parts_of (goes (running t)) = inl t
 parts_of (goes (waiting t)) = inr (inl t)
 parts_of (goes (ending r)) = inr (inr (inl r))
@@ -100,7 +100,7 @@ parts_of (asking fs) = inr (inr (inr (inr (inr (inl fs)))))
 parts_of spent = inr (inr (inr (inr (inr (inr 0)))))
 parts_of over = inr (inr (inr (inr (inr (inr 1)))))
 
-abbrev pub standing_from : Parts → Standing
+abbrev pub standing_from : Parts → MachineStatus
 standing_from (inl t) = goes (running t)
 standing_from (inr (inl t)) = goes (waiting t)
 standing_from (inr (inr (inl r))) = goes (ending r)
@@ -109,7 +109,7 @@ standing_from (inr (inr (inr (inr (inl r))))) = goes (ended (failed r))
 standing_from (inr (inr (inr (inr (inr (inl fs)))))) = asking fs
 standing_from (inr (inr (inr (inr (inr (inr n)))))) = if n == 0 then spent else over
 
-pub standing_again : (s : Standing) → standing_from (parts_of s) ≡ s
+pub standing_again : (s : MachineStatus) → standing_from (parts_of s) ≡ s
 standing_again (goes (running t)) = refl
 standing_again (goes (waiting t)) = refl
 standing_again (goes (ending r)) = refl
@@ -119,7 +119,7 @@ standing_again (asking fs) = refl
 standing_again spent = refl
 standing_again over = refl
 
-abbrev pub coded_standing : Coded Standing
+abbrev pub coded_standing : Coded MachineStatus
 coded_standing =
     code_by _ (coded⊎ coded_tree (coded⊎ coded_tree (coded⊎ coded_value (coded⊎ coded_value (coded⊎ coded_value (coded⊎ (coded_list coded_frame) coded_ℕ))))))
     parts_of standing_from standing_again

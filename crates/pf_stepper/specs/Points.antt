@@ -8,26 +8,26 @@ use Rattle.pf_syntax.specs.declared.node.FunctionId.{FunctionId}
 use Rattle.pf_syntax.specs.declared.node.NodeId.{NodeId}
 use Rattle.pf_syntax.specs.declared.node.Operand.{Operand}
 use Rattle.pf_syntax.specs.declared.node.Operand.TheVariants as part
-use Rattle.pf_patterns.specs.Fit.{Scope}
+use Rattle.pf_patterns.specs.Fit.{ValueScope}
 use Rattle.pf_patterns.specs.Substitution.{sub}
-use Rattle.pf_model.specs.Context.{Frame as Hole, fill, literals, State, running, waiting, ending, ended}
+use Rattle.pf_model.specs.Context.{Frame as Hole, fill, literals, ProcessState, running, waiting, ending, ended}
 use Rattle.pf_stepper.specs.Lookups.{applied_to, pairing_in, pairing_of}
 use Rattle.pf_stepper.specs.View.{hole_of}
-use Rattle.pf_stepper.specs.MachineView.{Standing, spent, goes, asking, over}
+use Rattle.pf_stepper.specs.MachineView.{MachineStatus, spent, goes, asking, over}
 use Rattle.pf_stepper.specs.declared.frame.Callee.{Callee}
 use Rattle.pf_stepper.specs.declared.frame.Callee.TheVariants as callee
 use Rattle.pf_stepper.specs.declared.frame.Focus.{Focus}
 use Rattle.pf_stepper.specs.declared.frame.Focus.TheVariants as f
 use Rattle.pf_stepper.specs.declared.frame.Frame.{Frame}
-use Rattle.pf_stepper.specs.declared.frame.Kind.{Kind}
-use Rattle.pf_stepper.specs.declared.frame.Kind.TheVariants as k
+use Rattle.pf_stepper.specs.declared.frame.FrameKind.{FrameKind}
+use Rattle.pf_stepper.specs.declared.frame.FrameKind.TheVariants as k
 use Rattle.pf_stepper.specs.declared.point.Point.{Point}
 use Rattle.pf_stepper.specs.declared.point.Point.TheVariants as p
 
 -- ---- frames
 
 -- the node at which a frame waits
-abbrev pub node_of : Kind → NodeId
+abbrev pub node_of : FrameKind → NodeId
 node_of (k.BinaryLeft n) = n
 node_of (k.BinaryRight b n) = n
 node_of (k.BinaryAfterSlot b x n) = n
@@ -39,7 +39,7 @@ node_of (k.Bind n done) = n
 node_of (k.Case n) = n
 
 -- and the number of the part whose value it waits for
-abbrev pub part_of : Kind → ℕ
+abbrev pub part_of : FrameKind → ℕ
 part_of (k.BinaryLeft n) = 0
 part_of (k.BinaryRight b n) = 1
 part_of (k.BinaryAfterSlot b x n) = 1
@@ -52,7 +52,7 @@ part_of (k.Case n) = 0
 
 -- the node of a frame is what the frame waits at, where its hole doesn't come from there: a minus, or what takes two
 -- operands so
-abbrev pub IsAtNode : Tables → Kind → Type 0
+abbrev pub IsAtNode : Tables → FrameKind → Type 0
 IsAtNode t (k.BinaryLeft n) = Unit {0}
 IsAtNode t (k.BinaryRight b n) = pairing_in (tree_at t n.0) ≡ pairing_of b
 IsAtNode t (k.BinaryAfterSlot b x n) = pairing_in (tree_at t n.0) ≡ pairing_of b
@@ -90,9 +90,9 @@ point_in fs (f.Exited r) = p.Nowhere
 
 -- a hole at this part of a node
 pub record IsHoleAt (t : Tables) (n : NodeId) (i : ℕ) (h : Hole) : Type 0 where
-  pub scope : Scope
+  pub scope : ValueScope
   pub values : List Term
-  pub waits : Kind
+  pub waits : FrameKind
   pub node : node_of waits ≡ n
   pub at : part_of waits ≡ i
   pub is : h ≡ hole_of t scope values waits
@@ -120,19 +120,19 @@ pub record IsBuilt (r : Tree) : Type 0 where
 -- ---- points
 
 -- innermost is the call of this function with values
-pub record IsCalling (s : State) (g : FunctionId) : Type 0 where
+pub record IsCalling (s : ProcessState) (g : FunctionId) : Type 0 where
   pub frames : List Hole
   pub values : Values
   pub is : s ≡ running (fill frames (call g.0 (literals values)))
 
 -- innermost is the tree of this node
-pub record IsBefore (t : Tables) (s : State) (n : NodeId) : Type 0 where
+pub record IsBeforeNode (t : Tables) (s : ProcessState) (n : NodeId) : Type 0 where
   pub frames : List Hole
-  pub scope : Scope
+  pub scope : ValueScope
   pub is : s ≡ running (fill frames (sub scope (tree_at t n.0)))
 
 -- innermost is the value of this part of a node
-pub record IsWithin (t : Tables) (s : State) (n : NodeId) (i : ℕ) : Type 0 where
+pub record IsWithin (t : Tables) (s : ProcessState) (n : NodeId) (i : ℕ) : Type 0 where
   pub frames : List Hole
   pub hole : Hole
   pub inner : Tree
@@ -141,21 +141,21 @@ pub record IsWithin (t : Tables) (s : State) (n : NodeId) (i : ℕ) : Type 0 whe
   pub is : s ≡ running (fill (frames ++ hole ∷ []) inner)
 
 -- the process returns what it has, is at a tuple or a built-in function of values, or is about to end
-abbrev pub HasNoNode : State → Type 0
+abbrev pub HasNoNode : ProcessState → Type 0
 HasNoNode (running r) = IsInPlace r ⊎ IsBuilt r
 HasNoNode (waiting r) = ⊥
 HasNoNode (ending r) = Unit {0}
 HasNoNode (ended e) = ⊥
 
 -- a process in this state is at this point
-abbrev pub IsPointOf : Tables → State → Point → Type 0
+abbrev pub IsPointOf : Tables → ProcessState → Point → Type 0
 IsPointOf t s (p.Calls g) = IsCalling s g
-IsPointOf t s (p.Before n) = IsBefore t s n
+IsPointOf t s (p.Before n) = IsBeforeNode t s n
 IsPointOf t s (p.Within n i) = IsWithin t s n i
 IsPointOf t s p.Nowhere = HasNoNode s
 
 -- a machine with this status is at this point
-abbrev pub IsPointAt : Tables → Standing → Point → Type 0
+abbrev pub IsPointAt : Tables → MachineStatus → Point → Type 0
 IsPointAt t (goes s) x = IsPointOf t s x
 IsPointAt t spent x = x ≡ p.Nowhere
 IsPointAt t (asking fs) x = x ≡ p.Nowhere

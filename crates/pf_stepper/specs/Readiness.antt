@@ -8,7 +8,7 @@ use Rattle.pf_syntax.specs.declared.node.Clause.{Clause}
 use Rattle.pf_patterns.specs.Slots.{activation}
 use Rattle.pf_patterns.specs.Substitution.{sub_clauses}
 use Rattle.pf_model.specs.Module.{Module, module_of}
-use Rattle.pf_model.specs.Context.{Frame, State, goes_on, awaits}
+use Rattle.pf_model.specs.Context.{Frame, ProcessState, goes_on, awaits}
 use Rattle.pf_stepper.specs.MicroSteps.{Contracts}
 use Rattle.pf_stepper.specs.MachineView.{MachineView, spent, goes}
 
@@ -30,8 +30,8 @@ abbrev pub IsReadyForAll : (Receive → Type 0) → Type 0
 IsReadyForAll ready = (r : Receive) → ready r
 
 -- the machine is at a `receive` of these clauses
-pub record StandsAt (s : MachineView) (ks : Clauses) : Type 0 where
-  pub state : State
+pub record IsAtReceive (s : MachineView) (ks : Clauses) : Type 0 where
+  pub state : ProcessState
   pub frames : List Frame
   pub stood : s.standing ≡ goes state
   pub next : Contracts (module_of s.checked) s.own (goes_on state) (awaits frames ks)
@@ -39,7 +39,7 @@ pub record StandsAt (s : MachineView) (ks : Clauses) : Type 0 where
 -- this may be the next `receive` of a machine that has memory: if it is at one, it is this
 pub record MayComeTo (s : MachineView) (r : Receive) : Type 0 where
   pub lives : s.standing ≡ spent → ⊥
-  pub only : (ks : Clauses) → StandsAt s ks → r ≡ receive_of (module_of s.checked) s.own ks
+  pub only : (ks : Clauses) → IsAtReceive s ks → r ≡ receive_of (module_of s.checked) s.own ks
 
 -- ready for the `receive` at which the machine is; where it is at none, for whatever comes; once memory ran out, for
 -- nothing

@@ -4,10 +4,10 @@ ghost use Rattle.std.specs.Prelude.{◌≡◌, IfOk};
 ghost use Rattle.pf_terms.specs.Term.{value_of};
 ghost use Rattle.pf_ops.specs.Reasons.{no_case};
 ghost use Rattle.pf_stepper.specs.MicroSteps.{Gave, Holds, IsChosen};
-ghost use Rattle.pf_stepper.specs.declared.frame.Kind.TheVariants as kind;
+ghost use Rattle.pf_stepper.specs.declared.frame.FrameKind.TheVariants as kind;
 
 use crate::clauses::choose;
-use crate::frame::{Binary, Callee, Focus, Frame, Kind, MicroStep};
+use crate::frame::{Binary, Callee, Focus, Frame, FrameKind, MicroStep};
 use crate::lookups::{arguments, clauses, operation, patterns, rest};
 use crate::outcomes::{integer_outcome, pair_up};
 use crate::stack::Stack;
@@ -50,7 +50,7 @@ impl Stack {
             Some(other) => pair_up(alloc, code, binary, value, other, &mut self.operands),
             None => {
                 self.operands.push(value)?;
-                self.wait(code, Kind::BinaryRight(binary, id))?;
+                self.wait(code, FrameKind::BinaryRight(binary, id))?;
                 Ok(MicroStep::Silent(Focus::Eval(right)))
             }
         }
@@ -195,7 +195,7 @@ impl Stack {
                     return Ok(MicroStep::Contracted(Focus::Raised(reason)));
                 }
                 if done + 1 < patterns.len() {
-                    self.wait(code, Kind::Match(id, done + 1))?;
+                    self.wait(code, FrameKind::Match(id, done + 1))?;
                     Ok(MicroStep::Contracted(Focus::Value(value)))
                 } else {
                     Ok(MicroStep::Contracted(Focus::Value(value)))
@@ -228,7 +228,7 @@ impl Stack {
                     let reason = tagged(alloc, AtomId::BADMATCH, &value)?;
                     return Ok(MicroStep::Contracted(Focus::Raised(reason)));
                 }
-                self.wait(code, Kind::Bind(id, done + 1))?;
+                self.wait(code, FrameKind::Bind(id, done + 1))?;
                 Ok(MicroStep::Contracted(Focus::Value(value)))
             }
         }

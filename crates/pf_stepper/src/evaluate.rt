@@ -7,7 +7,7 @@ ghost use Rattle.pf_syntax.specs.Tree.{if_expression};
 ghost use Rattle.pf_syntax.specs.Over.{clauses_over, part_over, tree_over};
 ghost use Rattle.pf_stepper.specs.Lookups.{clauses_in, left_index, paired, pairing_of, IsLeftInScope};
 ghost use Rattle.pf_stepper.specs.declared.frame.Binary.TheVariants as binary;
-ghost use Rattle.pf_stepper.specs.declared.frame.Kind.TheVariants as kind;
+ghost use Rattle.pf_stepper.specs.declared.frame.FrameKind.TheVariants as kind;
 ghost use Rattle.pf_patterns.specs.Slots.{activation};
 ghost use Rattle.pf_stepper.specs.Points.{IsAtNode};
 ghost use Rattle.pf_stepper.specs.View.{keeps};
@@ -15,7 +15,7 @@ ghost use Rattle.pf_stepper.specs.MicroSteps.{CanEvaluate, Descended, IsMicroSte
 
 use crate::clauses::choose;
 use crate::continuations::chosen;
-use crate::frame::{Binary, Callee, Focus, Kind, MicroStep};
+use crate::frame::{Binary, Callee, Focus, FrameKind, MicroStep};
 use crate::outcomes::outcome;
 use crate::stack::Stack;
 use pf_ops::on_integers;
@@ -88,12 +88,18 @@ impl Stack {
             Node::Send(left, right) => {
                 self.operation(alloc, code, own, id, Binary::Send, *left, *right)
             }
-            Node::Negate(part) => self.descend_apart(alloc, code, own, Kind::Negation(id), *part),
+            Node::Negate(part) => self.descend_apart(
+                alloc,
+                code,
+                own,
+                FrameKind::Negation(id),
+                *part,
+            ),
             Node::AndAlso(left, _) => {
-                self.descend_apart(alloc, code, own, Kind::Shortcut(false, id), *left)
+                self.descend_apart(alloc, code, own, FrameKind::Shortcut(false, id), *left)
             }
             Node::OrElse(left, _) => {
-                self.descend_apart(alloc, code, own, Kind::Shortcut(true, id), *left)
+                self.descend_apart(alloc, code, own, FrameKind::Shortcut(true, id), *left)
             }
             Node::Call(function, arguments) => {
                 self.pass(
@@ -123,12 +129,18 @@ impl Stack {
                 elements.as_slice(),
                 0,
             ),
-            Node::Match(_, part) => self.descend_apart(alloc, code, own, Kind::Match(id, 0), *part),
+            Node::Match(_, part) => self.descend_apart(
+                alloc,
+                code,
+                own,
+                FrameKind::Match(id, 0),
+                *part,
+            ),
             Node::Bind(_, part, _) => self.descend_apart(
                 alloc,
                 code,
                 own,
-                Kind::Bind(id, 0),
+                FrameKind::Bind(id, 0),
                 *part,
             ),
             Node::Case(part, clauses) => self.case(alloc, code, own, id, *part, clauses.as_slice()),
@@ -207,10 +219,10 @@ impl Stack {
     {
         match self.left_in_scope(left, right) {
             Some(index) => {
-                self.wait(code, Kind::BinaryAfterSlot(binary, index, id))?;
+                self.wait(code, FrameKind::BinaryAfterSlot(binary, index, id))?;
                 Ok(MicroStep::Silent(Focus::Eval(right)))
             }
-            None => self.descend(alloc, code, own, Kind::BinaryLeft(id), left),
+            None => self.descend(alloc, code, own, FrameKind::BinaryLeft(id), left),
         }
     }
 
@@ -267,7 +279,7 @@ impl Stack {
                 Ok(MicroStep::Contracted(chosen(alloc, &value, body)?))
             }
             None => {
-                self.wait(code, Kind::Case(id))?;
+                self.wait(code, FrameKind::Case(id))?;
                 Ok(MicroStep::Silent(Focus::Eval(part)))
             }
         }
@@ -280,7 +292,7 @@ impl Stack {
         alloc: Global,
         code: &Module,
         own: u32,
-        kind: Kind,
+        kind: FrameKind,
         part: Operand,
     ) -> Result<MicroStep, NoMemory>
         requires sound { CanEvaluate self.old }
@@ -298,7 +310,7 @@ impl Stack {
         alloc: Global,
         code: &Module,
         own: u32,
-        kind: Kind,
+        kind: FrameKind,
         part: Operand,
     ) -> Result<MicroStep, NoMemory>
         requires sound { CanEvaluate self.old }

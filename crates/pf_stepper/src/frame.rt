@@ -25,7 +25,7 @@ pub(crate) enum Callee {
 
 /// What waits for a value. A number beside a node counts the arguments or the patterns that are done.
 #[derive(Clone, Copy)]
-pub(crate) enum Kind {
+pub(crate) enum FrameKind {
     /// The left operand at the node, before the right one.
     BinaryLeft(NodeId),
     /// The right operand at the node, after the left one.
@@ -49,7 +49,7 @@ pub(crate) enum Kind {
 /// A wait, where its activation begins, and the end of the slots that it needs.
 #[derive(Clone, Copy)]
 pub(crate) struct Frame {
-    pub(crate) kind: Kind,
+    pub(crate) kind: FrameKind,
     pub(crate) base: usize,
     pub(crate) end: usize,
 }

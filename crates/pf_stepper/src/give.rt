@@ -5,7 +5,7 @@ ghost use Rattle.pf_stepper.specs.Sound.{Stacked};
 ghost use Rattle.pf_stepper.specs.MicroSteps.{Gave, Holds, IsMicroStep};
 ghost use Rattle.pf_stepper.specs.declared.frame.Focus.TheVariants.{Value as finished};
 
-use crate::frame::{Frame, Kind, MicroStep};
+use crate::frame::{Frame, FrameKind, MicroStep};
 use crate::stack::Stack;
 use pf_syntax::Module;
 use pf_terms::{NoMemory, Term};
@@ -44,23 +44,23 @@ impl Stack {
         ensures { IfOk result (λ t. Gave code.now own self.old frame value self.new t) }
     {
         match frame.kind {
-            Kind::BinaryLeft(id) => self.left_done(alloc, code, own, frame, id, value),
-            Kind::BinaryRight(binary, id) => {
+            FrameKind::BinaryLeft(id) => self.left_done(alloc, code, own, frame, id, value),
+            FrameKind::BinaryRight(binary, id) => {
                 self.right_done(alloc, code, own, frame, binary, id, value)
             }
-            Kind::BinaryAfterSlot(binary, index, id) => {
+            FrameKind::BinaryAfterSlot(binary, index, id) => {
                 self.right_after_slot(alloc, code, own, frame, binary, index, id, value)
             }
-            Kind::Negation(id) => self.negate(code, own, frame, id, value),
-            Kind::Shortcut(decides, id) => self.shortcut(
+            FrameKind::Negation(id) => self.negate(code, own, frame, id, value),
+            FrameKind::Shortcut(decides, id) => self.shortcut(
                 alloc, code, own, frame, decides, id, value,
             ),
-            Kind::Argument(callee, id, done) => {
+            FrameKind::Argument(callee, id, done) => {
                 self.argument_done(code, own, frame, callee, id, done, value)
             }
-            Kind::Match(id, done) => self.match_one(alloc, code, own, frame, id, done, value),
-            Kind::Bind(id, done) => self.bind_one(alloc, code, own, frame, id, done, value),
-            Kind::Case(id) => self.select(alloc, code, own, frame, id, value),
+            FrameKind::Match(id, done) => self.match_one(alloc, code, own, frame, id, done, value),
+            FrameKind::Bind(id, done) => self.bind_one(alloc, code, own, frame, id, done, value),
+            FrameKind::Case(id) => self.select(alloc, code, own, frame, id, value),
         }
     }
 }

@@ -6,7 +6,7 @@ ghost use Rattle.pf_stepper.specs.MachineView.{at_call, spent, standing_so};
 ghost use Rattle.pf_stepper.specs.Points.{IsPointAt};
 ghost use Rattle.pf_stepper.specs.Readiness.{IsReadyAhead};
 ghost use Rattle.pf_stepper.specs.Settled.{AdvanceIsSound, IsReadyAfter, IsReadyToSettle, Settled};
-ghost use Rattle.pf_stepper.specs.Turns.{Answered, CanAnswer, CanMove, MovedFrom, RunsTurn};
+ghost use Rattle.pf_stepper.specs.Turns.{AnsweredMachine, CanAnswer, CanMove, MovedFrom, RunsTurn};
 
 use crate::act::Act;
 use crate::advance::Advance;
@@ -14,7 +14,7 @@ use crate::frame::{Callee, Focus};
 use crate::inbox::Inbox;
 use crate::lookups::clauses;
 use crate::point::Point;
-use crate::room::Room;
+use crate::room::MachineRoom;
 use crate::stack::{Stack, put};
 use pf_nodes::Pool;
 use pf_syntax::{FunctionId, Module, NodeId, Operand};
@@ -27,7 +27,7 @@ use std::sync::Arc;
 
 /// The status of a machine: its process goes on, waits for the answer to an action, or has ended; or memory ran out.
 #[derive(Drop)]
-pub(crate) enum Standing {
+pub(crate) enum MachineStatus {
     Goes(Focus),
     Asking,
     Over,
@@ -40,7 +40,7 @@ pub struct Machine {
     own: u32,
     module: Arc<Module>,
     stack: Stack,
-    standing: Standing,
+    standing: MachineStatus,
 }
 
 impl Model for Machine {
@@ -78,7 +78,7 @@ fn receive<I: Inbox>(
     own: u32,
     stack: &mut Stack,
     id: NodeId,
-    standing: &mut Standing,
+    standing: &mut MachineStatus,
     did: &mut Move,
 ) -> Result<(), NoMemory>
     requires sound { AdvanceIsSound stack.old (Advance.Awaits id) }
@@ -103,11 +103,14 @@ fn receive<I: Inbox>(
     )?;
     match picked {
         Some(body) => {
-            put(standing, Standing::Goes(Focus::Eval(body)));
+            put(standing, MachineStatus::Goes(Focus::Eval(body)));
             put(did, Move::Take(message));
         }
         None => {
-            put(standing, Standing::Goes(Focus::Eval(Operand::Node(id))));
+            put(
+                standing,
+                MachineStatus::Goes(Focus::Eval(Operand::Node(id))),
+            );
             put(did, Move::Wait);
         }
     }
@@ -123,7 +126,7 @@ fn settle<I: Inbox>(
     own: u32,
     stack: &mut Stack,
     advance: Advance,
-    standing: &mut Standing,
+    standing: &mut MachineStatus,
     did: &mut Move,
 ) -> Result<(), NoMemory>
     requires sound { AdvanceIsSound stack.old advance }
@@ -136,27 +139,27 @@ fn settle<I: Inbox>(
 {
     match advance {
         Advance::Changed(next) => {
-            put(standing, Standing::Goes(next));
+            put(standing, MachineStatus::Goes(next));
             put(did, Move::Pure);
         }
         Advance::Sends(message) => {
             let to = stack.operands.pop().unwrap();
-            put(standing, Standing::Asking);
+            put(standing, MachineStatus::Asking);
             put(did, Move::Action(Act::Send { to, message }));
         }
         Advance::Asks(act) => {
-            put(standing, Standing::Asking);
+            put(standing, MachineStatus::Asking);
             put(did, Move::Action(Box::into_inner(act)));
         }
         Advance::Awaits(id) => {
             return receive(alloc, inbox, pool, code, own, stack, id, standing, did);
         }
         Advance::Returned(value) => {
-            put(standing, Standing::Over);
+            put(standing, MachineStatus::Over);
             put(did, Move::End(Ok(value)));
         }
         Advance::Ended(reason) => {
-            put(standing, Standing::Over);
+            put(standing, MachineStatus::Over);
             put(did, Move::End(Err(reason)));
         }
     }
@@ -171,7 +174,7 @@ impl Machine {
         module: Arc<Module>,
         function: FunctionId,
         args: SmallVec<Term, 4>,
-        room: Room,
+        room: MachineRoom,
     ) -> Result<Machine, NoMemory>
         ensures { IfOk result (λ m.
             m ≡ at_call own «module».value function.0 (values_of args.items)) }
@@ -182,19 +185,19 @@ impl Machine {
             own,
             module,
             stack,
-            standing: Standing::Goes(Focus::Enter(Callee::Function(function), count)),
+            standing: MachineStatus::Goes(Focus::Enter(Callee::Function(function), count)),
         })
     }
 
     /// The room that the machine had, for another one that begins; none where it is more than is kept.
-    pub fn into_room(self) -> Option<Room> {
+    pub fn into_room(self) -> Option<MachineRoom> {
         let Machine {
             own: _,
             module: _,
             stack,
             standing: _,
         } = self;
-        Room::of(stack)
+        MachineRoom::of(stack)
     }
 
     /// The pid of the process.
@@ -210,8 +213,8 @@ impl Machine {
         ensures point { IsPointAt self.now.checked.tables self.now.standing result.1 }
     {
         let point = match &self.standing {
-            Standing::Goes(focus) => self.stack.point(focus),
-            Standing::Asking | Standing::Over | Standing::Spent => Point::Nowhere,
+            MachineStatus::Goes(focus) => self.stack.point(focus),
+            MachineStatus::Asking | MachineStatus::Over | MachineStatus::Spent => Point::Nowhere,
         };
         (&self.module, point)
     }
@@ -237,8 +240,8 @@ impl Machine {
         ensures ready { IsReadyAhead (I.IsReady inbox.new) self.new }
         ensures refused { self.old.standing ≡ spent → IsErr result }
     {
-        let focus = match mem::replace(&mut self.standing, Standing::Spent) {
-            Standing::Goes(focus) => focus,
+        let focus = match mem::replace(&mut self.standing, MachineStatus::Spent) {
+            MachineStatus::Goes(focus) => focus,
             _ => return Err(NoMemory),
         };
         let mut advance = Advance::Awaits(NodeId(0));
@@ -284,17 +287,22 @@ impl Machine {
     /// The answer to the action that the process asked for: a value, or the reason that the action raises.
     pub fn answer(&mut self, answer: Result<Term, Term>)
         requires { CanAnswer self.old.standing }
-        ensures { Answered self.old answer self.new }
+        ensures { AnsweredMachine self.old answer self.new }
     {
         self.standing = match answer {
-            Ok(value) => Standing::Goes(Focus::Value(value)),
-            Err(reason) => Standing::Goes(Focus::Raised(reason)),
+            Ok(value) => MachineStatus::Goes(Focus::Value(value)),
+            Err(reason) => MachineStatus::Goes(Focus::Raised(reason)),
         };
     }
 }
 
 /// What a scheduler will need: machines, what they did, and their rooms may go to another thread.
-fn crosses_threads(machine: &Machine, machines: &Vec<Machine>, did: &Vec<Move>, rooms: &Vec<Room>) {
+fn crosses_threads(
+    machine: &Machine,
+    machines: &Vec<Machine>,
+    did: &Vec<Move>,
+    rooms: &Vec<MachineRoom>,
+) {
     needs_send(machine);
     needs_send(machines);
     needs_send(did);

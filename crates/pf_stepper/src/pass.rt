@@ -5,9 +5,9 @@ ghost use Rattle.pf_syntax.specs.Module.{tree_at};
 ghost use Rattle.pf_syntax.specs.Over.{parts_over};
 ghost use Rattle.pf_stepper.specs.Lookups.{arguments_in};
 ghost use Rattle.pf_stepper.specs.Sound.{Stacked};
-ghost use Rattle.pf_stepper.specs.MicroSteps.{Passed};
+ghost use Rattle.pf_stepper.specs.MicroSteps.{CallPassed};
 
-use crate::frame::{Callee, Focus, Kind, MicroStep};
+use crate::frame::{Callee, Focus, FrameKind, MicroStep};
 use crate::stack::Stack;
 use pf_syntax::{Module, NodeId, Operand};
 use pf_terms::NoMemory;
@@ -35,7 +35,7 @@ impl Stack {
             ≡ arguments_in (tree_at code.now.tables id.0) }
         requires stacked { Stacked self.old.env.items self.old.operands.items self.old.frames.items from }
         requires inside { self.old.base ≤ length self.old.env.items }
-        ensures { IfOk result (λ t. Passed code.now own self.old callee id from self.new t) }
+        ensures { IfOk result (λ t. CallPassed code.now own self.old callee id from self.new t) }
     {
         self.pass(code, own, callee, id, arguments, from)
     }
@@ -56,7 +56,7 @@ impl Stack {
             ≡ arguments_in (tree_at code.now.tables id.0) }
         requires stacked { Stacked self.old.env.items self.old.operands.items self.old.frames.items from }
         requires inside { self.old.base ≤ length self.old.env.items }
-        ensures { IfOk result (λ t. Passed code.now own self.old callee id from self.new t) }
+        ensures { IfOk result (λ t. CallPassed code.now own self.old callee id from self.new t) }
     {
         let mut count = from;
         while count < arguments.len() {
@@ -65,7 +65,7 @@ impl Stack {
                 Some(value) => self.operands.push(value)?,
                 None => {
                     let done = noted(count)?;
-                    self.wait(code, Kind::Argument(callee, id, done))?;
+                    self.wait(code, FrameKind::Argument(callee, id, done))?;
                     return Ok(MicroStep::Silent(Focus::Eval(argument)));
                 }
             }

@@ -3,7 +3,7 @@
 ghost use Rattle.std.specs.Prelude.{◌≡◌};
 ghost use Rattle.pf_stepper.specs.Points.{node_of, part_of, point_in, waits_in};
 
-use crate::frame::{Callee, Focus, Kind};
+use crate::frame::{Callee, Focus, FrameKind};
 use crate::stack::Stack;
 use pf_syntax::{FunctionId, NodeId, Operand};
 
@@ -23,20 +23,22 @@ pub enum Point {
     Nowhere,
 }
 
-impl Kind {
+impl FrameKind {
     /// Where a process is, if its innermost frame has its value.
     fn point(self) -> Point
         ensures { result ≡ Point.Within (node_of self) (part_of self) }
     {
         match self {
-            Kind::BinaryRight(_, id) | Kind::BinaryAfterSlot(_, _, id) => Point::Within(id, 1),
-            Kind::Argument(_, id, done) => Point::Within(id, done),
-            Kind::BinaryLeft(id)
-            | Kind::Negation(id)
-            | Kind::Shortcut(_, id)
-            | Kind::Match(id, _)
-            | Kind::Bind(id, _)
-            | Kind::Case(id) => Point::Within(id, 0),
+            FrameKind::BinaryRight(_, id) | FrameKind::BinaryAfterSlot(_, _, id) => Point::Within(
+                id, 1,
+            ),
+            FrameKind::Argument(_, id, done) => Point::Within(id, done),
+            FrameKind::BinaryLeft(id)
+            | FrameKind::Negation(id)
+            | FrameKind::Shortcut(_, id)
+            | FrameKind::Match(id, _)
+            | FrameKind::Bind(id, _)
+            | FrameKind::Case(id) => Point::Within(id, 0),
         }
     }
 }

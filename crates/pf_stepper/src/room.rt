@@ -25,13 +25,13 @@ const MOST_FRAMES: usize = MOST / size_of::<Frame>();
 /// No slot, no operand and no frame, only the room that their vectors have. A contract sees nothing of it: a machine is
 /// the same in whatever room it begins.
 #[derive(Drop)]
-pub struct Room {
+pub struct MachineRoom {
     slots: Vec<Term>,
     operands: Vec<Term>,
     frames: Vec<Frame>,
 }
 
-impl Model for Room {
+impl Model for MachineRoom {
     ghost use Rattle.std.specs.Prelude.{◌≡◌, []};
 
     ghost Value = { Unit {0} };
@@ -52,10 +52,10 @@ fn pass(operands: &mut Vec<Term>, args: SmallVec<Term, 4>) -> Result<(), NoMemor
     Ok(())
 }
 
-impl Room {
+impl MachineRoom {
     /// No room yet. It takes no memory.
-    pub fn new(alloc: Global) -> Room {
-        Room {
+    pub fn new(alloc: Global) -> MachineRoom {
+        MachineRoom {
             slots: Vec::new(alloc),
             operands: Vec::new(alloc),
             frames: Vec::new(alloc),
@@ -66,7 +66,7 @@ impl Room {
     pub(crate) fn stacks(self, args: SmallVec<Term, 4>) -> Result<Stack, NoMemory>
         ensures { IfOk result (λ s. BeginsWith args.items s) }
     {
-        let Room {
+        let MachineRoom {
             mut slots,
             mut operands,
             mut frames,
@@ -83,7 +83,7 @@ impl Room {
     }
 
     /// The room of these stacks, once they are emptied; none where one of them has more than `MOST`.
-    pub(crate) fn of(stack: Stack) -> Option<Room> {
+    pub(crate) fn of(stack: Stack) -> Option<MachineRoom> {
         let Stack {
             env: mut slots,
             mut operands,
@@ -99,7 +99,7 @@ impl Room {
         cut(&mut slots, 0);
         cut(&mut operands, 0);
         frames.clear();
-        Some(Room {
+        Some(MachineRoom {
             slots,
             operands,
             frames,

@@ -11,7 +11,7 @@ ghost use Rattle.pf_stepper.specs.Lookups.{value_at};
 ghost use Rattle.pf_stepper.specs.Points.{IsAtNode};
 ghost use Rattle.pf_stepper.specs.Sound.{frame_for, top_end};
 
-use crate::frame::{Frame, Kind};
+use crate::frame::{Frame, FrameKind};
 use pf_patterns::{copied, operand, slot};
 use pf_syntax::{Module, Operand};
 use pf_terms::{List, NoMemory, Term};
@@ -106,7 +106,7 @@ impl Stack {
 
     /// A frame for the activation as it is.
     #[inline(always)]
-    pub(crate) fn frame(&self, kind: Kind) -> Frame
+    pub(crate) fn frame(&self, kind: FrameKind) -> Frame
         ensures { result ≡ frame_for kind self.now.base (length self.now.env.items) }
     {
         Frame {
@@ -118,7 +118,7 @@ impl Stack {
 
     /// Such a frame on the stack, at a node of this code.
     #[inline(never)]
-    pub(crate) fn wait(&mut self, code: &Module, kind: Kind) -> Result<(), NoMemory>
+    pub(crate) fn wait(&mut self, code: &Module, kind: FrameKind) -> Result<(), NoMemory>
         requires { IsAtNode code.now.tables kind }
         ensures ok { OnOk result (self.new.frames.items
             ≡ self.old.frames.items ++ frame_for kind self.old.base (length self.old.env.items) ∷ []) }
@@ -133,7 +133,7 @@ impl Stack {
 
     /// The same without a call where there is room.
     #[inline(always)]
-    pub(crate) fn hold(&mut self, code: &Module, kind: Kind) -> Result<(), NoMemory>
+    pub(crate) fn hold(&mut self, code: &Module, kind: FrameKind) -> Result<(), NoMemory>
         requires { IsAtNode code.now.tables kind }
         ensures ok { OnOk result (self.new.frames.items
             ≡ self.old.frames.items ++ frame_for kind self.old.base (length self.old.env.items) ∷ []) }

@@ -16,26 +16,26 @@ use Rattle.std.proofs.lemmas.Slice.Eq.{bytes_eq-Decides}
 use Rattle.indexmap.specs.IndexMap.{IndexMap, IsUnique, Updates, keys, values, with_value_at}
 use Rattle.indexmap.proofs.CallerLemmas.{keys-with_value_at, updates-with_value_at}
 use Rattle.indexmap.proofs.MapLemmas.{Found-position}
-use Rattle.pf_module.specs.Reading.{IsReadAs}
+use Rattle.pf_check.specs.Reading.{IsReadAs}
 use Rattle.pf_store.specs.Sources.{holders, HeldOnceMore, HeldOnceLess, IsAllHeld}
-use Rattle.pf_store.specs.Held.{Modules, kept_in, IsOf, IsValid}
-use Rattle.pf_store.specs.declared.store.Held.{Held}
+use Rattle.pf_store.specs.Held.{Modules, kept_in, IsStoredAs, IsValid}
+use Rattle.pf_store.specs.declared.store.StoredModule.{StoredModule}
 
 -- how many hold what a look-up found
-abbrev pub count : Option Held → ℕ
+abbrev pub count : Option StoredModule → ℕ
 count o = unwrap_or (option_map (λ h. h.holders) o) 0
 
 pub holders_counted : (es : Modules) (q : List ℕ) → holders (kept_in es) q ≡ count (lookup (bytes_eq q) es)
-holders_counted es q = ap (λ o. unwrap_or o 0) (lookup-map_values (λ (h : Held). h.holders) (bytes_eq q) es)
+holders_counted es q = ap (λ o. unwrap_or o 0) (lookup-map_values (λ (h : StoredModule). h.holders) (bytes_eq q) es)
 
 pub same_source : (k q : List ℕ) → bytes_eq k q ≡ true → k ≡ q
 same_source k q = (bytes_eq-Decides k q).0
 
 -- one source is looked up as this then, and each other as before
-abbrev pub Changes : Modules → Modules → List ℕ → Option Held → Type 0
+abbrev pub Changes : Modules → Modules → List ℕ → Option StoredModule → Type 0
 Changes es es' k w = (q : List ℕ) → lookup (bytes_eq q) es' ≡ cond (bytes_eq k q) w (lookup (bytes_eq q) es)
 
-module _ (es es' : Modules) (k : List ℕ) (w : Option Held) (changes : Changes es es' k w) where
+module _ (es es' : Modules) (k : List ℕ) (w : Option StoredModule) (changes : Changes es es' k w) where
   here : (q : List ℕ) → bytes_eq k q ≡ true → (holders (kept_in es') q ≡ count w) × (holders (kept_in es) q ≡ holders (kept_in es) k)
   here q e =
       (holders_counted es' q ∙ ap count (changes q ∙ ap (λ b. cond b w (lookup (bytes_eq q) es)) e), ap (holders (kept_in es)) (sym (same_source k q e)))
@@ -59,41 +59,41 @@ module _ (es es' : Modules) (k : List ℕ) (w : Option Held) (changes : Changes 
       by false e = sym (apart q e) ∙ sym (add-zero _)
 
 -- what is known of a source's module and of how many hold it
-abbrev pub IsHeldAs : List ℕ → Held → Type 0
-IsHeldAs source h = IsOf source h × (1 ≤ h.holders)
+abbrev pub IsHeldAs : List ℕ → StoredModule → Type 0
+IsHeldAs source h = IsStoredAs source h × (1 ≤ h.holders)
 
-through_map : (o : Option Held) → IfSome (option_map (λ h. h.holders) o) (λ n. 1 ≤ n) → IfSome o (λ h. 1 ≤ h.holders)
+through_map : (o : Option StoredModule) → IfSome (option_map (λ h. h.holders) o) (λ n. 1 ≤ n) → IfSome o (λ h. 1 ≤ h.holders)
 through_map None p = tt
 through_map (Some h) p = p
 
-both : (o : Option Held) (P Q : Held → Type 0) → IfSome o P → IfSome o Q → IfSome o (λ h. P h × Q h)
+both : (o : Option StoredModule) (P Q : StoredModule → Type 0) → IfSome o P → IfSome o Q → IfSome o (λ h. P h × Q h)
 both None P Q p q = tt
 both (Some h) P Q p q = (p, q)
 
 -- what is kept under a source is held
 pub held_as : (es : Modules) → IsValid es → (q : List ℕ) → IfSome (lookup (bytes_eq q) es) (IsHeldAs q)
 held_as es kept q =
-    both (lookup (bytes_eq q) es) (IsOf q) (λ h. 1 ≤ h.holders) (kept.0 q)
+    both (lookup (bytes_eq q) es) (IsStoredAs q) (λ h. 1 ≤ h.holders) (kept.0 q)
     (through_map (lookup (bytes_eq q) es)
-    (subst (λ o. IfSome o (λ n. 1 ≤ n)) (lookup-map_values (λ (h : Held). h.holders) (bytes_eq q) es)
+    (subst (λ o. IfSome o (λ n. 1 ≤ n)) (lookup-map_values (λ (h : StoredModule). h.holders) (bytes_eq q) es)
     (All-lookup (λ n. 1 ≤ n) (bytes_eq q) (kept_in es) kept.1)))
 
 all_held_by_values : (es : Modules) → All (λ h. 1 ≤ h.holders) (values_of es) → IsAllHeld (kept_in es)
 all_held_by_values [] p = All-nil _
 all_held_by_values (e ∷ es) p =
-    All-cons (λ x. 1 ≤ x.1) (e.0, e.1.holders) (kept_in es) (All-head (λ (h : Held). 1 ≤ h.holders) e.1 (values_of es) p)
-    (all_held_by_values es (All-tail (λ (h : Held). 1 ≤ h.holders) e.1 (values_of es) p))
+    All-cons (λ x. 1 ≤ x.1) (e.0, e.1.holders) (kept_in es) (All-head (λ (h : StoredModule). 1 ≤ h.holders) e.1 (values_of es) p)
+    (all_held_by_values es (All-tail (λ (h : StoredModule). 1 ≤ h.holders) e.1 (values_of es) p))
 
 -- what holds of each source's module is true of all that is kept
 kept_by_lookups : (es : Modules) → IsDistinct bytes_eq (keys_of es) → ((q : List ℕ) → IfSome (lookup (bytes_eq q) es) (IsHeldAs q)) → IsValid es
 kept_by_lookups es distinct held = (
   λ q. IfSome_then (lookup (bytes_eq q) es) (held q) (λ h p. p.0),
   all_held_by_values es
-      (All-values_from_lookup nat_list_eq_equiv (λ (h : Held). 1 ≤ h.holders) es distinct (λ q. IfSome_then (lookup (bytes_eq q) es) (held q) (λ h p. p.1))),
+      (All-values_from_lookup nat_list_eq_equiv (λ (h : StoredModule). 1 ≤ h.holders) es distinct (λ q. IfSome_then (lookup (bytes_eq q) es) (held q) (λ h p. p.1))),
 )
 
 -- after a change at a source all is kept still, where what is there then is held
-pub kept_after : (es es' : Modules) (k : List ℕ) (w : Option Held) → IsValid es → IsDistinct bytes_eq (keys_of es') → Changes es es' k w
+pub kept_after : (es es' : Modules) (k : List ℕ) (w : Option StoredModule) → IsValid es → IsDistinct bytes_eq (keys_of es') → Changes es es' k w
     → IfSome w (IsHeldAs k) → IsValid es'
 kept_after es es' k w kept distinct changes new =
     kept_by_lookups es' distinct (λ q. subst (λ o. IfSome o (IsHeldAs q)) (sym (changes q)) (by q (bytes_eq k q) refl))
@@ -106,27 +106,27 @@ kept_after es es' k w kept distinct changes new =
 pub nobody_holds : (es : Modules) (q : List ℕ) → is_some (lookup (bytes_eq q) es) ≡ false → holders (kept_in es) q ≡ 0
 nobody_holds es q e = holders_counted es q ∙ by (lookup (bytes_eq q) es) e
   where
-    by : (o : Option Held) → is_some o ≡ false → count o ≡ 0
+    by : (o : Option StoredModule) → is_some o ≡ false → count o ≡ 0
     by None e' = refl
     by (Some h) e' = absurd (true≢false e')
 
 -- ---- indices
 
 -- what is held at the index of a source is held under that source
-pub entry_at : (es : Modules) (q : List ℕ) (i : ℕ) (h : Held) → position (bytes_eq q) (keys_of es) ≡ Some i → slice_get (values_of es) i ≡ Some h
+pub entry_at : (es : Modules) (q : List ℕ) (i : ℕ) (h : StoredModule) → position (bytes_eq q) (keys_of es) ≡ Some i → slice_get (values_of es) i ≡ Some h
     → slice_get es i ≡ Some (q, h)
 entry_at es q i h offset value = by (slice_get es i) refl
   where
-    by : (o : Option (List ℕ × Held)) → slice_get es i ≡ o → slice_get es i ≡ Some (q, h)
-    by None e = absurd (none-some h (sym (slice_get-map (λ (x : List ℕ × Held). x.1) es i ∙ ap (option_map (λ x. x.1)) e) ∙ value))
+    by : (o : Option (List ℕ × StoredModule)) → slice_get es i ≡ o → slice_get es i ≡ Some (q, h)
+    by None e = absurd (none-some h (sym (slice_get-map (λ (x : List ℕ × StoredModule). x.1) es i ∙ ap (option_map (λ x. x.1)) e) ∙ value))
     by (Some x) e =
-        let v : x.1 ≡ h = same_Some x.1 h (sym (slice_get-map (λ (y : List ℕ × Held). y.1) es i ∙ ap (option_map (λ y. y.1)) e) ∙ value) in
+        let v : x.1 ≡ h = same_Some x.1 h (sym (slice_get-map (λ (y : List ℕ × StoredModule). y.1) es i ∙ ap (option_map (λ y. y.1)) e) ∙ value) in
         let k : q ≡ x.0 =
         lookup_key_same bytes_eq-Decides q es x.0
-        ((Found-position (bytes_eq q) es i offset).key ∙ slice_get-map (λ (y : List ℕ × Held). y.0) es i ∙ ap (option_map (λ y. y.0)) e) in
+        ((Found-position (bytes_eq q) es i offset).key ∙ slice_get-map (λ (y : List ℕ × StoredModule). y.0) es i ∙ ap (option_map (λ y. y.0)) e) in
         e ∙ (λ j. Some (sym k j, v j))
 
-module _ {S : Type 0} (m : IndexMap (List ℕ) Held S) (q : List ℕ) (i : ℕ) (h w : Held) (kept : IsValid m.entries) (unique : IsUnique bytes_eq m)
+module _ {S : Type 0} (m : IndexMap (List ℕ) StoredModule S) (q : List ℕ) (i : ℕ) (h w : StoredModule) (kept : IsValid m.entries) (unique : IsUnique bytes_eq m)
     (offset : position (bytes_eq q) (keys m) ≡ Some i) (value : slice_get (values m) i ≡ Some h) (found : lookup (bytes_eq q) m.entries ≡ Some h) where
   pub counted : holders (kept_in m.entries) q ≡ h.holders
   counted = holders_counted m.entries q ∙ ap count found
@@ -150,7 +150,7 @@ module _ {S : Type 0} (m : IndexMap (List ℕ) Held S) (q : List ℕ) (i : ℕ) 
   written_less one = less_after m.entries (with_value_at m i w).entries q (Some w) written (counted ∙ one)
 
   -- what is found is taken out
-  module _ (n : IndexMap (List ℕ) Held S) (r : Option (List ℕ × Held)) (entry : r ≡ slice_get m.entries i)
+  module _ (n : IndexMap (List ℕ) StoredModule S) (r : Option (List ℕ × StoredModule)) (entry : r ≡ slice_get m.entries i)
       (updates : IfSome r (λ p. Updates bytes_eq m n p.0 None)) where
     gone : Changes m.entries n.entries q None
     gone = (subst (λ o. IfSome o (λ p. Updates bytes_eq m n p.0 None)) (entry ∙ entry_at m.entries q i h offset value) updates).0

@@ -2,12 +2,12 @@
 
 ghost use Rattle.std.specs.Prelude.{◌≡◌, ◌≤◌, [], IfErr, IfOk, MatchOption, OnErr, OnOk};
 ghost use Rattle.pf_check.specs.Reads.{IsRefusalOf};
-ghost use Rattle.pf_module.specs.Reading.{IsReadAs};
+ghost use Rattle.pf_check.specs.Reading.{IsReadAs};
 ghost use Rattle.pf_store.specs.Sources.{HeldOnceLess, HeldOnceMore, holders};
 
 use indexmap::IndexMap;
-use pf_fault::{OrNoMemory, Refusal};
-use pf_module::ReadModule;
+use pf_check::ReadModule;
+use pf_errors::{OrNoMemory, SourceRefusal};
 use pf_request::Source;
 use pf_terms::NoMemory;
 use std::alloc::Global;
@@ -16,7 +16,7 @@ use std::marker::Model;
 
 /// A module that is kept with its source, and how many hold it.
 #[derive(Drop)]
-struct Held {
+struct StoredModule {
     module: ReadModule,
     holders: u64,
 }
@@ -26,7 +26,7 @@ struct Held {
 /// depend on them.
 #[derive(Drop)]
 pub struct Store {
-    modules: IndexMap<Source, Held, RandomState>,
+    modules: IndexMap<Source, StoredModule, RandomState>,
 }
 
 impl Model for Store {
@@ -79,7 +79,7 @@ impl Store {
         ensures held { OnOk result (HeldOnceMore module.now.source self.old self.new) }
         ensures err { OnErr result (self.new ≡ self.old) }
     {
-        let held = Held {
+        let held = StoredModule {
             module: module.share()?,
             holders: 1,
         };
@@ -93,7 +93,7 @@ impl Store {
         &mut self,
         alloc: Global,
         source: &Source,
-    ) -> Result<ReadModule, OrNoMemory<Refusal>>
+    ) -> Result<ReadModule, OrNoMemory<SourceRefusal>>
         ensures read { IfOk result (λ s. (s.source ≡ source.now) × IsReadAs source.now s) }
         ensures fault { IfErr result (IsRefusalOf source.now) }
         ensures held { OnOk result (HeldOnceMore source.now self.old self.new) }

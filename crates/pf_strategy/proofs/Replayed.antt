@@ -8,20 +8,20 @@ use Rattle.pf_choice.specs.Words.{schedule_word}
 use Rattle.pf_choice.specs.Chosen.{alike}
 use Rattle.pf_model.specs.Module.{Module}
 use Rattle.pf_model.specs.Configuration.{Configuration}
-use Rattle.pf_model.specs.Meaning.{event_of, picks}
+use Rattle.pf_model.specs.Meaning.{event_of_transition, picks}
 use Rattle.pf_model.specs.Runs as runs
 use Rattle.pf_model.specs.Runs.{Actor, Picks, Transition, transition, Goes, first_pick, enabled, start}
 use Rattle.pf_model.proofs.Meanings as meanings
 use Rattle.pf_model.proofs.Meanings.{enabled_count}
 use Rattle.pf_request.specs.Job.{asked_by_seed}
-use Rattle.pf_priorities.specs.Priorities.{State, first}
-use Rattle.pf_strategy.specs.Runs.{GoesBy, stays, more, picked, later}
+use Rattle.pf_strategy.specs.Priorities.{PriorityState, first}
+use Rattle.pf_strategy.specs.Runs.{GoesBy, stays, more, actor_picked, state_later}
 use Rattle.pf_strategy.specs.Laws.{ReplayOfPriorities, ReplayOfSeeds}
 use Rattle.pf_strategy.specs.declared.strategy.Strategy.TheVariants.{Uniform, Priorities}
 
 -- the choices that the events of these transitions show
 abbrev pub choices : List Transition → List ℕ
-choices ts = map (λ e. e.choice) (map event_of ts)
+choices ts = map (λ e. e.choice) (map event_of_transition ts)
 
 -- the choices of a schedule of these numbers
 abbrev pub by_numbers : List ℕ → Picks
@@ -34,15 +34,15 @@ same_pick k ns c x e =
     let q = enabled_count c in
     mod-eq_of_lt (omega arith)
 
-pub replayed : (m : Module) (s : State Lcg) (n : ℕ) (c : Configuration) (ts : List Transition) (d : Configuration) (k : ℕ) (s' : State Lcg) → GoesBy m s n c ts d k s'
+pub replayed : (m : Module) (s : PriorityState Lcg) (n : ℕ) (c : Configuration) (ts : List Transition) (d : Configuration) (k : ℕ) (s' : PriorityState Lcg) → GoesBy m s n c ts d k s'
     → Goes m (by_numbers (choices ts)) n c ts d k
 replayed m _ _ _ _ _ _ _ (stays s n c) = runs.stays (by_numbers []) n c
 replayed m _ _ _ _ _ _ s' (more s n c x p ts d k _ e pass rest) =
-    let w = picked s c in
+    let w = actor_picked s c in
     let vs = by_numbers (w ∷ choices ts) in
     let q : first_pick vs c ≡ w = same_pick w (choices ts) c x e in
     subst (λ i. Goes m vs (suc n) c (transition i (enabled c) x p ∷ ts) d (p.used + k)) q
-    (runs.more vs n c x p ts d k (ap (slice_get (enabled c)) q ∙ e) pass (replayed m (later s c) (suc n - p.used) p.after ts d k s' rest))
+    (runs.more vs n c x p ts d k (ap (slice_get (enabled c)) q ∙ e) pass (replayed m (state_later s c) (suc n - p.used) p.after ts d k s' rest))
 
 pub replay_of_priorities : ReplayOfPriorities
 replay_of_priorities j s r h =

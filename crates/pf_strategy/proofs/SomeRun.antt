@@ -16,17 +16,17 @@ use Rattle.pf_model.proofs.Enabled.{enabled_can_pass}
 use Rattle.pf_model.proofs.Meanings.{one_meaning}
 use Rattle.pf_model.proofs.Turned.{passes_as, pass_uses}
 use Rattle.pf_request.specs.Job.{asked_by_seed, reseeded}
-use Rattle.pf_priorities.specs.declared.priorities.Held.{Held}
-use Rattle.pf_priorities.specs.Priorities.{State, all_given, first, given, highest_from}
-use Rattle.pf_strategy.specs.Keys.{key_of, keys_of}
+use Rattle.pf_strategy.specs.declared.priorities.HeldPriority.{HeldPriority}
+use Rattle.pf_strategy.specs.Priorities.{PriorityState, all_given, first, given, highest_from}
+use Rattle.pf_strategy.specs.ActorKeys.{key_of, keys_of}
 use Rattle.pf_strategy.specs.Laws.{SomeReport, SomeReportByPriorities}
-use Rattle.pf_strategy.specs.Runs.{GoesBy, stays, more, picked, later}
+use Rattle.pf_strategy.specs.Runs.{GoesBy, stays, more, actor_picked, state_later}
 use Rattle.pf_strategy.specs.declared.strategy.Strategy.TheVariants.{Uniform, Priorities}
 
 -- ---- priorities choose one of those who may go
 
 -- the highest from an index on is one of them, or the highest so far
-highest_below : (i best p : ℕ) (hs : List Held) → best < i + length hs → highest_from i best p hs < i + length hs
+highest_below : (i best p : ℕ) (hs : List HeldPriority) → best < i + length hs → highest_from i best p hs < i + length hs
 highest_below i best p [] l = l
 highest_below i best p (h ∷ hs) l =
     by (nat_lt p h.priority) (highest_below (suc i) i h.priority hs (omega arith)) (highest_below (suc i) best p hs (omega arith))
@@ -37,11 +37,11 @@ highest_below i best p (h ∷ hs) l =
     by false higher same = omega arith
 
 -- each has a priority
-all_have : (keys : List ℕ) (g : Lcg) (hs : List Held) → length (all_given pcg32 keys g hs).held ≡ length keys
+all_have : (keys : List ℕ) (g : Lcg) (hs : List HeldPriority) → length (all_given pcg32 keys g hs).held ≡ length keys
 all_have [] g hs = refl
 all_have (k ∷ ks) g hs = ap suc (all_have ks (given pcg32 k g hs).generator (given pcg32 k g hs).rest)
 
-picked_within : (s : State Lcg) (c : Configuration) → 0 < length (enabled c) → picked s c < length (enabled c)
+picked_within : (s : PriorityState Lcg) (c : Configuration) → 0 < length (enabled c) → actor_picked s c < length (enabled c)
 picked_within s c l =
     let given = all_given pcg32 (keys_of (enabled c)) s.generator s.held in
     let many : length given.held ≡ length (enabled c) = all_have (keys_of (enabled c)) s.generator s.held ∙ length-map (enabled c) key_of in
@@ -50,16 +50,16 @@ picked_within s c l =
 
 -- ---- a run that goes on until it stops
 
-record SomeRun (m : Module) (s : State Lcg) (n : ℕ) (c : Configuration) : Type 0 where
+record SomeRun (m : Module) (s : PriorityState Lcg) (n : ℕ) (c : Configuration) : Type 0 where
   transitions : List Transition
   last : Configuration
   steps : ℕ
-  behind : State Lcg
+  behind : PriorityState Lcg
   goes : GoesBy m s n c transitions last steps behind
   stops : Stops (n - steps) last
 
 module _ (m : Module) where
-  stays_there : (s : State Lcg) (n : ℕ) (c : Configuration) → Stops n c → SomeRun m s n c
+  stays_there : (s : PriorityState Lcg) (n : ℕ) (c : Configuration) → Stops n c → SomeRun m s n c
   stays_there s n c h = record {
     transitions = [];
     last = c;
@@ -70,18 +70,18 @@ module _ (m : Module) where
   }
 
   -- a transition is made, and then the rest
-  goes_on : (s : State Lcg) (n : ℕ) (c : Configuration) → 0 < length (enabled c) → (x : Actor)
-      → ((t : State Lcg) (k : ℕ) (d : Configuration) → k ≤ n → SomeRun m t k d) → SomeRun m s (suc n) c
+  goes_on : (s : PriorityState Lcg) (n : ℕ) (c : Configuration) → 0 < length (enabled c) → (x : Actor)
+      → ((t : PriorityState Lcg) (k : ℕ) (d : Configuration) → k ≤ n → SomeRun m t k d) → SomeRun m s (suc n) c
   goes_on s n c some x rest =
-      let y = get_or (enabled c) (picked s c) x in
-      let chosen : slice_get (enabled c) (picked s c) ≡ Some y = slice_get-get_or (enabled c) (picked s c) x (picked_within s c some) in
-      let passes = passes_as m (suc n) c y (enabled_can_pass c (picked s c) y chosen) in
+      let y = get_or (enabled c) (actor_picked s c) x in
+      let chosen : slice_get (enabled c) (actor_picked s c) ≡ Some y = slice_get-get_or (enabled c) (actor_picked s c) x (picked_within s c some) in
+      let passes = passes_as m (suc n) c y (enabled_can_pass c (actor_picked s c) y chosen) in
       let p = pass_of m (suc n) c y in
       let used = pass_uses m n c y p passes in
-      let r = rest (later s c) (suc n - p.used) p.after (omega arith) in
+      let r = rest (state_later s c) (suc n - p.used) p.after (omega arith) in
       let left : suc n - p.used - r.steps ≡ suc n - (p.used + r.steps) = omega arith in
       record {
-        transitions = transition (picked s c) (enabled c) y p ∷ r.transitions;
+        transitions = transition (actor_picked s c) (enabled c) y p ∷ r.transitions;
         last = r.last;
         steps = p.used + r.steps;
         behind = r.behind;
@@ -89,12 +89,12 @@ module _ (m : Module) where
         stops = subst (λ k. Stops k r.last) left r.stops;
       }
 
-  some_run : (most : ℕ) (s : State Lcg) (n : ℕ) (c : Configuration) → n ≤ most → SomeRun m s n c
+  some_run : (most : ℕ) (s : PriorityState Lcg) (n : ℕ) (c : Configuration) → n ≤ most → SomeRun m s n c
   some_run zero s n c h = stays_there s n c (inr (omega arith))
   some_run (suc most) s zero c h = stays_there s zero c (inr refl)
   some_run (suc most) s (suc n) c h = by (enabled c) refl (λ t k d within. some_run most t k d (omega arith))
     where
-      by : (xs : List Actor) → enabled c ≡ xs → ((t : State Lcg) (k : ℕ) (d : Configuration) → k ≤ n → SomeRun m t k d) → SomeRun m s (suc n) c
+      by : (xs : List Actor) → enabled c ≡ xs → ((t : PriorityState Lcg) (k : ℕ) (d : Configuration) → k ≤ n → SomeRun m t k d) → SomeRun m s (suc n) c
       by [] none rest = stays_there s (suc n) c (inl none)
       by (x ∷ xs) some rest = let l = ap length some in goes_on s n c (omega arith) x rest
 

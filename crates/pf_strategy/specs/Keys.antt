@@ -1,12 +1,10 @@
--- Keys: actors as numbers, which rise in the order in which those who may go are listed.
-use Rattle.std.specs.Prelude.{ℕ, List, map}
-use Rattle.pf_model.specs.Runs.{Actor, process, channel}
-use Rattle.pf_priorities.specs.Keys.{channel_key}
+-- Keys: those who may go as numbers, which rise in the order in which they are listed.
+use Rattle.std.specs.Prelude.{ℕ, suc, ◌+◌, ◌*◌, ◌%◌, ◌^◌, List, ◌++◌, map}
 
--- a process by its pid; after all processes a channel, by its sender and then by its receiver
-abbrev pub key_of : Actor → ℕ
-key_of (process n) = n
-key_of (channel a b) = channel_key a b
+-- a channel, after all processes: by its sender and then by its receiver. No run has so many processes that it wraps
+abbrev pub channel_key : (from to : ℕ) → ℕ
+channel_key a b = ((suc a * 2 ^ 32) % 2 ^ 64 + b) % 2 ^ 64
 
-abbrev pub keys_of : List Actor → List ℕ
-keys_of xs = map key_of xs
+-- processes, each by its pid, and after them channels
+abbrev pub keys_among : (pids : List ℕ) → (channels : List (ℕ × ℕ)) → List ℕ
+keys_among ps hs = ps ++ map (λ h. channel_key h.0 h.1) hs

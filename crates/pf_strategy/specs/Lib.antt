@@ -1,4 +1,6 @@
-pub mod Keys
+pub mod ActorKeys
 pub mod Runs
 pub mod Strategies
 pub mod Laws
+pub mod Keys
+pub mod Priorities

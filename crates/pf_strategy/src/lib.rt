@@ -1,7 +1,13 @@
 //! Strategies: how the seed of a run chooses who goes, and what a run by priorities is.
+//! Choices by priorities: each of those who may go draws a priority of a seeded generator and keeps it until it goes,
+//! and the one with the highest goes.
 #![tactic(auto)]
 
 pub mod laws;
 mod strategy;
 
 pub use strategy::Strategy;
+
+mod priorities;
+
+pub use priorities::Priorities;

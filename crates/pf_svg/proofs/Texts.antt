@@ -7,10 +7,10 @@ use Rattle.std.specs.Str.{all_ascii_digits}
 use Rattle.std.proofs.lemmas.Fmt.{digits_decimal}
 use Rattle.std.proofs.lemmas.Str.Parse.{numerals_by_value, tells_all_ascii_digits}
 use Rattle.std.proofs.lemmas.Bool.Decides.{eqb_tells, nat_tests}
-use Rattle.pf_svg.specs.Escaped.{code_of, escaped, escaped_byte, is_byte, is_text, names, reference, short}
-use Rattle.pf_fault.proofs.Bools.{both}
+use Rattle.pf_svg.specs.Escaped.{character_of, escaped, escaped_byte, is_byte, is_text, is_entity_byte, reference, short}
+use Rattle.pf_errors.proofs.Bools.{both}
 
-within : (b : ℕ) (bs : List ℕ) → (b == 59) ≡ false → names b ≡ true → is_text true (b ∷ bs) ≡ is_text true bs
+within : (b : ℕ) (bs : List ℕ) → (b == 59) ≡ false → is_entity_byte b ≡ true → is_text true (b ∷ bs) ≡ is_text true bs
 within b bs e n = rw (e, n) refl
 
 outside : (b : ℕ) (bs : List ℕ) → (b == 38) ≡ false → (b == 60) ≡ false → is_text false (b ∷ bs) ≡ is_text false bs
@@ -19,7 +19,7 @@ outside b bs e n = rw (e, n) refl
 digit_no_end : (d : ℕ) → 48 ≤ d → d ≤ 57 → (d == 59) ≡ false
 digit_no_end d low high = grind (arith, nat_tests)
 
-digit_names : (d : ℕ) → 48 ≤ d → d ≤ 57 → names d ≡ true
+digit_names : (d : ℕ) → 48 ≤ d → d ≤ 57 → is_entity_byte d ≡ true
 digit_names d low high = grind (arith, nat_tests)
 
 -- digits and a `;` end a reference
@@ -29,7 +29,7 @@ digits_end (d ∷ ds) bs h =
     let p = tells_all_ascii_digits.parts d ds h in
     within d (ds ++ 59 ∷ bs) (digit_no_end d p.0.0 p.0.1) (digit_names d p.0.0 p.0.1) ∙ digits_end ds bs p.1
 
-code_is_small : (b : ℕ) → b < 256 → code_of b < 2 ^ 64
+code_is_small : (b : ℕ) → b < 256 → character_of b < 2 ^ 64
 code_is_small b lt = grind (arith, nat_tests)
 
 decimal_digits : (n : ℕ) → n < 2 ^ 64 → all_ascii_digits (decimal n) ≡ true
@@ -37,7 +37,7 @@ decimal_digits n lt = digits_decimal (numerals_by_value (λ ds. all_ascii_digits
 
 reference_stays : (b : ℕ) (bs : List ℕ) → b < 256 → is_text false (reference b ++ bs) ≡ is_text false bs
 reference_stays b bs lt =
-    let n = code_of b in
+    let n = character_of b in
     let end : is_text true ((decimal n ++ 59 ∷ []) ++ bs) ≡ is_text false bs =
     rw append_assoc (digits_end (decimal n) bs (decimal_digits n (code_is_small b lt))) in
     end

@@ -3,16 +3,16 @@ use Rattle.std.specs.Prelude.{◌≡◌, ℕ, Bool, true, false, ◌&&◌, IsTru
 use Rattle.std.specs.List.{list_all}
 use Rattle.std.specs.Fmt.{decimal}
 use Rattle.pf_svg.specs.Escaped.{escaped, short}
-use Rattle.pf_svg.specs.Places.{Place, behind_attribute, behind_label, behind_said, outside, read}
-use Rattle.pf_svg.specs.Words.{is_name, is_phrase, is_word}
-use Rattle.pf_svg.specs.declared.part.Part.{Part}
-use Rattle.pf_svg.specs.declared.part.Part.TheVariants.{Markup, Phrase, Number, Pid, Point, Attribute, Class, Moved, Label, Short}
+use Rattle.pf_svg.specs.Places.{DocumentPlace, behind_attribute, behind_label, behind_said, outside, read}
+use Rattle.pf_svg.specs.Words.{is_name, is_phrase, is_document_word}
+use Rattle.pf_svg.specs.declared.part.DocumentPart.{DocumentPart}
+use Rattle.pf_svg.specs.declared.part.DocumentPart.TheVariants.{Markup, Phrase, Number, Pid, Point, Attribute, Class, Moved, Label, Short}
 
 -- ---- texts
 
 -- texts one after another
-abbrev pub joined : List (List ℕ) → List ℕ
-joined texts = flat_map (λ (t : List ℕ). t) texts
+abbrev pub texts_joined : List (List ℕ) → List ℕ
+texts_joined texts = flat_map (λ (t : List ℕ). t) texts
 
 abbrev pub point_text : (x y : ℕ) → List ℕ
 point_text x y = decimal x ++ codes " " ++ decimal y
@@ -24,7 +24,7 @@ abbrev pub moved_text : (x y : ℕ) → List ℕ
 moved_text x y = codes " transform=\"translate(" ++ (decimal x ++ (codes " " ++ (decimal y ++ codes ")\"")))
 
 -- what a part puts into the document
-abbrev pub part_text : Part → List ℕ
+abbrev pub part_text : DocumentPart → List ℕ
 part_text (Markup w) = w.now
 part_text (Phrase w) = w.now
 part_text (Number n) = decimal n
@@ -39,43 +39,43 @@ part_text (Short l most) = short most l.now
 -- the beginning and the end of a document
 abbrev pub start_text : (width height : ℕ) → List ℕ
 start_text width height =
-    joined
+    texts_joined
     (codes "<svg xmlns=\"http://www.w3.org/2000/svg\" role=\"img\"" ∷ attribute_text (codes "width") width ∷ attribute_text (codes "height") height
     ∷ codes " viewBox=\"0 0 " ∷ point_text width height ∷ codes "\">\n" ∷ [])
 
-abbrev pub end_text : List ℕ
-end_text = codes "</svg>\n"
+abbrev pub document_end : List ℕ
+document_end = codes "</svg>\n"
 
 -- a line of a class, from one point to another
-abbrev pub line_text : (class : List ℕ) (x1 y1 x2 y2 : ℕ) → List ℕ
-line_text class x1 y1 x2 y2 =
-    joined
+abbrev pub straight_line_text : (class : List ℕ) (x1 y1 x2 y2 : ℕ) → List ℕ
+straight_line_text class x1 y1 x2 y2 =
+    texts_joined
     (codes "<line class=\"" ∷ class ∷ codes "\"" ∷ attribute_text (codes "x1") x1 ∷ attribute_text (codes "y1") y1
     ∷ attribute_text (codes "x2") x2 ∷ attribute_text (codes "y2") y2 ∷ codes "/>" ∷ [])
 
 -- a straight path from one point to another
 abbrev pub stroke_text : (from to : ℕ × ℕ) → List ℕ
-stroke_text from to = joined (codes "<path d=\"M" ∷ point_text from.0 from.1 ∷ codes "L" ∷ point_text to.0 to.1 ∷ codes "\"/>" ∷ [])
+stroke_text from to = texts_joined (codes "<path d=\"M" ∷ point_text from.0 from.1 ∷ codes "L" ∷ point_text to.0 to.1 ∷ codes "\"/>" ∷ [])
 
 -- a curve, which two points between bend
 abbrev pub curve_text : (from bent bent_again to : ℕ × ℕ) → List ℕ
 curve_text from bent bent_again to =
-    joined
+    texts_joined
     (codes "<path d=\"M" ∷ point_text from.0 from.1 ∷ codes "C" ∷ point_text bent.0 bent.1 ∷ codes " "
     ∷ point_text bent_again.0 bent_again.1 ∷ codes " " ∷ point_text to.0 to.1 ∷ codes "\"/>" ∷ [])
 
 -- ---- parts
 
 -- markup is made of words alone: of those of all documents and of the document's own
-abbrev pub is_fixed : (own : List (List ℕ)) → Part → Bool
-is_fixed own (Markup w) = is_word own w.now
+abbrev pub is_fixed : (own : List (List ℕ)) → DocumentPart → Bool
+is_fixed own (Markup w) = is_document_word own w.now
 is_fixed own (Phrase w) = is_phrase own w.now
-is_fixed own (Attribute name n) = is_word own name.now && is_name name.now
+is_fixed own (Attribute name n) = is_document_word own name.now && is_name name.now
 is_fixed own (Class w) = is_phrase own w.now
 is_fixed own p = true
 
 -- what may occur outside tags
-abbrev pub is_said : (own : List (List ℕ)) → Part → Bool
+abbrev pub is_said : (own : List (List ℕ)) → DocumentPart → Bool
 is_said own (Phrase w) = is_phrase own w.now
 is_said own (Number n) = true
 is_said own (Pid p) = true
@@ -85,18 +85,18 @@ is_said own (Short l most) = true
 is_said own p = false
 
 -- what may occur in the value of an attribute
-abbrev pub is_value : (own : List (List ℕ)) → Part → Bool
+abbrev pub is_value : (own : List (List ℕ)) → DocumentPart → Bool
 is_value own (Phrase w) = is_phrase own w.now
 is_value own p = false
 
 -- what may occur in a tag
-abbrev pub is_attribute : (own : List (List ℕ)) → Part → Bool
-is_attribute own (Attribute name n) = is_word own name.now && is_name name.now
+abbrev pub is_attribute : (own : List (List ℕ)) → DocumentPart → Bool
+is_attribute own (Attribute name n) = is_document_word own name.now && is_name name.now
 is_attribute own (Class w) = is_phrase own w.now
 is_attribute own (Moved x y) = true
 is_attribute own p = false
 
-abbrev pub labels_of_part : Part → List (List ℕ)
+abbrev pub labels_of_part : DocumentPart → List (List ℕ)
 labels_of_part (Label l) = l.now ∷ []
 labels_of_part (Short l most) = l.now ∷ []
 labels_of_part p = []
@@ -104,37 +104,37 @@ labels_of_part p = []
 -- ---- where parts are
 
 -- the place after a part: markup is read byte by byte
-abbrev pub behind : Place → Part → Place
-behind p (Markup w) = read p w.now
-behind p (Attribute name n) = behind_attribute p
-behind p (Class w) = behind_attribute p
-behind p (Moved x y) = behind_attribute p
-behind p (Label l) = behind_label p
-behind p (Short l most) = behind_label p
-behind p part = behind_said p
+abbrev pub place_after_part : DocumentPlace → DocumentPart → DocumentPlace
+place_after_part p (Markup w) = read p w.now
+place_after_part p (Attribute name n) = behind_attribute p
+place_after_part p (Class w) = behind_attribute p
+place_after_part p (Moved x y) = behind_attribute p
+place_after_part p (Label l) = behind_label p
+place_after_part p (Short l most) = behind_label p
+place_after_part p part = behind_said p
 
-abbrev pub behind_all : Place → List Part → Place
+abbrev pub behind_all : DocumentPlace → List DocumentPart → DocumentPlace
 behind_all p [] = p
-behind_all p (part ∷ parts) = behind_all (behind p part) parts
+behind_all p (part ∷ parts) = behind_all (place_after_part p part) parts
 
 -- after what was there, which led to this place, come parts that have these labels in their order, each escaped, and
 -- words and numbers for the rest; they lead to that place
-pub data DrawsFrom (own : List (List ℕ)) (from : Place) (labels : List (List ℕ)) (to : Place) (before after : List ℕ) : Type 0 where
-  drawn : (parts : List Part) → after ≡ before ++ flat_map part_text parts → IsTrue (list_all (is_fixed own) parts)
+pub data DrawsFrom (own : List (List ℕ)) (from : DocumentPlace) (labels : List (List ℕ)) (to : DocumentPlace) (before after : List ℕ) : Type 0 where
+  drawn : (parts : List DocumentPart) → after ≡ before ++ flat_map part_text parts → IsTrue (list_all (is_fixed own) parts)
       → flat_map labels_of_part parts ≡ labels → behind_all from parts ≡ to → DrawsFrom own from labels to before after
 
 -- wherever it is outside tags, it is there again after what is drawn, in the same elements
-abbrev pub Draws : (own : List (List ℕ)) (labels : List (List ℕ)) (before after : List ℕ) → Type 0
-Draws own labels before after = (opened : List (List ℕ)) → DrawsFrom own (outside opened) labels (outside opened) before after
+abbrev pub DrawsDocument : (own : List (List ℕ)) (labels : List (List ℕ)) (before after : List ℕ) → Type 0
+DrawsDocument own labels before after = (opened : List (List ℕ)) → DrawsFrom own (outside opened) labels (outside opened) before after
 
 -- after it one element more is open, or the innermost, of this name, is closed
-abbrev pub Opens : (own : List (List ℕ)) (name : List ℕ) (labels : List (List ℕ)) (before after : List ℕ) → Type 0
-Opens own name labels before after = (opened : List (List ℕ)) → DrawsFrom own (outside opened) labels (outside (name ∷ opened)) before after
+abbrev pub OpensElement : (own : List (List ℕ)) (name : List ℕ) (labels : List (List ℕ)) (before after : List ℕ) → Type 0
+OpensElement own name labels before after = (opened : List (List ℕ)) → DrawsFrom own (outside opened) labels (outside (name ∷ opened)) before after
 
-abbrev pub Closes : (own : List (List ℕ)) (name : List ℕ) (labels : List (List ℕ)) (before after : List ℕ) → Type 0
-Closes own name labels before after = (opened : List (List ℕ)) → DrawsFrom own (outside (name ∷ opened)) labels (outside opened) before after
+abbrev pub ClosesElement : (own : List (List ℕ)) (name : List ℕ) (labels : List (List ℕ)) (before after : List ℕ) → Type 0
+ClosesElement own name labels before after = (opened : List (List ℕ)) → DrawsFrom own (outside (name ∷ opened)) labels (outside opened) before after
 
 -- after what was there comes a whole document: its beginning, what is drawn between them with these labels, and its end
 pub data IsDocument (own : List (List ℕ)) (labels : List (List ℕ)) (before after : List ℕ) : Type 0 where
-  document : (width height : ℕ) (middle : List ℕ) → Draws own labels (before ++ start_text width height) middle → after ≡ middle ++ end_text
+  document : (width height : ℕ) (middle : List ℕ) → DrawsDocument own labels (before ++ start_text width height) middle → after ≡ middle ++ document_end
       → IsDocument own labels before after

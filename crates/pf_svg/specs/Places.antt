@@ -4,36 +4,36 @@ use Rattle.std.specs.List.{list_all}
 use Rattle.std.specs.Str.{bytes_eq}
 
 -- a place in a document, with the names of the elements that are open there, the innermost first
-pub data Place : Type 0 where
+pub data DocumentPlace : Type 0 where
   -- outside tags
-  outside : (opened : List (List ℕ)) → Place
+  outside : (opened : List (List ℕ)) → DocumentPlace
   -- in the name with which a tag begins
-  naming : (opened : List (List ℕ)) (name : List ℕ) → Place
+  naming : (opened : List (List ℕ)) (name : List ℕ) → DocumentPlace
   -- in a tag after its name, outside values
-  inside : (opened : List (List ℕ)) (name : List ℕ) → Place
+  inside : (opened : List (List ℕ)) (name : List ℕ) → DocumentPlace
   -- after the equals sign of an attribute
-  assigned : (opened : List (List ℕ)) (name : List ℕ) → Place
+  assigned : (opened : List (List ℕ)) (name : List ℕ) → DocumentPlace
   -- in the quotes of an attribute's value
-  quoted : (opened : List (List ℕ)) (name : List ℕ) → Place
+  quoted : (opened : List (List ℕ)) (name : List ℕ) → DocumentPlace
   -- after the slash of a tag without content
-  slashed : (opened : List (List ℕ)) → Place
+  slashed : (opened : List (List ℕ)) → DocumentPlace
   -- in the name of a tag that ends an element
-  ending : (opened : List (List ℕ)) (name : List ℕ) → Place
+  ending : (opened : List (List ℕ)) (name : List ℕ) → DocumentPlace
   -- where no document can go on
-  nowhere : Place
+  nowhere : DocumentPlace
 
 -- after a slash: at the front of a tag it ends an element, after its name the tag has no content
-abbrev pub behind_slash : (opened : List (List ℕ)) (name : List ℕ) → Place
+abbrev pub behind_slash : (opened : List (List ℕ)) (name : List ℕ) → DocumentPlace
 behind_slash os [] = ending os []
 behind_slash os (b ∷ bs) = slashed os
 
 -- after a tag that ends an element: the innermost that is open has this name
-abbrev pub closed : (name : List ℕ) (opened : List (List ℕ)) → Place
+abbrev pub closed : (name : List ℕ) (opened : List (List ℕ)) → DocumentPlace
 closed name [] = nowhere
 closed name (o ∷ os) = if bytes_eq name o then outside os else nowhere
 
 -- after one byte more; the values of attributes have double quotes
-abbrev pub read_byte : Place → ℕ → Place
+abbrev pub read_byte : DocumentPlace → ℕ → DocumentPlace
 read_byte (outside os) b = if b == 60 then naming os [] else outside os
 read_byte (naming os name) b =
     if b == 62 then outside (name ∷ os)
@@ -53,23 +53,23 @@ read_byte (ending os name) b = if b == 62 then closed name os else ending os (na
 read_byte nowhere b = nowhere
 
 -- after these bytes
-abbrev pub read : Place → List ℕ → Place
+abbrev pub read : DocumentPlace → List ℕ → DocumentPlace
 read p [] = p
 read p (b ∷ bs) = read (read_byte p b) bs
 
 -- a word or a number is outside tags or in quotes
-abbrev pub behind_said : Place → Place
+abbrev pub behind_said : DocumentPlace → DocumentPlace
 behind_said (outside os) = outside os
 behind_said (quoted os name) = quoted os name
 behind_said p = nowhere
 
 -- a label is outside tags alone
-abbrev pub behind_label : Place → Place
+abbrev pub behind_label : DocumentPlace → DocumentPlace
 behind_label (outside os) = outside os
 behind_label p = nowhere
 
 -- an attribute is in a tag, after its name
-abbrev pub behind_attribute : Place → Place
+abbrev pub behind_attribute : DocumentPlace → DocumentPlace
 behind_attribute (naming os name) = inside os name
 behind_attribute (inside os name) = inside os name
 behind_attribute p = nowhere

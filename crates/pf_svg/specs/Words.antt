@@ -12,19 +12,19 @@ tags =
     ∷ codes "<text class=\"" ∷ codes "</text>" ∷ codes "<g>" ∷ codes "<g class=\"" ∷ codes "</g>\n"
     ∷ codes ">" ∷ codes "\"" ∷ codes "\"/>" ∷ codes "/>" ∷ codes "\">\n" ∷ codes "\n" ∷ []
 
--- names of attributes that are numbers, and what is between the points of a path
-abbrev pub names : List (List ℕ)
-names =
+-- number_names of attributes that are numbers, and what is between the points of a path
+abbrev pub number_names : List (List ℕ)
+number_names =
     codes "x" ∷ codes "y" ∷ codes "x1" ∷ codes "y1" ∷ codes "x2" ∷ codes "y2" ∷ codes "width" ∷ codes "height"
     ∷ codes "rx" ∷ codes "L" ∷ codes "C" ∷ codes " " ∷ []
 
 -- what may occur in a document that has words of its own
-abbrev pub is_word : (own : List (List ℕ)) → List ℕ → Bool
-is_word own w = list_any (bytes_eq w) (tags ++ names ++ own)
+abbrev pub is_document_word : (own : List (List ℕ)) → List ℕ → Bool
+is_document_word own w = list_any (bytes_eq w) (tags ++ number_names ++ own)
 
 -- a word that may be text, and in an attribute's quotes
 abbrev pub is_phrase : (own : List (List ℕ)) → List ℕ → Bool
-is_phrase own w = is_word own w && is_plain w
+is_phrase own w = is_document_word own w && is_plain w
 
 -- a byte of an attribute's name: a small letter, a digit or a minus
 abbrev pub is_name_byte : ℕ → Bool

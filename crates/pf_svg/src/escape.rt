@@ -1,7 +1,7 @@
 //! Text that may be in a document.
 
 ghost use Rattle.std.specs.Prelude.{◌≡◌, ◌++◌, OnOk};
-ghost use Rattle.pf_svg.specs.Escaped.{code_of, escaped, escaped_byte, reference, short};
+ghost use Rattle.pf_svg.specs.Escaped.{character_of, escaped, escaped_byte, reference, short};
 
 use pf_terms::NoMemory;
 use pf_text::{put, put_byte, put_number};
@@ -9,7 +9,7 @@ use pf_text::{put, put_byte, put_number};
 /// The character that stands for a byte that can't be written as it is: a blank of lines or a byte of Latin-1 is
 /// itself.
 fn code_of(byte: u8) -> u64
-    ensures { result ≡ code_of byte }
+    ensures { result ≡ character_of byte }
 {
     if byte > 126 || byte == b'\t' || byte == b'\n' || byte == b'\r' {
         u64::from(byte)

@@ -8,5 +8,5 @@ mod svg;
 
 pub use escape::{put_escaped, put_short};
 pub use laws::labels_stay_text;
-pub use part::Part;
+pub use part::DocumentPart;
 pub use svg::{Svg, Vocabulary};

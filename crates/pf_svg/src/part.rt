@@ -10,7 +10,7 @@ use pf_text::{put, put_number};
 
 /// A part of a document. Nothing but a label comes from outside the program.
 #[derive(Clone, Copy)]
-pub enum Part<'a> {
+pub enum DocumentPart<'a> {
     /// Tags, or beginnings and ends of tags.
     Markup(&'static str),
     /// A word that is text, or in the quotes of an attribute.
@@ -75,24 +75,24 @@ fn put_moved(out: &mut Vec<u8>, x: u64, y: u64) -> Result<(), NoMemory>
     put(out, b")\"")
 }
 
-fn put_part(out: &mut Vec<u8>, part: &Part) -> Result<(), NoMemory>
+fn put_part(out: &mut Vec<u8>, part: &DocumentPart) -> Result<(), NoMemory>
     ensures { OnOk result (out.new.items ≡ out.old.items ++ part_text part.now) }
 {
     match *part {
-        Part::Markup(word) | Part::Phrase(word) => put(out, word.as_bytes()),
-        Part::Number(number) => put_number(out, number),
-        Part::Pid(pid) => put_pid(out, pid),
-        Part::Point(x, y) => put_point(out, x, y),
-        Part::Attribute(name, value) => put_attribute(out, name, value),
-        Part::Class(class) => put_class(out, class),
-        Part::Moved(x, y) => put_moved(out, x, y),
-        Part::Label(label) => put_escaped(out, label),
-        Part::Short(label, most) => put_short(out, label, most),
+        DocumentPart::Markup(word) | DocumentPart::Phrase(word) => put(out, word.as_bytes()),
+        DocumentPart::Number(number) => put_number(out, number),
+        DocumentPart::Pid(pid) => put_pid(out, pid),
+        DocumentPart::Point(x, y) => put_point(out, x, y),
+        DocumentPart::Attribute(name, value) => put_attribute(out, name, value),
+        DocumentPart::Class(class) => put_class(out, class),
+        DocumentPart::Moved(x, y) => put_moved(out, x, y),
+        DocumentPart::Label(label) => put_escaped(out, label),
+        DocumentPart::Short(label, most) => put_short(out, label, most),
     }
 }
 
 /// Puts parts one after another.
-pub(crate) fn put_parts(out: &mut Vec<u8>, parts: &[Part]) -> Result<(), NoMemory>
+pub(crate) fn put_parts(out: &mut Vec<u8>, parts: &[DocumentPart]) -> Result<(), NoMemory>
     ensures { OnOk result (out.new.items ≡ out.old.items ++ flat_map part_text parts.now) }
 {
     for part in parts {

@@ -3,27 +3,27 @@
 ghost use Rattle.std.specs.Prelude.{◌≡◌, ◌++◌, ℕ, List, [], IsTrue, OnOk, codes, flat_map};
 ghost use Rattle.std.specs.List.{list_all};
 ghost use Rattle.pf_svg.specs.Document.{
-  Closes,
-  Draws,
+  ClosesElement,
+  DrawsDocument,
   DrawsFrom,
-  Opens,
+  OpensElement,
   behind_all,
   curve_text,
-  end_text,
+  document_end,
   is_attribute,
   is_fixed,
   is_said,
   is_value,
   labels_of_part,
-  line_text,
+  straight_line_text,
   part_text,
   start_text,
   stroke_text,
 };
-ghost use Rattle.pf_svg.specs.Places.{Place, outside, read};
-ghost use Rattle.pf_svg.specs.Words.{is_phrase, is_word};
+ghost use Rattle.pf_svg.specs.Places.{DocumentPlace, outside, read};
+ghost use Rattle.pf_svg.specs.Words.{is_phrase, is_document_word};
 
-use crate::part::Part::{self, Attribute, Markup, Phrase, Point};
+use crate::part::DocumentPart::{self, Attribute, Markup, Phrase, Point};
 use crate::part::put_parts;
 use pf_terms::NoMemory;
 use std::alloc::Global;
@@ -64,20 +64,20 @@ impl<W: Vocabulary> Svg<W> {
     }
 
     /// Puts parts at the end, wherever it is.
-    fn add(&mut self, parts: &[Part]) -> Result<(), NoMemory>
+    fn add(&mut self, parts: &[DocumentPart]) -> Result<(), NoMemory>
         requires { IsTrue (list_all (is_fixed W.words) parts.now) }
         ensures text { OnOk result (self.new ≡ self.old ++ flat_map part_text parts.now) }
-        ensures drawn { OnOk result ((place : Place) → DrawsFrom W.words place
+        ensures drawn { OnOk result ((place : DocumentPlace) → DrawsFrom W.words place
             (flat_map labels_of_part parts.now) (behind_all place parts.now) self.old self.new) }
     {
         put_parts(&mut self.bytes, parts)
     }
 
     /// Puts parts that are whole elements, or are outside tags.
-    pub fn put(&mut self, parts: &[Part]) -> Result<(), NoMemory>
+    pub fn put(&mut self, parts: &[DocumentPart]) -> Result<(), NoMemory>
         requires fixed { IsTrue (list_all (is_fixed W.words) parts.now) }
         requires whole { (opened : List (List ℕ)) → behind_all (outside opened) parts.now ≡ outside opened }
-        ensures { OnOk result (Draws W.words (flat_map labels_of_part parts.now) self.old self.new) }
+        ensures { OnOk result (DrawsDocument W.words (flat_map labels_of_part parts.now) self.old self.new) }
     {
         self.add(parts)
     }
@@ -100,13 +100,13 @@ impl<W: Vocabulary> Svg<W> {
     fn element(
         &mut self,
         start: &'static str,
-        content: &[Part],
+        content: &[DocumentPart],
         end: &'static str,
     ) -> Result<(), NoMemory>
-        requires start { IsTrue (is_word W.words start.now) }
+        requires start { IsTrue (is_document_word W.words start.now) }
         requires content { IsTrue (list_all (is_fixed W.words) content.now) }
-        requires end { IsTrue (is_word W.words end.now) }
-        ensures { OnOk result ((place : Place) → DrawsFrom W.words place (flat_map labels_of_part content.now)
+        requires end { IsTrue (is_document_word W.words end.now) }
+        ensures { OnOk result ((place : DocumentPlace) → DrawsFrom W.words place (flat_map labels_of_part content.now)
             (read (behind_all (read place start.now) content.now) end.now) self.old self.new) }
     {
         self.add(&[Markup(start)])?;
@@ -115,9 +115,9 @@ impl<W: Vocabulary> Svg<W> {
     }
 
     /// Puts a tooltip, or the title of the document.
-    pub fn title(&mut self, content: &[Part]) -> Result<(), NoMemory>
+    pub fn title(&mut self, content: &[DocumentPart]) -> Result<(), NoMemory>
         requires { IsTrue (list_all (is_said W.words) content.now) }
-        ensures { OnOk result (Draws W.words (flat_map labels_of_part content.now) self.old self.new) }
+        ensures { OnOk result (DrawsDocument W.words (flat_map labels_of_part content.now) self.old self.new) }
     {
         self.element("<title>", content, "</title>")
     }
@@ -127,11 +127,11 @@ impl<W: Vocabulary> Svg<W> {
         &mut self,
         class: &'static str,
         at: (u64, u64),
-        content: &[Part],
+        content: &[DocumentPart],
     ) -> Result<(), NoMemory>
         requires class { IsTrue (is_phrase W.words class.now) }
         requires content { IsTrue (list_all (is_said W.words) content.now) }
-        ensures { OnOk result (Draws W.words (flat_map labels_of_part content.now) self.old self.new) }
+        ensures { OnOk result (DrawsDocument W.words (flat_map labels_of_part content.now) self.old self.new) }
     {
         let (x, y) = at;
         self.add(&[
@@ -147,7 +147,7 @@ impl<W: Vocabulary> Svg<W> {
     /// Puts a path of this outline.
     pub fn path(&mut self, outline: &'static str) -> Result<(), NoMemory>
         requires { IsTrue (is_phrase W.words outline.now) }
-        ensures { OnOk result (Draws W.words [] self.old self.new) }
+        ensures { OnOk result (DrawsDocument W.words [] self.old self.new) }
     {
         self.add(&[Markup("<path d=\""), Phrase(outline), Markup("\"/>")])
     }
@@ -155,7 +155,7 @@ impl<W: Vocabulary> Svg<W> {
     /// Puts a line from point to point, as a path.
     pub fn stroke(&mut self, from: (u64, u64), to: (u64, u64)) -> Result<(), NoMemory>
         ensures text { OnOk result (self.new ≡ self.old ++ stroke_text from to) }
-        ensures drawn { OnOk result (Draws W.words [] self.old self.new) }
+        ensures drawn { OnOk result (DrawsDocument W.words [] self.old self.new) }
     {
         self.add(&[
             Markup("<path d=\"M"),
@@ -174,7 +174,7 @@ impl<W: Vocabulary> Svg<W> {
         to: (u64, u64),
     ) -> Result<(), NoMemory>
         ensures text { OnOk result (self.new ≡ self.old ++ curve_text from between.0 between.1 to) }
-        ensures drawn { OnOk result (Draws W.words [] self.old self.new) }
+        ensures drawn { OnOk result (DrawsDocument W.words [] self.old self.new) }
     {
         let ((x, y), (right, below)) = between;
         self.add(&[
@@ -193,8 +193,8 @@ impl<W: Vocabulary> Svg<W> {
     /// Puts a line of a class straight down.
     pub fn line(&mut self, class: &'static str, x: u64, from: u64, to: u64) -> Result<(), NoMemory>
         requires { IsTrue (is_phrase W.words class.now) }
-        ensures text { OnOk result (self.new ≡ self.old ++ line_text class.now x from x to) }
-        ensures drawn { OnOk result (Draws W.words [] self.old self.new) }
+        ensures text { OnOk result (self.new ≡ self.old ++ straight_line_text class.now x from x to) }
+        ensures drawn { OnOk result (DrawsDocument W.words [] self.old self.new) }
     {
         self.add(&[
             Markup("<line class=\""),
@@ -209,18 +209,22 @@ impl<W: Vocabulary> Svg<W> {
     }
 
     /// Puts a rectangle of these attributes.
-    pub fn rect(&mut self, attributes: &[Part]) -> Result<(), NoMemory>
+    pub fn rect(&mut self, attributes: &[DocumentPart]) -> Result<(), NoMemory>
         requires { IsTrue (list_all (is_attribute W.words) attributes.now) }
-        ensures { OnOk result (Draws W.words (flat_map labels_of_part attributes.now) self.old self.new) }
+        ensures { OnOk result (DrawsDocument W.words (flat_map labels_of_part attributes.now) self.old self.new) }
     {
         self.element("<rect", attributes, "/>")
     }
 
     /// Puts the beginning of a group of a class, with these attributes.
-    pub fn group(&mut self, class: &[Part], attributes: &[Part]) -> Result<(), NoMemory>
+    pub fn group(
+        &mut self,
+        class: &[DocumentPart],
+        attributes: &[DocumentPart],
+    ) -> Result<(), NoMemory>
         requires class { IsTrue (list_all (is_value W.words) class.now) }
         requires attributes { IsTrue (list_all (is_attribute W.words) attributes.now) }
-        ensures { OnOk result (Opens W.words (codes "g")
+        ensures { OnOk result (OpensElement W.words (codes "g")
             (flat_map labels_of_part class.now ++ flat_map labels_of_part attributes.now) self.old self.new) }
     {
         self.element("<g class=\"", class, "\"")?;
@@ -230,28 +234,28 @@ impl<W: Vocabulary> Svg<W> {
 
     /// Puts the beginning of a group without a class.
     pub fn plain_group(&mut self) -> Result<(), NoMemory>
-        ensures { OnOk result (Opens W.words (codes "g") [] self.old self.new) }
+        ensures { OnOk result (OpensElement W.words (codes "g") [] self.old self.new) }
     {
         self.add(&[Markup("<g>")])
     }
 
     /// Puts the end of a group.
     pub fn close_group(&mut self) -> Result<(), NoMemory>
-        ensures { OnOk result (Closes W.words (codes "g") [] self.old self.new) }
+        ensures { OnOk result (ClosesElement W.words (codes "g") [] self.old self.new) }
     {
         self.add(&[Markup("</g>\n")])
     }
 
     /// Puts the end of a line of the document's bytes.
     pub fn end_line(&mut self) -> Result<(), NoMemory>
-        ensures { OnOk result (Draws W.words [] self.old self.new) }
+        ensures { OnOk result (DrawsDocument W.words [] self.old self.new) }
     {
         self.add(&[Markup("\n")])
     }
 
     /// Puts the end of the document.
     pub fn close(&mut self) -> Result<(), NoMemory>
-        ensures { OnOk result (self.new ≡ self.old ++ end_text) }
+        ensures { OnOk result (self.new ≡ self.old ++ document_end) }
     {
         self.add(&[Markup("</svg>\n")])
     }

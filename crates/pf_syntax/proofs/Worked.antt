@@ -12,7 +12,7 @@ use Rattle.pf_syntax.specs.Expr as p
 use Rattle.pf_syntax.specs.Scope.{Scope, no_scope, after, after_expr_pattern}
 use Rattle.pf_syntax.specs.Naming as n
 use Rattle.pf_syntax.specs.Naming.{BodyIs, ElementIs, ExprIs, ExprPatternIs}
-use Rattle.pf_syntax.specs.Worked.{atoms_alone, x, x_expr_pattern, y_expr_pattern, one, doubled, doubled_tree, chained, chained_tree, choosing, used_unsafe, matched_unsafe, unbound, NamesBecomeSlots}
+use Rattle.pf_syntax.specs.Worked.{atoms_alone, x, x_expr_pattern, y_expr_pattern, one_expr, doubled, doubled_tree, chained, chained_tree, choosing, used_unsafe, matched_unsafe, unbound, NamesBecomeSlots}
 
 -- with no variable bound, no variable has a slot
 no_slot : (g : Scope) (y k : ℕ) → g.bound ≡ [] → ¬ n.IsSlotOf g y k
@@ -37,11 +37,11 @@ x_is_no_pattern : (q : Pattern) → ¬ ExprPatternIs atoms_alone (after no_scope
 x_is_no_pattern _ (n.bound _ _ _ k h) = no_slot (after no_scope choosing) 0 k refl h
 x_is_no_pattern _ (n.fresh _ _ _ h) = cc
 
-match_is_no_element : (ps : Patterns) (t : Tree) → ¬ ElementIs atoms_alone (after no_scope choosing) (p.match x_expr_pattern one) ps t
+match_is_no_element : (ps : Patterns) (t : Tree) → ¬ ElementIs atoms_alone (after no_scope choosing) (p.match x_expr_pattern one_expr) ps t
 match_is_no_element _ _ (n.plain _ _ t h) = elim h [ ]
 match_is_no_element _ _ (n.match _ _ _ ps q t h k) = x_is_no_pattern q k
 
-match_is_no_body : (b : Tree) → ¬ BodyIs atoms_alone (after no_scope choosing) (expr (p.match x_expr_pattern one) no_exprs) b
+match_is_no_body : (b : Tree) → ¬ BodyIs atoms_alone (after no_scope choosing) (expr (p.match x_expr_pattern one_expr) no_exprs) b
 match_is_no_body _ (n.last _ _ ps t h) = match_is_no_element ps t h
 match_is_no_body _ (n.before _ _ _ ps _ rest _ h) = elim h [ ]
 
@@ -53,13 +53,13 @@ a_one = lit (int (pos 1))
 
 -- what is seen once X is bound
 abbrev x_seen : Scope
-x_seen = after no_scope (p.match x_expr_pattern one)
+x_seen = after no_scope (p.match x_expr_pattern one_expr)
 
-one_is : ElementIs atoms_alone no_scope one no_patterns a_one
-one_is = n.plain no_scope one a_one (n.integer no_scope (pos 1))
+one_is : ElementIs atoms_alone no_scope one_expr no_patterns a_one
+one_is = n.plain no_scope one_expr a_one (n.integer no_scope (pos 1))
 
-x_is_one : ElementIs atoms_alone no_scope (p.match x_expr_pattern one) (pattern new no_patterns) a_one
-x_is_one = n.match no_scope x_expr_pattern one no_patterns new a_one one_is (n.fresh no_scope 0 0 refl)
+x_is_one : ElementIs atoms_alone no_scope (p.match x_expr_pattern one_expr) (pattern new no_patterns) a_one
+x_is_one = n.match no_scope x_expr_pattern one_expr no_patterns new a_one one_is (n.fresh no_scope 0 0 refl)
 
 x_is : ExprIs atoms_alone x_seen x (var 0)
 x_is = n.variable x_seen 0 0 0 refl
@@ -69,7 +69,7 @@ doubled_is =
     let twice = p.binary plus x x in
     let sum = t.op plus (var 0) (var 0) in
     let rest = n.last x_seen twice no_patterns sum (n.plain x_seen twice sum (n.binary x_seen plus x x (var 0) (var 0) x_is x_is)) in
-    n.before no_scope (p.match x_expr_pattern one) (expr twice no_exprs) (pattern new no_patterns) a_one sum x_is_one rest
+    n.before no_scope (p.match x_expr_pattern one_expr) (expr twice no_exprs) (pattern new no_patterns) a_one sum x_is_one rest
 
 both_are : n.ExprPatternsAre atoms_alone x_seen (expr_pattern x_expr_pattern (expr_pattern y_expr_pattern no_expr_patterns)) (pattern (slot 0) (pattern new no_patterns))
 both_are =
@@ -81,7 +81,7 @@ chained_is =
     let first = pattern new no_patterns in
     let pair = expr_pattern x_expr_pattern (expr_pattern y_expr_pattern no_expr_patterns) in
     let pair_pattern = pattern (slot 0) (pattern new no_patterns) in
-    let inner = p.match x_expr_pattern one in
+    let inner = p.match x_expr_pattern one_expr in
     let pair_is : ExprPatternIs atoms_alone x_seen (s.tuple pair) (tuple_of pair_pattern) = n.tuple x_seen pair pair_pattern both_are in
     let whole : ElementIs atoms_alone no_scope (p.match (s.tuple pair) inner) (pattern new (pattern (tuple_of pair_pattern) no_patterns)) a_one = n.match no_scope (s.tuple pair) inner first (tuple_of pair_pattern) a_one x_is_one pair_is in
     n.last no_scope (p.match (s.tuple pair) inner) (pattern new (pattern (tuple_of pair_pattern) no_patterns)) a_one whole

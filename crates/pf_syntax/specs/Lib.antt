@@ -19,3 +19,5 @@ pub mod ExprModule
 pub mod Scope
 pub mod Naming
 pub mod Worked
+pub mod Forms
+pub mod FormView

@@ -48,9 +48,9 @@ arity_of no_exprs = 0
 arity_of (expr e es) = 1 + arity_of es
 
 -- one more pattern after the others
-abbrev pub behind : Patterns → Pattern → Patterns
-behind no_patterns y = pattern y no_patterns
-behind (pattern x xs) y = pattern x (behind xs y)
+abbrev pub with_pattern : Patterns → Pattern → Patterns
+with_pattern no_patterns y = pattern y no_patterns
+with_pattern (pattern x xs) y = pattern x (with_pattern xs y)
 
 -- the last element of a body, with the patterns of its matches
 abbrev pub ending : Patterns → Tree → Tree
@@ -112,7 +112,7 @@ mutual
   pub data ElementIs (n : Names) : Scope → Expr → Patterns → Tree → Type 0 where
     plain : (g : Scope) (e : Expr) (x : Tree) → ExprIs n g e x → ElementIs n g e no_patterns x
     match : (g : Scope) (q : ExprPattern) (e : Expr) (ys : Patterns) (y : Pattern) (x : Tree) → ElementIs n g e ys x → ExprPatternIs n (after g e) q y
-        → ElementIs n g (p.match q e) (behind ys y) x
+        → ElementIs n g (p.match q e) (with_pattern ys y) x
 
   -- a body: each element but the last is before the rest
   pub data BodyIs (n : Names) : Scope → Exprs → Tree → Type 0 where

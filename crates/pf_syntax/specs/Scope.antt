@@ -47,12 +47,12 @@ abbrev mutual
   after_expr_patterns g (expr_pattern q qs) = after_expr_patterns (after_expr_pattern g q) qs
 
 -- after a construct: of the names that its clauses end with, each that was not bound before is unsafe
-abbrev pub leaving : Scope → List ℕ → Scope
-leaving g names = record { bound = g.bound; unsafe = g.unsafe ++ filter (λ x. not (has g.bound x)) names }
+abbrev pub scope_leaving : Scope → List ℕ → Scope
+scope_leaving g names = record { bound = g.bound; unsafe = g.unsafe ++ filter (λ x. not (has g.bound x)) names }
 
 -- the bound and the unsafe ones together
-abbrev pub names_of : Scope → List ℕ
-names_of g = g.bound ++ g.unsafe
+abbrev pub names_in_scope : Scope → List ℕ
+names_in_scope g = g.bound ++ g.unsafe
 
 -- after an expression, from left to right, but in a match through the right side first. A clause begins with what is
 -- seen at its construct, and a guard changes nothing
@@ -74,9 +74,9 @@ abbrev mutual
   after g (p.or_else a b) = after (after g a) b
   after g (p.send a b) = after (after g a) b
   after g (p.match q a) = after_expr_pattern (after g a) q
-  after g (p.case a bs) = leaving (after g a) (ends_of (after g a) bs)
-  after g (p.if_expression bs) = leaving g (ends_of g bs)
-  after g (p.receive bs) = leaving g (ends_of g bs)
+  after g (p.case a bs) = scope_leaving (after g a) (ends_of (after g a) bs)
+  after g (p.if_expression bs) = scope_leaving g (ends_of g bs)
+  after g (p.receive bs) = scope_leaving g (ends_of g bs)
 
   pub after_all : Scope → Exprs → Scope
   after_all g no_exprs = g
@@ -85,4 +85,4 @@ abbrev mutual
   -- what is seen at the ends of the clauses
   pub ends_of : Scope → Branches → List ℕ
   ends_of g no_branches = []
-  ends_of g (branch q c es bs) = names_of (after_all (after_expr_pattern g q) es) ++ ends_of g bs
+  ends_of g (branch q c es bs) = names_in_scope (after_all (after_expr_pattern g q) es) ++ ends_of g bs

@@ -37,5 +37,5 @@ abbrev pub expr_at : NodeTable → ℕ → Expr
 expr_at b i = slice_index_or b.exprs i (list no_exprs)
 
 -- a module with nothing in it yet
-abbrev pub blank : ℕ → ExprArena
-blank name = record { name = name; exports = []; node_table = record { expr_patterns = []; exprs = [] }; functions = [] }
+abbrev pub empty_tree : ℕ → ExprArena
+empty_tree name = record { name = name; exports = []; node_table = record { expr_patterns = []; exprs = [] }; functions = [] }

@@ -29,15 +29,15 @@ pub integer_decoded-code : (z : ℤ) → integer_decoded (code_integer z) ≡ z
 integer_decoded-code (pos n) = refl
 integer_decoded-code (negsuc n) = refl
 
-abbrev pub code_text : List ℕ → Gv
-code_text [] = gnil
-code_text (c ∷ cs) = gcons (gnum c) (code_text cs)
+abbrev pub coded_text : List ℕ → Gv
+coded_text [] = gnil
+coded_text (c ∷ cs) = gcons (gnum c) (coded_text cs)
 
 abbrev pub text_decoded : Gv → List ℕ
 text_decoded (gcons c cs) = num c ∷ text_decoded cs
 text_decoded _ = []
 
-pub text_decoded-code : (cs : List ℕ) → text_decoded (code_text cs) ≡ cs
+pub text_decoded-code : (cs : List ℕ) → text_decoded (coded_text cs) ≡ cs
 text_decoded-code [] = refl
 text_decoded-code (c ∷ cs) = ap (λ xs. c ∷ xs) (text_decoded-code cs)
 
@@ -47,7 +47,7 @@ abbrev mutual
   pub code_expr_pattern : ExprPattern → Gv
   code_expr_pattern (s.integer n) = gcons (gnum 0) (gcons (code_integer n) (gcons gnil gnil))
   code_expr_pattern (s.atom a) = gcons (gnum 1) (gcons (gnum a) (gcons gnil gnil))
-  code_expr_pattern (s.text cs) = gcons (gnum 2) (gcons (code_text cs) (gcons gnil gnil))
+  code_expr_pattern (s.text cs) = gcons (gnum 2) (gcons (coded_text cs) (gcons gnil gnil))
   code_expr_pattern (s.variable x at) = gcons (gnum 3) (gcons (gcons (gnum x) (gnum at)) (gcons gnil gnil))
   code_expr_pattern s.anything = gcons (gnum 4) (gcons gnil (gcons gnil gnil))
   code_expr_pattern (s.tuple ps) = gcons (gnum 5) (gcons gnil (gcons gnil (code_expr_patterns ps)))
@@ -108,7 +108,7 @@ abbrev mutual
   pub code_expr : Expr → Gv
   code_expr (p.integer n) = gcons (gnum 0) (gcons (code_integer n) (gcons gnil gnil))
   code_expr (p.atom a) = gcons (gnum 1) (gcons (gnum a) (gcons gnil gnil))
-  code_expr (p.text cs) = gcons (gnum 2) (gcons (code_text cs) (gcons gnil gnil))
+  code_expr (p.text cs) = gcons (gnum 2) (gcons (coded_text cs) (gcons gnil gnil))
   code_expr (p.variable x at) = gcons (gnum 3) (gcons (gcons (gnum x) (gnum at)) (gcons gnil gnil))
   code_expr (p.anonymous at) = gcons (gnum 4) (gcons (gnum at) (gcons gnil gnil))
   code_expr (p.parentheses a) = gcons (gnum 5) (gcons gnil (gcons (code_expr a) gnil))

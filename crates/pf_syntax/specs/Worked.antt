@@ -25,19 +25,19 @@ x_expr_pattern = s.variable 0 0
 abbrev pub y_expr_pattern : ExprPattern
 y_expr_pattern = s.variable 1 0
 
-abbrev pub one : Expr
-one = p.integer (pos 1)
+abbrev pub one_expr : Expr
+one_expr = p.integer (pos 1)
 
 -- X = 1, X + X
 abbrev pub doubled : Exprs
-doubled = expr (p.match x_expr_pattern one) (expr (p.binary plus x x) no_exprs)
+doubled = expr (p.match x_expr_pattern one_expr) (expr (p.binary plus x x) no_exprs)
 
 abbrev pub doubled_tree : Tree
 doubled_tree = t.bind (pattern new no_patterns) (lit (int (pos 1))) (t.op plus (var 0) (var 0))
 
 -- {X, Y} = X = 1: X is before the outer pattern, in which it is bound
 abbrev pub chained : Exprs
-chained = expr (p.match (s.tuple (expr_pattern x_expr_pattern (expr_pattern y_expr_pattern no_expr_patterns))) (p.match x_expr_pattern one)) no_exprs
+chained = expr (p.match (s.tuple (expr_pattern x_expr_pattern (expr_pattern y_expr_pattern no_expr_patterns))) (p.match x_expr_pattern one_expr)) no_exprs
 
 abbrev pub chained_tree : Tree
 chained_tree =
@@ -45,14 +45,14 @@ chained_tree =
 
 -- case 1 of X -> X end
 abbrev pub choosing : Expr
-choosing = p.case one (branch x_expr_pattern (tests no_exprs no_tests) (expr x no_exprs) no_branches)
+choosing = p.case one_expr (branch x_expr_pattern (tests no_exprs no_tests) (expr x no_exprs) no_branches)
 
 -- that, and then X; and that, and then X = 1
 abbrev pub used_unsafe : Exprs
 used_unsafe = expr choosing (expr x no_exprs)
 
 abbrev pub matched_unsafe : Exprs
-matched_unsafe = expr choosing (expr (p.match x_expr_pattern one) no_exprs)
+matched_unsafe = expr choosing (expr (p.match x_expr_pattern one_expr) no_exprs)
 
 -- X, with nothing before it
 abbrev pub unbound : Exprs

@@ -1,4 +1,5 @@
 //! The trees of the language, as arenas of nodes: the surface syntax of modules, and checked modules.
+//! The built-in functions by name, and which forms of the language a guard holds.
 #![tactic(auto)]
 
 mod expr;
@@ -23,3 +24,9 @@ pub use node::{
 };
 pub use operator::{Builtin, Operator};
 pub use syntax_tree::SyntaxTree;
+
+mod builtins;
+mod forms;
+
+pub use builtins::{builtin_named, guard_may_call, is_pure};
+pub use forms::{Form, may_stand};

@@ -193,13 +193,13 @@ impl Module {
 
 /// What a run may hold of a module.
 #[derive(Drop)]
-struct Held {
+struct ModuleParts {
     module: Arc<Module>,
     at: u32,
 }
 
 /// A module, a share of it, and what holds shares may go to another thread.
-fn crosses_threads(module: &Module, held: &Held, runs: &Vec<(Vec<Term>, Arc<Module>)>) {
+fn crosses_threads(module: &Module, held: &ModuleParts, runs: &Vec<(Vec<Term>, Arc<Module>)>) {
     needs_send(module);
     needs_send(&held.module);
     needs_send(held);

@@ -4,7 +4,7 @@ ghost use Rattle.std.specs.Prelude.{◌≡◌, ◌≤◌, length, map, IfNone, I
 ghost use Rattle.pf_syntax.specs.ExprPattern.{anything, expr_pattern_depth, expr_pattern_size};
 ghost use Rattle.pf_syntax.specs.Expr.{list, no_exprs, expr_depth, expr_size};
 ghost use Rattle.pf_syntax.specs.Measure.{IsMeasure};
-ghost use Rattle.pf_syntax.specs.SyntaxTree.{blank, expr_at, expr_pattern_at};
+ghost use Rattle.pf_syntax.specs.SyntaxTree.{empty_tree, expr_at, expr_pattern_at};
 ghost use Rattle.pf_syntax.specs.SyntaxTreeOver.{export_of, heads_over, expr_over, expr_pattern_over, with_node_table, with_export, with_expr, with_expr_pattern, with_expr_function, HeadsStand, ExprPartsStand, ExprPatternPartsStand};
 
 use crate::expr::{Export, ExprFunction, ExprId, ExprNode, ExprPatternId, ExprPatternNode};
@@ -56,7 +56,7 @@ impl Model for SyntaxTree {
 impl SyntaxTree {
     /// The module of this name, with nothing in it yet.
     pub fn new(alloc: Global, name: AtomId) -> SyntaxTree
-        ensures { result ≡ blank name.0 }
+        ensures { result ≡ empty_tree name.0 }
     {
         SyntaxTree {
             name,

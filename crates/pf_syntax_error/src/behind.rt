@@ -1,14 +1,13 @@
 //! What follows an operand.
 
-use crate::frame::{Clauses, Mode, Next, Opened};
-use crate::walk::Walk;
+use crate::frame::{ClauseFronts, Mode, NextToken, Opened};
+use crate::walk::TokenWalk;
 use pf_grammar::{Infix, infix_of};
-use pf_intern::NumberedKind;
-use pf_tokens::{Mark, Reserved};
+use pf_tokens::{NumberedKind, Reserved, TokenMark};
 
-impl Walk<'_> {
+impl TokenWalk<'_> {
     /// After an operand: an infix, or what ends the expression.
-    pub(crate) fn behind(&mut self, kind: NumberedKind<'_>) -> Option<Next> {
+    pub(crate) fn behind(&mut self, kind: NumberedKind<'_>) -> Option<NextToken> {
         match infix_of(kind) {
             Some(infix) if self.frame.mode != Mode::Pattern => self.infix(infix),
             _ => self.behind_expression(kind),
@@ -16,31 +15,35 @@ impl Walk<'_> {
     }
 
     /// Reads an infix, where one is allowed.
-    fn infix(&mut self, infix: Infix) -> Option<Next> {
+    fn infix(&mut self, infix: Infix) -> Option<NextToken> {
         let is_in_guard = self.frame.mode == Mode::Guard;
         if !infix.stands(is_in_guard) || !self.current.may_join(infix.binding()) {
             return None;
         }
         self.current.join(infix.binding());
-        Some(Next::Operand)
+        Some(NextToken::Operand)
     }
 
     /// After an operand, where no infix goes on.
-    fn behind_expression(&mut self, kind: NumberedKind<'_>) -> Option<Next> {
+    fn behind_expression(&mut self, kind: NumberedKind<'_>) -> Option<NextToken> {
         match self.frame.opened {
             Opened::Parameters => self.behind_parameter(kind),
             Opened::HeadGuard => self.behind_test(kind, Opened::Function),
             Opened::Function => self.behind_function_element(kind),
             Opened::Parentheses => self.behind_last(
                 kind,
-                NumberedKind::Mark(Mark::CloseParenthesis),
+                NumberedKind::Mark(TokenMark::CloseParenthesis),
                 false,
             ),
             Opened::Arguments(read, arity) => self.behind_argument(kind, read, arity),
-            Opened::Tuple => self.behind_item(kind, NumberedKind::Mark(Mark::CloseBrace)),
-            Opened::List if kind == NumberedKind::Mark(Mark::Bar) => Some(self.tail()),
-            Opened::List => self.behind_item(kind, NumberedKind::Mark(Mark::CloseBracket)),
-            Opened::Tail => self.behind_last(kind, NumberedKind::Mark(Mark::CloseBracket), true),
+            Opened::Tuple => self.behind_item(kind, NumberedKind::Mark(TokenMark::CloseBrace)),
+            Opened::List if kind == NumberedKind::Mark(TokenMark::Bar) => Some(self.tail()),
+            Opened::List => self.behind_item(kind, NumberedKind::Mark(TokenMark::CloseBracket)),
+            Opened::Tail => self.behind_last(
+                kind,
+                NumberedKind::Mark(TokenMark::CloseBracket),
+                true,
+            ),
             Opened::Scrutinee => self.behind_scrutinee(kind),
             Opened::ClausePattern => self.behind_pattern(kind),
             Opened::ClauseGuard(clauses) => self.behind_test(kind, Opened::ClauseBody(clauses)),
@@ -49,7 +52,7 @@ impl Walk<'_> {
     }
 
     /// After the bar of a list.
-    fn tail(&mut self) -> Next {
+    fn tail(&mut self) -> NextToken {
         self.ended();
         self.frame.opened = Opened::Tail;
         self.again()
@@ -61,7 +64,7 @@ impl Walk<'_> {
         kind: NumberedKind<'_>,
         last: NumberedKind<'_>,
         may_be_pattern: bool,
-    ) -> Option<Next> {
+    ) -> Option<NextToken> {
         if kind != last {
             return None;
         }
@@ -70,8 +73,8 @@ impl Walk<'_> {
     }
 
     /// After an element of a tuple or a list.
-    fn behind_item(&mut self, kind: NumberedKind<'_>, last: NumberedKind<'_>) -> Option<Next> {
-        if kind == NumberedKind::Mark(Mark::Comma) {
+    fn behind_item(&mut self, kind: NumberedKind<'_>, last: NumberedKind<'_>) -> Option<NextToken> {
+        if kind == NumberedKind::Mark(TokenMark::Comma) {
             self.ended();
             return Some(self.again());
         }
@@ -84,43 +87,43 @@ impl Walk<'_> {
         kind: NumberedKind<'_>,
         read: u64,
         arity: Option<u64>,
-    ) -> Option<Next> {
+    ) -> Option<NextToken> {
         let read = read.saturating_add(1);
         match (kind, arity) {
-            (NumberedKind::Mark(Mark::Comma), Some(arity)) if read >= arity => None,
-            (NumberedKind::Mark(Mark::CloseParenthesis), Some(arity)) if read != arity => None,
-            (NumberedKind::Mark(Mark::Comma), _) => {
+            (NumberedKind::Mark(TokenMark::Comma), Some(arity)) if read >= arity => None,
+            (NumberedKind::Mark(TokenMark::CloseParenthesis), Some(arity)) if read != arity => None,
+            (NumberedKind::Mark(TokenMark::Comma), _) => {
                 self.ended();
                 self.frame.opened = Opened::Arguments(read, arity);
                 Some(self.again())
             }
-            _ => self.behind_last(kind, NumberedKind::Mark(Mark::CloseParenthesis), false),
+            _ => self.behind_last(kind, NumberedKind::Mark(TokenMark::CloseParenthesis), false),
         }
     }
 
     /// After a parameter of a function.
-    fn behind_parameter(&mut self, kind: NumberedKind<'_>) -> Option<Next> {
+    fn behind_parameter(&mut self, kind: NumberedKind<'_>) -> Option<NextToken> {
         match kind {
-            NumberedKind::Mark(Mark::Comma) => {
+            NumberedKind::Mark(TokenMark::Comma) => {
                 self.ended();
                 Some(self.again())
             }
-            NumberedKind::Mark(Mark::CloseParenthesis) => {
+            NumberedKind::Mark(TokenMark::CloseParenthesis) => {
                 self.ended();
-                Some(Next::GuardOrArrow)
+                Some(NextToken::GuardOrArrow)
             }
             _ => None,
         }
     }
 
     /// After a test of a guard, after whose arrow the body comes.
-    fn behind_test(&mut self, kind: NumberedKind<'_>, body: Opened) -> Option<Next> {
+    fn behind_test(&mut self, kind: NumberedKind<'_>, body: Opened) -> Option<NextToken> {
         match kind {
-            NumberedKind::Mark(Mark::Comma | Mark::Semicolon) => {
+            NumberedKind::Mark(TokenMark::Comma | TokenMark::Semicolon) => {
                 self.ended();
                 Some(self.again())
             }
-            NumberedKind::Mark(Mark::Arrow) => {
+            NumberedKind::Mark(TokenMark::Arrow) => {
                 self.ended();
                 Some(self.turn(body, Mode::Body))
             }
@@ -129,67 +132,71 @@ impl Walk<'_> {
     }
 
     /// After an element of the body of a function.
-    fn behind_function_element(&mut self, kind: NumberedKind<'_>) -> Option<Next> {
+    fn behind_function_element(&mut self, kind: NumberedKind<'_>) -> Option<NextToken> {
         match kind {
-            NumberedKind::Mark(Mark::Match) => self.matched(),
-            NumberedKind::Mark(Mark::Comma) => {
+            NumberedKind::Mark(TokenMark::Match) => self.matched(),
+            NumberedKind::Mark(TokenMark::Comma) => {
                 self.ended();
                 Some(self.again())
             }
-            NumberedKind::Mark(Mark::Semicolon) => {
+            NumberedKind::Mark(TokenMark::Semicolon) => {
                 self.ended();
-                Some(Next::Name)
+                Some(NextToken::Name)
             }
             NumberedKind::Dot => {
                 self.ended();
-                Some(Next::FunctionOnly)
+                Some(NextToken::FunctionOnly)
             }
             _ => None,
         }
     }
 
     /// Reads the `=` after a pattern.
-    fn matched(&mut self) -> Option<Next> {
+    fn matched(&mut self) -> Option<NextToken> {
         if !self.current.is_pattern() {
             return None;
         }
         self.current.matched();
-        Some(Next::Operand)
+        Some(NextToken::Operand)
     }
 
     /// After what a `case` looks at.
-    fn behind_scrutinee(&mut self, kind: NumberedKind<'_>) -> Option<Next> {
+    fn behind_scrutinee(&mut self, kind: NumberedKind<'_>) -> Option<NextToken> {
         if kind != NumberedKind::Reserved(Reserved::Of) {
             return None;
         }
         self.ended();
-        Some(self.clause(Clauses::OfPatterns))
+        Some(self.clause(ClauseFronts::OfPatterns))
     }
 
     /// After the pattern of a clause.
-    fn behind_pattern(&mut self, kind: NumberedKind<'_>) -> Option<Next> {
+    fn behind_pattern(&mut self, kind: NumberedKind<'_>) -> Option<NextToken> {
         match kind {
             NumberedKind::Reserved(Reserved::When) => {
                 self.ended();
-                Some(self.turn(Opened::ClauseGuard(Clauses::OfPatterns), Mode::Guard))
+                Some(self.turn(Opened::ClauseGuard(ClauseFronts::OfPatterns), Mode::Guard))
             }
-            NumberedKind::Mark(Mark::Arrow) => {
+            NumberedKind::Mark(TokenMark::Arrow) => {
                 self.ended();
-                Some(self.turn(Opened::ClauseBody(Clauses::OfPatterns), Mode::Body))
+                Some(self.turn(Opened::ClauseBody(ClauseFronts::OfPatterns), Mode::Body))
             }
             _ => None,
         }
     }
 
     /// After an element of the body of a clause.
-    fn behind_clause_element(&mut self, kind: NumberedKind<'_>, clauses: Clauses) -> Option<Next> {
+    fn behind_clause_element(
+        &mut self,
+        kind: NumberedKind<'_>,
+        clauses: ClauseFronts,
+    ) -> Option<NextToken> {
         match kind {
-            NumberedKind::Mark(Mark::Match) => self.matched(),
-            NumberedKind::Mark(Mark::Comma) => {
+            NumberedKind::Mark(TokenMark::Match) => self.matched(),
+            NumberedKind::Mark(TokenMark::Comma) => {
                 self.ended();
                 Some(self.again())
             }
-            NumberedKind::Mark(Mark::Semicolon) => {
+            NumberedKind::Mark(TokenMark::Semicolon) => {
                 self.ended();
                 Some(self.clause(clauses))
             }

@@ -1,28 +1,38 @@
 //! Export forms.
 
-use crate::frame::Next;
-use crate::walk::Walk;
-use pf_intern::NumberedKind;
+use crate::frame::NextToken;
+use crate::walk::TokenWalk;
 use pf_terms::AtomId;
-use pf_tokens::Mark;
+use pf_tokens::{NumberedKind, TokenMark};
 
-impl Walk<'_> {
+impl TokenWalk<'_> {
     /// In an export form, after its minus.
-    pub(crate) fn export(&self, kind: NumberedKind<'_>) -> Option<Next> {
+    pub(crate) fn export(&self, kind: NumberedKind<'_>) -> Option<NextToken> {
         match (self.next, kind) {
-            (Next::Ident, NumberedKind::Atom(name)) if self.is_export(name) => Some(Next::List),
-            (Next::List, NumberedKind::Mark(Mark::OpenParenthesis)) => Some(Next::Bracket),
-            (Next::Bracket, NumberedKind::Mark(Mark::OpenBracket)) => Some(Next::EntryOrEnd),
-            (Next::EntryOrEnd | Next::EntryEnd, NumberedKind::Mark(Mark::CloseBracket)) => {
-                Some(Next::ListEnd)
-            }
-            (Next::EntryOrEnd | Next::Entry, NumberedKind::Atom(_) | NumberedKind::OwnModule) =>
-                Some(Next::Slash),
-            (Next::Slash, NumberedKind::Mark(Mark::Slash)) => Some(Next::Arity),
-            (Next::Arity, NumberedKind::Integer(_)) => Some(Next::EntryEnd),
-            (Next::EntryEnd, NumberedKind::Mark(Mark::Comma)) => Some(Next::Entry),
-            (Next::ListEnd, NumberedKind::Mark(Mark::CloseParenthesis)) => Some(Next::ExportDot),
-            (Next::ExportDot, NumberedKind::Dot) => Some(Next::ExportOrFunction),
+            (NextToken::Ident, NumberedKind::Atom(name)) if self.is_export(name) => Some(
+                NextToken::List,
+            ),
+            (NextToken::List, NumberedKind::Mark(TokenMark::OpenParenthesis)) => Some(
+                NextToken::Bracket,
+            ),
+            (NextToken::Bracket, NumberedKind::Mark(TokenMark::OpenBracket)) => Some(
+                NextToken::EntryOrEnd,
+            ),
+            (
+                NextToken::EntryOrEnd | NextToken::EntryEnd,
+                NumberedKind::Mark(TokenMark::CloseBracket),
+            ) => { Some(NextToken::ListEnd) }
+            (
+                NextToken::EntryOrEnd | NextToken::Entry,
+                NumberedKind::Atom(_) | NumberedKind::OwnModule,
+            ) => Some(NextToken::Slash),
+            (NextToken::Slash, NumberedKind::Mark(TokenMark::Slash)) => Some(NextToken::Arity),
+            (NextToken::Arity, NumberedKind::Integer(_)) => Some(NextToken::EntryEnd),
+            (NextToken::EntryEnd, NumberedKind::Mark(TokenMark::Comma)) => Some(NextToken::Entry),
+            (NextToken::ListEnd, NumberedKind::Mark(TokenMark::CloseParenthesis)) => Some(
+                NextToken::ExportDot,
+            ),
+            (NextToken::ExportDot, NumberedKind::Dot) => Some(NextToken::ExportOrFunction),
             _ => None,
         }
     }

@@ -10,7 +10,7 @@ pub(crate) enum Mode {
 
 /// Whether clauses have patterns, or guards alone as those of an `if`.
 #[derive(Clone, Copy, PartialEq, Eq)]
-pub(crate) enum Clauses {
+pub(crate) enum ClauseFronts {
     OfPatterns,
     OfGuards,
 }
@@ -33,13 +33,13 @@ pub(crate) enum Opened {
     Scrutinee,
     /// The pattern, the guard and the body of a clause.
     ClausePattern,
-    ClauseGuard(Clauses),
-    ClauseBody(Clauses),
+    ClauseGuard(ClauseFronts),
+    ClauseBody(ClauseFronts),
 }
 
 /// What is open, with how its expressions are read and what is known of those that have ended.
 #[derive(Clone, Copy)]
-pub(crate) struct Frame {
+pub(crate) struct OpenForm {
     pub opened: Opened,
     pub mode: Mode,
     /// How deep the deepest is, as an expression and as a pattern.
@@ -49,10 +49,10 @@ pub(crate) struct Frame {
     pub are_patterns: bool,
 }
 
-impl Frame {
+impl OpenForm {
     /// A frame of which no expression has ended.
-    pub(crate) const fn new(opened: Opened, mode: Mode) -> Frame {
-        Frame {
+    pub(crate) const fn new(opened: Opened, mode: Mode) -> OpenForm {
+        OpenForm {
             opened,
             mode,
             deepest: 0,
@@ -64,7 +64,7 @@ impl Frame {
 
 /// What may come next.
 #[derive(Clone, Copy, PartialEq, Eq)]
-pub(crate) enum Next {
+pub(crate) enum NextToken {
     /// A form: an export, where no function was read yet, or a function.
     ExportOrFunction,
     FunctionOnly,

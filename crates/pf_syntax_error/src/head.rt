@@ -1,27 +1,28 @@
 //! Forms, and the heads of functions.
 
-use crate::frame::{Mode, Next, Opened};
-use crate::walk::Walk;
-use pf_intern::NumberedKind;
-use pf_tokens::{Mark, Reserved};
+use crate::frame::{Mode, NextToken, Opened};
+use crate::walk::TokenWalk;
+use pf_tokens::{NumberedKind, Reserved, TokenMark};
 
-impl Walk<'_> {
+impl TokenWalk<'_> {
     /// At the beginning of a form, or in the head of a function.
-    pub(crate) fn head(&mut self, kind: NumberedKind<'_>) -> Option<Next> {
+    pub(crate) fn head(&mut self, kind: NumberedKind<'_>) -> Option<NextToken> {
         match (self.next, kind) {
-            (Next::ExportOrFunction, NumberedKind::Mark(Mark::Minus)) => Some(Next::Ident),
+            (NextToken::ExportOrFunction, NumberedKind::Mark(TokenMark::Minus)) => Some(
+                NextToken::Ident,
+            ),
             (
-                Next::ExportOrFunction | Next::FunctionOnly | Next::Name,
+                NextToken::ExportOrFunction | NextToken::FunctionOnly | NextToken::Name,
                 NumberedKind::Atom(_) | NumberedKind::OwnModule,
-            ) => Some(Next::Parameters),
-            (Next::Parameters, NumberedKind::Mark(Mark::OpenParenthesis)) => {
+            ) => Some(NextToken::Parameters),
+            (NextToken::Parameters, NumberedKind::Mark(TokenMark::OpenParenthesis)) => {
                 self.turn(Opened::Parameters, Mode::Pattern);
-                Some(Next::OperandOrEnd)
+                Some(NextToken::OperandOrEnd)
             }
-            (Next::GuardOrArrow, NumberedKind::Reserved(Reserved::When)) => {
+            (NextToken::GuardOrArrow, NumberedKind::Reserved(Reserved::When)) => {
                 Some(self.turn(Opened::HeadGuard, Mode::Guard))
             }
-            (Next::GuardOrArrow, NumberedKind::Mark(Mark::Arrow)) => {
+            (NextToken::GuardOrArrow, NumberedKind::Mark(TokenMark::Arrow)) => {
                 Some(self.turn(Opened::Function, Mode::Body))
             }
             _ => None,

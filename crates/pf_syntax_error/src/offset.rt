@@ -1,13 +1,13 @@
 //! The offset of the token that goes wrong.
 
 ghost use Rattle.std.specs.Prelude.{IfOk};
-ghost use Rattle.pf_intern.specs.Offsets.{IsOffsetOf};
-ghost use Rattle.pf_intern.specs.View.{token_list};
+ghost use Rattle.pf_tokens.specs.Offsets.{IsOffsetOf};
+ghost use Rattle.pf_tokens.specs.View.{token_list};
 
-use crate::walk::Walk;
-use pf_fault::NoMemory;
-use pf_intern::NumberedToken;
+use crate::walk::TokenWalk;
+use pf_errors::NoMemory;
 use pf_terms::{AtomId, AtomTable};
+use pf_tokens::NumberedToken;
 use std::alloc::Global;
 
 /// How many tokens the first form has.
@@ -40,7 +40,7 @@ fn wrong_token(
     own: AtomId,
     tokens: &[NumberedToken<'_>],
 ) -> Result<Option<usize>, NoMemory> {
-    let mut walk = Walk::new(alloc, atoms, own);
+    let mut walk = TokenWalk::new(alloc, atoms, own);
     walk.limit_names(tokens);
     for (index, token) in tokens.iter().enumerate().skip(HEAD) {
         match walk.step(index, token.kind)? {

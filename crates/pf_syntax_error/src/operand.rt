@@ -1,21 +1,20 @@
 //! Operands.
 
-use crate::frame::{Clauses, Mode, Next, Opened};
-use crate::walk::Walk;
-use pf_builtins::{Form, guard_may_call, may_stand};
-use pf_fault::NoMemory;
-use pf_intern::NumberedKind;
+use crate::frame::{ClauseFronts, Mode, NextToken, Opened};
+use crate::walk::TokenWalk;
+use pf_errors::NoMemory;
+use pf_syntax::{Form, guard_may_call, may_stand};
 use pf_terms::AtomId;
-use pf_tokens::{Mark, Reserved};
+use pf_tokens::{NumberedKind, Reserved, TokenMark};
 
-impl Walk<'_> {
+impl TokenWalk<'_> {
     /// Where an operand is allowed.
     pub(crate) fn operand(
         &mut self,
         index: usize,
         kind: NumberedKind<'_>,
-    ) -> Result<Option<Next>, NoMemory> {
-        if self.next == Next::OperandOrEnd && self.is_closed_by(kind) {
+    ) -> Result<Option<NextToken>, NoMemory> {
+        if self.next == NextToken::OperandOrEnd && self.is_closed_by(kind) {
             return Ok(self.close_empty());
         }
         if self.is_full() {
@@ -25,12 +24,12 @@ impl Walk<'_> {
         match kind {
             NumberedKind::Integer(_) => {
                 self.current.integer();
-                Ok(Some(Next::Behind))
+                Ok(Some(NextToken::Behind))
             }
-            _ if self.frame.mode == Mode::Pattern && self.next == Next::Part => Ok(None),
+            _ if self.frame.mode == Mode::Pattern && self.next == NextToken::Part => Ok(None),
             NumberedKind::Variable(_) | NumberedKind::Anonymous | NumberedKind::Text(_) => {
                 self.current.operand(1, Some(1));
-                Ok(Some(Next::Behind))
+                Ok(Some(NextToken::Behind))
             }
             NumberedKind::Atom(name) => Ok(Some(self.atom(name))),
             NumberedKind::OwnModule => Ok(Some(self.atom(self.own))),
@@ -41,47 +40,47 @@ impl Walk<'_> {
     }
 
     /// Reads an atom, which may be the name of a call where one is allowed.
-    fn atom(&mut self, name: AtomId) -> Next {
+    fn atom(&mut self, name: AtomId) -> NextToken {
         self.name = name;
         if self.frame.mode == Mode::Pattern {
             self.current.operand(1, Some(1));
-            return Next::Behind;
+            return NextToken::Behind;
         }
-        Next::BehindAtom
+        NextToken::BehindAtom
     }
 
     /// Reads a mark that opens an operand.
-    fn mark(&mut self, mark: Mark) -> Result<Option<Next>, NoMemory> {
+    fn mark(&mut self, mark: TokenMark) -> Result<Option<NextToken>, NoMemory> {
         let mode = self.frame.mode;
         match mark {
-            Mark::Minus if self.next != Next::Part => {
+            TokenMark::Minus if self.next != NextToken::Part => {
                 self.current.minus();
-                Ok(Some(Next::Part))
+                Ok(Some(NextToken::Part))
             }
-            Mark::OpenBrace => self.open(Opened::Tuple, mode, Next::OperandOrEnd),
-            Mark::OpenBracket => self.open(Opened::List, mode, Next::OperandOrEnd),
-            Mark::OpenParenthesis if mode != Mode::Pattern => {
-                self.open(Opened::Parentheses, mode, Next::Operand)
+            TokenMark::OpenBrace => self.open(Opened::Tuple, mode, NextToken::OperandOrEnd),
+            TokenMark::OpenBracket => self.open(Opened::List, mode, NextToken::OperandOrEnd),
+            TokenMark::OpenParenthesis if mode != Mode::Pattern => {
+                self.open(Opened::Parentheses, mode, NextToken::Operand)
             }
             _ => Ok(None),
         }
     }
 
     /// Reads a word that opens an operand.
-    fn word(&mut self, word: Reserved) -> Result<Option<Next>, NoMemory> {
+    fn word(&mut self, word: Reserved) -> Result<Option<NextToken>, NoMemory> {
         match word {
             Reserved::Case if self.may_stand(Form::Deciding) => {
-                self.open(Opened::Scrutinee, Mode::Body, Next::Operand)
+                self.open(Opened::Scrutinee, Mode::Body, NextToken::Operand)
             }
             Reserved::If if self.may_stand(Form::Choosing) => {
                 self.open(
-                    Opened::ClauseGuard(Clauses::OfGuards),
+                    Opened::ClauseGuard(ClauseFronts::OfGuards),
                     Mode::Guard,
-                    Next::Operand,
+                    NextToken::Operand,
                 )
             }
             Reserved::Receive if self.may_stand(Form::Receiving) => {
-                self.open(Opened::ClausePattern, Mode::Pattern, Next::Operand)
+                self.open(Opened::ClausePattern, Mode::Pattern, NextToken::Operand)
             }
             _ => Ok(None),
         }
@@ -97,17 +96,24 @@ impl Walk<'_> {
     }
 
     /// After an atom, which may be the name of a call.
-    pub(crate) fn behind_atom(&mut self, kind: NumberedKind<'_>) -> Result<Option<Next>, NoMemory> {
-        if kind != NumberedKind::Mark(Mark::OpenParenthesis) {
+    pub(crate) fn behind_atom(
+        &mut self,
+        kind: NumberedKind<'_>,
+    ) -> Result<Option<NextToken>, NoMemory> {
+        if kind != NumberedKind::Mark(TokenMark::OpenParenthesis) {
             self.current.operand(1, Some(1));
             return Ok(self.behind(kind));
         }
         let mode = self.frame.mode;
         if mode == Mode::Body {
-            return self.open(Opened::Arguments(0, None), mode, Next::OperandOrEnd);
+            return self.open(Opened::Arguments(0, None), mode, NextToken::OperandOrEnd);
         }
         match self.guard_arity() {
-            Some(arity) => self.open(Opened::Arguments(0, Some(arity)), mode, Next::OperandOrEnd),
+            Some(arity) => self.open(
+                Opened::Arguments(0, Some(arity)),
+                mode,
+                NextToken::OperandOrEnd,
+            ),
             None => Ok(None),
         }
     }
@@ -138,10 +144,10 @@ impl Walk<'_> {
     /// Whether the token closes the frame.
     fn is_closed_by(&self, kind: NumberedKind<'_>) -> bool {
         match (self.frame.opened, kind) {
-            (Opened::Tuple, NumberedKind::Mark(Mark::CloseBrace)) => true,
-            (Opened::List, NumberedKind::Mark(Mark::CloseBracket)) => true,
-            (Opened::Parameters, NumberedKind::Mark(Mark::CloseParenthesis)) => true,
-            (Opened::Arguments(_, arity), NumberedKind::Mark(Mark::CloseParenthesis)) => {
+            (Opened::Tuple, NumberedKind::Mark(TokenMark::CloseBrace)) => true,
+            (Opened::List, NumberedKind::Mark(TokenMark::CloseBracket)) => true,
+            (Opened::Parameters, NumberedKind::Mark(TokenMark::CloseParenthesis)) => true,
+            (Opened::Arguments(_, arity), NumberedKind::Mark(TokenMark::CloseParenthesis)) => {
                 arity.is_none() || arity == Some(0)
             }
             _ => false,
@@ -149,9 +155,9 @@ impl Walk<'_> {
     }
 
     /// Closes the frame, which holds nothing.
-    fn close_empty(&mut self) -> Option<Next> {
+    fn close_empty(&mut self) -> Option<NextToken> {
         match self.frame.opened {
-            Opened::Parameters => Some(Next::GuardOrArrow),
+            Opened::Parameters => Some(NextToken::GuardOrArrow),
             Opened::Arguments(_, _) => self.close(false),
             _ => self.close(true),
         }

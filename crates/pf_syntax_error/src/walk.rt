@@ -1,40 +1,40 @@
 //! A walk through the tokens.
 
 use crate::expression::Expression;
-use crate::frame::{Clauses, Frame, Mode, Next, Opened};
-use pf_fault::NoMemory;
-use pf_intern::{
+use crate::frame::{ClauseFronts, Mode, NextToken, OpenForm, Opened};
+use pf_errors::NoMemory;
+use pf_terms::{AtomId, AtomTable};
+use pf_tokens::{
     MOST_NAME_BYTES, MOST_TEXT_CHARACTERS, MOST_TREE_DEPTH, NumberedKind, NumberedToken,
 };
-use pf_terms::{AtomId, AtomTable};
 use std::alloc::Global;
 
 /// How far the tokens were gone through.
 #[derive(Drop)]
-pub(crate) struct Walk<'a> {
+pub(crate) struct TokenWalk<'a> {
     pub alloc: Global,
     pub atoms: &'a AtomTable,
     /// The module's own name.
     pub own: AtomId,
-    pub next: Next,
-    pub frame: Frame,
+    pub next: NextToken,
+    pub frame: OpenForm,
     pub current: Expression,
-    pub outer: Vec<(Frame, Expression)>,
+    pub outer: Vec<(OpenForm, Expression)>,
     /// The atom that was read last.
     pub name: AtomId,
     /// The first token of the first part that passes a limit.
     pub beyond: Option<usize>,
 }
 
-impl<'a> Walk<'a> {
+impl<'a> TokenWalk<'a> {
     /// A walk at the first form, of the module with this name.
-    pub(crate) fn new(alloc: Global, atoms: &'a AtomTable, own: AtomId) -> Walk<'a> {
-        Walk {
+    pub(crate) fn new(alloc: Global, atoms: &'a AtomTable, own: AtomId) -> TokenWalk<'a> {
+        TokenWalk {
             alloc,
             atoms,
             own,
-            next: Next::ExportOrFunction,
-            frame: Frame::new(Opened::Function, Mode::Body),
+            next: NextToken::ExportOrFunction,
+            frame: OpenForm::new(Opened::Function, Mode::Body),
             current: Expression::NEW,
             outer: Vec::new(alloc),
             name: own,
@@ -70,7 +70,7 @@ impl<'a> Walk<'a> {
     /// The token that goes wrong, where every token was allowed.
     pub(crate) fn end(&self) -> Option<usize> {
         match self.next {
-            Next::ExportOrFunction | Next::FunctionOnly => self.beyond,
+            NextToken::ExportOrFunction | NextToken::FunctionOnly => self.beyond,
             _ => None,
         }
     }
@@ -80,39 +80,41 @@ impl<'a> Walk<'a> {
         &mut self,
         index: usize,
         kind: NumberedKind<'_>,
-    ) -> Result<Option<Next>, NoMemory> {
+    ) -> Result<Option<NextToken>, NoMemory> {
         match self.next {
-            Next::Operand | Next::Part | Next::OperandOrEnd => self.operand(index, kind),
-            Next::BehindAtom => self.behind_atom(kind),
-            Next::Behind => Ok(self.behind(kind)),
-            Next::ExportOrFunction
-            | Next::FunctionOnly
-            | Next::Name
-            | Next::Parameters
-            | Next::GuardOrArrow => Ok(self.head(kind)),
+            NextToken::Operand | NextToken::Part | NextToken::OperandOrEnd => self.operand(
+                index, kind,
+            ),
+            NextToken::BehindAtom => self.behind_atom(kind),
+            NextToken::Behind => Ok(self.behind(kind)),
+            NextToken::ExportOrFunction
+            | NextToken::FunctionOnly
+            | NextToken::Name
+            | NextToken::Parameters
+            | NextToken::GuardOrArrow => Ok(self.head(kind)),
             _ => Ok(self.export(kind)),
         }
     }
 
     /// Begins an expression in the same frame.
-    pub(crate) fn again(&mut self) -> Next {
+    pub(crate) fn again(&mut self) -> NextToken {
         self.current = Expression::NEW;
-        Next::Operand
+        NextToken::Operand
     }
 
     /// Begins the first expression of a frame that takes the place of the one that is open.
-    pub(crate) fn turn(&mut self, opened: Opened, mode: Mode) -> Next {
+    pub(crate) fn turn(&mut self, opened: Opened, mode: Mode) -> NextToken {
         let deepest = self.frame.deepest;
-        self.frame = Frame::new(opened, mode);
+        self.frame = OpenForm::new(opened, mode);
         self.frame.deepest = deepest;
         self.again()
     }
 
     /// The same at the beginning of a clause.
-    pub(crate) fn clause(&mut self, clauses: Clauses) -> Next {
+    pub(crate) fn clause(&mut self, clauses: ClauseFronts) -> NextToken {
         match clauses {
-            Clauses::OfPatterns => self.turn(Opened::ClausePattern, Mode::Pattern),
-            Clauses::OfGuards => self.turn(Opened::ClauseGuard(clauses), Mode::Guard),
+            ClauseFronts::OfPatterns => self.turn(Opened::ClausePattern, Mode::Pattern),
+            ClauseFronts::OfGuards => self.turn(Opened::ClauseGuard(clauses), Mode::Guard),
         }
     }
 
@@ -121,10 +123,10 @@ impl<'a> Walk<'a> {
         &mut self,
         opened: Opened,
         mode: Mode,
-        next: Next,
-    ) -> Result<Option<Next>, NoMemory> {
+        next: NextToken,
+    ) -> Result<Option<NextToken>, NoMemory> {
         self.outer.push((self.frame, self.current))?;
-        self.frame = Frame::new(opened, mode);
+        self.frame = OpenForm::new(opened, mode);
         self.current = Expression::NEW;
         Ok(Some(next))
     }
@@ -148,7 +150,7 @@ impl<'a> Walk<'a> {
     }
 
     /// Ends the operand that the frame is of: it is a pattern if its parts are and `may_be_pattern` says so.
-    pub(crate) fn close(&mut self, may_be_pattern: bool) -> Option<Next> {
+    pub(crate) fn close(&mut self, may_be_pattern: bool) -> Option<NextToken> {
         let (outer, expression) = self.outer.pop()?;
         let inner = self.frame;
         let as_pattern = if may_be_pattern && inner.are_patterns {
@@ -160,6 +162,6 @@ impl<'a> Walk<'a> {
         self.current = expression;
         self.current
             .operand(inner.deepest.saturating_add(1), as_pattern);
-        Some(Next::Behind)
+        Some(NextToken::Behind)
     }
 }

@@ -20,8 +20,8 @@ use Rattle.pf_ties.specs.Ties as ties
 use Rattle.pf_ties.specs.Laws as law
 use Rattle.pf_ties.specs.Laws.{ties_of}
 use Rattle.pf_ties.proofs.Followed.{follow_actions}
-use Rattle.pf_stepper.specs.Turns.{told_of}
-use Rattle.pf_system.specs.Acts.{Answer, Answers, CarriesOut, ActsAs}
+use Rattle.pf_stepper.specs.Turns.{answer_value}
+use Rattle.pf_system.specs.Acts.{ActAnswer, AnswersAct, CarriesOut, ActsAs}
 use Rattle.pf_system.specs.declared.shared.Shared.{Shared}
 
 -- ---- operands of another kind
@@ -78,9 +78,9 @@ ties_at_of a [] = refl
 ties_at_of zero (p ∷ ps) = refl
 ties_at_of (suc a) (p ∷ ps) = ties_at_of a ps
 
-module _ (a : ℕ) (b b' : Shared) (r : Answer) where
+module _ (a : ℕ) (b b' : Shared) (r : ActAnswer) where
   abbrev Refuses : Type 0
-  Refuses = (c : Core) → Answers r (raising c badarg)
+  Refuses = (c : Core) → AnswersAct r (raising c badarg)
 
   -- ---- what is refused changes nothing
 
@@ -140,14 +140,14 @@ module _ (a : ℕ) (b b' : Shared) (r : Answer) where
   -- ---- what is done
 
   abbrev GivesTrue : label.Label → Type 0
-  GivesTrue l = (c : Core) (ss : List (ℕ × Signal)) → Answers r (gives c ss true_atom l)
+  GivesTrue l = (c : Core) (ss : List (ℕ × Signal)) → AnswersAct r (gives c ss true_atom l)
 
-  either : (t : Bool) (x y : Acted) → Answers r x → Answers r y → Answers r (if t then x else y)
+  either : (t : Bool) (x y : Acted) → AnswersAct r x → AnswersAct r y → AnswersAct r (if t then x else y)
   either true x y h k = h
   either false x y h k = k
 
   pub sends_so : (v w : Value) (p : ℕ) → ((c : Core) → ties_of c ≡ b.ties → Some p ≡ receiver c v) → b'.ties ≡ b.ties → b'.channels ≡ sent a p (signal.message w) b.channels
-      → told_of r.value ≡ Ok w → label_of r.label ≡ label.sends p w → ActsAs a (send v w) b r b'
+      → answer_value r.value ≡ Ok w → label_of r.label ≡ label.sends p w → ActsAs a (send v w) b r b'
   sends_so v w p e q s x y m c t =
       subst (λ o. CarriesOut (given c o (λ p. gives c ((p, signal.message w) ∷ []) w (label.sends p w))) a b r b') (e c t)
       (record { ties = t ∙ sym q; channels = s; answers = record { value = x; label = y } })
@@ -182,7 +182,7 @@ module _ (a : ℕ) (b b' : Shared) (r : Answer) where
       })
 
   pub watches_so : (c : Core) (p k : ℕ) → ties_of c ≡ b.ties → k ≡ b.ties.next_reference → b'.ties ≡ ties.monitored b.ties a p
-      → b'.channels ≡ sent a p (signal.monitor k) b.channels → told_of r.value ≡ Ok (ref k) → label_of r.label ≡ label.monitors k p
+      → b'.channels ≡ sent a p (signal.monitor k) b.channels → answer_value r.value ≡ Ok (ref k) → label_of r.label ≡ label.monitors k p
       → CarriesOut (monitored c a p) a b r b'
   watches_so c p k t n q s x y =
       let e : k ≡ c.next_reference = n ∙ ap (λ z. z.next_reference) (sym t) in
@@ -202,7 +202,7 @@ module _ (a : ℕ) (b b' : Shared) (r : Answer) where
   demonitored_sent c k None = refl
   demonitored_sent c k (Some p) = refl
 
-  demonitored_answers : (c : Core) (k : ℕ) (o : Option ℕ) → GivesTrue (label.demonitors false k) → Answers r (demonitored c a k o)
+  demonitored_answers : (c : Core) (k : ℕ) (o : Option ℕ) → GivesTrue (label.demonitors false k) → AnswersAct r (demonitored c a k o)
   demonitored_answers c k None x = x _ _
   demonitored_answers c k (Some p) x = x _ _
 
@@ -210,7 +210,7 @@ module _ (a : ℕ) (b b' : Shared) (r : Answer) where
   so_sent c k false = demonitored_sent c k (got k (of c a).active)
   so_sent c k true = demonitored_sent c k (got k (of c a).active)
 
-  so_answers : (c : Core) (k : ℕ) (f : Bool) → GivesTrue (label.demonitors f k) → Answers r (demonitored_so c a k f)
+  so_answers : (c : Core) (k : ℕ) (f : Bool) → GivesTrue (label.demonitors f k) → AnswersAct r (demonitored_so c a k f)
   so_answers c k false x = demonitored_answers c k (got k (of c a).active) x
   so_answers c k true x = x _ _
 
@@ -225,7 +225,7 @@ module _ (a : ℕ) (b b' : Shared) (r : Answer) where
         answers = so_answers c k f x;
       }
 
-  pub makes_so : (k : ℕ) → k ≡ b.ties.next_reference → b'.ties ≡ ties.reference_made b.ties → b'.channels ≡ b.channels → told_of r.value ≡ Ok (ref k)
+  pub makes_so : (k : ℕ) → k ≡ b.ties.next_reference → b'.ties ≡ ties.reference_made b.ties → b'.channels ≡ b.channels → answer_value r.value ≡ Ok (ref k)
       → label_of r.label ≡ label.makes_reference k → ActsAs a make_ref b r b'
   makes_so k n q s x y m c t =
       let e : k ≡ c.next_reference = n ∙ ap (λ z. z.next_reference) (sym t) in
@@ -236,7 +236,7 @@ module _ (a : ℕ) (b b' : Shared) (r : Answer) where
       }
 
   pub sets_so : (v w : Value) (p was : Bool) → truth_of w ≡ Some p → same v trap_exit ≡ true → was ≡ (ties.of b.ties a).traps_exits → b'.ties ≡ ties.flag_set b.ties a p
-      → b'.channels ≡ b.channels → told_of r.value ≡ Ok (truth was) → label_of r.label ≡ label.sets_flag p → ActsAs a (set_flag v w) b r b'
+      → b'.channels ≡ b.channels → answer_value r.value ≡ Ok (truth was) → label_of r.label ≡ label.sets_flag p → ActsAs a (set_flag v w) b r b'
   sets_so v w p was e f n q s x y m c t =
       let g : was ≡ (of c a).traps_exits = n ∙ ap (λ z. (ties.of z a).traps_exits) (sym t) ∙ ap (λ z. z.traps_exits) (ties_at_of a c.processes) in
       subst (λ z. CarriesOut (given c z (λ p. only_if c (same v trap_exit) (flag_set c a p))) a b r b') (sym e)
@@ -286,7 +286,7 @@ module _ (a : ℕ) (b b' : Shared) (r : Answer) where
       (ap (λ z. given c (as_atom z) (unregistered c)) e
       ∙ ap (λ z. only_if c z (gives (record c { names = without n c.names }) [] true_atom (label.unregisters n))) h) k q
 
-  pub looks_up_so : (v : Value) (n : ℕ) (o : Option ℕ) → v ≡ atom n → o ≡ got n b.ties.names → b' ≡ b → told_of r.value ≡ Ok (pid_or_undefined o)
+  pub looks_up_so : (v : Value) (n : ℕ) (o : Option ℕ) → v ≡ atom n → o ≡ got n b.ties.names → b' ≡ b → answer_value r.value ≡ Ok (pid_or_undefined o)
       → label_of r.label ≡ label.looks_up n → ActsAs a (whereis v) b r b'
   looks_up_so v n o e g q x y m c t =
       let h : o ≡ got n c.names = g ∙ ap (λ z. got n z.names) (sym t) in

@@ -6,14 +6,14 @@ use Rattle.pf_terms.specs.Fixed.{function_clause, if_clause}
 use Rattle.pf_ops.specs.Operations.{computed}
 use Rattle.pf_ops.specs.Guards.{truth_of}
 use Rattle.pf_ops.specs.Reasons.{no_match, no_case}
-use Rattle.pf_patterns.specs.Fit.{Scope, fit}
+use Rattle.pf_patterns.specs.Fit.{ValueScope, fit}
 use Rattle.pf_patterns.specs.Substitution.{sub, sub_patterns}
 use Rattle.pf_syntax.specs.Pattern.{Patterns, no_patterns, pattern}
 use Rattle.pf_syntax.specs.Tree.{Tree, Clauses, Builtin, Function, lit, var, tuple, cons, op, neg, and_also, or_else, call, builtin, match, bind, case, if_expression, receive, send}
 use Rattle.pf_syntax.specs.Tree as b
 use Rattle.pf_model.specs.Module.{Module}
 use Rattle.pf_model.specs.Contraction.{Change, Becomes, Raises, Exits, Asks, Awaits, worked_out, picked, picked_by_all, body_or_raise, entered, fits_or, matches_left, matched, bound, decided, computed_or_undefined, called, as_value, as_values, with_both, contract}
-use Rattle.pf_model.specs.Context.{Frame, Context, fill, moved, awaits, Moves, at_value, at_index}
+use Rattle.pf_model.specs.Context.{Frame, IsRedexIn, fill, moved, awaits, Moves, at_value, at_index}
 
 abbrev NoWait : Change → Type 0
 NoWait (Becomes t) = Unit {0}
@@ -43,7 +43,7 @@ body_goes : (o : Option Tree) (e : Value) → NoWait (body_or_raise o e)
 body_goes None e = tt
 body_goes (Some t) e = tt
 
-fits_goes : (o : Option Scope) (f : Scope → Tree) (e : Value) → NoWait (fits_or o (λ s. Becomes (f s)) (Raises e))
+fits_goes : (o : Option ValueScope) (f : ValueScope → Tree) (e : Value) → NoWait (fits_or o (λ s. Becomes (f s)) (Raises e))
 fits_goes None f e = tt
 fits_goes (Some s) f e = tt
 
@@ -114,7 +114,7 @@ module _ (m : Module) (own : ℕ) where
   waits_at (send a t) = by_change (send a t) (both _ (as_value a) (as_value t) (λ v w. tt))
 
   module _ (t : Tree) (fs : List Frame) (ks : Clauses) where
-    by_index : (gs : List Frame) (r : Tree) (x : Change) → Context m own t gs r x → awaits fs ks ≡ moved gs x → fill fs (receive ks) ≡ t
+    by_index : (gs : List Frame) (r : Tree) (x : Change) → IsRedexIn m own t gs r x → awaits fs ks ≡ moved gs x → fill fs (receive ks) ≡ t
     by_index gs r (Becomes u) p e = absurd (cc)
     by_index gs r (Raises u) p e = absurd (cc)
     by_index gs r (Exits u) p e = absurd (cc)

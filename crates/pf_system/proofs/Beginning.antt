@@ -11,7 +11,7 @@ use Rattle.pf_ops.specs.Reasons.{ending_reason}
 use Rattle.pf_model.specs.Actions as actions
 use Rattle.pf_model.specs.Actions.{start_of}
 use Rattle.pf_model.specs.Module.{Module}
-use Rattle.pf_model.specs.Context.{State, running, ending, literals}
+use Rattle.pf_model.specs.Context.{ProcessState, running, ending, literals}
 use Rattle.pf_model.specs.Runs.{can_go}
 use Rattle.pf_stepper.specs.MachineView.{MachineView, at_call}
 use Rattle.pf_system.specs.Acts.{LifeBegins, home_function}
@@ -24,7 +24,7 @@ pub start_at : (m : Module) (home name : ℕ) (vs : Values) (n : ℕ) (o : Optio
 start_at m home name vs n o e h = ap (λ k. actions.begun (home_function m home name k) vs) (sym e) ∙ ap (λ z. actions.begun z vs) (sym h)
 
 -- at the call of a function
-pub begins_running : (m : Checked) (own f : ℕ) (vs : Values) (s : State) (k : MachineView) → k ≡ at_call own m f vs → s ≡ running (call f (literals vs))
+pub begins_running : (m : Checked) (own f : ℕ) (vs : Values) (s : ProcessState) (k : MachineView) → k ≡ at_call own m f vs → s ≡ running (call f (literals vs))
     → LifeBegins m own s (life.Lives k false)
 begins_running m own f vs s k e q =
     record {
@@ -35,7 +35,7 @@ begins_running m own f vs s k e q =
     }
 
 -- about to end
-pub begins_ending : (m : Checked) (own : ℕ) (t : Term) (s : State) → s ≡ ending (ending_reason undef) → value_of t ≡ ending_reason undef
+pub begins_ending : (m : Checked) (own : ℕ) (t : Term) (s : ProcessState) → s ≡ ending (ending_reason undef) → value_of t ≡ ending_reason undef
     → LifeBegins m own s (life.Ends t)
 begins_ending m own t s q e =
     record {

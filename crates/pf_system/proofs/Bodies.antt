@@ -3,7 +3,7 @@ use Rattle.std.proofs.Common.{◌≡◌, ℕ, zero, suc, ◌<◌, List, [], ◌�
 use Rattle.pf_model.specs.Configuration.{Process, Core, of, with_process, process_at}
 use Rattle.pf_ties.specs.Ties.{AllTies}
 use Rattle.pf_ties.specs.Laws.{process_ties, ties_of}
-use Rattle.pf_system.specs.Bodies.{Body, process_body, bodies_of, joined, core_with}
+use Rattle.pf_system.specs.Bodies.{Body, process_body, bodies_of, processes_joined, core_with}
 use Rattle.std.proofs.lemmas.List.{length-map}
 
 -- ---- lists
@@ -38,7 +38,7 @@ set_front (suc a) (y ∷ xs) ys x l = ap (λ k. y ∷ k) (set_front a xs ys x (o
 
 -- ---- a core is its bodies and its ties
 
-joined_again : (ps : List Process) → joined (map process_body ps) (map process_ties ps) ≡ ps
+joined_again : (ps : List Process) → processes_joined (map process_body ps) (map process_ties ps) ≡ ps
 joined_again [] = refl
 joined_again (p ∷ ps) = ap (λ z. p ∷ z) (joined_again ps)
 

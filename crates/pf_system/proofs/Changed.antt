@@ -3,11 +3,11 @@ use Rattle.std.proofs.Common.{◌≡◌, ℕ, zero, suc, ◌+◌, ◌<◌, ◌�
 use Rattle.std.specs.Prelude.{slice_get}
 use Rattle.pf_model.specs.Maps.{with_number, without_number}
 use Rattle.pf_model.specs.Configuration.{Process, Core, of, with_process, process_at}
-use Rattle.pf_model.specs.Runs.{can_go, numbers_of}
+use Rattle.pf_model.specs.Runs.{can_go, pids_in_state}
 use Rattle.pf_model.specs.declared.limits.TheConstants.{MOST_PROCESSES}
 use Rattle.pf_ties.specs.Laws.{process_ties}
 use Rattle.pf_ties.proofs.Followed.{none_changed}
-use Rattle.pf_stepper.specs.MachineView.{Standing}
+use Rattle.pf_stepper.specs.MachineView.{MachineStatus}
 use Rattle.pf_system.specs.Bodies.{process_body, bodies_of}
 use Rattle.pf_system.specs.Slots.{slot_body, SlotIsSound, SlotsAreSound, SlotIsLeft}
 use Rattle.pf_system.specs.Processes.{Represents, RepresentsBut, IsLeftAt, checked_in, bodies_in, core_of}
@@ -95,14 +95,14 @@ module _ (w w' : Processes) (c : Core) (a : ℕ) (s' : Slot) where
         };
       }
 
-  pub left_at : (x : Standing) → SlotIsLeft (checked_in w) a x s' → a < length w.slots.items → w'.slots.items ≡ slice_set w.slots.items a s' → w'.basis ≡ w.basis → IsLeftAt w' a x s'
+  pub left_at : (x : MachineStatus) → SlotIsLeft (checked_in w) a x s' → a < length w.slots.items → w'.slots.items ≡ slice_set w.slots.items a s' → w'.basis ≡ w.basis → IsLeftAt w' a x s'
   left_at x h l e m =
       record { at = ap (λ ss. slice_get ss a) e ∙ get_set a w.slots.items s' l; leaves = subst (λ z. SlotIsLeft z.module.value a x s') (sym m) h }
 
   -- the process has its slot again
   pub put_back : (p : Process) → RepresentsBut w c a → process_body p ≡ slot_body s' → process_ties p ≡ process_ties (of c a) → SlotIsSound (checked_in w) a s'
       → w'.slots.items ≡ slice_set w.slots.items a s' → w'.shared ≡ w.shared → w'.basis ≡ w.basis
-      → w'.ready ≡ numbers_of can_go zero (with_process c a p).processes → Represents w' (with_process c a p)
+      → w'.ready ≡ pids_in_state can_go zero (with_process c a p).processes → Represents w' (with_process c a p)
   put_back p h y t k e b m r =
       let n : length (with_process c a p).processes ≡ length c.processes = set_length a c.processes p in
       record {
@@ -123,19 +123,19 @@ module _ (w w' : Processes) (c : Core) (a : ℕ) (s' : Slot) where
 -- ---- who can go
 
 module _ (c : Core) (a : ℕ) (p : Process) (l : a < length c.processes) where
-  by_changed : numbers_of can_go zero (with_process c a p).processes ≡ numbers_in can_go zero (slice_set (bodies_of c) a (process_body p))
+  by_changed : pids_in_state can_go zero (with_process c a p).processes ≡ numbers_in can_go zero (slice_set (bodies_of c) a (process_body p))
   by_changed = by_bodies can_go zero (with_process c a p).processes ∙ ap (numbers_in can_go zero) (bodies_changed c a p)
 
   in_range : a < length (bodies_of c)
   in_range = let k = length_of c in omega arith
 
-  pub goes_no_more : can_go p.state ≡ false → numbers_of can_go zero (with_process c a p).processes ≡ without_number a (numbers_of can_go zero c.processes)
+  pub goes_no_more : can_go p.state ≡ false → pids_in_state can_go zero (with_process c a p).processes ≡ without_number a (pids_in_state can_go zero c.processes)
   goes_no_more e =
       let z : zero + a ≡ a = omega arith in
       by_changed ∙ gone_in can_go zero (bodies_of c) a (process_body p) in_range e ∙ ap (λ k. without_number k (numbers_in can_go zero (bodies_of c))) z
       ∙ ap (without_number a) (sym (by_bodies can_go zero c.processes))
 
-  pub goes_now : can_go p.state ≡ true → numbers_of can_go zero (with_process c a p).processes ≡ with_number a (numbers_of can_go zero c.processes)
+  pub goes_now : can_go p.state ≡ true → pids_in_state can_go zero (with_process c a p).processes ≡ with_number a (pids_in_state can_go zero c.processes)
   goes_now e =
       let z : zero + a ≡ a = omega arith in
       by_changed ∙ woken_in can_go zero (bodies_of c) a (process_body p) in_range e ∙ ap (λ k. with_number k (numbers_in can_go zero (bodies_of c))) z

@@ -22,7 +22,7 @@ use Rattle.pf_ties.specs.Fates.{Fate, fate_at}
 use Rattle.pf_ties.specs.Laws.{process_ties, ties_of, without_link, done_by}
 use Rattle.pf_ties.proofs.Followed.{follow_actions, follow_deliveries, at_map}
 use Rattle.pf_system.specs.Bodies.{process_body}
-use Rattle.pf_system.specs.Placed.{PlacesMessage, Places, SuffixShown}
+use Rattle.pf_system.specs.Placed.{PlacesMessage, PlacesOf, SuffixShown}
 use Rattle.pf_system.specs.Processes.{Represents, IsShaped, Done, Shown, Delivered}
 use Rattle.pf_system.specs.declared.processes.Processes.{Processes}
 use Rattle.pf_system.proofs.Bodies.{set_length, set_twice}
@@ -124,7 +124,7 @@ module _ (w w1 w' : Processes) (c : Core) (a b r : ℕ) (v : Value) (x : Suffix)
       tied w w1 c slots ready basis b (record (of c b) { active = without r (of c b).active }) h refl t rows
 
   down_by : (o : Option ℕ) → got r (of c b).active ≡ o → is_some o ≡ true → b < length c.processes → is_alive (of c b).state ≡ true
-      → suffix_of x ≡ label.took_effect → Places b (deliveries.down_message r a v) w1 w'
+      → suffix_of x ≡ label.took_effect → PlacesOf b (deliveries.down_message r a v) w1 w'
       → SuffixShown b (signal.down r v) (deliveries.down_at c a b r v o) w x w'
   down_by None e k l alive q indices = absurd (cc)
   down_by (Some p) e k l alive q indices =
@@ -143,7 +143,7 @@ module _ (w w1 w' : Processes) (c : Core) (a b r : ℕ) (v : Value) (x : Suffix)
       }
 
   pub down_placed : suffix_of x ≡ label.took_effect → true ≡ is_some (got r (ties.of w.shared.ties b).active) → b < length w.slots.items
-      → is_alive (of c b).state ≡ true → Places b (deliveries.down_message r a v) w1 w'
+      → is_alive (of c b).state ≡ true → PlacesOf b (deliveries.down_message r a v) w1 w'
       → SuffixShown b (signal.down r v) (at_living c a b (signal.down r v)) w x w'
   down_placed q e l alive indices =
       let n = slots_length w c h in
@@ -202,7 +202,7 @@ module _ (w w1 w' : Processes) (c : Core) (a b : ℕ) (by_link : Bool) (r : Valu
       })
 
   pub exit_placed : is_alive (of c b).state ≡ true → suffix_of x ≡ label.as_message → fates.becomes_message ≡ fate_at (ties.of w.shared.ties b) a b by_link r
-      → Places b (deliveries.exit_message a r) w1 w'
+      → PlacesOf b (deliveries.exit_message a r) w1 w'
       → SuffixShown b (signal.exit by_link r) (at_living c a b (signal.exit by_link r)) w x w'
   exit_placed alive q e indices =
       by_fate fates.becomes_message e

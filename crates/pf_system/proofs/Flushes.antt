@@ -15,7 +15,7 @@ use Rattle.pf_ties.proofs.Followed.{none_changed}
 use Rattle.pf_system.specs.Bodies.{process_body, bodies_of}
 use Rattle.pf_system.specs.Slots.{slot_body, SlotIsSound, SlotsAreSound}
 use Rattle.pf_system.specs.Processes.{RepresentsBut, checked_in, module_in, bodies_in}
-use Rattle.pf_system.specs.Acts.{Answer, Answers, CarriesOut, ActedIn, ActsIn, KeepsSlot, FlushesIn}
+use Rattle.pf_system.specs.Acts.{ActAnswer, AnswersAct, CarriesOut, ActedIn, ActsIn, KeepsSlot, FlushesIn}
 use Rattle.pf_system.specs.declared.slot.Slot.{Slot}
 use Rattle.pf_system.specs.declared.processes.Processes.{Processes}
 use Rattle.pf_system.proofs.Acting.{given_none}
@@ -59,7 +59,7 @@ keeps_flushed n k w w' s s' at e f t h =
     let g = subst (λ z. FlushesIn k z s') y f in
     (s', ap (λ z. slice_get z n) e ∙ get_set n w.slots.items s' (get_within n w.slots.items s at), g.keeps)
 
-module _ (n k : ℕ) (w w1 w' : Processes) (r : Answer) (c : Core) (slots : w1.slots ≡ w.slots) (ready : w1.ready ≡ w.ready) (basis : w1.basis ≡ w.basis)
+module _ (n k : ℕ) (w w1 w' : Processes) (r : ActAnswer) (c : Core) (slots : w1.slots ≡ w.slots) (ready : w1.ready ≡ w.ready) (basis : w1.basis ≡ w.basis)
     (but : RepresentsBut w c n) where
   -- the core before the flush
   abbrev middle : Core
@@ -108,16 +108,16 @@ module _ (n k : ℕ) (w w1 w' : Processes) (r : Answer) (c : Core) (slots : w1.s
 
 -- ---- the action
 
-module _ (n : ℕ) (w : Processes) (r : Answer) (v o : Value) where
+module _ (n : ℕ) (w : Processes) (r : ActAnswer) (v o : Value) where
   abbrev Ends : Processes → Type 0
   Ends w' = ActsIn n (asked.demonitor v o) w r w'
 
-  pub reference_refused : as_reference v ≡ None → ((c : Core) → Answers r (raising c badarg)) → Ends w
+  pub reference_refused : as_reference v ≡ None → ((c : Core) → AnswersAct r (raising c badarg)) → Ends w
   reference_refused e k c but =
       subst (λ z. ActedIn c z n w r w)
       (sym (given_none c (as_reference v) (λ x. given c (flushes o) (demonitored_so c n x)) e)) (raised_in n w r c badarg (k c) but)
 
-  pub options_refused : (x : ℕ) → v ≡ ref x → flushes o ≡ None → ((c : Core) → Answers r (raising c badarg)) → Ends w
+  pub options_refused : (x : ℕ) → v ≡ ref x → flushes o ≡ None → ((c : Core) → AnswersAct r (raising c badarg)) → Ends w
   options_refused x q e k c but =
       subst (λ z. ActedIn c (given c (as_reference z) (λ y. given c (flushes o) (demonitored_so c n y))) n w r w) (sym q)
       (subst (λ z. ActedIn c z n w r w) (sym (given_none c (flushes o) (demonitored_so c n x) e)) (raised_in n w r c badarg (k c) but))

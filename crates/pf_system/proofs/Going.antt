@@ -2,9 +2,9 @@
 use Rattle.std.proofs.Common.{◌≡◌, ◌⊎◌, inl, inr, ℕ, zero, suc, ◌+◌, ◌==◌, Bool, true, false, if◌then◌else◌, List, [], ◌∷◌, ◌++◌, Option, Some, None, is_some, refl, sym, ap, ◌∙◌, subst, arith, length, map, slice_get, length-append}
 use Rattle.std.proofs.lemmas.Bool.Decides.{nat_tests}
 use Rattle.pf_model.specs.Maps.{got}
-use Rattle.pf_model.specs.Channels.{Queue, Row, Channels, row_of, taken, taken_from, heads, heads_of, heads_from}
+use Rattle.pf_model.specs.Channels.{Queue, SenderRow, Channels, row_of, taken, taken_from, heads, heads_of, heads_from}
 use Rattle.pf_model.specs.Configuration.{Configuration}
-use Rattle.pf_model.specs.Runs.{Actor, process, channel, enabled, can_go, numbers_of}
+use Rattle.pf_model.specs.Runs.{Actor, process, channel, enabled, can_go, pids_in_state}
 use Rattle.pf_system.specs.Steps.{IsAmong}
 use Rattle.std.proofs.lemmas.List.{length-map}
 
@@ -72,7 +72,7 @@ by_channel a b (g ∷ hs) (inr h) = inr (by_channel a b hs h)
 same_is : (k j : ℕ) → k ≡ j → (k == j) ≡ true
 same_is k j e = grind (arith, nat_tests)
 
-in_row : (n a b : ℕ) (r : Row) → IsIn (a, b) (heads_of n r) → (a ≡ n) × (is_some (got b r) ≡ true)
+in_row : (n a b : ℕ) (r : SenderRow) → IsIn (a, b) (heads_of n r) → (a ≡ n) × (is_some (got b r) ≡ true)
 in_row n a b [] h = absurd h
 in_row n a b (p ∷ ps) (inl e) =
     let y : a ≡ n = ap {A = ℕ × ℕ} (λ z. z.0) e in
@@ -101,7 +101,7 @@ pub has_signal : (a b : ℕ) (c : Configuration) → IsAmong (channel a b) (enab
 has_signal a b c h = by (in_either (channel a b) (map process ps) (map (λ h. channel h.0 h.1) (heads c.channels)) there)
   where
     ps : List ℕ
-    ps = numbers_of can_go zero c.core.processes
+    ps = pids_in_state can_go zero c.core.processes
 
     there : IsIn (channel a b) (enabled c)
     there = subst (IsIn (channel a b)) (sym h.2) (split_in (channel a b) h.0 h.1)

@@ -6,7 +6,7 @@ use Rattle.pf_terms.specs.Term.{value_of}
 use Rattle.pf_terms.specs.declared.term.Term.{Term}
 use Rattle.pf_syntax.specs.Tree.{lit}
 use Rattle.pf_syntax.specs.Module.{Checked}
-use Rattle.pf_model.specs.Context.{fill, State, running, waiting, ending, ended, returned, failed, asks, awaits, returns, at_value}
+use Rattle.pf_model.specs.Context.{fill, ProcessState, running, waiting, ending, ended, returned, failed, asks, awaits, returns, at_value}
 use Rattle.pf_model.specs.Channels.{with_senders}
 use Rattle.pf_model.specs.Configuration.{Core, leaving, of, with_state, posted}
 use Rattle.pf_model.specs.Labels as label
@@ -18,12 +18,12 @@ use Rattle.pf_model.specs.Turns.{end, act, received, ended_so, after_act}
 use Rattle.pf_model.specs.Reports.{label_of}
 use Rattle.pf_model.specs.declared.report.Label.{Label}
 use Rattle.pf_stepper.specs.Acts.{act_of}
-use Rattle.pf_stepper.specs.MachineView.{Standing, goes, over}
-use Rattle.pf_stepper.specs.Moves.{Moved, AskedFor, TookOne, WaitsOn}
+use Rattle.pf_stepper.specs.MachineView.{MachineStatus, goes, over}
+use Rattle.pf_stepper.specs.Moves.{MachineMoved, AskedFor, TookOne, WaitsOn}
 use Rattle.pf_stepper.specs.declared.act.Act.{Act as Asked}
 use Rattle.pf_stepper.specs.declared.machine.Move.TheVariants as v
 use Rattle.pf_mailbox.specs.MailView.{MailView}
-use Rattle.pf_system.specs.Bodies.{body}
+use Rattle.pf_system.specs.Bodies.{body_of}
 use Rattle.pf_system.specs.Slots.{SlotIsLeft, PutsIn, StandsAs, state_in, waiting_if, end_of}
 use Rattle.pf_system.specs.Processes.{Represents, RepresentsBut, IsLeftAt, Done, Shown, EndsProcess, checked_in, module_in}
 use Rattle.pf_system.specs.Acts.{ShowsAct}
@@ -39,7 +39,7 @@ use Rattle.pf_system.proofs.Settling.{in_state, goes_again, none_sent}
 
 -- ---- a slot as the machine left it
 
-not_over : (s : State) → goes s ≡ over → ⊥
+not_over : (s : ProcessState) → goes s ≡ over → ⊥
 not_over s e = absurd cc
 
 set_back : {A : Type 0} (n : ℕ) (xs : List A) (x : A) → slice_get xs n ≡ Some x → xs ≡ slice_set xs n x
@@ -47,28 +47,28 @@ set_back n [] x e = absurd (cc)
 set_back zero (y ∷ xs) x e = let k : y ≡ x = cc in ap (λ z. z ∷ xs) k
 set_back (suc n) (y ∷ xs) x e = ap (λ z. y ∷ z) (set_back n xs x e)
 
-life_puts : (m : Checked) (own : ℕ) (t : State) (l : Life) (mail : MailView) → SlotIsLeft m own (goes t) (slot_with l mail) → can_go t ≡ true
-    → PutsIn m own (body t mail.messages) (slot_with l mail)
+life_puts : (m : Checked) (own : ℕ) (t : ProcessState) (l : Life) (mail : MailView) → SlotIsLeft m own (goes t) (slot_with l mail) → can_go t ≡ true
+    → PutsIn m own (body_of t mail.messages) (slot_with l mail)
 life_puts m own t (life.Lives k w) mail h e =
     record {
       sound = record { ready = (subst (λ z. StandsAs z k.standing) (sym h.2) (t, h.0, e), h.3); is_of = h.1 };
-      is = ap (λ z. body (waiting_if z (state_in k.standing)) mail.messages) h.2 ∙ ap (λ z. body (state_in z) mail.messages) h.0;
+      is = ap (λ z. body_of (waiting_if z (state_in k.standing)) mail.messages) h.2 ∙ ap (λ z. body_of (state_in z) mail.messages) h.0;
     }
 life_puts m own t (life.Ends r) mail h e = absurd (not_over t h)
 life_puts m own t (life.Ended r) mail h e = absurd (not_over t h)
 
-module _ (w : Processes) (c : Core) (a : ℕ) (x : Standing) (s : Slot) (but : RepresentsBut w c a) (can : can_go (of c a).state ≡ true) (left : IsLeftAt w a x s) where
+module _ (w : Processes) (c : Core) (a : ℕ) (x : MachineStatus) (s : Slot) (but : RepresentsBut w c a) (can : can_go (of c a).state ≡ true) (left : IsLeftAt w a x s) where
   -- it goes on in this state, over the messages that are left
-  goes_in : (t : State) → x ≡ goes t → can_go t ≡ true → Represents w (in_state c a t s.mailbox.messages)
+  goes_in : (t : ProcessState) → x ≡ goes t → can_go t ≡ true → Represents w (in_state c a t s.mailbox.messages)
   goes_in t e g =
       goes_again w w c a s t s.mailbox.messages but can g
       (life_puts (checked_in w) a t s.life s.mailbox (subst (λ z. SlotIsLeft (checked_in w) a z s) e left.leaves) g)
       (set_back a w.slots.items s left.at, refl, refl) refl
 
-  quiet_channels : (t : State) (vs : List Value) → w.shared.channels ≡ posted a [] (with_senders (length (in_state c a t vs).processes) w.shared.channels)
+  quiet_channels : (t : ProcessState) (vs : List Value) → w.shared.channels ≡ posted a [] (with_senders (length (in_state c a t vs).processes) w.shared.channels)
   quiet_channels t vs = none_sent w w c (in_state c a t vs) a (set_length a c.processes _) but refl
 
-  pub cut_shown : (l : Label) (t : State) → label_of l ≡ label.cut → x ≡ goes t → can_go t ≡ true → s.mailbox.messages ≡ (of c a).mailbox
+  pub cut_shown : (l : Label) (t : ProcessState) → label_of l ≡ label.cut → x ≡ goes t → can_go t ≡ true → s.mailbox.messages ≡ (of c a).mailbox
       → Shown a (cut_in c a t) w.shared.channels w l w
   cut_shown l t q e g k =
       record {
@@ -80,7 +80,7 @@ module _ (w : Processes) (c : Core) (a : ℕ) (x : Standing) (s : Slot) (but : R
         label = q;
       }
 
-  take_last : (l : Label) (m : Term) (y : State) → label_of l ≡ label.takes (value_of m) → TookOne (module_in w) a y (of c a).mailbox (value_of m) x s.mailbox.messages
+  take_last : (l : Label) (m : Term) (y : ProcessState) → label_of l ≡ label.takes (value_of m) → TookOne (module_in w) a y (of c a).mailbox (value_of m) x s.mailbox.messages
       → LastStep y c a w l w
   take_last l m (running tr) q h =
       let t = taking h.body (value_of m) s.mailbox.messages in
@@ -102,7 +102,7 @@ module _ (w : Processes) (c : Core) (a : ℕ) (x : Standing) (s : Slot) (but : R
   take_last l m (ended r) q h = absurd h.step
 
   module _ (w' : Processes) where
-    act_last : (l : Label) (z : Asked) (y : State) → ShowsAct a (act_of z) w l w' → AskedFor (module_in w) a y (of c a).mailbox z x s.mailbox.messages → LastStep y c a w l w'
+    act_last : (l : Label) (z : Asked) (y : ProcessState) → ShowsAct a (act_of z) w l w' → AskedFor (module_in w) a y (of c a).mailbox z x s.mailbox.messages → LastStep y c a w l w'
     act_last l z (running tr) k h =
         let d = after_act a h.frames (acted (module_in w) c a (act_of z)) in
         record {
@@ -114,7 +114,7 @@ module _ (w : Processes) (c : Core) (a : ℕ) (x : Standing) (s : Slot) (but : R
     act_last l z (ending r) k h = absurd h.step
     act_last l z (ended r) k h = absurd h.step
 
-    wait_last : (l : Label) (y : State) → label_of l ≡ label.waits → WaitsIn a w w' → WaitsOn (module_in w) a y (of c a).mailbox x s.mailbox.messages → LastStep y c a w l w'
+    wait_last : (l : Label) (y : ProcessState) → label_of l ≡ label.waits → WaitsIn a w w' → WaitsOn (module_in w) a y (of c a).mailbox x s.mailbox.messages → LastStep y c a w l w'
     wait_last l (running tr) q k h =
         let f = stays_at (module_in w) a tr h.frames h.clauses h.step in
         let g = k c tr s but can (record { at = left.at; leaves = subst (λ z. SlotIsLeft (checked_in w) a z s) h.stands left.leaves }) h.kept in
@@ -131,8 +131,8 @@ module _ (w : Processes) (c : Core) (a : ℕ) (x : Standing) (s : Slot) (but : R
     wait_last l (ending r) q k h = absurd h.step
     wait_last l (ended r) q k h = absurd h.step
 
-    end_last : (l : Label) (e : Result Term Term) (y : State) → label_of l ≡ label.ends (reason_of (end_of e)) → EndsProcess c a e w w'
-        → Moved (module_in w) a y (of c a).mailbox (v.End e) x s.mailbox.messages → LastStep y c a w l w'
+    end_last : (l : Label) (e : Result Term Term) (y : ProcessState) → label_of l ≡ label.ends (reason_of (end_of e)) → EndsProcess c a e w w'
+        → MachineMoved (module_in w) a y (of c a).mailbox (v.End e) x s.mailbox.messages → LastStep y c a w l w'
     end_last l (Ok t) y q k h =
         let u = value_of t in
         subst (λ z. LastStep z c a w l w') (sym h.was)

@@ -2,8 +2,8 @@
 use Rattle.std.proofs.Common.{◌≡◌, ℕ, zero, suc, ◌+◌, ◌<◌, Bool, true, false, List, [], ◌∷◌, ◌++◌, if◌then◌else◌, refl, sym, ap, ◌∙◌, subst, arith, length, map, take, get_or}
 use Rattle.std.proofs.lemmas.List.{take_more, length-take-le, length-map}
 use Rattle.pf_syntax.specs.Module.{Checked}
-use Rattle.pf_model.specs.Context.{State}
-use Rattle.pf_model.specs.Runs.{is_waiting, numbers_of}
+use Rattle.pf_model.specs.Context.{ProcessState}
+use Rattle.pf_model.specs.Runs.{is_waiting, pids_in_state}
 use Rattle.pf_system.specs.Bodies.{Body}
 use Rattle.pf_system.specs.Slots.{slot_body, state_of, SlotIsSound, SlotsAreSound}
 use Rattle.pf_system.specs.Processes.{core_of, Represents}
@@ -13,7 +13,7 @@ use Rattle.pf_system.proofs.Bodies.{map_more}
 use Rattle.pf_system.proofs.Ready.{by_bodies, numbers_in}
 
 -- one body more
-pub numbers_more : (so : State → Bool) (n : ℕ) (bs : List Body) (b : Body)
+pub numbers_more : (so : ProcessState → Bool) (n : ℕ) (bs : List Body) (b : Body)
     → numbers_in so n (bs ++ b ∷ []) ≡ numbers_in so n bs ++ (if so b.state then (n + length bs) ∷ [] else [])
 numbers_more so n [] b = let e : n ≡ n + zero = omega arith in ap (λ k. if so b.state then k ∷ [] else []) e
 numbers_more so n (x ∷ bs) b =
@@ -27,7 +27,7 @@ numbers_more so n (x ∷ bs) b =
     by false h = h
 
 -- those of the slots are those of the core
-pub numbers_of_processes : (w : Processes) → Represents w (core_of w) → numbers_in is_waiting zero (map slot_body w.slots.items) ≡ numbers_of is_waiting zero (core_of w).processes
+pub numbers_of_processes : (w : Processes) → Represents w (core_of w) → numbers_in is_waiting zero (map slot_body w.slots.items) ≡ pids_in_state is_waiting zero (core_of w).processes
 numbers_of_processes w h = ap (numbers_in is_waiting zero) (sym h.bodies) ∙ sym (by_bodies is_waiting zero (core_of w).processes)
 
 -- one slot more

@@ -5,7 +5,7 @@ use Rattle.pf_model.specs.Channels.{Channels}
 use Rattle.pf_model.specs.Configuration.{Core, Configuration}
 use Rattle.pf_model.specs.Deliveries.{delivered}
 use Rattle.pf_model.specs.declared.limits.TheConstants.{MOST_PROCESSES}
-use Rattle.pf_model.specs.Runs.{can_go, numbers_of, channel, Passed, passed, delivery}
+use Rattle.pf_model.specs.Runs.{can_go, pids_in_state, channel, Passed, passed, delivery}
 use Rattle.pf_model.specs.Reports.{label_of}
 use Rattle.pf_model.specs.declared.report.Label.{Label}
 use Rattle.pf_system.specs.View.{SystemView, view_of_system}
@@ -36,7 +36,7 @@ ready_few s v c e valid stands = by s.spent refl
         let gone : ◌≡◌ {A = Option Configuration} None (Some c) = ap (λ t. unless_spent t (configuration_of s.processes)) (sym q) ∙ stood in absurd (cc)
     by false q =
         let w = (valid q).stands in
-        let few : length (numbers_of can_go zero (core_of s.processes).processes) ≤ MOST_PROCESSES =
+        let few : length (pids_in_state can_go zero (core_of s.processes).processes) ≤ MOST_PROCESSES =
         omega (arith, numbers_few can_go zero (core_of s.processes).processes, w.room.few) in
         subst (λ z. length z ≤ MOST_PROCESSES) (sym w.ready) few
 

@@ -2,18 +2,18 @@
 use Rattle.std.proofs.Common.{◌≡◌, ℕ, zero, ◌+◌, ◌<◌, Bool, true, false, Some, if◌then◌else◌, refl, sym, ap, ◌∙◌, subst, arith, length, slice_set, slice_get}
 use Rattle.pf_terms.specs.Value.{Value}
 use Rattle.pf_syntax.specs.Module.{Checked}
-use Rattle.pf_model.specs.Context.{State, running, waiting, ending, ended}
+use Rattle.pf_model.specs.Context.{ProcessState, running, waiting, ending, ended}
 use Rattle.pf_model.specs.Maps.{with_number}
 use Rattle.pf_model.specs.Configuration.{Process, Core, of, with_process, is_alive}
 use Rattle.pf_model.specs.Deliveries.{woken, with_message}
-use Rattle.pf_model.specs.Runs.{can_go, is_waiting, numbers_of}
+use Rattle.pf_model.specs.Runs.{can_go, is_waiting, pids_in_state}
 use Rattle.pf_ties.specs.Laws.{process_ties}
-use Rattle.pf_system.specs.Bodies.{with_one}
+use Rattle.pf_system.specs.Bodies.{with_one_message}
 use Rattle.pf_system.specs.Slots.{state_of, slot_body, SlotIsSound, PutsIn}
 use Rattle.pf_system.specs.Processes.{Represents, RepresentsBut, checked_in}
 use Rattle.pf_system.specs.declared.slot.Slot.{Slot}
 use Rattle.pf_system.specs.declared.processes.Processes.{Processes}
-use Rattle.pf_system.specs.Placed.{Places}
+use Rattle.pf_system.specs.Placed.{PlacesOf}
 use Rattle.pf_system.proofs.Ready.{numbers_kept}
 use Rattle.pf_system.proofs.Changed.{get_within, sound_at, sound_set, body_at, slots_length, put_back, goes_now}
 
@@ -28,19 +28,19 @@ stands_but w c a h l =
       room = h.room;
     }
 
-pub woken_alive : (s : State) → is_alive (woken s) ≡ is_alive s
+pub woken_alive : (s : ProcessState) → is_alive (woken s) ≡ is_alive s
 woken_alive (running t) = refl
 woken_alive (waiting t) = refl
 woken_alive (ending r) = refl
 woken_alive (ended e) = refl
 
-wakes : (s : State) → is_waiting s ≡ true → can_go (woken s) ≡ true
+wakes : (s : ProcessState) → is_waiting s ≡ true → can_go (woken s) ≡ true
 wakes (running t) e = absurd (cc)
 wakes (waiting t) e = refl
 wakes (ending r) e = absurd (cc)
 wakes (ended x) e = absurd (cc)
 
-stays : (s : State) → is_waiting s ≡ false → can_go (woken s) ≡ can_go s
+stays : (s : ProcessState) → is_waiting s ≡ false → can_go (woken s) ≡ can_go s
 stays (running t) e = refl
 stays (waiting t) e = absurd (cc)
 stays (ending r) e = refl
@@ -51,17 +51,17 @@ message_ties p v = ap (λ b. record (process_ties p) { lives = b }) (woken_alive
 
 module _ (w w' : Processes) (b : ℕ) (v : Value) (s s' : Slot) where
   ready_so : (c : Core) (t : Bool) → Represents w c → b < length c.processes → t ≡ is_waiting (of c b).state → w'.ready ≡ (if t then with_number b w.ready else w.ready)
-      → w'.ready ≡ numbers_of can_go zero (with_process c b (with_message (of c b) v)).processes
+      → w'.ready ≡ pids_in_state can_go zero (with_process c b (with_message (of c b) v)).processes
   ready_so c true h l e r =
       r ∙ ap (with_number b) h.ready ∙ sym (goes_now c b (with_message (of c b) v) l (wakes (of c b).state (sym e)))
   ready_so c false h l e r =
       r ∙ h.ready ∙ sym (numbers_kept can_go zero c.processes b (with_message (of c b) v) (stays (of c b).state (sym e)))
 
   pub placed : (t : Bool) → slice_get w.slots.items b ≡ Some s
-      → ((m : Checked) (own : ℕ) → SlotIsSound m own s → PutsIn m own (with_one v (slot_body s)) s')
+      → ((m : Checked) (own : ℕ) → SlotIsSound m own s → PutsIn m own (with_one_message v (slot_body s)) s')
       → ((m : Checked) (own : ℕ) → SlotIsSound m own s → t ≡ is_waiting (state_of s.life))
       → w'.slots.items ≡ slice_set w.slots.items b s' → w'.shared ≡ w.shared → w'.basis ≡ w.basis
-      → w'.ready ≡ (if t then with_number b w.ready else w.ready) → Places b v w w'
+      → w'.ready ≡ (if t then with_number b w.ready else w.ready) → PlacesOf b v w w'
   placed t at puts waits e k m r c h alive =
       let l = get_within b w.slots.items s at in
       let y = body_at w c b s h at in
@@ -71,7 +71,7 @@ module _ (w w' : Processes) (b : ℕ) (v : Value) (s s' : Slot) where
       let n : b < length c.processes = omega (arith, slots_length w c h) in
       let q : t ≡ is_waiting (of c b).state = waits (checked_in w) b sound ∙ ap (λ z. is_waiting z.state) (sym y) in
       record {
-        stands = put_back w w' c b s' (with_message (of c b) v) (stands_but w c b h l) (ap (with_one v) y ∙ sym put.is) (message_ties (of c b) v) put.sound
+        stands = put_back w w' c b s' (with_message (of c b) v) (stands_but w c b h l) (ap (with_one_message v) y ∙ sym put.is) (message_ties (of c b) v) put.sound
             e k m (ready_so c t h n q r);
         shared = k;
         basis = m;

@@ -1,43 +1,43 @@
 -- The processes that can go, as their bodies change.
 use Rattle.std.proofs.Common.{◌≡◌, ℕ, zero, suc, ◌+◌, ◌<◌, ◌≤◌, ◌==◌, Bool, true, false, List, [], ◌∷◌, ◌++◌, if◌then◌else◌, refl, sym, ap, ◌∙◌, arith, nat_lt, length, map, slice_set}
-use Rattle.pf_model.specs.Context.{State}
+use Rattle.pf_model.specs.Context.{ProcessState}
 use Rattle.pf_model.specs.Maps.{with_number, without_number}
 use Rattle.pf_model.specs.Configuration.{Process, Core, process_at}
-use Rattle.pf_model.specs.Runs.{numbers_of}
+use Rattle.pf_model.specs.Runs.{pids_in_state}
 use Rattle.pf_system.specs.Bodies.{Body, process_body, bodies_of}
 use Rattle.pf_sorted.proofs.Indices.{eq_of, ne_of, below_not, lower}
 use Rattle.pf_sorted.proofs.Sets.{Rises, with_front, without_above}
 
-abbrev pub numbers_in : (State → Bool) → ℕ → List Body → List ℕ
+abbrev pub numbers_in : (ProcessState → Bool) → ℕ → List Body → List ℕ
 numbers_in so n [] = []
 numbers_in so n (b ∷ bs) = if so b.state then n ∷ numbers_in so (suc n) bs else numbers_in so (suc n) bs
 
-pub by_bodies : (so : State → Bool) (n : ℕ) (ps : List Process) → numbers_of so n ps ≡ numbers_in so n (map process_body ps)
+pub by_bodies : (so : ProcessState → Bool) (n : ℕ) (ps : List Process) → pids_in_state so n ps ≡ numbers_in so n (map process_body ps)
 by_bodies so n [] = refl
 by_bodies so n (p ∷ ps) = by (by_bodies so (suc n) ps) (so p.state)
   where
-    by : numbers_of so (suc n) ps ≡ numbers_in so (suc n) (map process_body ps) → (t : Bool) → (if t then n ∷ numbers_of so (suc n) ps else numbers_of so (suc n) ps)
+    by : pids_in_state so (suc n) ps ≡ numbers_in so (suc n) (map process_body ps) → (t : Bool) → (if t then n ∷ pids_in_state so (suc n) ps else pids_in_state so (suc n) ps)
         ≡ (if t then n ∷ numbers_in so (suc n) (map process_body ps) else numbers_in so (suc n) (map process_body ps))
     by h true = ap (λ z. n ∷ z) h
     by h false = h
 
 -- no more numbers than processes
-pub numbers_few : (so : State → Bool) (n : ℕ) (ps : List Process) → length (numbers_of so n ps) ≤ length ps
+pub numbers_few : (so : ProcessState → Bool) (n : ℕ) (ps : List Process) → length (pids_in_state so n ps) ≤ length ps
 numbers_few so n [] = omega arith
 numbers_few so n (p ∷ ps) = by (so p.state) (numbers_few so (suc n) ps)
   where
-    by : (t : Bool) → length (numbers_of so (suc n) ps) ≤ length ps
-        → length (if t then n ∷ numbers_of so (suc n) ps else numbers_of so (suc n) ps) ≤ suc (length ps)
+    by : (t : Bool) → length (pids_in_state so (suc n) ps) ≤ length ps
+        → length (if t then n ∷ pids_in_state so (suc n) ps else pids_in_state so (suc n) ps) ≤ suc (length ps)
     by true h = omega arith
     by false h = omega arith
 
 -- the same bodies, the same numbers
-pub numbers_alike : (so : State → Bool) (n : ℕ) (c d : Core) → bodies_of c ≡ bodies_of d → numbers_of so n c.processes ≡ numbers_of so n d.processes
+pub numbers_alike : (so : ProcessState → Bool) (n : ℕ) (c d : Core) → bodies_of c ≡ bodies_of d → pids_in_state so n c.processes ≡ pids_in_state so n d.processes
 numbers_alike so n c d e = by_bodies so n c.processes ∙ ap (numbers_in so n) e ∙ sym (by_bodies so n d.processes)
 
 -- ---- numbers that rise
 
-module _ (so : State → Bool) where
+module _ (so : ProcessState → Bool) where
   rise : (n : ℕ) (bs : List Body) → Rises n (numbers_in so n bs)
   rise n [] = tt
   rise n (b ∷ bs) = by (so b.state) (rise (suc n) bs)
@@ -135,8 +135,8 @@ module _ (so : State → Bool) where
       by false = ap (λ j. with_number j (numbers_in so (suc n) bs)) same
 
 -- a process that can go where it could, or can't where it couldn't
-pub numbers_kept : (so : State → Bool) (n : ℕ) (ps : List Process) (a : ℕ) (q : Process) → so q.state ≡ so (process_at a ps).state
-    → numbers_of so n (slice_set ps a q) ≡ numbers_of so n ps
+pub numbers_kept : (so : ProcessState → Bool) (n : ℕ) (ps : List Process) (a : ℕ) (q : Process) → so q.state ≡ so (process_at a ps).state
+    → pids_in_state so n (slice_set ps a q) ≡ pids_in_state so n ps
 numbers_kept so n [] a q e = refl
-numbers_kept so n (p ∷ ps) zero q e = ap (λ t. if t then n ∷ numbers_of so (suc n) ps else numbers_of so (suc n) ps) e
+numbers_kept so n (p ∷ ps) zero q e = ap (λ t. if t then n ∷ pids_in_state so (suc n) ps else pids_in_state so (suc n) ps) e
 numbers_kept so n (p ∷ ps) (suc a) q e = ap (λ r. if so p.state then n ∷ r else r) (numbers_kept so (suc n) ps a q e)

@@ -17,7 +17,7 @@ use Rattle.pf_model.specs.declared.signal.Signal.TheVariants as code
 use Rattle.pf_ties.specs.Ties.{AllTies}
 use Rattle.pf_ties.specs.Laws.{ties_of}
 use Rattle.pf_system.specs.Bodies.{process_body}
-use Rattle.pf_system.specs.Placed.{Places, SuffixShown}
+use Rattle.pf_system.specs.Placed.{PlacesOf, SuffixShown}
 use Rattle.pf_system.specs.Processes.{Represents, Shown}
 use Rattle.pf_system.specs.declared.processes.Processes.{Processes}
 use Rattle.pf_system.proofs.Delivering.{dropped_there, replied, with_mail, tied_so}
@@ -58,12 +58,12 @@ module _ (w w' : Processes) (c : Core) (a b : ℕ) (s reply : Program) (h : Repr
 -- ---- at one that lives
 
 module _ (w : Processes) (c : Core) (a b : ℕ) (s : Program) (h : Represents w c) where
-  pub message_taken : (t : Term) (v : Value) (w' : Processes) → s ≡ code.Message t → v ≡ value_of t → is_alive (of c b).state ≡ true → Places b v w w'
+  pub message_taken : (t : Term) (v : Value) (w' : Processes) → s ≡ code.Message t → v ≡ value_of t → is_alive (of c b).state ≡ true → PlacesOf b v w w'
       → Shown b (at_living c a b (signal_of s)) w.shared.channels w (shows.Delivers s suffix.TookEffect) w'
   message_taken t v w' e q alive indices =
       subst (λ z. Shown b (at_living c a b (signal_of z)) w.shared.channels w (shows.Delivers z suffix.TookEffect) w') (sym e)
       (record {
-        done = with_mail w w w' c b (value_of t) (subst (λ z. Places b z w w') q indices c h alive) h.room.rows refl refl;
+        done = with_mail w w w' c b (value_of t) (subst (λ z. PlacesOf b z w w') q indices c h alive) h.room.rows refl refl;
         label = refl;
       })
 

@@ -1,7 +1,7 @@
 -- The rows of channels, as signals are sent and as senders come.
 use Rattle.std.proofs.Common.{◌≡◌, ℕ, zero, suc, ◌+◌, ◌≤◌, List, [], ◌∷◌, ◌++◌, refl, ap, ◌∙◌, arith, add-one, length}
 use Rattle.pf_model.specs.Maps.{got, put}
-use Rattle.pf_model.specs.Channels.{Signal, Row, Channels, row_of, with_row, with_last, sent, with_senders}
+use Rattle.pf_model.specs.Channels.{Signal, SenderRow, Channels, row_of, with_row, with_last, sent, with_senders}
 use Rattle.pf_model.specs.Configuration.{posted}
 
 -- ---- a row for each of n senders
@@ -34,7 +34,7 @@ row_padded (suc a) (suc n) [] = row_padded a n []
 row_padded zero (suc n) (r ∷ rs) = refl
 row_padded (suc a) (suc n) (r ∷ rs) = row_padded a n rs
 
-with_row_padded : (a : ℕ) (r : Row) (cs : Channels) → with_row a r (with_senders (suc a) cs) ≡ with_row a r cs
+with_row_padded : (a : ℕ) (r : SenderRow) (cs : Channels) → with_row a r (with_senders (suc a) cs) ≡ with_row a r cs
 with_row_padded zero r [] = refl
 with_row_padded zero r (x ∷ rs) = refl
 with_row_padded (suc a) r [] = ap (λ z. [] ∷ z) (with_row_padded a r [])
@@ -47,7 +47,7 @@ sent_padded a b s cs =
     (ap (λ r. with_row a (put b (with_last (got b r) s) r) (with_senders (suc a) cs)) (row_padded a (suc a) cs)
     ∙ with_row_padded a (put b (with_last (got b (row_of a cs)) s) (row_of a cs)) cs)
 
-row_length : (a : ℕ) (r : Row) (cs : Channels) → length cs ≤ length (with_row a r cs)
+row_length : (a : ℕ) (r : SenderRow) (cs : Channels) → length cs ≤ length (with_row a r cs)
 row_length a r [] = omega arith
 row_length zero r (x ∷ rs) = omega arith
 row_length (suc a) r (x ∷ rs) = omega (arith, row_length a r rs)

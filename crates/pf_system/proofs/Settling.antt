@@ -13,20 +13,20 @@ use Rattle.pf_model.specs.Contraction.{Act}
 use Rattle.pf_model.specs.Channels.{Signal, Channels, with_senders}
 use Rattle.pf_model.specs.Configuration.{Process, Core, of, with_process, with_state, process_at, posted, is_alive}
 use Rattle.pf_model.specs.Actions.{Acted, acted, raising, given, only_if, as_pid, as_atom, receiver, linked_to, unlinked_from, monitored, demonitored, flag_set, may_register, registered, unregistered}
-use Rattle.pf_model.specs.Context.{State, running, waiting, ending, ended, failed}
+use Rattle.pf_model.specs.Context.{ProcessState, running, waiting, ending, ended, failed}
 use Rattle.pf_model.specs.Runs.{can_go}
-use Rattle.pf_model.specs.Turns.{answered}
+use Rattle.pf_model.specs.Turns.{with_answer}
 use Rattle.pf_model.specs.declared.limits.TheConstants.{MOST_PROCESSES}
 use Rattle.pf_ties.specs.Laws.{process_ties, ties_of}
 use Rattle.pf_stepper.specs.Acts.{act_of}
-use Rattle.pf_stepper.specs.MachineView.{Standing, goes, asking}
-use Rattle.pf_stepper.specs.Turns.{told_of}
+use Rattle.pf_stepper.specs.MachineView.{MachineStatus, goes, asking}
+use Rattle.pf_stepper.specs.Turns.{answer_value}
 use Rattle.pf_stepper.specs.declared.act.Act.{Act as Asked}
 use Rattle.pf_stepper.specs.declared.act.Act.TheVariants as a
-use Rattle.pf_system.specs.Bodies.{Body, body, process_body, bodies_of}
+use Rattle.pf_system.specs.Bodies.{Body, body_of, process_body, bodies_of}
 use Rattle.pf_system.specs.Slots.{slot_body, SlotIsSound, SlotsAreSound, AnswersIn, PutsIn, LifeIsLeft, SlotIsLeft}
 use Rattle.pf_system.specs.Processes.{Represents, RepresentsBut, checked_in, module_in, bodies_in}
-use Rattle.pf_system.specs.Acts.{Answer, Answers, CarriesOut, ActsAs, ActedIn, ActsIn, IsBetween, KeepsLife, KeepsSlot, ShowsAct}
+use Rattle.pf_system.specs.Acts.{ActAnswer, AnswersAct, CarriesOut, ActsAs, ActedIn, ActsIn, IsBetween, KeepsLife, KeepsSlot, ShowsAct}
 use Rattle.pf_system.specs.Settled.{WaitsIn}
 use Rattle.pf_system.specs.declared.slot.Life.{Life}
 use Rattle.pf_system.specs.declared.slot.Life.TheVariants as life
@@ -100,7 +100,7 @@ module _ (m : Module) (c : Core) (n : ℕ) where
 
 -- the body of one process is that of it among all
 abbrev body_in : ℕ → List Body → Body
-body_in n [] = body (ended (failed undefined)) []
+body_in n [] = body_of (ended (failed undefined)) []
 body_in zero (b ∷ bs) = b
 body_in (suc n) (b ∷ bs) = body_in n bs
 
@@ -151,7 +151,7 @@ posted_rows n d ss cs cs' l e = e ∙ ap (posted n ss) (sym (enough_senders (len
 pub same_size : (c d : Core) → Keeps c d → length d.processes ≡ length c.processes
 same_size c d e = length_of d ∙ ap length e.0 ∙ sym (length_of c)
 
-pub acted_in : (n : ℕ) (c : Core) (x : Acted) (w w' : Processes) (r : Answer) → Keeps c x.left.core → CarriesOut x n w.shared r w'.shared
+pub acted_in : (n : ℕ) (c : Core) (x : Acted) (w w' : Processes) (r : ActAnswer) → Keeps c x.left.core → CarriesOut x n w.shared r w'.shared
     → w'.slots ≡ w.slots → w'.ready ≡ w.ready → w'.basis ≡ w.basis → RepresentsBut w c n → ActedIn c x n w r w'
 acted_in n c x w w' r e g s q f k =
     let d : Core = x.left.core in
@@ -169,18 +169,18 @@ acted_in n c x w w' r e g s q f k =
       basis = f;
     }
 
-pub acts_between : (n : ℕ) (x : Asked) (w w' : Processes) (r : Answer) → IsBetween x → ActsAs n (act_of x) w.shared r w'.shared
+pub acts_between : (n : ℕ) (x : Asked) (w w' : Processes) (r : ActAnswer) → IsBetween x → ActsAs n (act_of x) w.shared r w'.shared
     → w'.slots ≡ w.slots → w'.ready ≡ w.ready → w'.basis ≡ w.basis → ActsIn n (act_of x) w r w'
 acts_between n x w w' r b h s q f c k =
     acted_in n c (acted (module_in w) c n (act_of x)) w w' r (acted_keeps (module_in w) c n x b) (h (module_in w) c k.ties) s q f k
 
-pub sends_in : (n : ℕ) (v u : Value) (w w' : Processes) (r : Answer) → ActsAs n (asked.send v u) w.shared r w'.shared
+pub sends_in : (n : ℕ) (v u : Value) (w w' : Processes) (r : ActAnswer) → ActsAs n (asked.send v u) w.shared r w'.shared
     → w'.slots ≡ w.slots → w'.ready ≡ w.ready → w'.basis ≡ w.basis → ActsIn n (asked.send v u) w r w'
 sends_in n v u w w' r h s q f c k =
     acted_in n c (acted (module_in w) c n (asked.send v u)) w w' r (send_keeps (module_in w) c n v u) (h (module_in w) c k.ties) s q f k
 
 -- what raises leaves all as it was
-pub raised_in : (n : ℕ) (w : Processes) (r : Answer) (c : Core) (e : Value) → Answers r (raising c e) → RepresentsBut w c n → ActedIn c (raising c e) n w r w
+pub raised_in : (n : ℕ) (w : Processes) (r : ActAnswer) (c : Core) (e : Value) → AnswersAct r (raising c e) → RepresentsBut w c n → ActedIn c (raising c e) n w r w
 raised_in n w r c e k but =
     let j = but.room.rows in
     record {
@@ -194,26 +194,26 @@ raised_in n w r c e k but =
 
 -- ---- the process has its slot again
 
-pub alive_going : (s : State) → can_go s ≡ true → is_alive s ≡ true
+pub alive_going : (s : ProcessState) → can_go s ≡ true → is_alive s ≡ true
 alive_going (running t) e = refl
 alive_going (waiting t) e = refl
 alive_going (ending r) e = refl
 alive_going (ended x) e = absurd (cc)
 
-ties_alive : (p : Process) (s : State) (vs : List Value) → is_alive s ≡ is_alive p.state
+ties_alive : (p : Process) (s : ProcessState) (vs : List Value) → is_alive s ≡ is_alive p.state
     → process_ties (record p { state = s; mailbox = vs }) ≡ process_ties p
 ties_alive p s vs e = ap (λ b. record { lives = b; traps_exits = p.traps_exits; links = p.links; active = p.active; watchers = p.watchers }) e
 
 -- with this state and these messages
-abbrev pub in_state : Core → ℕ → State → List Value → Core
+abbrev pub in_state : Core → ℕ → ProcessState → List Value → Core
 in_state c n s vs = with_process c n (record (of c n) { state = s; mailbox = vs })
 
-module _ (w w' : Processes) (c : Core) (n : ℕ) (s' : Slot) (state : State) (mail : List Value) where
+module _ (w w' : Processes) (c : Core) (n : ℕ) (s' : Slot) (state : ProcessState) (mail : List Value) where
   abbrev Changes : Type 0
   Changes = (w'.slots.items ≡ slice_set w.slots.items n s') × (w'.shared ≡ w.shared) × (w'.basis ≡ w.basis)
 
   -- a process that could go still can
-  pub goes_again : RepresentsBut w c n → can_go (of c n).state ≡ true → can_go state ≡ true → PutsIn (checked_in w) n (body state mail) s' → Changes → w'.ready ≡ w.ready
+  pub goes_again : RepresentsBut w c n → can_go (of c n).state ≡ true → can_go state ≡ true → PutsIn (checked_in w) n (body_of state mail) s' → Changes → w'.ready ≡ w.ready
       → Represents w' (in_state c n state mail)
   goes_again h can g p e r =
       put_back w w' c n s' (record (of c n) { state = state; mailbox = mail }) h (sym p.is)
@@ -221,7 +221,7 @@ module _ (w w' : Processes) (c : Core) (n : ℕ) (s' : Slot) (state : State) (ma
       (r ∙ h.ready ∙ sym (numbers_kept can_go zero c.processes n (record (of c n) { state = state; mailbox = mail }) (g ∙ sym can)))
 
   -- it can no longer go, but lives
-  pub waits_now : RepresentsBut w c n → n < length c.processes → is_alive state ≡ is_alive (of c n).state → can_go state ≡ false → PutsIn (checked_in w) n (body state mail) s'
+  pub waits_now : RepresentsBut w c n → n < length c.processes → is_alive state ≡ is_alive (of c n).state → can_go state ≡ false → PutsIn (checked_in w) n (body_of state mail) s'
       → Changes → w'.ready ≡ without_number n w.ready → Represents w' (in_state c n state mail)
   waits_now h l lives g p e r =
       put_back w w' c n s' (record (of c n) { state = state; mailbox = mail }) h (sym p.is) (ties_alive (of c n) state mail lives) p.sound e.0 e.1 e.2
@@ -238,7 +238,7 @@ none_sent w w' c d n e h b =
 -- ---- an action and its answer
 
 -- the machine has the status that it had
-left_still : (m : Checked) (own : ℕ) (x : Standing) (s s' : Slot) → KeepsLife s s' → SlotIsLeft m own x s → SlotIsLeft m own x s'
+left_still : (m : Checked) (own : ℕ) (x : MachineStatus) (s s' : Slot) → KeepsLife s s' → SlotIsLeft m own x s → SlotIsLeft m own x s'
 left_still m own x s s' k h = subst (λ l. LifeIsLeft m own x l s'.mailbox) (sym k.life) (by s.life h)
   where
     by : (l : Life) → LifeIsLeft m own x l s.mailbox → LifeIsLeft m own x l s'.mailbox
@@ -246,8 +246,8 @@ left_still m own x s s' k h = subst (λ l. LifeIsLeft m own x l s'.mailbox) (sym
     by (life.Ends r) h = h
     by (life.Ended e) h = h
 
-pub shows_act : (n : ℕ) (x : Act) (w w1 w' : Processes) (r : Answer) (s1 s' : Slot) → ActsIn n x w r w1 → KeepsSlot n w w1 → slice_get w1.slots.items n ≡ Some s1
-    → ((m : Checked) (own : ℕ) (fs : _) → SlotIsLeft m own (asking fs) s1 → AnswersIn m own fs (told_of r.value) s1 s')
+pub shows_act : (n : ℕ) (x : Act) (w w1 w' : Processes) (r : ActAnswer) (s1 s' : Slot) → ActsIn n x w r w1 → KeepsSlot n w w1 → slice_get w1.slots.items n ≡ Some s1
+    → ((m : Checked) (own : ℕ) (fs : _) → SlotIsLeft m own (asking fs) s1 → AnswersIn m own fs (answer_value r.value) s1 s')
     → w'.slots.items ≡ slice_set w1.slots.items n s' → w'.shared ≡ w1.shared → w'.ready ≡ w1.ready → w'.basis ≡ w1.basis → ShowsAct n x w r.label w'
 shows_act n x w w1 w' r s1 s' h keeps at ans e b q f c fs s but can left mail =
     let g = h c but in
@@ -255,14 +255,14 @@ shows_act n x w w1 w' r s1 s' h keeps at ans e b q f c fs s but can left mail =
     let d = v.left.core in
     let k = keeps s left.at in
     let same : k.0 ≡ s1 = slot_is k.0 s1 (sym k.1 ∙ at) in
-    let state = answered fs v.answer in
+    let state = with_answer fs v.answer in
     let own_mail : s1.mailbox.messages ≡ (of d n).mailbox = g.mail s s1 left.at at mail in
     let there : SlotIsLeft (checked_in w1) n (asking fs) s1 =
     subst (λ z. SlotIsLeft z.module.value n (asking fs) s1) (sym g.basis)
     (subst (SlotIsLeft (checked_in w) n (asking fs)) same (left_still (checked_in w) n (asking fs) s k.0 k.2 left.leaves)) in
     let puts0 = ans (checked_in w1) n fs there in
-    let puts : PutsIn (checked_in w1) n (body state (of d n).mailbox) s' =
-    record { sound = puts0.sound; is = puts0.is ∙ ap (λ z. body (answered fs z) s1.mailbox.messages) g.answers.value ∙ ap (body state) own_mail } in
+    let puts : PutsIn (checked_in w1) n (body_of state (of d n).mailbox) s' =
+    record { sound = puts0.sound; is = puts0.is ∙ ap (λ z. body_of (with_answer fs z) s1.mailbox.messages) g.answers.value ∙ ap (body_of state) own_mail } in
     let can' : can_go (of d n).state ≡ true = ap can_go g.state ∙ can in
     let i : length (with_state d n state).processes ≡ length d.processes = set_length n d.processes _ in
     record {
@@ -274,7 +274,7 @@ shows_act n x w w1 w' r s1 s' h keeps at ans e b q f c fs s but can left mail =
       label = g.answers.label;
     }
   where
-    answers_go : (fs : _) (r : Result Value Value) → can_go (answered fs r) ≡ true
+    answers_go : (fs : _) (r : Result Value Value) → can_go (with_answer fs r) ≡ true
     answers_go fs (Ok y) = refl
     answers_go fs (Err y) = refl
 
@@ -282,19 +282,19 @@ shows_act n x w w1 w' r s1 s' h keeps at ans e b q f c fs s but can left mail =
 
 pub but_there : (w : Processes) (c : Core) (n : ℕ) → RepresentsBut w c n → n < length c.processes
 but_there w c n h =
-    let b = body (ended (failed undefined)) [] in
+    let b = body_of (ended (failed undefined)) [] in
     let e : length c.processes ≡ length w.slots.items =
     length_of c ∙ sym (set_length n (bodies_of c) b) ∙ ap length (h.bodies b) ∙ set_length n (bodies_in w) b ∙ length-map w.slots.items slot_body in
     let l = h.there in omega arith
 
 pub waits_in : (n : ℕ) (w w' : Processes) (s1 s' : Slot) → slice_get w.slots.items n ≡ Some s1
-    → ((m : Checked) (own : ℕ) (t : Tree) → SlotIsLeft m own (goes (running t)) s1 → PutsIn m own (body (waiting t) s1.mailbox.messages) s')
+    → ((m : Checked) (own : ℕ) (t : Tree) → SlotIsLeft m own (goes (running t)) s1 → PutsIn m own (body_of (waiting t) s1.mailbox.messages) s')
     → w'.slots.items ≡ slice_set w.slots.items n s' → w'.shared ≡ w.shared → w'.basis ≡ w.basis → w'.ready ≡ without_number n w.ready → WaitsIn n w w'
 waits_in n w w' s1 s' at ans e b f q c t s but can left mail =
     let same : s1 ≡ s = slot_is s1 s (sym at ∙ left.at) in
     let puts0 = ans (checked_in w) n t (subst (SlotIsLeft (checked_in w) n (goes (running t))) (sym same) left.leaves) in
     let own_mail : s1.mailbox.messages ≡ (of c n).mailbox = ap (λ z. z.mailbox.messages) same ∙ mail in
-    let puts : PutsIn (checked_in w) n (body (waiting t) (of c n).mailbox) s' = record { sound = puts0.sound; is = puts0.is ∙ ap (body (waiting t)) own_mail } in
+    let puts : PutsIn (checked_in w) n (body_of (waiting t) (of c n).mailbox) s' = record { sound = puts0.sound; is = puts0.is ∙ ap (body_of (waiting t)) own_mail } in
     let i : length (with_state c n (waiting t)).processes ≡ length c.processes = set_length n c.processes _ in
     record {
       stands = waits_now w w' c n s' (waiting t) (of c n).mailbox but (but_there w c n but) (sym (alive_going (of c n).state can)) refl puts (e, b, f) q;

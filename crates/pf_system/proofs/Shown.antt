@@ -12,7 +12,7 @@ use Rattle.pf_model.specs.declared.limits.TheConstants.{MOST_PROCESSES}
 use Rattle.pf_ties.specs.Ties as ties
 use Rattle.pf_ties.specs.Laws.{ties_of}
 use Rattle.pf_ties.proofs.Followed.{follow_ends}
-use Rattle.pf_system.specs.Bodies.{body, process_body}
+use Rattle.pf_system.specs.Bodies.{body_of, process_body}
 use Rattle.pf_system.specs.Slots.{slot_body, end_of, SlotIsSound, SlotsAreSound}
 use Rattle.pf_system.specs.Processes.{Represents, RepresentsBut, Done, EndsProcess, checked_in, bodies_in}
 use Rattle.pf_system.specs.declared.slot.Slot.{Slot}
@@ -70,7 +70,7 @@ module _ (w w' : Processes) (c : Core) (slots : w'.slots.items ≡ w.slots.items
 -- ---- the end of a process
 
 module _ (w w' : Processes) (a : ℕ) (e : Result Term Term) (s' : Slot) (ss : List (ℕ × Signal)) where
-  pub ends_so : slot_body s' ≡ body (ended (end_of e)) [] → ((m : _) → SlotIsSound m a s') → w'.slots.items ≡ slice_set w.slots.items a s'
+  pub ends_so : slot_body s' ≡ body_of (ended (end_of e)) [] → ((m : _) → SlotIsSound m a s') → w'.slots.items ≡ slice_set w.slots.items a s'
       → w'.shared.ties ≡ ties.ended w.shared.ties a → w'.ready ≡ without_number a w.ready → w'.basis ≡ w.basis
       → ss ≡ ties.last_signals_of (ties.of w.shared.ties a) (reason_of (end_of e)) → w'.shared.channels ≡ posted a ss w.shared.channels
       → length w.slots.items ≡ length w.shared.ties.processes
@@ -89,7 +89,7 @@ module _ (w w' : Processes) (a : ℕ) (e : Result Term Term) (s' : Slot) (ss : L
       let long = ap length sent in
       done_so w w' a (ended_by c a x)
       (record {
-        bodies = bodies_changed c a p ∙ h.bodies (body (ended x) []) ∙ ap (slice_set (bodies_in w) a) (sym y)
+        bodies = bodies_changed c a p ∙ h.bodies (body_of (ended x) []) ∙ ap (slice_set (bodies_in w) a) (sym y)
             ∙ sym (ap (map slot_body) slots ∙ set_map slot_body a w.slots.items s');
         ties = follow_ends.ended c a x ∙ ap (λ z. ties.ended z a) h.ties ∙ sym t;
         ready = r ∙ ap (without_number a) h.ready ∙ sym (goes_no_more c a p size refl);

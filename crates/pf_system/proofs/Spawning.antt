@@ -11,18 +11,18 @@ use Rattle.pf_model.specs.Channels.{with_senders}
 use Rattle.pf_model.specs.Configuration.{Process, Core, fresh, of, process_at, is_alive}
 use Rattle.pf_model.specs.Actions.{gives, raising, given, given_for, shown_for, as_atom, as_elements, linked_with, watching_with, after_spawn, spawned, start_of}
 use Rattle.pf_model.specs.Labels as label
-use Rattle.pf_model.specs.Context.{State, ended, failed}
+use Rattle.pf_model.specs.Context.{ProcessState, ended, failed}
 use Rattle.pf_model.specs.Runs.{can_go}
 use Rattle.pf_model.specs.Reports.{label_of}
 use Rattle.pf_model.specs.declared.limits.TheConstants.{MOST_PROCESSES}
 use Rattle.pf_ties.specs.Ties.{AllTies}
 use Rattle.pf_ties.specs.Laws.{ties_of}
 use Rattle.pf_ties.proofs.Followed.{follow_actions}
-use Rattle.pf_stepper.specs.Turns.{told_of}
-use Rattle.pf_system.specs.Bodies.{Body, body, process_body, bodies_of}
+use Rattle.pf_stepper.specs.Turns.{answer_value}
+use Rattle.pf_system.specs.Bodies.{Body, body_of, process_body, bodies_of}
 use Rattle.pf_system.specs.Slots.{slot_body, SlotIsSound, SlotsAreSound}
 use Rattle.pf_system.specs.Processes.{RepresentsBut, checked_in, module_in, bodies_in}
-use Rattle.pf_system.specs.Acts.{Answer, Answers, ActedIn, ActsIn, KeepsSlot, LifeBegins, Opens, OpensProcess, Tells, opened_by}
+use Rattle.pf_system.specs.Acts.{ActAnswer, AnswersAct, ActedIn, ActsIn, KeepsSlot, LifeBegins, OpensWithTies, OpensProcess, ReportsSpawn, opened_by}
 use Rattle.pf_system.specs.declared.slot.Life.{Life}
 use Rattle.pf_system.specs.declared.slot.Slot.{Slot}
 use Rattle.pf_system.specs.declared.spare.Spare.{Spare}
@@ -51,17 +51,17 @@ process_front n [] qs l = absurd (omega arith)
 process_front zero (p ∷ ps) qs l = refl
 process_front (suc n) (p ∷ ps) qs l = process_front n ps qs (omega arith)
 
-module _ (c : Core) (a : ℕ) (s : State) where
-  spawn_bodies : (b : Bond) → bodies_of (after_spawn c a b s) ≡ bodies_of c ++ body s [] ∷ []
+module _ (c : Core) (a : ℕ) (s : ProcessState) where
+  spawn_bodies : (b : Bond) → bodies_of (after_spawn c a b s) ≡ bodies_of c ++ body_of s [] ∷ []
   spawn_bodies unbound = map_more process_body c.processes (fresh s [])
   spawn_bodies linking =
       let d = linked_with c a (length c.processes) in
       map_more process_body d.processes (fresh s (a ∷ []))
-      ∙ ap (λ z. z ++ body s [] ∷ []) (bodies_same c a (record (of c a) { links = _ }) refl)
+      ∙ ap (λ z. z ++ body_of s [] ∷ []) (bodies_same c a (record (of c a) { links = _ }) refl)
   spawn_bodies watching =
       let d = watching_with c a (length c.processes) in
       map_more process_body d.processes (record (fresh s []) { watchers = (c.next_reference, a) ∷ [] })
-      ∙ ap (λ z. z ++ body s [] ∷ []) (bodies_same c a (record (of c a) { active = put c.next_reference (length c.processes) (of c a).active }) refl)
+      ∙ ap (λ z. z ++ body_of s [] ∷ []) (bodies_same c a (record (of c a) { active = put c.next_reference (length c.processes) (of c a).active }) refl)
 
   spawn_ties : (b : Bond) → is_alive s ≡ true → ties_of (after_spawn c a b s) ≡ opened_by b a (ties_of c)
   spawn_ties unbound e = follow_actions.spawn c a s e
@@ -82,9 +82,9 @@ body_front n c d b l e = by n c.processes d.processes l e
     by zero (p ∷ ps) (q ∷ qs) l e = cc
     by (suc n) (p ∷ ps) (q ∷ qs) l e = by n ps qs (omega arith) (cc)
 
-module _ (a : ℕ) (bond : Bond) (w w' : Processes) (l : Life) (r : Answer) (c : Core) (s : State)
+module _ (a : ℕ) (bond : Bond) (w w' : Processes) (l : Life) (r : ActAnswer) (c : Core) (s : ProcessState)
     (but : RepresentsBut w c a) (few : length w.slots.items < w.basis.most) (h : LifeBegins (checked_in w) (length w.slots.items) s l)
-    (o : Opens (opened_by bond a w.shared.ties) w l w') where
+    (o : OpensWithTies (opened_by bond a w.shared.ties) w l w') where
   abbrev after : Core
   after = after_spawn c a bond s
 
@@ -93,16 +93,16 @@ module _ (a : ℕ) (bond : Bond) (w w' : Processes) (l : Life) (r : Answer) (c :
 
   same_length : length c.processes ≡ length w.slots.items
   same_length =
-      let b = body (ended (failed undefined)) [] in
+      let b = body_of (ended (failed undefined)) [] in
       length_of c ∙ sym (set_length a (bodies_of c) b) ∙ ap length (but.bodies b) ∙ set_length a (bodies_in w) b ∙ length-map w.slots.items slot_body
 
-  new_body : slot_body new_slot ≡ body s []
-  new_body = ap (λ z. body z o.slots.0.messages) h.state ∙ ap (body s) o.slots.1
+  new_body : slot_body new_slot ≡ body_of s []
+  new_body = ap (λ z. body_of z o.slots.0.messages) h.state ∙ ap (body_of s) o.slots.1
 
   after_length : length after.processes ≡ suc (length c.processes)
-  after_length = length_of after ∙ ap length (spawn_bodies c a s bond) ∙ more_length (bodies_of c) (body s []) ∙ ap suc (sym (length_of c))
+  after_length = length_of after ∙ ap length (spawn_bodies c a s bond) ∙ more_length (bodies_of c) (body_of s []) ∙ ap suc (sym (length_of c))
 
-  new_bodies : bodies_in w' ≡ bodies_in w ++ body s [] ∷ []
+  new_bodies : bodies_in w' ≡ bodies_in w ++ body_of s [] ∷ []
   new_bodies = ap (map slot_body) o.slots.3 ∙ map_more slot_body w.slots.items new_slot ∙ ap (λ z. bodies_in w ++ z ∷ []) new_body
 
   there_in : a < length (bodies_in w)
@@ -119,13 +119,13 @@ module _ (a : ℕ) (bond : Bond) (w w' : Processes) (l : Life) (r : Answer) (c :
       record {
         there = let k = ap length o.slots.3 ∙ more_length w.slots.items new_slot in let j = but.there in omega arith;
         bodies = λ b.
-            ap (λ z. slice_set z a b) (spawn_bodies c a s bond) ∙ set_front a (bodies_of c) (body s [] ∷ []) b there_of
-            ∙ ap (λ z. z ++ body s [] ∷ []) (but.bodies b) ∙ sym (set_front a (bodies_in w) (body s [] ∷ []) b there_in) ∙ ap (λ z. slice_set z a b) (sym new_bodies);
+            ap (λ z. slice_set z a b) (spawn_bodies c a s bond) ∙ set_front a (bodies_of c) (body_of s [] ∷ []) b there_of
+            ∙ ap (λ z. z ++ body_of s [] ∷ []) (but.bodies b) ∙ sym (set_front a (bodies_in w) (body_of s [] ∷ []) b there_in) ∙ ap (λ z. slice_set z a b) (sym new_bodies);
         ties = spawn_ties c a s bond (alive_going s h.goes) ∙ ap (opened_by bond a) but.ties ∙ sym o.tied;
         ready =
             let z : zero + length (bodies_of c) ≡ length w.slots.items = omega (arith, length_of c) in
             o.ready ∙ ap (with_number n) (but.ready ∙ by_bodies can_go zero c.processes) ∙ ap (λ k. with_number k (numbers_in can_go zero (bodies_of c))) (sym z)
-            ∙ sym (by_bodies can_go zero after.processes ∙ ap (numbers_in can_go zero) (spawn_bodies c a s bond) ∙ more_in can_go zero (bodies_of c) (body s []) h.goes);
+            ∙ sym (by_bodies can_go zero after.processes ∙ ap (numbers_in can_go zero) (spawn_bodies c a s bond) ∙ more_in can_go zero (bodies_of c) (body_of s []) h.goes);
         slots = λ t k.
             let i : SlotIsSound (checked_in w) a t = subst (λ z. SlotIsSound z.module.value a t) o.basis k in
             let y : zero + length (slice_set w.slots.items a t) ≡ n = omega (arith, set_length a w.slots.items t) in
@@ -150,9 +150,9 @@ module _ (a : ℕ) (bond : Bond) (w w' : Processes) (l : Life) (r : Answer) (c :
   mail_after t t' e e' m =
       let q = sym e' ∙ ap (λ z. slice_get z a) o.slots.3 ∙ get_front a w.slots.items (new_slot ∷ []) but.there ∙ e in
       ap (λ z. z.mailbox.messages) (slot_is t' t q) ∙ m
-      ∙ ap (λ z. z.mailbox) (sym (body_front a c after (body s []) (but_there w c a but) (spawn_bodies c a s bond)))
+      ∙ ap (λ z. z.mailbox) (sym (body_front a c after (body_of s []) (but_there w c a but) (spawn_bodies c a s bond)))
 
-  pub spawned_in : Tells bond (length w.slots.items) w.shared.ties.next_reference r → ActedIn c (spawned c a bond s) a w r w'
+  pub spawned_in : ReportsSpawn bond (length w.slots.items) w.shared.ties.next_reference r → ActedIn c (spawned c a bond s) a w r w'
   spawned_in y =
       let e = same_length in
       let f = after_length in
@@ -163,7 +163,7 @@ module _ (a : ℕ) (bond : Bond) (w w' : Processes) (l : Life) (r : Answer) (c :
       subst (λ t. ActedIn c (if t then gives after [] (given_for bond (length c.processes) c.next_reference) (shown_for bond (length c.processes) c.next_reference) else raising c system_limit) a w r w') (sym lt)
       (record {
         stands = stands_after;
-        state = ap (λ p. p.state) (body_front a c after (body s []) (but_there w c a but) (spawn_bodies c a s bond));
+        state = ap (λ p. p.state) (body_front a c after (body_of s []) (but_there w c a but) (spawn_bodies c a s bond));
         mail = mail_after;
         channels = o.channels ∙ ap (λ t. with_senders t w.shared.channels) z;
         answers = record {
@@ -173,17 +173,17 @@ module _ (a : ℕ) (bond : Bond) (w w' : Processes) (l : Life) (r : Answer) (c :
         basis = o.basis;
       })
 
-pub tells_it : (linked : Bool) (p k : ℕ) (r : Answer) → told_of r.value ≡ Ok (pid p) → label_of r.label ≡ label.spawns linked p
-    → Tells (if linked then linking else unbound) p k r
+pub tells_it : (linked : Bool) (p k : ℕ) (r : ActAnswer) → answer_value r.value ≡ Ok (pid p) → label_of r.label ≡ label.spawns linked p
+    → ReportsSpawn (if linked then linking else unbound) p k r
 tells_it true p k r x y = record { value = x; label = y }
 tells_it false p k r x y = record { value = x; label = y }
 
 -- where the ties are changed first
-pub opens_tied : (w w' : Processes) (l : Life) (t u : AllTies) → u ≡ t → Opens u (record w { shared = record w.shared { ties = u } }) l w' → Opens t w l w'
+pub opens_tied : (w w' : Processes) (l : Life) (t u : AllTies) → u ≡ t → OpensWithTies u (record w { shared = record w.shared { ties = u } }) l w' → OpensWithTies t w l w'
 opens_tied w w' l t u e o = record { tied = o.tied ∙ e; channels = o.channels; slots = o.slots; ready = o.ready; basis = o.basis }
 
 -- what is spare is no part of it
-pub opens_alike : (b : Bond) (n : ℕ) (w w' : Processes) (s : Spare) (l : Life) (r : Answer) → OpensProcess b n (record w { spare = s }) l r w' → OpensProcess b n w l r w'
+pub opens_alike : (b : Bond) (n : ℕ) (w w' : Processes) (s : Spare) (l : Life) (r : ActAnswer) → OpensProcess b n (record w { spare = s }) l r w' → OpensProcess b n w l r w'
 opens_alike b n w w' s l r o =
     record {
       opens = record { tied = o.opens.tied; channels = o.opens.channels; slots = o.opens.slots; ready = o.opens.ready; basis = o.opens.basis };
@@ -191,29 +191,29 @@ opens_alike b n w w' s l r o =
     }
 
 -- the slots of the others stay
-pub keeps_opened : (n : ℕ) (b : Bond) (w w' : Processes) (l : Life) (r : Answer) → n < length w.slots.items → OpensProcess b n w l r w' → KeepsSlot n w w'
+pub keeps_opened : (n : ℕ) (b : Bond) (w w' : Processes) (l : Life) (r : ActAnswer) → n < length w.slots.items → OpensProcess b n w l r w' → KeepsSlot n w w'
 keeps_opened n b w w' l r k o = keeps_slot n w w' (ap (λ z. slice_get z n) o.opens.slots.3 ∙ get_front n w.slots.items _ k)
 
 -- ---- the action
 
-module _ (a : ℕ) (bond : Bond) (w : Processes) (r : Answer) (home function arguments : Value) where
+module _ (a : ℕ) (bond : Bond) (w : Processes) (r : ActAnswer) (home function arguments : Value) where
   abbrev Spawns : Processes → Type 0
   Spawns w' = ActsIn a (asked.spawn bond home function arguments) w r w'
 
-  pub home_refused : as_atom home ≡ None → ((c : Core) → Answers r (raising c badarg)) → Spawns w
+  pub home_refused : as_atom home ≡ None → ((c : Core) → AnswersAct r (raising c badarg)) → Spawns w
   home_refused e k c but =
       subst (λ z. ActedIn c z a w r w)
       (sym (given_none c (as_atom home) (λ h. given c (as_atom function) (λ n. given c (as_elements arguments) (λ vs. spawned c a bond (start_of (module_in w) h n vs)))) e))
       (raised_in a w r c badarg (k c) but)
 
-  pub function_refused : (h : ℕ) → home ≡ atom h → as_atom function ≡ None → ((c : Core) → Answers r (raising c badarg)) → Spawns w
+  pub function_refused : (h : ℕ) → home ≡ atom h → as_atom function ≡ None → ((c : Core) → AnswersAct r (raising c badarg)) → Spawns w
   function_refused h q e k c but =
       subst (λ z. ActedIn c (given c (as_atom z) (λ h. given c (as_atom function) (λ n. given c (as_elements arguments) (λ vs. spawned c a bond (start_of (module_in w) h n vs))))) a w r w) (sym q)
       (subst (λ z. ActedIn c z a w r w)
       (sym (given_none c (as_atom function) (λ n. given c (as_elements arguments) (λ vs. spawned c a bond (start_of (module_in w) h n vs))) e))
       (raised_in a w r c badarg (k c) but))
 
-  pub arguments_refused : (h n : ℕ) → home ≡ atom h → function ≡ atom n → as_elements arguments ≡ None → ((c : Core) → Answers r (raising c badarg)) → Spawns w
+  pub arguments_refused : (h n : ℕ) → home ≡ atom h → function ≡ atom n → as_elements arguments ≡ None → ((c : Core) → AnswersAct r (raising c badarg)) → Spawns w
   arguments_refused h n q p e k c but =
       subst (λ z. ActedIn c (given c (as_atom z) (λ h. given c (as_atom function) (λ n. given c (as_elements arguments) (λ vs. spawned c a bond (start_of (module_in w) h n vs))))) a w r w) (sym q)
       (subst (λ z. ActedIn c (given c (as_atom z) (λ n. given c (as_elements arguments) (λ vs. spawned c a bond (start_of (module_in w) h n vs)))) a w r w) (sym p)
@@ -227,10 +227,10 @@ module _ (a : ℕ) (bond : Bond) (w : Processes) (r : Answer) (home function arg
         (subst (λ z. ActedIn c (given c (as_atom z) (λ n. given c (as_elements arguments) (λ vs. spawned c a bond (start_of (module_in w) h n vs)))) a w r w') (sym p)
         (subst (λ z. ActedIn c (given c (as_elements z) (λ vs. spawned c a bond (start_of (module_in w) h n vs))) a w r w') (sym y) (k c but)))
 
-    pub limit_refused : w.basis.most ≤ length w.slots.items → ((c : Core) → Answers r (raising c system_limit)) → Spawns w
+    pub limit_refused : w.basis.most ≤ length w.slots.items → ((c : Core) → AnswersAct r (raising c system_limit)) → Spawns w
     limit_refused l k =
         reaches w (λ c but.
-        let b = body (ended (failed undefined)) [] in
+        let b = body_of (ended (failed undefined)) [] in
         let e : length c.processes ≡ length w.slots.items =
         length_of c ∙ sym (set_length a (bodies_of c) b) ∙ ap length (but.bodies b) ∙ set_length a (bodies_in w) b ∙ length-map w.slots.items slot_body in
         let s = start_of (module_in w) h n vs in

@@ -10,16 +10,16 @@ use Rattle.pf_model.specs.Maps.{with_number}
 use Rattle.pf_model.specs.declared.limits.TheConstants.{MOST_PROCESSES, MOST_PROCESSES_FIRST}
 use Rattle.pf_model.specs.Channels.{heads, with_senders}
 use Rattle.pf_model.specs.Configuration.{Process, Core, Configuration, of, process_at}
-use Rattle.pf_model.specs.Runs.{process, channel, enabled, start, can_go, numbers_of, Passed, Passes, passed, turn}
+use Rattle.pf_model.specs.Runs.{process, channel, enabled, start, can_go, pids_in_state, Passed, Passes, passed, turn}
 use Rattle.pf_model.specs.Reports.{label_of}
 use Rattle.pf_model.specs.declared.report.Label.{Label}
-use Rattle.pf_ties.specs.Ties.{no_process, opened}
+use Rattle.pf_ties.specs.Ties.{no_process, ties_opened}
 use Rattle.pf_stepper.specs.MachineView.{MachineView, goes, at_call}
 use Rattle.pf_system.specs.View.{view_of_system}
-use Rattle.pf_system.specs.Acts.{Opens}
+use Rattle.pf_system.specs.Acts.{OpensWithTies}
 use Rattle.pf_system.specs.Slots.{SlotIsSound, SlotsAreSound, slot_body, state_in}
 use Rattle.pf_system.specs.Steps.{IsAmong, RunsModule, PassesTo}
-use Rattle.pf_system.specs.Processes.{Represents, Turned, checked_in, core_of, configuration_of}
+use Rattle.pf_system.specs.Processes.{Represents, ProcessTurned, checked_in, core_of, configuration_of}
 use Rattle.pf_system.specs.declared.slot.Life.TheVariants as life
 use Rattle.pf_system.specs.declared.slot.Slot.{Slot}
 use Rattle.pf_system.specs.declared.processes.Processes.{Processes}
@@ -39,20 +39,20 @@ by_process a [] h = h
 by_process a (p ∷ ps) (inl e) = let k : a ≡ p = cc in inl k
 by_process a (p ∷ ps) (inr h) = inr (by_process a ps h)
 
-in_numbers : (n a : ℕ) (ps : List Process) → IsIn a (numbers_of can_go n ps) → (i : ℕ) × (a ≡ n + i) × (can_go (process_at i ps).state ≡ true)
+in_numbers : (n a : ℕ) (ps : List Process) → IsIn a (pids_in_state can_go n ps) → (i : ℕ) × (a ≡ n + i) × (can_go (process_at i ps).state ≡ true)
 in_numbers n a [] h = absurd h
 in_numbers n a (p ∷ ps) h = by (in_numbers (suc n) a ps) (can_go p.state) refl h
   where
     later : (i : ℕ) × (a ≡ suc n + i) × (can_go (process_at i ps).state ≡ true) → (i : ℕ) × (a ≡ n + i) × (can_go (process_at i (p ∷ ps)).state ≡ true)
     later q = let e = q.1 in (suc q.0, omega arith, q.2)
 
-    first : (t : Bool) → can_go p.state ≡ t → (IsIn a (numbers_of can_go (suc n) ps) → (i : ℕ) × (a ≡ suc n + i) × (can_go (process_at i ps).state ≡ true))
-        → IsIn a (n ∷ numbers_of can_go (suc n) ps) → t ≡ true → (i : ℕ) × (a ≡ n + i) × (can_go (process_at i (p ∷ ps)).state ≡ true)
+    first : (t : Bool) → can_go p.state ≡ t → (IsIn a (pids_in_state can_go (suc n) ps) → (i : ℕ) × (a ≡ suc n + i) × (can_go (process_at i ps).state ≡ true))
+        → IsIn a (n ∷ pids_in_state can_go (suc n) ps) → t ≡ true → (i : ℕ) × (a ≡ n + i) × (can_go (process_at i (p ∷ ps)).state ≡ true)
     first t e f (inl k) y = (zero, omega arith, e ∙ y)
     first t e f (inr k) y = later (f k)
 
-    by : (IsIn a (numbers_of can_go (suc n) ps) → (i : ℕ) × (a ≡ suc n + i) × (can_go (process_at i ps).state ≡ true)) → (t : Bool) → can_go p.state ≡ t
-        → IsIn a (if t then n ∷ numbers_of can_go (suc n) ps else numbers_of can_go (suc n) ps)
+    by : (IsIn a (pids_in_state can_go (suc n) ps) → (i : ℕ) × (a ≡ suc n + i) × (can_go (process_at i ps).state ≡ true)) → (t : Bool) → can_go p.state ≡ t
+        → IsIn a (if t then n ∷ pids_in_state can_go (suc n) ps else pids_in_state can_go (suc n) ps)
         → (i : ℕ) × (a ≡ n + i) × (can_go (process_at i (p ∷ ps)).state ≡ true)
     by f true e k = first true e f k refl
     by f false e k = later (f k)
@@ -61,7 +61,7 @@ pub can_go_of : (a : ℕ) (c : Configuration) → IsAmong (process a) (enabled c
 can_go_of a c h = by (in_either (process a) (map process ps) (map (λ h. channel h.0 h.1) (heads c.channels)) there)
   where
     ps : List ℕ
-    ps = numbers_of can_go zero c.core.processes
+    ps = pids_in_state can_go zero c.core.processes
 
     there : IsIn (process a) (enabled c)
     there = subst (IsIn (process a)) (sym h.2) (split_in (process a) h.0 h.1)
@@ -76,10 +76,10 @@ can_go_of a c h = by (in_either (process a) (map process ps) (map (λ h. channel
 
 -- ---- a turn
 
-pub turn_kept : (m : Checked) (w w' : Processes) (c : Core) (a left used : ℕ) (l : Label) → RunsModule m w → Turned c a left w l used w' → RunsModule m w'
+pub turn_kept : (m : Checked) (w w' : Processes) (c : Core) (a left used : ℕ) (l : Label) → RunsModule m w → ProcessTurned c a left w l used w' → RunsModule m w'
 turn_kept m w w' c a left used l k h = kept_after m w w' h.deed.left.core k h.shown.done.stands h.shown.done.basis
 
-pub turn_passes : (m : Checked) (w w' : Processes) (k a left used : ℕ) (l : Label) → RunsModule m w → Turned (core_of w) a left w l used w'
+pub turn_passes : (m : Checked) (w w' : Processes) (k a left used : ℕ) (l : Label) → RunsModule m w → ProcessTurned (core_of w) a left w l used w'
     → PassesTo left (view_of_system m k (Some (configuration_of w))) (process a) (label_of l) used (view_of_system m (k + used) (Some (configuration_of w')))
 turn_passes m w w' k a left used l i h =
     let d = h.deed in
@@ -115,7 +115,7 @@ pub record IsEmpty (w : Processes) : Type 0 where
   pub ready : w.ready ≡ []
 
 module _ (w w' : Processes) (k : MachineView) (root : ℕ) (none' : IsEmpty w) (at : k ≡ at_call 0 (checked_in w) root none)
-    (o : Opens (opened w.shared.ties None) w (life.Lives k false) w') (edition : ℕ) (most : w.basis.most ≡ most_processes edition) where
+    (o : OpensWithTies (ties_opened w.shared.ties None) w (life.Lives k false) w') (edition : ℕ) (most : w.basis.most ≡ most_processes edition) where
   abbrev first : Slot
   first = record { life = life.Lives k false; mailbox = o.slots.0 }
 
@@ -140,7 +140,7 @@ module _ (w w' : Processes) (k : MachineView) (root : ℕ) (none' : IsEmpty w) (
       record {
         bodies = sym (ap (map slot_body) one_slot ∙ ap (λ z. record { state = z; mailbox = o.slots.0.messages } ∷ []) (ap state_in stood)
             ∙ ap (λ z. record { state = running (call root no_trees); mailbox = z } ∷ []) o.slots.1);
-        ties = sym (o.tied ∙ ap (λ z. opened z None) none'.ties);
+        ties = sym (o.tied ∙ ap (λ z. ties_opened z None) none'.ties);
         ready = o.ready ∙ ap (λ z. with_number (length z) w.ready) none'.slots ∙ ap (with_number 0) none'.ready;
         slots = subst (SlotsAreSound (checked_in w') zero) (sym one_slot) (first_is_sound, tt);
         room = record {

@@ -6,7 +6,7 @@ use Rattle.pf_syntax.specs.Tree.{Tree}
 use Rattle.pf_syntax.specs.Module.{Checked}
 use Rattle.pf_model.specs.Module.{Module, module_of}
 use Rattle.pf_model.specs.Context as index
-use Rattle.pf_model.specs.Context.{Frame, State, running, waiting, ending, ended, goes_on, asks, awaits, moved, Moves, at_value, at_index}
+use Rattle.pf_model.specs.Context.{Frame, ProcessState, running, waiting, ending, ended, goes_on, asks, awaits, moved, Moves, at_value, at_index}
 use Rattle.pf_model.specs.Channels.{with_senders}
 use Rattle.pf_model.specs.Configuration.{Process, Core, of, process_at, posted}
 use Rattle.pf_model.specs.Deliveries.{Deed}
@@ -17,15 +17,15 @@ use Rattle.pf_model.specs.declared.report.Label.{Label}
 use Rattle.pf_stepper.specs.MicroSteps.{Contracts}
 use Rattle.pf_stepper.specs.Advanced.{Steps, no_step, one_more}
 use Rattle.pf_mailbox.specs.MailView.{MailView}
-use Rattle.pf_stepper.specs.MachineView.{Standing, asking}
-use Rattle.pf_stepper.specs.Moves.{Moved}
-use Rattle.pf_stepper.specs.Turns.{CanAnswer, StepsAndMove, Ran}
+use Rattle.pf_stepper.specs.MachineView.{MachineStatus, asking}
+use Rattle.pf_stepper.specs.Moves.{MachineMoved}
+use Rattle.pf_stepper.specs.Turns.{CanAnswer, StepsAndMove, MachineRan}
 use Rattle.pf_stepper.proofs.Before.{steps_before, turn_behind}
 use Rattle.pf_stepper.specs.declared.machine.Move.{Move}
 use Rattle.pf_stepper.specs.declared.machine.Move.TheVariants as v
 use Rattle.pf_system.specs.Slots.{state_of, LifeAsks, LifeIsLeft, LifeIsReady, RanInSlot, SlotIsSound}
-use Rattle.pf_system.specs.Processes.{Represents, IsShaped, Shown, Turned, checked_in, module_in}
-use Rattle.pf_system.specs.Settled.{AsksFor, Settles, SettlesAs, LastStep, cut_in}
+use Rattle.pf_system.specs.Processes.{Represents, IsShaped, Shown, ProcessTurned, checked_in, module_in}
+use Rattle.pf_system.specs.Settled.{SlotAsksFor, SettlesMove, SettlesAs, LastStep, cut_in}
 use Rattle.pf_system.specs.declared.slot.Life.{Life}
 use Rattle.pf_system.specs.declared.slot.Life.TheVariants as life
 use Rattle.pf_system.specs.declared.slot.Slot.{Slot}
@@ -58,13 +58,13 @@ module _ (m : Module) (a : ℕ) where
   steps_go_on _ _ _ (no_step p) k = k
   steps_go_on _ _ _ (one_more i p q r s h) k = step_goes_on q r h
 
-  cut_at : (c : Core) (t : State) → can_go t ≡ true → Turn m a c zero t (cut_in c a t) zero
+  cut_at : (c : Core) (t : ProcessState) → can_go t ≡ true → Turn m a c zero t (cut_in c a t) zero
   cut_at c (running t) h = cut_running t
   cut_at c (ending r) h = cut_ending r
   cut_at c (waiting t) h = absurd (cc)
   cut_at c (ended e) h = absurd (cc)
 
-  cut_turn : (c : Core) (left used : ℕ) (s t : State) → can_go t ≡ true → used ≡ left → Steps m a left (goes_on s) (goes_on t)
+  cut_turn : (c : Core) (left used : ℕ) (s t : ProcessState) → can_go t ≡ true → used ≡ left → Steps m a left (goes_on s) (goes_on t)
       → Turn m a c left s (cut_in c a t) used
   cut_turn c left used s t k e h =
       let x : left + zero ≡ left = omega arith in
@@ -111,13 +111,13 @@ module _ (w : Processes) (c : Core) (a : ℕ) (s : Slot) (h : Represents w c) (a
         within = subst (λ z. z.most ≤ MOST_PROCESSES) (sym m) h.room.within;
       }
 
-asks_in : (m : Checked) (own : ℕ) (x : Standing) (l : Life) (mail : MailView) (fs : List Frame) → LifeIsLeft m own x l mail → x ≡ asking fs → LifeAsks l
+asks_in : (m : Checked) (own : ℕ) (x : MachineStatus) (l : Life) (mail : MailView) (fs : List Frame) → LifeIsLeft m own x l mail → x ≡ asking fs → LifeAsks l
 asks_in m own x (life.Lives k w) mail fs h e = subst CanAnswer (sym (h.0 ∙ e)) tt
 asks_in m own x (life.Ends r) mail fs h e = tt
 asks_in m own x (life.Ended r) mail fs h e = tt
 
 -- a machine that asked for an action waits for the answer
-pub asks_for : (m : Checked) (own left used : ℕ) (s s1 : Slot) (move : Move) → RanInSlot m own left s move used s1 → AsksFor move s1
+pub asks_for : (m : Checked) (own left used : ℕ) (s s1 : Slot) (move : Move) → RanInSlot m own left s move used s1 → SlotAsksFor move s1
 asks_for m own left used s s1 (v.Action act) r = asks_in m own r.standing s1.life s1.mailbox r.ran.last.frames r.leaves r.ran.last.stands
 asks_for m own left used s s1 v.Pure r = tt
 asks_for m own left used s s1 (v.Take t) r = tt
@@ -138,8 +138,8 @@ shown_from w w1 w' a l d e f h =
     }
 
 module _ (w w1 w' : Processes) (c : Core) (a left used : ℕ) (l : Label) (e : w1.shared ≡ w.shared) (f : w1.basis ≡ w.basis) (can : can_go (of c a).state ≡ true)
-    (x : Standing) (mail : List Value) where
-  cut_so : Ran (module_in w) a left (of c a).state (of c a).mailbox v.Pure x used mail → Settles c a v.Pure x mail w1 l w' → Turned c a left w l used w'
+    (x : MachineStatus) (mail : List Value) where
+  cut_so : MachineRan (module_in w) a left (of c a).state (of c a).mailbox v.Pure x used mail → SettlesMove c a v.Pure x mail w1 l w' → ProcessTurned c a left w l used w'
   cut_so r k =
       let g = steps_go_on (module_in w) a left (goes_on (of c a).state) (goes_on r.next) r.steps can in
       record {
@@ -150,7 +150,7 @@ module _ (w w1 w' : Processes) (c : Core) (a left used : ℕ) (l : Label) (e : w
       }
 
   -- the last step of a turn after those that went before it
-  last_so : (move : Move) (r : StepsAndMove (module_in w) a left (of c a).state (of c a).mailbox move x used mail) → LastStep r.middle c a w1 l w' → Turned c a left w l used w'
+  last_so : (move : Move) (r : StepsAndMove (module_in w) a left (of c a).state (of c a).mailbox move x used mail) → LastStep r.middle c a w1 l w' → ProcessTurned c a left w l used w'
   last_so move r k =
       record {
         deed = k.deed;
@@ -160,10 +160,10 @@ module _ (w w1 w' : Processes) (c : Core) (a left used : ℕ) (l : Label) (e : w
         shown = shown_from w w1 w' a l k.deed e f k.shown;
       }
 
-  moved_from : (y : State) (move : Move) → Moved (module_in w) a y (of c a).mailbox move x mail → Moved (module_in w1) a y (of c a).mailbox move x mail
-  moved_from y move h = subst (λ z. Moved (module_of z.module.value) a y (of c a).mailbox move x mail) (sym f) h
+  moved_from : (y : ProcessState) (move : Move) → MachineMoved (module_in w) a y (of c a).mailbox move x mail → MachineMoved (module_in w1) a y (of c a).mailbox move x mail
+  moved_from y move h = subst (λ z. MachineMoved (module_of z.module.value) a y (of c a).mailbox move x mail) (sym f) h
 
-  turned_by : (move : Move) → Ran (module_in w) a left (of c a).state (of c a).mailbox move x used mail → Settles c a move x mail w1 l w' → Turned c a left w l used w'
+  turned_by : (move : Move) → MachineRan (module_in w) a left (of c a).state (of c a).mailbox move x used mail → SettlesMove c a move x mail w1 l w' → ProcessTurned c a left w l used w'
   turned_by v.Pure r k = cut_so r k
   turned_by (v.Action act) r k = last_so (v.Action act) r (k r.middle (moved_from r.middle (v.Action act) r.last))
   turned_by (v.Take t) r k = last_so (v.Take t) r (k r.middle (moved_from r.middle (v.Take t) r.last))
@@ -172,11 +172,11 @@ module _ (w w1 w' : Processes) (c : Core) (a left used : ℕ) (l : Label) (e : w
 
 pub turned : (w w1 w' : Processes) (c : Core) (a left used : ℕ) (s s1 : Slot) (move : Move) (l : Label) → Represents w c → can_go (of c a).state ≡ true
     → slice_get w.slots.items a ≡ Some s → RanInSlot (checked_in w) a left s move used s1 → w1.slots.items ≡ slice_set w.slots.items a s1 → w1.shared ≡ w.shared
-    → w1.ready ≡ w.ready → w1.basis ≡ w.basis → SettlesAs a move w1 l w' → Turned c a left w l used w'
+    → w1.ready ≡ w.ready → w1.basis ≡ w.basis → SettlesAs a move w1 l w' → ProcessTurned c a left w l used w'
 turned w w1 w' c a left used s s1 move l h can at r e b q f k =
     let n = get_within a w.slots.items s at in
     let y = body_at w c a s h at in
-    let r' : Ran (module_in w) a left (of c a).state (of c a).mailbox move r.standing used s1.mailbox.messages =
-    subst (λ z. Ran (module_in w) a left z.state z.mailbox move r.standing used s1.mailbox.messages) (sym y) r.ran in
+    let r' : MachineRan (module_in w) a left (of c a).state (of c a).mailbox move r.standing used s1.mailbox.messages =
+    subst (λ z. MachineRan (module_in w) a left z.state z.mailbox move r.standing used s1.mailbox.messages) (sym y) r.ran in
     turned_by w w1 w' c a left used l b f can r.standing s1.mailbox.messages move r'
     (k c r.standing s1 (ran_but w w1 c a s1 h n e b q f) can (left_at w w1 c a s1 r.standing r.leaves n e f))

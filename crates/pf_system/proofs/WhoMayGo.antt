@@ -8,7 +8,7 @@ use Rattle.pf_model.specs.Channels.{heads}
 use Rattle.pf_model.specs.Configuration.{Configuration}
 use Rattle.pf_model.specs.Labels.{Label}
 use Rattle.pf_model.specs.Runs.{Actor, process, channel, enabled, Passed, Passes, delivery}
-use Rattle.pf_system.specs.Steps.{IsAmong, MayGo, PassesTo, noted}
+use Rattle.pf_system.specs.Steps.{IsAmong, MayGo, PassesTo, noted_actors}
 use Rattle.pf_system.specs.View.{SystemView}
 use Rattle.pf_system.specs.declared.enabled.Enabled.{Enabled}
 
@@ -41,7 +41,7 @@ may_go None xs h k x e = tt
 may_go (Some c) xs h k x e = among (enabled c) k x (ap (λ l. slice_get l k) (sym (h c refl)) ∙ e)
 
 -- how many are noted
-pub noted_count : (e : Enabled) → length (noted e) ≡ length e.ready.now + length (heads e.channels.now)
+pub noted_count : (e : Enabled) → length (noted_actors e) ≡ length e.ready.now + length (heads e.channels.now)
 noted_count e =
     let a = length-map e.ready.now process in
     let b = length-map (heads e.channels.now) (λ h. channel h.0 h.1) in

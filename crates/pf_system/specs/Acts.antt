@@ -3,7 +3,7 @@ use Rattle.std.specs.Prelude.{◌≡◌, ◌<◌, ◌≤◌, ℕ, ◌+◌, true,
 use Rattle.pf_terms.specs.declared.term.Term.{Term}
 use Rattle.pf_syntax.specs.Module.{Checked}
 use Rattle.pf_model.specs.Maps.{with_number}
-use Rattle.pf_model.specs.Context.{Frame, State}
+use Rattle.pf_model.specs.Context.{Frame, ProcessState}
 use Rattle.pf_model.specs.Runs.{can_go}
 use Rattle.pf_model.specs.Turns.{after_act}
 use Rattle.pf_model.specs.Module.{Module, exported_as}
@@ -14,12 +14,12 @@ use Rattle.pf_model.specs.Actions.{Acted, acted, given_for, shown_for}
 use Rattle.pf_model.specs.Flush.{flushed}
 use Rattle.pf_model.specs.Reports.{label_of}
 use Rattle.pf_model.specs.declared.report.Label.{Label}
-use Rattle.pf_ties.specs.Ties.{AllTies, opened, opened_watched}
+use Rattle.pf_ties.specs.Ties.{AllTies, ties_opened, opened_watched}
 use Rattle.pf_ties.specs.Laws.{ties_of}
 use Rattle.pf_stepper.specs.MachineView.{MachineView, asking}
 use Rattle.pf_mailbox.specs.MailView.{MailView}
 use Rattle.pf_mailbox.specs.Tests.{IsAheadOf}
-use Rattle.pf_stepper.specs.Turns.{told_of}
+use Rattle.pf_stepper.specs.Turns.{answer_value}
 use Rattle.pf_stepper.specs.declared.act.Act.{Act as Asked}
 use Rattle.pf_stepper.specs.declared.act.Act.TheVariants as asked
 use Rattle.pf_system.specs.Slots.{LifeAsks, LifeIsReady, LifeIsOf, state_of}
@@ -35,26 +35,26 @@ pub record IsMember (a : ℕ) (b : Shared) : Type 0 where
   pub rows : length b.ties.processes ≤ length b.channels
 
 -- the answer to an action, a value or the reason that it raises, and what the action shows
-pub record Answer : Type 0 where
+pub record ActAnswer : Type 0 where
   pub value : Result Term Term
   pub label : Label
 
-abbrev pub answer : Result Term Term → Label → Answer
+abbrev pub answer : Result Term Term → Label → ActAnswer
 answer v l = record { value = v; label = l }
 
 -- an answer and its label are those of what an action leaves
-pub record Answers (r : Answer) (x : Acted) : Type 0 where
-  pub value : told_of r.value ≡ x.answer
+pub record AnswersAct (r : ActAnswer) (x : Acted) : Type 0 where
+  pub value : answer_value r.value ≡ x.answer
   pub label : label_of r.label ≡ x.label
 
 -- ties and channels are what an action of process a makes of them
-pub record CarriesOut (x : Acted) (a : ℕ) (b : Shared) (r : Answer) (b' : Shared) : Type 0 where
+pub record CarriesOut (x : Acted) (a : ℕ) (b : Shared) (r : ActAnswer) (b' : Shared) : Type 0 where
   pub ties : ties_of x.left.core ≡ b'.ties
   pub channels : b'.channels ≡ posted a x.left.sent b.channels
-  pub answers : Answers r x
+  pub answers : AnswersAct r x
 
 -- so they are whatever the rest of the core is
-abbrev pub ActsAs : ℕ → Act → Shared → Answer → Shared → Type 0
+abbrev pub ActsAs : ℕ → Act → Shared → ActAnswer → Shared → Type 0
 ActsAs a act b r b' = (m : Module) (c : Core) → ties_of c ≡ b.ties → CarriesOut (acted m c a act) a b r b'
 
 -- all actions but a send, those that make a process, and the one that may take a message out
@@ -74,17 +74,17 @@ IsBetween asked.MakeRef = Unit {0}
 
 -- the processes are what an action of process a makes of them, but for the slot of that process, which waits for the
 -- answer
-pub record ActedIn (c : Core) (x : Acted) (a : ℕ) (w : Processes) (r : Answer) (w' : Processes) : Type 0 where
+pub record ActedIn (c : Core) (x : Acted) (a : ℕ) (w : Processes) (r : ActAnswer) (w' : Processes) : Type 0 where
   pub stands : RepresentsBut w' x.left.core a
   pub state : (of x.left.core a).state ≡ (of c a).state
   -- a slot that holds the messages of the process holds them still
   pub mail : (s s' : Slot) → slice_get w.slots.items a ≡ Some s → slice_get w'.slots.items a ≡ Some s' → s.mailbox.messages ≡ (of c a).mailbox
       → s'.mailbox.messages ≡ (of x.left.core a).mailbox
   pub channels : w'.shared.channels ≡ posted a x.left.sent (with_senders (length x.left.core.processes) w.shared.channels)
-  pub answers : Answers r x
+  pub answers : AnswersAct r x
   pub basis : w'.basis ≡ w.basis
 
-abbrev pub ActsIn : ℕ → Act → Processes → Answer → Processes → Type 0
+abbrev pub ActsIn : ℕ → Act → Processes → ActAnswer → Processes → Type 0
 ActsIn a act w r w' = (c : Core) → RepresentsBut w c a → ActedIn c (acted (module_in w) c a act) a w r w'
 
 -- a slot stays as it was, but for its messages; what its mailbox was ready for it still is
@@ -124,14 +124,14 @@ abbrev pub home_function : Module → (home name arity : ℕ) → Option ℕ
 home_function m home name arity = if home == m.name then exported_as m name arity else None
 
 -- a process of this pid begins in a state in which it can go
-pub record LifeBegins (m : Checked) (own : ℕ) (s : State) (l : Life) : Type 0 where
+pub record LifeBegins (m : Checked) (own : ℕ) (s : ProcessState) (l : Life) : Type 0 where
   pub sound : (mail : MailView) → ((k : MachineView) → IsAheadOf k mail) → LifeIsReady l mail
   pub is_of : LifeIsOf m own l
   pub state : state_of l ≡ s
   pub goes : can_go s ≡ true
 
 -- one process more, with no message, that can go, and then these ties
-pub record Opens (ties : AllTies) (w : Processes) (l : Life) (w' : Processes) : Type 0 where
+pub record OpensWithTies (ties : AllTies) (w : Processes) (l : Life) (w' : Processes) : Type 0 where
   pub tied : w'.shared.ties ≡ ties
   pub channels : w'.shared.channels ≡ with_senders (length w.slots.items + 1) w.shared.channels
   pub slots : (mail : MailView) × (mail.messages ≡ []) × ((k : MachineView) → IsAheadOf k mail) × (w'.slots.items ≡ w.slots.items ++ record { life = l; mailbox = mail } ∷ [])
@@ -140,16 +140,16 @@ pub record Opens (ties : AllTies) (w : Processes) (l : Life) (w' : Processes) : 
 
 -- the ties after it, by the bond of the new process to another
 abbrev pub opened_by : Bond → (other : ℕ) → AllTies → AllTies
-opened_by unbound a t = opened t None
-opened_by linking a t = opened t (Some a)
+opened_by unbound a t = ties_opened t None
+opened_by linking a t = ties_opened t (Some a)
 opened_by watching a t = opened_watched t a
 
 -- an answer gives and shows a new process, by its bond
-pub record Tells (b : Bond) (own reference : ℕ) (r : Answer) : Type 0 where
-  pub value : told_of r.value ≡ Ok (given_for b own reference)
+pub record ReportsSpawn (b : Bond) (own reference : ℕ) (r : ActAnswer) : Type 0 where
+  pub value : answer_value r.value ≡ Ok (given_for b own reference)
   pub label : label_of r.label ≡ shown_for b own reference
 
 -- one process more by its bond to another, and what is given and shown
-pub record OpensProcess (b : Bond) (other : ℕ) (w : Processes) (l : Life) (r : Answer) (w' : Processes) : Type 0 where
-  pub opens : Opens (opened_by b other w.shared.ties) w l w'
-  pub tells : Tells b (length w.slots.items) w.shared.ties.next_reference r
+pub record OpensProcess (b : Bond) (other : ℕ) (w : Processes) (l : Life) (r : ActAnswer) (w' : Processes) : Type 0 where
+  pub opens : OpensWithTies (opened_by b other w.shared.ties) w l w'
+  pub tells : ReportsSpawn b (length w.slots.items) w.shared.ties.next_reference r

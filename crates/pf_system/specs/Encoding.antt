@@ -6,7 +6,7 @@ use Rattle.pf_terms.specs.Value.{Value}
 use Rattle.pf_terms.specs.Encoding.{coded_value}
 use Rattle.pf_syntax.specs.Tree.{Tree}
 use Rattle.pf_syntax.specs.Encoding.{coded_tree}
-use Rattle.pf_model.specs.Context.{State, running, waiting, ending, ended, returned, failed}
+use Rattle.pf_model.specs.Context.{ProcessState, running, waiting, ending, ended, returned, failed}
 use Rattle.pf_model.specs.Configuration.{Process, Core, Configuration}
 use Rattle.pf_channels.specs.Encoding.{coded_channels}
 use Rattle.pf_syntax.specs.Module.{coded_checked}
@@ -16,28 +16,28 @@ use Rattle.pf_system.specs.View.{SystemView, view_of_system}
 abbrev pub Parts : Type 0
 Parts = Tree ⊎ (Tree ⊎ (Value ⊎ (Value ⊎ Value)))
 
-abbrev pub parts_of : State → Parts
+abbrev pub parts_of : ProcessState → Parts
 parts_of (running t) = inl t
 parts_of (waiting t) = inr (inl t)
 parts_of (ending r) = inr (inr (inl r))
 parts_of (ended (returned v)) = inr (inr (inr (inl v)))
 parts_of (ended (failed r)) = inr (inr (inr (inr r)))
 
-abbrev pub state_from : Parts → State
+abbrev pub state_from : Parts → ProcessState
 state_from (inl t) = running t
 state_from (inr (inl t)) = waiting t
 state_from (inr (inr (inl r))) = ending r
 state_from (inr (inr (inr (inl v)))) = ended (returned v)
 state_from (inr (inr (inr (inr r)))) = ended (failed r)
 
-pub state_again : (s : State) → state_from (parts_of s) ≡ s
+pub state_again : (s : ProcessState) → state_from (parts_of s) ≡ s
 state_again (running t) = refl
 state_again (waiting t) = refl
 state_again (ending r) = refl
 state_again (ended (returned v)) = refl
 state_again (ended (failed r)) = refl
 
-abbrev pub coded_state : Coded State
+abbrev pub coded_state : Coded ProcessState
 coded_state =
     code_by _ (coded⊎ coded_tree (coded⊎ coded_tree (coded⊎ coded_value (coded⊎ coded_value coded_value)))) parts_of state_from state_again
 

@@ -17,8 +17,8 @@ pub record PlacesMessage (c : Core) (b : ℕ) (v : Value) (w w' : Processes) : T
   pub shared : w'.shared ≡ w.shared
   pub basis : w'.basis ≡ w.basis
 
-abbrev pub Places : ℕ → Value → Processes → Processes → Type 0
-Places b v w w' = (c : Core) → Represents w c → is_alive (of c b).state ≡ true → PlacesMessage c b v w w'
+abbrev pub PlacesOf : ℕ → Value → Processes → Processes → Type 0
+PlacesOf b v w w' = (c : Core) → Represents w c → is_alive (of c b).state ≡ true → PlacesMessage c b v w w'
 
 -- what is shown of a delivery beside its signal
 pub record SuffixShown (b : ℕ) (s : Signal) (d : Deed) (w : Processes) (x : Suffix) (w' : Processes) : Type 0 where

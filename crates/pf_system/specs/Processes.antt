@@ -7,13 +7,13 @@ use Rattle.pf_model.specs.Channels.{Signal, Channels, taken, with_senders}
 use Rattle.pf_model.specs.Configuration.{Core, Configuration, Left, of, posted}
 use Rattle.pf_model.specs.Deliveries.{Deed, delivered}
 use Rattle.pf_model.specs.Ends.{ended_by}
-use Rattle.pf_model.specs.Runs.{can_go, numbers_of}
+use Rattle.pf_model.specs.Runs.{can_go, pids_in_state}
 use Rattle.pf_model.specs.Turns.{Turn}
 use Rattle.pf_model.specs.Reports.{label_of}
 use Rattle.pf_model.specs.declared.limits.TheConstants.{MOST_PROCESSES}
 use Rattle.pf_model.specs.declared.report.Label.{Label}
 use Rattle.pf_ties.specs.Laws.{ties_of}
-use Rattle.pf_stepper.specs.MachineView.{Standing}
+use Rattle.pf_stepper.specs.MachineView.{MachineStatus}
 use Rattle.pf_system.specs.Bodies.{Body, bodies_of, core_with}
 use Rattle.pf_system.specs.Slots.{slot_body, SlotIsSound, SlotsAreSound, SlotIsLeft, end_of}
 use Rattle.pf_system.specs.declared.slot.Slot.{Slot}
@@ -46,7 +46,7 @@ pub record IsRoomy (w : Processes) (c : Core) : Type 0 where
 pub record Represents (w : Processes) (c : Core) : Type 0 where
   pub bodies : bodies_of c ≡ bodies_in w
   pub ties : ties_of c ≡ w.shared.ties
-  pub ready : w.ready ≡ numbers_of can_go zero c.processes
+  pub ready : w.ready ≡ pids_in_state can_go zero c.processes
   pub slots : SlotsAreSound (checked_in w) zero w.slots.items
   pub room : IsRoomy w c
 
@@ -55,12 +55,12 @@ pub record RepresentsBut (w : Processes) (c : Core) (a : ℕ) : Type 0 where
   pub there : a < length w.slots.items
   pub bodies : (b : Body) → slice_set (bodies_of c) a b ≡ slice_set (bodies_in w) a b
   pub ties : ties_of c ≡ w.shared.ties
-  pub ready : w.ready ≡ numbers_of can_go zero c.processes
+  pub ready : w.ready ≡ pids_in_state can_go zero c.processes
   pub slots : (s : Slot) → SlotIsSound (checked_in w) a s → SlotsAreSound (checked_in w) zero (slice_set w.slots.items a s)
   pub room : IsRoomy w c
 
 -- the machine of process a ran, and has this status over these messages
-pub record IsLeftAt (w : Processes) (a : ℕ) (x : Standing) (s : Slot) : Type 0 where
+pub record IsLeftAt (w : Processes) (a : ℕ) (x : MachineStatus) (s : Slot) : Type 0 where
   pub at : slice_get w.slots.items a ≡ Some s
   pub leaves : SlotIsLeft (checked_in w) a x s
 
@@ -78,7 +78,7 @@ pub record Shown (a : ℕ) (d : Deed) (cs : Channels) (w : Processes) (l : Label
   pub label : label_of l ≡ d.label
 
 -- the turn of a process
-pub record Turned (c : Core) (a left : ℕ) (w : Processes) (l : Label) (used : ℕ) (w' : Processes) : Type 0 where
+pub record ProcessTurned (c : Core) (a left : ℕ) (w : Processes) (l : Label) (used : ℕ) (w' : Processes) : Type 0 where
   pub deed : Deed
   pub turn : Turn (module_in w) a c left (of c a).state deed used
   pub within : used ≤ left

@@ -1,15 +1,15 @@
 -- What the last step of a turn does, by the move that a machine made.
 use Rattle.std.specs.Prelude.{◌≡◌, ℕ, suc, true, List, [], Some, slice_get}
 use Rattle.pf_terms.specs.Value.{Value}
-use Rattle.pf_model.specs.Context.{State, running, waiting}
+use Rattle.pf_model.specs.Context.{ProcessState, running, waiting}
 use Rattle.pf_model.specs.Configuration.{Core, leaving, of, with_state}
 use Rattle.pf_model.specs.Labels as label
 use Rattle.pf_model.specs.Deliveries.{Deed, deed}
 use Rattle.pf_model.specs.Runs.{can_go}
 use Rattle.pf_model.specs.Turns.{Turn}
 use Rattle.pf_model.specs.declared.report.Label.{Label}
-use Rattle.pf_stepper.specs.MachineView.{Standing, goes}
-use Rattle.pf_stepper.specs.Moves.{Moved}
+use Rattle.pf_stepper.specs.MachineView.{MachineStatus, goes}
+use Rattle.pf_stepper.specs.Moves.{MachineMoved}
 use Rattle.pf_stepper.specs.declared.machine.Move.{Move}
 use Rattle.pf_stepper.specs.declared.machine.Move.TheVariants as v
 use Rattle.pf_system.specs.Slots.{LifeAsks}
@@ -17,37 +17,37 @@ use Rattle.pf_system.specs.Processes.{RepresentsBut, IsLeftAt, Done, Shown, modu
 use Rattle.pf_system.specs.declared.slot.Slot.{Slot}
 use Rattle.pf_system.specs.declared.processes.Processes.{Processes}
 
-abbrev pub AsksFor : Move → Slot → Type 0
-AsksFor (v.Action act) s = LifeAsks s.life
-AsksFor v.Pure s = Unit {0}
-AsksFor (v.Take t) s = Unit {0}
-AsksFor v.Wait s = Unit {0}
-AsksFor (v.End r) s = Unit {0}
+abbrev pub SlotAsksFor : Move → Slot → Type 0
+SlotAsksFor (v.Action act) s = LifeAsks s.life
+SlotAsksFor v.Pure s = Unit {0}
+SlotAsksFor (v.Take t) s = Unit {0}
+SlotAsksFor v.Wait s = Unit {0}
+SlotAsksFor (v.End r) s = Unit {0}
 
 -- a process that asked for an action may be answered
 pub record CanSettle (a : ℕ) (move : Move) (w : Processes) : Type 0 where
   pub slot : Slot
   pub at : slice_get w.slots.items a ≡ Some slot
-  pub asks : AsksFor move slot
+  pub asks : SlotAsksFor move slot
 
-abbrev pub cut_in : Core → ℕ → State → Deed
+abbrev pub cut_in : Core → ℕ → ProcessState → Deed
 cut_in c a t = deed (leaving (with_state c a t) []) label.cut
 
 -- the last step of a turn, from a state of the process
-pub record LastStep (y : State) (c : Core) (a : ℕ) (w : Processes) (l : Label) (w' : Processes) : Type 0 where
+pub record LastStep (y : ProcessState) (c : Core) (a : ℕ) (w : Processes) (l : Label) (w' : Processes) : Type 0 where
   pub deed : Deed
   pub last : (n : ℕ) → Turn (module_in w) a c (suc n) y deed 1
   pub shown : Shown a deed w.shared.channels w l w'
 
-abbrev pub Settles : Core → ℕ → Move → Standing → List Value → Processes → Label → Processes → Type 0
-Settles c a v.Pure x mail w l w' =
-    (t : State) → x ≡ goes t → can_go t ≡ true → mail ≡ (of c a).mailbox → Shown a (cut_in c a t) w.shared.channels w l w'
-Settles c a move x mail w l w' = (y : State) → Moved (module_in w) a y (of c a).mailbox move x mail → LastStep y c a w l w'
+abbrev pub SettlesMove : Core → ℕ → Move → MachineStatus → List Value → Processes → Label → Processes → Type 0
+SettlesMove c a v.Pure x mail w l w' =
+    (t : ProcessState) → x ≡ goes t → can_go t ≡ true → mail ≡ (of c a).mailbox → Shown a (cut_in c a t) w.shared.channels w l w'
+SettlesMove c a move x mail w l w' = (y : ProcessState) → MachineMoved (module_in w) a y (of c a).mailbox move x mail → LastStep y c a w l w'
 
 -- a machine made this move, and has this status over these messages
 abbrev pub SettlesAs : ℕ → Move → Processes → Label → Processes → Type 0
 SettlesAs a move w l w' =
-    (c : Core) (x : Standing) (s : Slot) → RepresentsBut w c a → can_go (of c a).state ≡ true → IsLeftAt w a x s → Settles c a move x s.mailbox.messages w l w'
+    (c : Core) (x : MachineStatus) (s : Slot) → RepresentsBut w c a → can_go (of c a).state ≡ true → IsLeftAt w a x s → SettlesMove c a move x s.mailbox.messages w l w'
 
 -- process a waits at a `receive`
 abbrev pub WaitsIn : ℕ → Processes → Processes → Type 0

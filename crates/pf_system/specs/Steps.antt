@@ -5,7 +5,7 @@ use Rattle.pf_model.specs.Module.{module_of}
 use Rattle.pf_model.specs.Labels.{Label}
 use Rattle.pf_model.specs.Channels.{heads}
 use Rattle.pf_model.specs.Configuration.{Configuration}
-use Rattle.pf_model.specs.Runs.{Actor, process, channel, Passed, Passes, enabled, can_go, numbers_of}
+use Rattle.pf_model.specs.Runs.{Actor, process, channel, Passed, Passes, enabled, can_go, pids_in_state}
 use Rattle.pf_system.specs.View.{SystemView, view_of_system}
 use Rattle.pf_system.specs.Processes.{checked_in, core_of, configuration_of, Represents}
 use Rattle.pf_system.specs.declared.enabled.Enabled.{Enabled}
@@ -13,12 +13,12 @@ use Rattle.pf_system.specs.declared.system.System.TheInside.{Inside}
 use Rattle.pf_system.specs.declared.processes.Processes.{Processes}
 
 -- the actors that may go, as those that are noted
-abbrev pub noted : Enabled → List Actor
-noted e = map process e.ready.now ++ map (λ h. channel h.0 h.1) (heads e.channels.now)
+abbrev pub noted_actors : Enabled → List Actor
+noted_actors e = map process e.ready.now ++ map (λ h. channel h.0 h.1) (heads e.channels.now)
 
 -- the processes and the channels that are noted are those of a configuration
 pub record IsNoteOf (e : Enabled) (c : Configuration) : Type 0 where
-  pub processes : e.ready.now ≡ numbers_of can_go zero c.core.processes
+  pub processes : e.ready.now ≡ pids_in_state can_go zero c.core.processes
   pub channels : heads e.channels.now ≡ heads c.channels
 
 -- an actor is among others

@@ -4,7 +4,7 @@ ghost use Rattle.std.specs.Prelude.{◌≡◌, ◌<◌, length, true, is_some, I
 ghost use Rattle.pf_terms.specs.Term.{value_of};
 ghost use Rattle.pf_model.specs.Channels.{down, exit, taken};
 ghost use Rattle.pf_model.specs.Signals.{signal_of};
-ghost use Rattle.pf_system.specs.Placed.{Places, ShowsAtEnded, ShowsAtLiving, ShowsSuffix};
+ghost use Rattle.pf_system.specs.Placed.{PlacesOf, ShowsAtEnded, ShowsAtLiving, ShowsSuffix};
 ghost use Rattle.pf_system.specs.Processes.{Delivered, IsShaped, Represents, core_of};
 
 use crate::messages::{down_message, exit_message};
@@ -70,7 +70,7 @@ impl Processes {
     /// A message arrives at a process that lives, which goes on where it waited.
     fn index(&mut self, to: u32, message: Term) -> Result<(), NoMemory>
         requires { to < length self.old.slots.items }
-        ensures { OnOk result (Places to (value_of message) self.old self.new) }
+        ensures { OnOk result (PlacesOf to (value_of message) self.old self.new) }
     {
         let slot = &mut self.slots[to as usize];
         if slot.index(&mut self.spare.pool, message)? {

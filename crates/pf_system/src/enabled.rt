@@ -4,7 +4,7 @@ ghost use Rattle.std.specs.Prelude.{◌≡◌, ◌^◌, ◌<◌, ◌≤◌, OnOk
 ghost use Rattle.pf_model.specs.Channels.{heads};
 ghost use Rattle.pf_model.specs.Reports.{actor_of};
 ghost use Rattle.pf_model.specs.declared.limits.TheConstants.{MOST_PROCESSES};
-ghost use Rattle.pf_system.specs.Steps.{noted};
+ghost use Rattle.pf_system.specs.Steps.{noted_actors};
 
 use pf_channels::Channels;
 use pf_model::report::Actor;
@@ -22,7 +22,7 @@ pub struct Enabled<'a> {
 impl Enabled<'_> {
     /// How many there are.
     pub fn len(&self) -> usize
-        ensures count { result ≡ length (noted self.now) }
+        ensures count { result ≡ length (noted_actors self.now) }
         ensures few { length self.now.ready.now ≤ MOST_PROCESSES → result < 2 ^ 32 }
     {
         self.ready.as_slice().len() + self.channels.len()
@@ -53,8 +53,8 @@ impl Enabled<'_> {
 
     /// The k-th of them, counted from 0.
     pub fn actor(&self, k: usize) -> Actor
-        requires { k < length (noted self.now) }
-        ensures { slice_get (noted self.now) k ≡ Some (actor_of result) }
+        requires { k < length (noted_actors self.now) }
+        ensures { slice_get (noted_actors self.now) k ≡ Some (actor_of result) }
     {
         let ready = self.ready.as_slice();
         if k < ready.len() {

@@ -3,8 +3,8 @@
 ghost use Rattle.std.specs.Prelude.{◌≡◌, zero, IfOk};
 ghost use Rattle.pf_model.specs.Configuration.{of};
 ghost use Rattle.pf_model.specs.Meaning.{outcome_of_root};
-ghost use Rattle.pf_model.specs.Reports.{outcome_of};
-ghost use Rattle.pf_model.specs.Runs.{is_waiting, numbers_of};
+ghost use Rattle.pf_model.specs.Reports.{view_of_outcome};
+ghost use Rattle.pf_model.specs.Runs.{is_waiting, pids_in_state};
 ghost use Rattle.pf_system.specs.Slots.{state_of, SlotIsSound};
 ghost use Rattle.pf_system.specs.Processes.{core_of, Represents};
 
@@ -32,7 +32,7 @@ impl Processes {
     fn waiting(&self, alloc: Global) -> Result<Vec<u32>, NoMemory>
         requires { Represents self.now (core_of self.now) }
         ensures { IfOk result
-            (λ ps. ps.items ≡ numbers_of is_waiting zero (core_of self.now).processes) }
+            (λ ps. ps.items ≡ pids_in_state is_waiting zero (core_of self.now).processes) }
     {
         let mut pids = Vec::new(alloc);
         for (pid, slot) in self.slots.iter().enumerate() {
@@ -46,8 +46,8 @@ impl Processes {
     /// The outcome of the run where nothing may go: how its root ended, or that it waits.
     pub(crate) fn outcome(&self, alloc: Global) -> Result<Outcome, NoMemory>
         requires { Represents self.now (core_of self.now) }
-        ensures { IfOk result (λ o. outcome_of o ≡ outcome_of_root (of (core_of self.now) zero).state
-            (numbers_of is_waiting zero (core_of self.now).processes)) }
+        ensures { IfOk result (λ o. view_of_outcome o ≡ outcome_of_root (of (core_of self.now) zero).state
+            (pids_in_state is_waiting zero (core_of self.now).processes)) }
     {
         let Some(root) = self.slots.first() else {
             return Ok(Outcome::Ended(Term::Atom(AtomId::UNDEFINED)));

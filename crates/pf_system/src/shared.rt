@@ -9,7 +9,7 @@ ghost use Rattle.pf_model.specs.Configuration.{posted};
 ghost use Rattle.pf_model.specs.Reports.{label_of};
 ghost use Rattle.pf_model.specs.Signals.{signal_of};
 ghost use Rattle.pf_ties.specs.Fates.{sent_of};
-ghost use Rattle.pf_system.specs.Acts.{Answers, answer};
+ghost use Rattle.pf_system.specs.Acts.{AnswersAct, answer};
 
 use pf_channels::Channels;
 use pf_model::Signal;
@@ -28,7 +28,7 @@ pub(crate) struct Shared {
 
 /// The answer to an action that raises this reason, which it shows.
 pub(crate) fn raising(reason: AtomId, shown: &mut Label) -> Result<Term, Term>
-    ensures { (c : _) → Answers (answer result shown.new) (raising c (atom reason.0)) }
+    ensures { (c : _) → AnswersAct (answer result shown.new) (raising c (atom reason.0)) }
 {
     *shown = Label::Raises(Term::Atom(reason));
     Err(Term::Atom(reason))
@@ -36,7 +36,7 @@ pub(crate) fn raising(reason: AtomId, shown: &mut Label) -> Result<Term, Term>
 
 /// The answer to an action that gives `true` and shows this label.
 pub(crate) fn giving_true(label: Label, shown: &mut Label) -> Result<Term, Term>
-    ensures { (c : _) (ss : _) → Answers (answer result shown.new)
+    ensures { (c : _) (ss : _) → AnswersAct (answer result shown.new)
         (gives c ss true_atom (label_of label)) }
 {
     *shown = label;

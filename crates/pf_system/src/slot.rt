@@ -5,8 +5,8 @@ ghost use Rattle.pf_terms.specs.Term.{value_of};
 ghost use Rattle.pf_model.specs.Context.{running, waiting};
 ghost use Rattle.pf_model.specs.Runs.{can_go, is_waiting};
 ghost use Rattle.pf_stepper.specs.MachineView.{asking, goes};
-ghost use Rattle.pf_stepper.specs.Turns.{told_of};
-ghost use Rattle.pf_system.specs.Bodies.{body, with_one};
+ghost use Rattle.pf_stepper.specs.Turns.{answer_value};
+ghost use Rattle.pf_system.specs.Bodies.{body_of, with_one_message};
 ghost use Rattle.pf_system.specs.Slots.{AnswersIn, LifeAsks, LifeIsReady, PutsIn, RanInSlot, SlotIsLeft};
 ghost use Rattle.pf_system.specs.Slots.{SlotIsSound, slot_body, state_of};
 
@@ -65,7 +65,7 @@ impl Slot {
     pub(crate) fn answer(&mut self, answer: Result<Term, Term>)
         requires { LifeAsks self.old.life }
         ensures { (m : _) (own : _) (fs : _) → SlotIsLeft m own (asking fs) self.old
-            → AnswersIn m own fs (told_of answer) self.old self.new }
+            → AnswersIn m own fs (answer_value answer) self.old self.new }
     {
         if let Life::Lives { machine, waits: _ } = &mut self.life {
             machine.answer(answer);
@@ -75,7 +75,7 @@ impl Slot {
     /// The process waits at a `receive`.
     pub(crate) fn wait(&mut self)
         ensures { (m : _) (own : _) (t : _) → SlotIsLeft m own (goes (running t)) self.old
-            → PutsIn m own (body (waiting t) self.old.mailbox.messages) self.new }
+            → PutsIn m own (body_of (waiting t) self.old.mailbox.messages) self.new }
     {
         if let Life::Lives { machine: _, waits } = &mut self.life {
             *waits = true;
@@ -87,7 +87,7 @@ impl Slot {
         ensures woken { IfOk result (λ w. (m : _) (own : _) → SlotIsSound m own self.old
             → w ≡ is_waiting (state_of self.old.life)) }
         ensures placed { OnOk result ((m : _) (own : _) → SlotIsSound m own self.old
-            → PutsIn m own (with_one (value_of message) (slot_body self.old)) self.new) }
+            → PutsIn m own (with_one_message (value_of message) (slot_body self.old)) self.new) }
     {
         self.mailbox.deliver(pool, message)?;
         if let Life::Lives { machine: _, waits } = &mut self.life {

@@ -5,7 +5,7 @@ ghost use Rattle.std.specs.Prelude.{◌≡◌, []};
 use crate::slot::{Life, Slot};
 use pf_nodes::Pool;
 use pf_sorted::SortedSet;
-use pf_stepper::Room;
+use pf_stepper::MachineRoom;
 use pf_terms::Term;
 use std::alloc::Global;
 use std::mem;
@@ -22,7 +22,7 @@ const MOST_SLOTS: usize = 64 * 1024 / size_of::<Slot>();
 #[derive(Drop)]
 pub struct Spare {
     pub(crate) pool: Pool<Term>,
-    rooms: Vec<Room>,
+    rooms: Vec<MachineRoom>,
     slots: Vec<Slot>,
     ready: SortedSet,
 }
@@ -40,10 +40,10 @@ impl Spare {
 
     /// The room of a machine that begins.
     #[inline(always)]
-    pub(crate) fn room(&mut self, alloc: Global) -> Room {
+    pub(crate) fn room(&mut self, alloc: Global) -> MachineRoom {
         match self.rooms.pop() {
             Some(room) => room,
-            None => Room::new(alloc),
+            None => MachineRoom::new(alloc),
         }
     }
 

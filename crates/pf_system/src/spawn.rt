@@ -7,9 +7,9 @@ ghost use Rattle.pf_model.specs.Actions.{start_of};
 ghost use Rattle.pf_model.specs.Module.{module_of};
 ghost use Rattle.pf_model.specs.Contraction.{linking, spawn, unbound, watching};
 ghost use Rattle.pf_model.specs.declared.limits.TheConstants.{MOST_PROCESSES};
-ghost use Rattle.pf_ties.specs.Ties.{opened};
+ghost use Rattle.pf_ties.specs.Ties.{ties_opened};
 ghost use Rattle.pf_stepper.specs.Acts.{bond_of};
-ghost use Rattle.pf_system.specs.Acts.{ActsIn, KeepsSlot, LifeBegins, Opens, OpensProcess, Tells, answer};
+ghost use Rattle.pf_system.specs.Acts.{ActsIn, KeepsSlot, LifeBegins, OpensWithTies, OpensProcess, ReportsSpawn, answer};
 ghost use Rattle.pf_system.specs.Acts.{home_function};
 ghost use Rattle.pf_system.specs.Processes.{IsShaped, IsShapedFor};
 
@@ -17,7 +17,7 @@ use crate::processes::Processes;
 use crate::shared::raising;
 use crate::slot::{Life, Slot};
 use crate::spare::Spare;
-use pf_fault::OrNoMemory;
+use pf_errors::OrNoMemory;
 use pf_mailbox::Mailbox;
 use pf_model::report::Label;
 use pf_ops::ending_reason;
@@ -91,7 +91,7 @@ fn begun(
 
 /// What a process that isn't watched gives and shows.
 fn told(linked: bool, pid: u32, shown: &mut Label) -> Result<Term, Term>
-    ensures { (reference : _) → Tells (if linked then linking else unbound) pid reference
+    ensures { (reference : _) → ReportsSpawn (if linked then linking else unbound) pid reference
         (answer result shown.new) }
 {
     *shown = Label::Spawns { linked, pid };
@@ -105,7 +105,7 @@ fn told_watched(
     reference: u64,
     shown: &mut Label,
 ) -> Result<Result<Term, Term>, NoMemory>
-    ensures { IfOk result (λ v. Tells watching pid reference (answer v shown.new)) }
+    ensures { IfOk result (λ v. ReportsSpawn watching pid reference (answer v shown.new)) }
 {
     *shown = Label::SpawnsWatched { pid, reference };
     let items = vec![in alloc; Term::Pid(pid), Term::Ref(reference)]?;
@@ -122,7 +122,7 @@ impl Processes {
     fn enter(&mut self, alloc: Global, pid: u32, life: Life) -> Result<(), NoMemory>
         requires pid { pid ≡ length self.old.slots.items }
         requires room { length self.old.slots.items < MOST_PROCESSES }
-        ensures { OnOk result (Opens self.old.shared.ties self.old life self.new) }
+        ensures { OnOk result (OpensWithTies self.old.shared.ties self.old life self.new) }
     {
         self.shared.open_to(alloc, pid)?;
         self.slots.push(Slot {
@@ -142,7 +142,7 @@ impl Processes {
     ) -> Result<(), NoMemory>
         requires shaped { IsShapedFor parent self.old }
         requires room { length self.old.slots.items < MOST_PROCESSES }
-        ensures { OnOk result (Opens (opened self.old.shared.ties parent) self.old life self.new) }
+        ensures { OnOk result (OpensWithTies (ties_opened self.old.shared.ties parent) self.old life self.new) }
     {
         let pid = self.shared.ties.open(alloc, parent)?;
         self.enter(alloc, pid, life)

@@ -6,12 +6,12 @@ ghost use Rattle.pf_model.specs.Configuration.{is_alive, of};
 ghost use Rattle.pf_model.specs.Deliveries.{woken};
 ghost use Rattle.pf_model.specs.Limits.{IsEdition};
 ghost use Rattle.pf_model.specs.Meaning.{outcome_of as outcome_where};
-ghost use Rattle.pf_model.specs.Reports.{actor_of, label_of, outcome_of};
+ghost use Rattle.pf_model.specs.Reports.{actor_of, label_of, view_of_outcome};
 ghost use Rattle.pf_model.specs.declared.limits.TheConstants.{MOST_PROCESSES};
 ghost use Rattle.pf_model.specs.Runs.{process, channel, enabled, start};
 ghost use Rattle.pf_stepper.specs.Points.{IsPointOf};
 ghost use Rattle.pf_system.specs.View.{view_of_system};
-ghost use Rattle.pf_system.specs.Steps.{IsNoteOf, MayGo, PassesTo, noted};
+ghost use Rattle.pf_system.specs.Steps.{IsNoteOf, MayGo, PassesTo, noted_actors};
 
 use crate::enabled::Enabled;
 use crate::processes::{Basis, Processes};
@@ -125,7 +125,7 @@ impl System {
 
     /// Who may go. Nothing is searched for it, and it takes no memory.
     pub fn enabled(&self) -> Enabled<'_>
-        ensures actors { (c : _) → self.now.standing ≡ Some c → noted result ≡ enabled c }
+        ensures actors { (c : _) → self.now.standing ≡ Some c → noted_actors result ≡ enabled c }
         ensures both { (c : _) → self.now.standing ≡ Some c → IsNoteOf result c }
         ensures few { (c : _) → self.now.standing ≡ Some c → length result.ready.now ≤ MOST_PROCESSES }
     {
@@ -154,7 +154,7 @@ impl System {
     /// it waits.
     pub fn outcome(&self, alloc: Global) -> Result<Outcome, NoMemory>
         ensures outcome { IfOk result (λ o.
-            (c : _) → self.now.standing ≡ Some c → outcome_of o ≡ outcome_where c) }
+            (c : _) → self.now.standing ≡ Some c → view_of_outcome o ≡ outcome_where c) }
         ensures refused { self.now.standing ≡ None → IsErr result }
     {
         if self.spent {

@@ -8,7 +8,7 @@ ghost use Rattle.pf_model.specs.Reports.{label_of};
 ghost use Rattle.pf_model.specs.Runs.{can_go};
 ghost use Rattle.pf_system.specs.Slots.{end_of};
 ghost use Rattle.pf_system.specs.Settled.{CanSettle, SettlesAs, WaitsIn};
-ghost use Rattle.pf_system.specs.Processes.{IsShaped, Represents, Turned, core_of};
+ghost use Rattle.pf_system.specs.Processes.{IsShaped, Represents, ProcessTurned, core_of};
 
 use crate::processes::Processes;
 use pf_model::report::Label;
@@ -40,7 +40,7 @@ impl Processes {
         requires enabled { can_go (of (core_of self.old) pid).state ≡ true }
         requires left { 0 < left }
         ensures { IfOk result
-            (λ used. Turned (core_of self.old) pid left self.old shown.new used self.new) }
+            (λ used. ProcessTurned (core_of self.old) pid left self.old shown.new used self.new) }
     {
         let mut did = Move::Pure;
         let slot = &mut self.slots[pid as usize];

@@ -12,8 +12,8 @@ abbrev pub with_name : List (List ℕ) → List ℕ → List (List ℕ)
 with_name names name = if list_any (bytes_eq name) names then names else names ++ name ∷ []
 
 -- the names after each of these was entered in turn
-abbrev pub with_names : List (List ℕ) → List (List ℕ) → List (List ℕ)
-with_names names more = fold with_name names more
+abbrev pub names_entered : List (List ℕ) → List (List ℕ) → List (List ℕ)
+names_entered names more = fold with_name names more
 
 -- the atoms that the system itself makes or asks for
 abbrev pub fixed_names : List (List ℕ)

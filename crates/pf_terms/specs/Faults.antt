@@ -1,7 +1,7 @@
 -- The faults of building and of streams.
 use Rattle.std.specs.Prelude.{ℕ, List, codes}
-use Rattle.pf_fault.specs.declared.fault.OrNoMemory.{OrNoMemory}
-use Rattle.pf_fault.specs.declared.fault.OrNoMemory.TheVariants.{Fault}
+use Rattle.pf_errors.specs.declared.fault.OrNoMemory.{OrNoMemory}
+use Rattle.pf_errors.specs.declared.fault.OrNoMemory.TheVariants.{Fault}
 use Rattle.pf_terms.specs.declared.build.TooLarge.{TooLarge}
 use Rattle.pf_terms.specs.declared.stream.StreamFault.{StreamFault}
 use Rattle.pf_terms.specs.declared.stream.StreamFault.TheVariants.{Read, Write}

@@ -7,7 +7,7 @@ ghost use Rattle.pf_terms.specs.Atoms.{fixed_names, name_of, with_name};
 ghost use Rattle.pf_terms.specs.Order.{TellsApart};
 
 use crate::packed::PackedNames;
-use pf_fault::NoMemory;
+use pf_errors::NoMemory;
 use std::alloc::Global;
 use std::marker::Model;
 

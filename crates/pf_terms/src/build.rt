@@ -6,7 +6,7 @@ ghost use Rattle.pf_terms.specs.Term.{elements_of, value_of, values_of};
 ghost use Rattle.pf_terms.specs.Faults.{past_limits};
 
 use crate::term::{Cell, Elements, List, Term, size_of};
-use pf_fault::{Code, OrNoMemory};
+use pf_errors::{Code, OrNoMemory};
 use std::alloc::Global;
 use std::error::Error;
 use std::fmt;
@@ -18,8 +18,8 @@ pub struct TooLarge;
 
 impl fmt::Display for TooLarge {
     ghost use Rattle.std.specs.Prelude.{Some};
-    ghost use Rattle.pf_fault.specs.Codes.{code_text};
-    ghost use Rattle.pf_fault.specs.declared.code.Code.TheVariants as table;
+    ghost use Rattle.pf_errors.specs.Codes.{code_text};
+    ghost use Rattle.pf_errors.specs.declared.code.Code.TheVariants as table;
 
     ghost output = { λ _. Some (code_text table.TooLarge) };
 

@@ -6,7 +6,7 @@ ghost use Rattle.std.specs.Io.KnownBytes.{Appends, Consumes, ReadConsumes};
 ghost use Rattle.pf_terms.specs.Streams.{AppendsFront, CountsRead, CountsReadOrNone, CountsWrite};
 
 use crate::stream::StreamFault;
-use pf_fault::OrNoMemory;
+use pf_errors::OrNoMemory;
 use std::alloc::Global;
 use std::io::{ErrorKind, Read, Write};
 use std::sync::ledger::{Blank, Book, Ledger, Share};

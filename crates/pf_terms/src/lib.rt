@@ -22,7 +22,7 @@ pub use fail_at::FailAt;
 pub use laws::{order_is_exact, order_is_total, same_is_equality};
 pub use limits::{MOST_DEPTH, MOST_NODES};
 pub use ordering::order;
-pub use pf_fault::NoMemory;
+pub use pf_errors::NoMemory;
 pub use sameness::{equal, equal_lists};
 pub use stream::StreamFault;
 pub use term::{Cell, Elements, List, Term, copy, depth, nodes};

@@ -1,6 +1,6 @@
 //! What fails at a reader or a writer.
 
-use pf_fault::OrNoMemory;
+use pf_errors::OrNoMemory;
 use std::error::Error;
 use std::{fmt, io};
 
@@ -39,7 +39,7 @@ impl Error for StreamFault {}
 
 impl From<StreamFault> for OrNoMemory<StreamFault> {
     ghost use Rattle.std.specs.Prelude.{◌≡◌};
-    ghost use Rattle.pf_fault.specs.declared.fault.OrNoMemory.TheVariants.{Fault};
+    ghost use Rattle.pf_errors.specs.declared.fault.OrNoMemory.TheVariants.{Fault};
 
     ghost from_gives = { λ stream fault. fault ≡ Fault stream };
 

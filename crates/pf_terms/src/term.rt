@@ -7,7 +7,7 @@ ghost use Rattle.pf_terms.specs.Order.{rank};
 
 use crate::atoms::AtomId;
 use crate::limits::{MOST_DEPTH, MOST_NODES};
-use pf_fault::NoMemory;
+use pf_errors::NoMemory;
 use std::alloc::Global;
 use std::marker::Model;
 use std::sync::Arc;

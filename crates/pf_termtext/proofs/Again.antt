@@ -10,11 +10,11 @@ use Rattle.pf_terms.specs.declared.limits.TheConstants.{MOST_DEPTH, MOST_NODES}
 use Rattle.pf_terms.specs.Atoms.{name_of}
 use Rattle.pf_terms.specs.Order.{TellsApart}
 use Rattle.pf_terms.specs.Value.{Value, Values, int, atom, ref, pid, tuple, list, none, more, count, nodes, nodes_in, depth, depth_in, IsWithinLimits}
-use Rattle.pf_tokens.specs.Bytes.{ends, is_digit, is_lower, is_word}
+use Rattle.pf_tokens.specs.Bytes.{ends, is_digit, is_lower, is_word_byte}
 use Rattle.pf_tokens.proofs.Classes.{lower_word}
 use Rattle.pf_model.specs.TermText.{is_plain_name, quoted_byte, values_text, rest_text}
 use Rattle.pf_termtext.specs.Texts.{CanBeRead, AllCanBeRead}
-use Rattle.pf_termtext.specs.Reading.{behind, before, word, integer_of, atom_of, elements, bounded, next_items, items_at, elements_by, elements_at, value_at}
+use Rattle.pf_termtext.specs.Reading.{after_byte, with_value_before, word_bytes, integer_of_digits, atom_of, elements, bounded, next_items, items_at, elements_by, elements_at, value_at}
 use Rattle.pf_termtext.proofs.Names.{atom_found}
 use Rattle.pf_termtext.proofs.Written.{name_again}
 use Rattle.pf_termtext.proofs.Numbers.{decimal_digits, positive_read, negative_read}
@@ -22,7 +22,7 @@ use Rattle.pf_termtext.proofs.Words.{word_is, behind_word_is}
 use Rattle.pf_termtext.proofs.Items.{item_step}
 use Rattle.pf_termtext.proofs.Values.{at_brace, at_bracket, at_quote, at_minus, at_digit, at_other, tuple_by, list_by}
 use Rattle.pf_termtext.proofs.Sound.{text_of, behind_some}
-use Rattle.pf_fault.proofs.Bools.{both}
+use Rattle.pf_errors.proofs.Bools.{both}
 
 -- the values of elements in turn
 abbrev pub listed : Values → List Value
@@ -58,20 +58,20 @@ bounded_within : (v : Value) → IsWithinLimits v → bounded v ≡ Some v
 bounded_within v within = rw (le-leb (nodes v) MOST_NODES within.0, le-leb (depth v) MOST_DEPTH within.1) refl
 
 -- digits are bytes of words
-digits_words : (ds : List ℕ) → list_all is_digit ds ≡ true → list_all is_word ds ≡ true
+digits_words : (ds : List ℕ) → list_all is_digit ds ≡ true → list_all is_word_byte ds ≡ true
 digits_words [] e = refl
 digits_words (d ∷ ds) e =
     let parts = both (is_digit d) (list_all is_digit ds) e in
     rw (digit_word d parts.0, digits_words ds parts.1) refl
   where
-    digit_word : (d : ℕ) → is_digit d ≡ true → is_word d ≡ true
+    digit_word : (d : ℕ) → is_digit d ≡ true → is_word_byte d ≡ true
     digit_word d e = grind (arith, nat_tests)
 
 -- a name that is written as it is begins with a lower-case letter, and goes on with bytes of words
-plain_parts : (b : ℕ) (bs : List ℕ) → is_plain_name (b ∷ bs) ≡ true → (is_lower b ≡ true) × (list_all is_word (b ∷ bs) ≡ true)
+plain_parts : (b : ℕ) (bs : List ℕ) → is_plain_name (b ∷ bs) ≡ true → (is_lower b ≡ true) × (list_all is_word_byte (b ∷ bs) ≡ true)
 plain_parts b bs e =
-    let outer = both (is_lower b && list_all is_word bs) _ e in
-    let inner = both (is_lower b) (list_all is_word bs) outer.0 in
+    let outer = both (is_lower b && list_all is_word_byte bs) _ e in
+    let inner = both (is_lower b) (list_all is_word_byte bs) outer.0 in
     (inner.0, rw (lower_word b inner.0, inner.1) refl)
 
 module _ (names : List (List ℕ)) (apart : TellsApart (name_of names) (length names)) where
@@ -82,7 +82,7 @@ module _ (names : List (List ℕ)) (apart : TellsApart (name_of names) (length n
   abbrev AllFit : ℕ → Values → Type 0
   AllFit room vs = AllCanBeRead (length names) vs × (nodes_in vs ≤ MOST_NODES) × (depth_in vs ≤ room)
 
-  integer_again : (room less n : ℕ) (rest : List ℕ) → room ≡ suc less → n < 2 ^ 63 → ends is_word rest ≡ true
+  integer_again : (room less n : ℕ) (rest : List ℕ) → room ≡ suc less → n < 2 ^ 63 → ends is_word_byte rest ≡ true
       → value_at names room (print.decimal n ++ rest) ≡ Some (int (pos n), rest)
   integer_again room less n rest is lt whole = by (print.decimal n) refl
     where
@@ -92,24 +92,24 @@ module _ (names : List (List ℕ)) (apart : TellsApart (name_of names) (length n
           let digits : list_all is_digit (d ∷ ds) ≡ true = ap (list_all is_digit) (sym e) ∙ decimal_digits n (omega arith) in
           let words = digits_words (d ∷ ds) digits in
           let first = both (is_digit d) (list_all is_digit ds) digits in
-          let read : integer_of false (d ∷ ds) ≡ Some (pos n) = ap (integer_of false) (sym e) ∙ positive_read n lt in
+          let read : integer_of_digits false (d ∷ ds) ≡ Some (pos n) = ap (integer_of_digits false) (sym e) ∙ positive_read n lt in
           ap (λ t. value_at names room (t ++ rest)) e
           ∙ at_digit names room less is (d ∷ (ds ++ rest)) d (ds ++ rest) refl first.0
-          ∙ ap (λ r. before r int (integer_of false (word (d ∷ ds ++ rest)))) (behind_word_is (d ∷ ds) rest words whole)
-          ∙ ap (λ w. before rest int (integer_of false w)) (word_is (d ∷ ds) rest words whole)
-          ∙ ap (before rest int) read
+          ∙ ap (λ r. with_value_before r int (integer_of_digits false (word_bytes (d ∷ ds ++ rest)))) (behind_word_is (d ∷ ds) rest words whole)
+          ∙ ap (λ w. with_value_before rest int (integer_of_digits false w)) (word_is (d ∷ ds) rest words whole)
+          ∙ ap (with_value_before rest int) read
 
-  negative_again : (room less n : ℕ) (rest : List ℕ) → room ≡ suc less → n < 2 ^ 63 → ends is_word rest ≡ true
+  negative_again : (room less n : ℕ) (rest : List ℕ) → room ≡ suc less → n < 2 ^ 63 → ends is_word_byte rest ≡ true
       → value_at names room (45 ∷ (print.decimal (suc n) ++ rest)) ≡ Some (int (negsuc n), rest)
   negative_again room less n rest is lt whole =
       let ds = print.decimal (suc n) in
       let words = digits_words (print.decimal (suc n)) (decimal_digits (suc n) (omega arith)) in
       at_minus names room less is (45 ∷ (print.decimal (suc n) ++ rest)) 45 (print.decimal (suc n) ++ rest) refl refl
-      ∙ ap (λ r. before r int (integer_of true (word (print.decimal (suc n) ++ rest)))) (behind_word_is (print.decimal (suc n)) rest words whole)
-      ∙ ap (λ w. before rest int (integer_of true w)) (word_is (print.decimal (suc n)) rest words whole)
-      ∙ ap (before rest int) (negative_read n lt)
+      ∙ ap (λ r. with_value_before r int (integer_of_digits true (word_bytes (print.decimal (suc n) ++ rest)))) (behind_word_is (print.decimal (suc n)) rest words whole)
+      ∙ ap (λ w. with_value_before rest int (integer_of_digits true w)) (word_is (print.decimal (suc n)) rest words whole)
+      ∙ ap (with_value_before rest int) (negative_read n lt)
 
-  atom_again : (room less a : ℕ) (name rest : List ℕ) → room ≡ suc less → a < length names → name_of names a ≡ name → ends is_word rest ≡ true
+  atom_again : (room less a : ℕ) (name rest : List ℕ) → room ≡ suc less → a < length names → name_of names a ≡ name → ends is_word_byte rest ≡ true
       → (t : Bool) → is_plain_name name ≡ t → value_at names room (cond t name (codes "'" ++ flat_map quoted_byte name ++ codes "'") ++ rest) ≡ Some (atom a, rest)
   atom_again room less a [] rest is stands named whole true plain = absurd cc
   atom_again room less a (b ∷ bs) rest is stands named whole true plain =
@@ -137,7 +137,7 @@ module _ (names : List (List ℕ)) (apart : TellsApart (name_of names) (length n
   closes_none (suc room) close text (inl is) = rw is refl
   closes_none (suc room) close text (inr is) = rw is refl
 
-  module _ (room : ℕ) (again : (v : Value) → Fits room v → (rest : List ℕ) → ends is_word rest ≡ true → value_at names room (text_of names v ++ rest) ≡ Some (v, rest)) where
+  module _ (room : ℕ) (again : (v : Value) → Fits room v → (rest : List ℕ) → ends is_word_byte rest ≡ true → value_at names room (text_of names v ++ rest) ≡ Some (v, rest)) where
     -- one element or several are read up to their end
     items_again : (close : ℕ) (rest : List ℕ) → (close ≡ 125) ⊎ (close ≡ 93) → (vs : Values) (v : Value) (n : ℕ) → count vs < n → Fits room v → AllFit room vs
         → items_at (value_at names room) n (text_of names v ++ (rest_text (name_of names) vs ++ (close ∷ rest))) ≡ Some (v ∷ listed vs, close ∷ rest)
@@ -146,11 +146,11 @@ module _ (names : List (List ℕ)) (apart : TellsApart (name_of names) (length n
         item_step (value_at names room) n (text_of names v ++ (close ∷ rest)) (Some (v, close ∷ rest)) (again v fits (close ∷ rest) (whole close is))
         ∙ ap (next_items (items_at (value_at names room) n) v (close ∷ rest)) (no_comma close is)
       where
-        whole : (close : ℕ) → (close ≡ 125) ⊎ (close ≡ 93) → ends is_word (close ∷ rest) ≡ true
+        whole : (close : ℕ) → (close ≡ 125) ⊎ (close ≡ 93) → ends is_word_byte (close ∷ rest) ≡ true
         whole close (inl is) = rw is refl
         whole close (inr is) = rw is refl
 
-        no_comma : (close : ℕ) → (close ≡ 125) ⊎ (close ≡ 93) → behind 44 (close ∷ rest) ≡ None
+        no_comma : (close : ℕ) → (close ≡ 125) ⊎ (close ≡ 93) → after_byte 44 (close ∷ rest) ≡ None
         no_comma close (inl is) = rw is refl
         no_comma close (inr is) = rw is refl
     items_again close rest is (more w ws) v zero lt fits all = absurd (omega (arith, lt))
@@ -169,7 +169,7 @@ module _ (names : List (List ℕ)) (apart : TellsApart (name_of names) (length n
         → elements_at (value_at names room) close (values_text (name_of names) vs ++ (close ∷ rest)) ≡ Some (listed vs, rest)
     elements_again close rest is none all lt = ap (elements_by (items_at (value_at names room) MOST_NODES) close (close ∷ rest)) (found close)
       where
-        found : (close : ℕ) → behind close (close ∷ rest) ≡ Some rest
+        found : (close : ℕ) → after_byte close (close ∷ rest) ≡ Some rest
         found close = rw (eq-eqb close close refl) refl
     elements_again close rest is (more v vs) all lt =
         let fits : Fits room v = (all.0.0, omega (arith, all.1), omega (arith, all.2)) in
@@ -181,28 +181,28 @@ module _ (names : List (List ℕ)) (apart : TellsApart (name_of names) (length n
         ∙ ap (elements_by (items_at (value_at names room) MOST_NODES) close (text_of names v ++ tail)) (no_end (text_of names v ++ tail) (v, tail) (again v fits tail (whole vs)))
         ∙ rw items (closed close)
       where
-        closed : (close : ℕ) → option_map {U = List Value × List ℕ} (λ r. (v ∷ listed vs, r)) (behind close (close ∷ rest)) ≡ Some (v ∷ listed vs, rest)
+        closed : (close : ℕ) → option_map {U = List Value × List ℕ} (λ r. (v ∷ listed vs, r)) (after_byte close (close ∷ rest)) ≡ Some (v ∷ listed vs, rest)
         closed close = rw (eq-eqb close close refl) refl
 
-        whole : (vs : Values) → ends is_word (rest_text (name_of names) vs ++ (close ∷ rest)) ≡ true
+        whole : (vs : Values) → ends is_word_byte (rest_text (name_of names) vs ++ (close ∷ rest)) ≡ true
         whole none = by close is
           where
-            by : (close : ℕ) → (close ≡ 125) ⊎ (close ≡ 93) → ends is_word (close ∷ rest) ≡ true
+            by : (close : ℕ) → (close ≡ 125) ⊎ (close ≡ 93) → ends is_word_byte (close ∷ rest) ≡ true
             by close (inl is) = rw is refl
             by close (inr is) = rw is refl
         whole (more w ws) = refl
 
-        no_end : (text : List ℕ) (p : Value × List ℕ) → value_at names room text ≡ Some p → behind close text ≡ None
-        no_end text p read = by (behind close text) refl
+        no_end : (text : List ℕ) (p : Value × List ℕ) → value_at names room text ≡ Some p → after_byte close text ≡ None
+        no_end text p read = by (after_byte close text) refl
           where
-            by : (o : Option (List ℕ)) → behind close text ≡ o → o ≡ None
+            by : (o : Option (List ℕ)) → after_byte close text ≡ o → o ≡ None
             by None e = refl
             by (Some r) e =
                 let none : value_at names room text ≡ None = ap (value_at names room) (behind_some close text r e) ∙ closes_none room close r is in
                 absurd (let both_ways : None ≡ Some p = sym none ∙ read in cc)
 
   -- what is printed of a value is read as it, where what follows goes on with no byte of a word
-  pub value_again : (room : ℕ) → room ≤ MOST_DEPTH → (v : Value) → Fits room v → (rest : List ℕ) → ends is_word rest ≡ true → value_at names room (text_of names v ++ rest) ≡ Some (v, rest)
+  pub value_again : (room : ℕ) → room ≤ MOST_DEPTH → (v : Value) → Fits room v → (rest : List ℕ) → ends is_word_byte rest ≡ true → value_at names room (text_of names v ++ rest) ≡ Some (v, rest)
   value_again zero le v fits rest whole = absurd (omega (arith, fits.2, depth_some v))
   value_again (suc room) le (int (pos n)) fits rest whole = integer_again (suc room) room n rest refl fits.0 whole
   value_again (suc room) le (int (negsuc n)) fits rest whole = negative_again (suc room) room n rest refl fits.0 whole
@@ -215,13 +215,13 @@ module _ (names : List (List ℕ)) (apart : TellsApart (name_of names) (length n
       ap (λ t. value_at names (suc room) (123 ∷ t)) (append_assoc inner (125 ∷ []) rest)
       ∙ at_brace names (suc room) room refl (123 ∷ (inner ++ (125 ∷ rest))) 123 (inner ++ (125 ∷ rest)) refl refl
       ∙ tuple_by (elements_at (value_at names room)) (inner ++ (125 ∷ rest)) (listed vs, rest) items
-      ∙ ap (λ ws. before rest (λ v. v) (bounded (tuple ws))) (elements-listed vs)
-      ∙ ap (before rest (λ v. v)) (bounded_within (tuple vs) (fits.1, omega (arith, fits.2, le)))
+      ∙ ap (λ ws. with_value_before rest (λ v. v) (bounded (tuple ws))) (elements-listed vs)
+      ∙ ap (with_value_before rest (λ v. v)) (bounded_within (tuple vs) (fits.1, omega (arith, fits.2, le)))
   value_again (suc room) le (list vs) fits rest whole =
       let inner = values_text (name_of names) vs in
       let items = elements_again room (λ w f r e. value_again room (omega (arith, le)) w f r e) 93 rest (inr refl) vs (fits.0, omega (arith, fits.1), omega (arith, fits.2)) (omega (arith, fits.1)) in
       ap (λ t. value_at names (suc room) (91 ∷ t)) (append_assoc inner (93 ∷ []) rest)
       ∙ at_bracket names (suc room) room refl (91 ∷ (inner ++ (93 ∷ rest))) 91 (inner ++ (93 ∷ rest)) refl refl
       ∙ list_by (elements_at (value_at names room)) (inner ++ (93 ∷ rest)) (listed vs, rest) items
-      ∙ ap (λ ws. before rest (λ v. v) (bounded (list ws))) (elements-listed vs)
-      ∙ ap (before rest (λ v. v)) (bounded_within (list vs) (fits.1, omega (arith, fits.2, le)))
+      ∙ ap (λ ws. with_value_before rest (λ v. v) (bounded (list ws))) (elements-listed vs)
+      ∙ ap (with_value_before rest (λ v. v)) (bounded_within (list vs) (fits.1, omega (arith, fits.2, le)))

@@ -10,8 +10,8 @@ use Rattle.pf_tokens.specs.Bytes.{is_digit}
 use Rattle.pf_tokens.specs.TokenKinds.{decimal}
 use Rattle.pf_text.specs.Numbers.{is_numeral}
 use Rattle.pf_termtext.specs.Texts.{Has64Bits}
-use Rattle.pf_termtext.specs.Reading.{signed, integer_of}
-use Rattle.pf_fault.proofs.Bools.{both}
+use Rattle.pf_termtext.specs.Reading.{signed, integer_of_digits}
+use Rattle.pf_errors.proofs.Bools.{both}
 
 abbrev are_digits : List ℕ → Type 0
 are_digits ds = list_all is_digit ds ≡ true
@@ -64,7 +64,7 @@ IsPrintedBy false ds z = (print.signed_decimal z ≡ ds) × Has64Bits z
 IsPrintedBy true ds z = (print.signed_decimal z ≡ 45 ∷ ds) × Has64Bits z
 
 -- what is read of digits prints as them
-pub integer_printed : (minus : Bool) (ds : List ℕ) (z : ℤ) → integer_of minus ds ≡ Some z → IsPrintedBy minus ds z
+pub integer_printed : (minus : Bool) (ds : List ℕ) (z : ℤ) → integer_of_digits minus ds ≡ Some z → IsPrintedBy minus ds z
 integer_printed minus ds z e = numeral minus (is_numeral ds) refl e
   where
     positive : (b : Bool) → ltb (decimal ds) (2 ^ 63) ≡ b → is_numeral ds ≡ true → cond b (Some (pos (decimal ds))) None ≡ Some z → IsPrintedBy false ds z
@@ -91,12 +91,12 @@ integer_printed minus ds z e = numeral minus (is_numeral ds) refl e
     numeral minus false is made = absurd cc
 
 -- what is printed of an integer is read as it
-pub positive_read : (n : ℕ) → n < 2 ^ 63 → integer_of false (print.decimal n) ≡ Some (pos n)
+pub positive_read : (n : ℕ) → n < 2 ^ 63 → integer_of_digits false (print.decimal n) ≡ Some (pos n)
 positive_read n lt =
     let below : n < 2 ^ 64 = omega arith in
     rw (decimal_numeral n below, decimal_value n below, lt-ltb n (2 ^ 63) lt) refl
 
-pub negative_read : (n : ℕ) → n < 2 ^ 63 → integer_of true (print.decimal (suc n)) ≡ Some (negsuc n)
+pub negative_read : (n : ℕ) → n < 2 ^ 63 → integer_of_digits true (print.decimal (suc n)) ≡ Some (negsuc n)
 negative_read n lt =
     let below : suc n < 2 ^ 64 = omega arith in
     rw (decimal_numeral (suc n) below, decimal_value (suc n) below, lt-ltb n (2 ^ 63) lt) refl

@@ -10,20 +10,20 @@ use Rattle.pf_tokens.specs.Bytes.{is_digit}
 use Rattle.pf_model.specs.TermText.{is_plain_name, quoted_byte, value_text, values_text, rest_text}
 use Rattle.std.specs.Prelude.{flat_map}
 use Rattle.pf_termtext.specs.Texts.{CanBeRead, AllCanBeRead}
-use Rattle.pf_termtext.specs.Reading.{Front, behind, before, word, behind_word, integer_of, integer_at, atom_of, plain_at, name_at, quoted_at, elements, bounded, next_items, items_at, elements_by, elements_at, tuple_at, list_at, value_by, value_at}
+use Rattle.pf_termtext.specs.Reading.{TextFront, after_byte, with_value_before, word_bytes, behind_word, integer_of_digits, integer_at, atom_of, plain_at, name_at, quoted_at, elements, bounded, next_items, items_at, elements_by, elements_at, tuple_at, list_at, value_by, value_at}
 use Rattle.pf_termtext.proofs.Names.{atom_stands}
 use Rattle.pf_termtext.proofs.Written.{name_sound}
 use Rattle.pf_termtext.proofs.Numbers.{integer_printed}
 use Rattle.pf_termtext.proofs.Words.{word_split}
-use Rattle.pf_fault.proofs.Bools.{both}
+use Rattle.pf_errors.proofs.Bools.{both}
 
 -- what is made of a value, and of which
-before_some : {X Y P : Type 0} (rest : List ℕ) (make : X → Y) (o : Option X) (y : Y) (r : List ℕ) → before rest make o ≡ Some (y, r)
+before_some : {X Y P : Type 0} (rest : List ℕ) (make : X → Y) (o : Option X) (y : Y) (r : List ℕ) → with_value_before rest make o ≡ Some (y, r)
     → ((x : X) → o ≡ Some x → make x ≡ y → rest ≡ r → P) → P
 before_some rest make (Some x) y r e then = let parts = some_pair_parts (make x) y rest r e in then x refl parts.0 parts.1
 before_some rest make None y r e then = absurd cc
 
-pub behind_some : (b : ℕ) (text rest : List ℕ) → behind b text ≡ Some rest → text ≡ b ∷ rest
+pub behind_some : (b : ℕ) (text rest : List ℕ) → after_byte b text ≡ Some rest → text ≡ b ∷ rest
 behind_some b [] rest e = absurd cc
 behind_some b (c ∷ text) rest e =
     let parts = cond_some (eqb c b) text rest e in
@@ -57,30 +57,30 @@ SaysElements names text vs rest = (text ≡ values_text (name_of names) (element
 module _ (names : List (List ℕ)) where
   integer_sound : (text : List ℕ) (v : Value) (rest : List ℕ) → integer_at false text ≡ Some (v, rest) → Says names text v rest
   integer_sound text v rest e =
-      before_some (behind_word text) int (integer_of false (word text)) v rest e (λ z read made behind_it.
-      let (printed, fits) = integer_printed false (word text) z read in
+      before_some (behind_word text) int (integer_of_digits false (word_bytes text)) v rest e (λ z read made behind_it.
+      let (printed, fits) = integer_printed false (word_bytes text) z read in
       rw (← made, ← behind_it) (word_split text ∙ ap (λ t. t ++ behind_word text) (sym printed), fits, (omega arith, omega arith)))
 
   negative_sound : (text : List ℕ) (v : Value) (rest : List ℕ) → integer_at true text ≡ Some (v, rest) → Says names (45 ∷ text) v rest
   negative_sound text v rest e =
-      before_some (behind_word text) int (integer_of true (word text)) v rest e (λ z read made behind_it.
-      let (printed, fits) = integer_printed true (word text) z read in
+      before_some (behind_word text) int (integer_of_digits true (word_bytes text)) v rest e (λ z read made behind_it.
+      let (printed, fits) = integer_printed true (word_bytes text) z read in
       rw (← made, ← behind_it) (ap (λ t. 45 ∷ t) (word_split text) ∙ ap (λ t. t ++ behind_word text) (sym printed), fits, (omega arith, omega arith)))
 
   -- an atom that the table has, printed as it is or in quotes
   atom_sound : (name : List ℕ) (plain : Bool) (text : List ℕ) (v : Value) (rest behind_it : List ℕ) → is_plain_name name ≡ plain
       → text ≡ cond plain name (codes "'" ++ flat_map quoted_byte name ++ codes "'") ++ behind_it
-      → before behind_it atom (atom_of names name) ≡ Some (v, rest) → Says names text v rest
+      → with_value_before behind_it atom (atom_of names name) ≡ Some (v, rest) → Says names text v rest
   atom_sound name plain text v rest behind_it is written e =
       before_some behind_it atom (atom_of names name) v rest e (λ a found made same.
       let (stands, named) = atom_stands names name a found in
       rw (← made, ← same, named, is) (written, stands, (omega arith, omega arith)))
 
   plain_sound : (text : List ℕ) (v : Value) (rest : List ℕ) → plain_at names text ≡ Some (v, rest) → Says names text v rest
-  plain_sound text v rest e = by (is_plain_name (word text)) refl e
+  plain_sound text v rest e = by (is_plain_name (word_bytes text)) refl e
     where
-      by : (t : Bool) → is_plain_name (word text) ≡ t → cond t (before (behind_word text) atom (atom_of names (word text))) None ≡ Some (v, rest) → Says names text v rest
-      by true is made = atom_sound (word text) true text v rest (behind_word text) is (word_split text) made
+      by : (t : Bool) → is_plain_name (word_bytes text) ≡ t → cond t (with_value_before (behind_word text) atom (atom_of names (word_bytes text))) None ≡ Some (v, rest) → Says names text v rest
+      by true is made = atom_sound (word_bytes text) true text v rest (behind_word text) is (word_split text) made
       by false is made = absurd cc
 
   quoted_sound : (text : List ℕ) (v : Value) (rest : List ℕ) → quoted_at names text ≡ Some (v, rest) → Says names (39 ∷ text) v rest
@@ -88,14 +88,14 @@ module _ (names : List (List ℕ)) where
       option_and_then_some _ (name_at false text) (v, rest) e (λ p read made. by p read (is_plain_name p.0) refl made)
     where
       by : (p : List ℕ × List ℕ) → name_at false text ≡ Some p → (t : Bool) → is_plain_name p.0 ≡ t
-          → cond t None (before p.1 atom (atom_of names p.0)) ≡ Some (v, rest) → Says names (39 ∷ text) v rest
+          → cond t None (with_value_before p.1 atom (atom_of names p.0)) ≡ Some (v, rest) → Says names (39 ∷ text) v rest
       by p read true is made = absurd cc
       by p read false is made =
           let written = name_sound false text p.0 p.1 read in
           atom_sound p.0 false (39 ∷ text) v rest p.1 is
           (ap (λ t. 39 ∷ t) (written ∙ sym (append_assoc (flat_map quoted_byte p.0) (39 ∷ []) p.1))) made
 
-  module _ (read : List ℕ → Front Value) (sound : (text : List ℕ) (v : Value) (rest : List ℕ) → read text ≡ Some (v, rest) → Says names text v rest) where
+  module _ (read : List ℕ → TextFront Value) (sound : (text : List ℕ) (v : Value) (rest : List ℕ) → read text ≡ Some (v, rest) → Says names text v rest) where
     -- one element is read before others
     one_more : (text : List ℕ) (v : Value) (next : List ℕ) (vs : List Value) (rest : List ℕ) → Says names text v (44 ∷ next) → SaysItems names next vs rest → SaysItems names text (v ∷ vs) rest
     one_more text v next [] rest one others = absurd others
@@ -107,10 +107,10 @@ module _ (names : List (List ℕ)) where
     unfolding items_at
     items_sound zero text vs rest e = absurd cc
     items_sound (suc n) text vs rest e =
-        option_and_then_some _ (read text) (vs, rest) e (λ p first made. by (λ t ws r f. items_sound n t ws r f) p first (behind 44 p.1) refl made)
+        option_and_then_some _ (read text) (vs, rest) e (λ p first made. by (λ t ws r f. items_sound n t ws r f) p first (after_byte 44 p.1) refl made)
       where
         by : ((t : List ℕ) (ws : List Value) (r : List ℕ) → items_at read n t ≡ Some (ws, r) → SaysItems names t ws r)
-            → (p : Value × List ℕ) → read text ≡ Some p → (o : Option (List ℕ)) → behind 44 p.1 ≡ o
+            → (p : Value × List ℕ) → read text ≡ Some p → (o : Option (List ℕ)) → after_byte 44 p.1 ≡ o
             → next_items (items_at read n) p.0 p.1 o ≡ Some (vs, rest) → SaysItems names text vs rest
         by later p first None comma made =
             let parts = some_pair_parts (p.0 ∷ []) vs p.1 rest made in
@@ -118,7 +118,7 @@ module _ (names : List (List ℕ)) where
             rw (← parts.0, ← parts.1) (one.0, one.1, tt)
         by later p first (Some next) comma made = more_by (items_at read n next) refl made
           where
-            more_by : (o : Front (List Value)) → items_at read n next ≡ o → option_map {U = List Value × List ℕ} (λ q. (p.0 ∷ q.0, q.1)) o ≡ Some (vs, rest) → SaysItems names text vs rest
+            more_by : (o : TextFront (List Value)) → items_at read n next ≡ o → option_map {U = List Value × List ℕ} (λ q. (p.0 ∷ q.0, q.1)) o ≡ Some (vs, rest) → SaysItems names text vs rest
             more_by None items made = absurd cc
             more_by (Some q) items made =
                 let parts = some_pair_parts (p.0 ∷ q.0) vs q.1 rest made in
@@ -130,16 +130,16 @@ module _ (names : List (List ℕ)) where
     as_elements text (v ∷ vs) rest says =
         (says.0 ∙ sym (append_assoc (text_of names v) (rest_text (name_of names) (elements vs)) rest), (says.1, says.2))
 
-    elements_sound : (n close : ℕ) (text : List ℕ) (vs : List Value) (rest : List ℕ) → elements_by (items_at read n) close text (behind close text) ≡ Some (vs, rest) → SaysElements names text vs (close ∷ rest)
-    elements_sound n close text vs rest e = by (behind close text) refl e
+    elements_sound : (n close : ℕ) (text : List ℕ) (vs : List Value) (rest : List ℕ) → elements_by (items_at read n) close text (after_byte close text) ≡ Some (vs, rest) → SaysElements names text vs (close ∷ rest)
+    elements_sound n close text vs rest e = by (after_byte close text) refl e
       where
-        by : (o : Option (List ℕ)) → behind close text ≡ o → elements_by (items_at read n) close text o ≡ Some (vs, rest) → SaysElements names text vs (close ∷ rest)
+        by : (o : Option (List ℕ)) → after_byte close text ≡ o → elements_by (items_at read n) close text o ≡ Some (vs, rest) → SaysElements names text vs (close ∷ rest)
         by (Some r) empty made =
             let parts = some_pair_parts [] vs r rest made in
             rw (← parts.0, ← parts.1) (behind_some close text r empty, tt)
-        by None empty made = option_and_then_some _ (items_at read n text) (vs, rest) made (λ p items closed. ends p items (behind close p.1) refl closed)
+        by None empty made = option_and_then_some _ (items_at read n text) (vs, rest) made (λ p items closed. ends p items (after_byte close p.1) refl closed)
           where
-            ends : (p : List Value × List ℕ) → items_at read n text ≡ Some p → (o : Option (List ℕ)) → behind close p.1 ≡ o
+            ends : (p : List Value × List ℕ) → items_at read n text ≡ Some p → (o : Option (List ℕ)) → after_byte close p.1 ≡ o
                 → option_map {U = List Value × List ℕ} (λ r. (p.0, r)) o ≡ Some (vs, rest) → SaysElements names text vs (close ∷ rest)
             ends p items None end closed = absurd cc
             ends p items (Some r) end closed =

@@ -2,14 +2,14 @@
 use Rattle.std.proofs.Common.{◌≡◌, ◌≢◌, ℕ, zero, suc, true, false, eqb, List, [], ◌∷◌, length, Option, Some, None, refl, ap, ◌∙◌, arith}
 use Rattle.std.specs.Prelude.{map}
 use Rattle.std.proofs.lemmas.Bool.Decides.{nat_tests}
-use Rattle.pf_fault.specs.declared.fault.OrNoMemory.{OrNoMemory}
-use Rattle.pf_fault.specs.declared.fault.OrNoMemory.TheVariants.{NoMemory, Fault}
+use Rattle.pf_errors.specs.declared.fault.OrNoMemory.{OrNoMemory}
+use Rattle.pf_errors.specs.declared.fault.OrNoMemory.TheVariants.{NoMemory, Fault}
 use Rattle.pf_terms.specs.declared.term.Term.{Term}
 use Rattle.pf_terms.specs.Term.{value_of, values_of}
 use Rattle.pf_terms.specs.Value.{Value, tuple, list, more}
 use Rattle.pf_tokens.specs.Bytes.{is_digit}
 use Rattle.pf_termtext.specs.declared.fault.NoTerm.{NoTerm}
-use Rattle.pf_termtext.specs.Reading.{Front, Fails, before, bounded, elements, elements_at, tuple_at, list_at, quoted_at, integer_at, plain_at, value_by, value_at}
+use Rattle.pf_termtext.specs.Reading.{TextFront, Fails, with_value_before, bounded, elements, elements_at, tuple_at, list_at, quoted_at, integer_at, plain_at, value_by, value_at}
 
 -- a fault of a part is a fault of the whole
 pub fails_as : {X Y : Type 0} (e : OrNoMemory NoTerm) (a : Option X) (b : Option Y) → (a ≡ None → b ≡ None) → Fails e a → Fails e b
@@ -67,10 +67,10 @@ module _ (names : List (List ℕ)) (room less : ℕ) (is : room ≡ suc less) wh
         value_step names room less text is ∙ rw (begins, a, c, d, e, digit) refl
 
 -- elements that are read and are too large for a value, or make one
-pub tuple_by : (items : ℕ → List ℕ → Front (List Value)) (text : List ℕ) (p : List Value × List ℕ) → items 125 text ≡ Some p
-    → tuple_at items text ≡ before p.1 (λ v. v) (bounded (tuple (elements p.0)))
+pub tuple_by : (items : ℕ → List ℕ → TextFront (List Value)) (text : List ℕ) (p : List Value × List ℕ) → items 125 text ≡ Some p
+    → tuple_at items text ≡ with_value_before p.1 (λ v. v) (bounded (tuple (elements p.0)))
 tuple_by items text p read = rw read refl
 
-pub list_by : (items : ℕ → List ℕ → Front (List Value)) (text : List ℕ) (p : List Value × List ℕ) → items 93 text ≡ Some p
-    → list_at items text ≡ before p.1 (λ v. v) (bounded (list (elements p.0)))
+pub list_by : (items : ℕ → List ℕ → TextFront (List Value)) (text : List ℕ) (p : List Value × List ℕ) → items 93 text ≡ Some p
+    → list_at items text ≡ with_value_before p.1 (λ v. v) (bounded (list (elements p.0)))
 list_by items text p read = rw read refl

@@ -3,8 +3,8 @@ use Rattle.std.proofs.Common.{◌≡◌, ℕ, List, [], ◌∷◌, length, Some,
 use Rattle.std.specs.Prelude.{IfOk}
 use Rattle.std.proofs.lemmas.List.{append-nil}
 use Rattle.std.proofs.lemmas.Option.{same_Some, option_and_then_some}
-use Rattle.pf_fault.specs.declared.fault.OrNoMemory.{OrNoMemory}
-use Rattle.pf_fault.specs.declared.fault.OrNoMemory.TheVariants.{NoMemory, Fault}
+use Rattle.pf_errors.specs.declared.fault.OrNoMemory.{OrNoMemory}
+use Rattle.pf_errors.specs.declared.fault.OrNoMemory.TheVariants.{NoMemory, Fault}
 use Rattle.pf_terms.specs.declared.limits.TheConstants.{MOST_DEPTH}
 use Rattle.pf_terms.specs.Atoms.{name_of}
 use Rattle.pf_terms.specs.Order.{TellsApart}
@@ -13,7 +13,7 @@ use Rattle.pf_terms.specs.Value.{Value}
 use Rattle.pf_terms.specs.declared.term.Term.{Term}
 use Rattle.pf_termtext.specs.declared.fault.NoTerm.{NoTerm}
 use Rattle.pf_termtext.specs.Texts.{IsTextOf, NoTextOfTwo, PrintedIsReadBack, no_term}
-use Rattle.pf_termtext.specs.Reading.{Gives, alone, value_at, value_of_text}
+use Rattle.pf_termtext.specs.Reading.{Gives, value_alone, value_at, value_of_text}
 use Rattle.pf_termtext.proofs.Sound.{Says, text_of, value_sound}
 use Rattle.pf_termtext.proofs.Again.{value_again}
 
@@ -21,7 +21,7 @@ use Rattle.pf_termtext.proofs.Again.{value_again}
 pub text_of_read : (names : List (List ℕ)) (bytes : List ℕ) (v : Value) → value_of_text names bytes ≡ Some v → IsTextOf names bytes v
 text_of_read names bytes v e = option_and_then_some _ (value_at names MOST_DEPTH bytes) v e (λ p read made. by p.0 p.1 (value_sound names MOST_DEPTH bytes p.0 p.1 read) made)
   where
-    by : (w : Value) (rest : List ℕ) → Says names bytes w rest → alone w rest ≡ Some v → IsTextOf names bytes v
+    by : (w : Value) (rest : List ℕ) → Says names bytes w rest → value_alone w rest ≡ Some v → IsTextOf names bytes v
     by w [] says made = rw (← same_Some w v made) (record { printed = says.0 ∙ append-nil (text_of names w); readable = says.1; within = says.2 })
     by w (b ∷ rest) says made = absurd cc
 

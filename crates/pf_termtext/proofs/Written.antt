@@ -5,35 +5,35 @@ use Rattle.std.proofs.lemmas.Bool.{eqb-true}
 use Rattle.std.proofs.lemmas.List.{append-nil}
 use Rattle.std.proofs.lemmas.Option.{same_Some, some_pair_parts}
 use Rattle.pf_model.specs.TermText.{quoted_byte}
-use Rattle.pf_termtext.specs.Reading.{Front, ◌>>=◌, behind, escaped, escaped_at, stands_alone, written_at, put_byte, name_at}
+use Rattle.pf_termtext.specs.Reading.{TextFront, ◌>>=◌, after_byte, escaped_byte, escaped_at, stands_alone, written_byte, put_byte, name_at}
 
 -- the bytes read before, and what is read after them
-abbrev pub with_front : List ℕ → Front (List ℕ) → Front (List ℕ)
+abbrev pub with_front : List ℕ → TextFront (List ℕ) → TextFront (List ℕ)
 with_front front read = option_map (λ p. (front ++ p.0, p.1)) read
 
 -- a byte that was read is one more of those read before
-pub with_front-put_byte : (front : List ℕ) (c : ℕ) (read : Front (List ℕ)) → with_front front (put_byte c read) ≡ with_front (front ++ c ∷ []) read
+pub with_front-put_byte : (front : List ℕ) (c : ℕ) (read : TextFront (List ℕ)) → with_front front (put_byte c read) ≡ with_front (front ++ c ∷ []) read
 with_front-put_byte front c (Some p) = ap (λ (t : List ℕ). Some (t, p.1)) (sym (append_assoc front (c ∷ []) p.0))
 with_front-put_byte front c None = refl
 
 -- the quote closes the name here
-abbrev pub closed : List ℕ → Front (List ℕ)
-closed text = option_map (λ rest. ([], rest)) (behind 39 text)
+abbrev pub closed : List ℕ → TextFront (List ℕ)
+closed text = option_map (λ rest. ([], rest)) (after_byte 39 text)
 
 -- what is read where a byte is written, and where none is
-abbrev pub after : Option (ℕ × List ℕ) → List ℕ → Front (List ℕ)
+abbrev pub after : Option (ℕ × List ℕ) → List ℕ → TextFront (List ℕ)
 after (Some p) text = put_byte p.0 (name_at false p.1)
 after None text = closed text
 
 -- a byte that is written is the first of the name; else the name ends
-pub name_steps : (text : List ℕ) → name_at false text ≡ after (written_at text) text
+pub name_steps : (text : List ℕ) → name_at false text ≡ after (written_byte text) text
 unfolding name_at
 name_steps [] = refl
 name_steps (b ∷ text) = by (eqb b 39) (eqb b 92) (stands_alone b) refl refl refl
   where
     behind_backslash : (text : List ℕ) → b ≡ 92 → name_at true text ≡ after (escaped_at text) (b ∷ text)
     behind_backslash [] is = rw is refl
-    behind_backslash (letter ∷ text) is = spelled (escaped letter)
+    behind_backslash (letter ∷ text) is = spelled (escaped_byte letter)
       where
         spelled : (o : Option ℕ) → (o >>= λ c. put_byte c (name_at false text)) ≡ after (option_map (λ c. (c, text)) o) (b ∷ letter ∷ text)
         spelled (Some c) = refl
@@ -50,13 +50,13 @@ name_steps (b ∷ text) = by (eqb b 39) (eqb b 92) (stands_alone b) refl refl re
     by false false false is_quote is_backslash alone = rw is_quote refl
 
 -- after a byte that is written the text is shorter
-pub written_shorter : (text : List ℕ) (b : ℕ) (rest : List ℕ) → written_at text ≡ Some (b, rest) → length rest < length text
+pub written_shorter : (text : List ℕ) (b : ℕ) (rest : List ℕ) → written_byte text ≡ Some (b, rest) → length rest < length text
 written_shorter [] b rest e = absurd cc
 written_shorter (c ∷ text) b rest e = by (eqb c 92) (stands_alone c) e
   where
     spelled : (text : List ℕ) → escaped_at text ≡ Some (b, rest) → length rest < 1 + length text
     spelled [] e = absurd cc
-    spelled (letter ∷ text) e = of (escaped letter) e
+    spelled (letter ∷ text) e = of (escaped_byte letter) e
       where
         of : (o : Option ℕ) → option_map {U = ℕ × List ℕ} (λ m. (m, text)) o ≡ Some (b, rest) → length rest < 1 + length (letter ∷ text)
         of (Some m) e = omega (arith, ap length (some_pair_parts m b text rest e).1)
@@ -68,26 +68,26 @@ written_shorter (c ∷ text) b rest e = by (eqb c 92) (stands_alone c) e
     by false false e = absurd cc
 
 -- one more byte of the name is read
-pub name_more : (front text : List ℕ) (b : ℕ) (rest : List ℕ) (all : Front (List ℕ)) → Some (b, rest) ≡ written_at text
+pub name_more : (front text : List ℕ) (b : ℕ) (rest : List ℕ) (all : TextFront (List ℕ)) → Some (b, rest) ≡ written_byte text
     → all ≡ with_front front (name_at false text) → all ≡ with_front (front ++ b ∷ []) (name_at false rest)
 name_more front text b rest all written so_far =
     so_far ∙ ap (λ r. with_front front r) (name_steps text ∙ ap (λ o. after o text) (sym written)) ∙ with_front-put_byte front b (name_at false rest)
 
 -- the name ends at the quote
-pub name_ends : (front text rest : List ℕ) (all : Front (List ℕ)) → None ≡ written_at text → Some rest ≡ behind 39 text
+pub name_ends : (front text rest : List ℕ) (all : TextFront (List ℕ)) → None ≡ written_byte text → Some rest ≡ after_byte 39 text
     → all ≡ with_front front (name_at false text) → all ≡ Some (front, rest)
 name_ends front text rest all written quote so_far =
     so_far ∙ ap (λ r. with_front front r) (name_steps text ∙ ap (λ o. after o text) (sym written) ∙ ap (λ o. option_map (λ r. ([], r)) o) (sym quote))
     ∙ ap (λ (t : List ℕ). Some (t, rest)) (append-nil front)
 
 -- the name doesn't end
-pub name_fails : (front text : List ℕ) (all : Front (List ℕ)) → None ≡ written_at text → None ≡ behind 39 text
+pub name_fails : (front text : List ℕ) (all : TextFront (List ℕ)) → None ≡ written_byte text → None ≡ after_byte 39 text
     → all ≡ with_front front (name_at false text) → all ≡ None
 name_fails front text all written quote so_far =
     so_far ∙ ap (λ r. with_front front r) (name_steps text ∙ ap (λ o. after o text) (sym written) ∙ ap (λ o. option_map (λ r. ([], r)) o) (sym quote))
 
 -- what a `\` and a letter stand for is written so
-spelled_byte : (letter b : ℕ) → escaped letter ≡ Some b → quoted_byte b ≡ 92 ∷ letter ∷ []
+spelled_byte : (letter b : ℕ) → escaped_byte letter ≡ Some b → quoted_byte b ≡ 92 ∷ letter ∷ []
 spelled_byte letter b e = by (eqb letter 110) (eqb letter 116) (eqb letter 92) (eqb letter 39) refl refl refl refl e
   where
     by : (p q r s : Bool) → eqb letter 110 ≡ p → eqb letter 116 ≡ q → eqb letter 92 ≡ r → eqb letter 39 ≡ s
@@ -115,7 +115,7 @@ shown true text = 92 ∷ text
 shown false text = text
 
 -- one more byte is written before
-put_in_front : (front : List ℕ) (b : ℕ) (text : List ℕ) (read : Front (List ℕ)) (name rest : List ℕ) → quoted_byte b ≡ front
+put_in_front : (front : List ℕ) (b : ℕ) (text : List ℕ) (read : TextFront (List ℕ)) (name rest : List ℕ) → quoted_byte b ≡ front
     → ((n r : List ℕ) → read ≡ Some (n, r) → text ≡ flat_map quoted_byte n ++ 39 ∷ r)
     → put_byte b read ≡ Some (name, rest) → front ++ text ≡ flat_map quoted_byte name ++ 39 ∷ rest
 put_in_front front b text (Some p) name rest is later made =
@@ -129,10 +129,10 @@ pub name_sound : (is_escaped : Bool) (text name rest : List ℕ) → name_at is_
 unfolding name_at
 name_sound true [] name rest e = absurd cc
 name_sound false [] name rest e = absurd cc
-name_sound true (letter ∷ text) name rest e = by (λ n r f. name_sound false text n r f) (escaped letter) refl e
+name_sound true (letter ∷ text) name rest e = by (λ n r f. name_sound false text n r f) (escaped_byte letter) refl e
   where
     by : ((n r : List ℕ) → name_at false text ≡ Some (n, r) → text ≡ flat_map quoted_byte n ++ 39 ∷ r)
-        → (o : Option ℕ) → escaped letter ≡ o → (o >>= λ c. put_byte c (name_at false text)) ≡ Some (name, rest) → 92 ∷ letter ∷ text ≡ flat_map quoted_byte name ++ 39 ∷ rest
+        → (o : Option ℕ) → escaped_byte letter ≡ o → (o >>= λ c. put_byte c (name_at false text)) ≡ Some (name, rest) → 92 ∷ letter ∷ text ≡ flat_map quoted_byte name ++ 39 ∷ rest
     by later (Some c) is made = put_in_front (92 ∷ letter ∷ []) c text (name_at false text) name rest (spelled_byte letter c is) later made
     by later None is made = absurd cc
 name_sound false (b ∷ text) name rest e =

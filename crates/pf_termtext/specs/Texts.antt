@@ -1,7 +1,7 @@
 -- Which value a text is of.
 use Rattle.std.specs.Prelude.{◌≡◌, ◌<◌, ◌^◌, ℕ, ℤ, pos, negsuc, List, length, codes}
-use Rattle.pf_fault.specs.declared.fault.OrNoMemory.{OrNoMemory}
-use Rattle.pf_fault.specs.declared.fault.OrNoMemory.TheVariants.{Fault}
+use Rattle.pf_errors.specs.declared.fault.OrNoMemory.{OrNoMemory}
+use Rattle.pf_errors.specs.declared.fault.OrNoMemory.TheVariants.{Fault}
 use Rattle.pf_terms.specs.Atoms.{name_of}
 use Rattle.pf_terms.specs.Order.{TellsApart}
 use Rattle.pf_terms.specs.Value.{Value, Values, int, atom, ref, pid, tuple, list, none, more, IsWithinLimits}

@@ -2,14 +2,14 @@
 
 ghost use Rattle.std.specs.Prelude.{◌≡◌, ◌≤◌, length, option_map};
 ghost use Rattle.std.specs.List.{prefix_len};
-ghost use Rattle.pf_tokens.specs.Bytes.{is_word};
-ghost use Rattle.pf_termtext.specs.Reading.{behind, behind_word, word};
+ghost use Rattle.pf_tokens.specs.Bytes.{is_word_byte};
+ghost use Rattle.pf_termtext.specs.Reading.{after_byte, behind_word, word_bytes};
 
 use pf_tokens::is_word;
 
 /// The bytes after this one, where it is at the front.
 pub fn behind(text: &[u8], byte: u8) -> Option<&[u8]>
-    ensures { option_map (λ rest. rest.now) result ≡ behind byte text.now }
+    ensures { option_map (λ rest. rest.now) result ≡ after_byte byte text.now }
 {
     match text {
         [first, rest @ ..] if *first == byte => Some(rest),
@@ -19,7 +19,7 @@ pub fn behind(text: &[u8], byte: u8) -> Option<&[u8]>
 
 /// How many bytes of words are at the front.
 fn word_length(text: &[u8]) -> usize
-    ensures length { result ≡ prefix_len is_word text.now }
+    ensures length { result ≡ prefix_len is_word_byte text.now }
     ensures within { result ≤ length text.now }
 {
     text.iter().take_while(|byte| is_word(**byte)).count()
@@ -27,7 +27,7 @@ fn word_length(text: &[u8]) -> usize
 
 /// The bytes of words at the front, and the bytes after them.
 pub fn split_word(text: &[u8]) -> (&[u8], &[u8])
-    ensures word { result.0.now ≡ word text.now }
+    ensures word_bytes { result.0.now ≡ word_bytes text.now }
     ensures rest { result.1.now ≡ behind_word text.now }
 {
     text.split_at(word_length(text))

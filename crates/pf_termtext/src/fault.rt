@@ -3,7 +3,7 @@
 ghost use Rattle.std.specs.Prelude.{◌≡◌};
 ghost use Rattle.pf_termtext.specs.Texts.{no_term};
 
-use pf_fault::OrNoMemory;
+use pf_errors::OrNoMemory;
 use std::error::Error;
 use std::fmt;
 

@@ -2,7 +2,7 @@
 
 ghost use Rattle.std.specs.Prelude.{◌≡◌, option_map, false};
 ghost use Rattle.pf_terms.specs.Term.{value_of};
-ghost use Rattle.pf_termtext.specs.Reading.{Gives, atom_of, escaped, name_at, plain_at, quoted_at, stands_alone, written_at};
+ghost use Rattle.pf_termtext.specs.Reading.{Gives, atom_of, escaped_byte, name_at, plain_at, quoted_at, stands_alone, written_byte};
 
 use crate::bytes::{behind, split_word};
 use crate::fault::{Fault, no_term};
@@ -35,7 +35,7 @@ pub fn read_plain<'a>(text: &'a [u8], atoms: &AtomTable) -> Result<(Term, &'a [u
 
 /// The byte that a letter stands for after `\`.
 fn escaped(letter: u8) -> Option<u8>
-    ensures { result ≡ escaped letter }
+    ensures { result ≡ escaped_byte letter }
 {
     match letter {
         b'n' => Some(b'\n'),
@@ -54,7 +54,7 @@ fn stands_alone(byte: u8) -> bool
 
 /// The byte that is written at the front, in quotes, and the bytes after it.
 fn written_byte(text: &[u8]) -> Option<(u8, &[u8])>
-    ensures { option_map (λ p. (p.0, p.1.now)) result ≡ written_at text.now }
+    ensures { option_map (λ p. (p.0, p.1.now)) result ≡ written_byte text.now }
 {
     match text {
         [b'\\', letter, rest @ ..] => Some((escaped(*letter)?, rest)),

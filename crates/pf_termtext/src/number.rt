@@ -5,7 +5,7 @@ ghost use Rattle.std.specs.List.{list_all};
 ghost use Rattle.pf_tokens.specs.Bytes.{is_digit};
 ghost use Rattle.pf_tokens.specs.TokenKinds.{decimal};
 ghost use Rattle.pf_terms.specs.Term.{value_of};
-ghost use Rattle.pf_termtext.specs.Reading.{Gives, integer_at, integer_of, signed};
+ghost use Rattle.pf_termtext.specs.Reading.{Gives, integer_at, integer_of_digits, signed};
 
 use crate::bytes::split_word;
 use crate::fault::{Fault, no_term};
@@ -44,7 +44,7 @@ fn signed(is_negative: bool, magnitude: u64) -> Option<i64>
 
 /// The integer that the digits are, with a minus sign or without.
 fn integer_of(is_negative: bool, digits: &[u8]) -> Option<i64>
-    ensures { result ≡ integer_of is_negative digits.now }
+    ensures { result ≡ integer_of_digits is_negative digits.now }
 {
     if !is_numeral(digits) {
         return None;

@@ -7,7 +7,7 @@ ghost use Rattle.pf_terms.specs.Term.{value_of};
 ghost use Rattle.pf_model.specs.TermText.{value_text};
 ghost use Rattle.pf_terms.specs.Streams.{LeavesFront};
 
-use pf_fault::OrNoMemory;
+use pf_errors::OrNoMemory;
 use pf_terms::{AtomTable, Counted, StreamFault, Term};
 use pf_text::put_term;
 use std::alloc::Global;

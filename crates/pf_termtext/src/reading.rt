@@ -10,7 +10,7 @@ use crate::bytes::behind;
 use crate::fault::{Fault, NoTerm, no_term};
 use crate::name::{read_plain, read_quoted};
 use crate::number::read_integer;
-use pf_fault::OrNoMemory;
+use pf_errors::OrNoMemory;
 use pf_terms::{AtomTable, MOST_DEPTH, MOST_NODES, Term, list_of, tuple_of};
 use pf_tokens::is_digit;
 use std::alloc::Global;

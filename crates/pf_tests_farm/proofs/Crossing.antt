@@ -10,7 +10,7 @@ use denote.Struct.Tuple.{TupleAt}
 use denote.Param.Send.{IsSend, IsSync, recorded_sync, param_send, param_sync, arg_send, arg_sync, shr_send, shr_sync, mut_slice_send, sendable}
 use Rattle.std.proofs.Crossing as heap
 use Rattle.std.specs.contracts.alloc.Global as Global
-use Rattle.pf_tests_farm.specs.contracts.waiting.Mark as Mark
+use Rattle.pf_tests_farm.specs.contracts.waiting.GateMark as Mark
 
 mark_field_sync : IsSync (Mark.the_field).row
 mark_field_sync = search (heap.crosses, sendable) depth 30

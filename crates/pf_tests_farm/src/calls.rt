@@ -2,10 +2,10 @@
 
 use crate::missed::Missed;
 use crate::waiting::rest;
-use pf_book::{Reply, Stage};
+use pf_book::{Reply, TrialStage};
 use pf_farm::{ClientSeat, Floor};
-use pf_farm_names::FarmNames;
-use pf_request::{Call, Kind, Order, Request, RunChoices, ShortBytes, Source};
+use pf_farm_accounts::FarmNames;
+use pf_request::{Call, Order, Request, RequestKind, RunChoices, ShortBytes, Source};
 use std::alloc::Global;
 use std::sync::Wait;
 
@@ -57,7 +57,7 @@ pub(crate) fn order<N: FarmNames, R: Wait>(
     let request = Request {
         root: ShortBytes::from_slice(alloc, b"main")?,
         property: ShortBytes::from_slice(alloc, b"true")?,
-        kind: Kind::Run(RunChoices::Seed(seed)),
+        kind: RequestKind::Run(RunChoices::Seed(seed)),
         limit,
     };
     match floor.call(alloc, rt, seat, Call::Order(Order { module, request }))? {
@@ -73,7 +73,7 @@ pub(crate) fn status<N: FarmNames, R: Wait>(
     floor: &Floor<N>,
     seat: &mut ClientSeat<N>,
     ticket: u64,
-) -> Result<Stage, Missed> {
+) -> Result<TrialStage, Missed> {
     match floor.call(alloc, rt, seat, Call::Status(ticket))? {
         Reply::Stage(stage) => Ok(stage),
         _ => Err(Missed::that("a status is refused")),
@@ -120,7 +120,7 @@ pub(crate) fn await_done<N: FarmNames, R: Wait>(
     ticket: u64,
 ) -> Result<(), Missed> {
     for _ in 0..5_000u32 {
-        if status(alloc, rt, floor, seat, ticket)? == Stage::Done {
+        if status(alloc, rt, floor, seat, ticket)? == TrialStage::Done {
             return Ok(());
         }
         rest(20_000);

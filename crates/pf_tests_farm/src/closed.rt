@@ -5,12 +5,11 @@ ghost use Rattle.pf_sched.specs.Slices.{Sliced};
 use crate::calls::{ENDLESS, SENDERS, fetch, give_up, order, submit};
 use crate::missed::Missed;
 use crate::scene::{Scene, play};
-use crate::waiting::Mark;
-use pf_book::{Refusal, Reply};
+use crate::waiting::GateMark;
+use pf_book::{CallRefusal, Reply};
 use pf_farm::{ClientSeat, Closing, Floor, Gate};
-use pf_farm_names::FarmNames;
-use pf_ledger::End;
-use pf_quota::Refusal as Limit;
+use pf_farm_accounts::{ClaimEnd, FarmNames};
+use pf_quota::LimitRefusal as Limit;
 use pf_request::Call;
 use pf_sched::{Parked, Scratch, Slice, run_slice};
 use std::alloc::Global;
@@ -19,7 +18,7 @@ use std::sync::Wait;
 use std::test::Fail;
 
 /// How many claims ended so.
-fn ended_as(closing: &Closing, end: End) -> usize {
+fn ended_as(closing: &Closing, end: ClaimEnd) -> usize {
     closing
         .rows
         .iter()
@@ -66,19 +65,19 @@ enum Play {
 #[derive(Drop)]
 struct Plays {
     play: Play,
-    slices: Mark,
-    dropped: Mark,
+    slices: GateMark,
+    dropped: GateMark,
     /// Calls that were refused since the log is full.
-    refused: Mark,
+    refused: GateMark,
 }
 
 impl Plays {
     fn new(play: Play) -> Plays {
         Plays {
             play,
-            slices: Mark::new(),
-            dropped: Mark::new(),
-            refused: Mark::new(),
+            slices: GateMark::new(),
+            dropped: GateMark::new(),
+            refused: GateMark::new(),
         }
     }
 
@@ -92,7 +91,7 @@ impl Plays {
     ) -> Result<(), Missed> {
         for _ in 0..6_000u32 {
             let reply = floor.call(alloc, rt, seat, Call::Log)?;
-            if let Reply::Refused(Refusal::PastLimit(Limit::Calls)) = reply {
+            if let Reply::Refused(CallRefusal::PastLimit(LimitRefusal::Calls)) = reply {
                 self.refused.set();
             }
         }
@@ -183,7 +182,7 @@ fn four_clients_and_four_workers_over_200_trials(rt: HostRuntime) -> Result<(), 
         all &= closing.call_count(project) == 101 && has_all_receipts(alloc, &closing, project)?;
     }
     assert!(rt; all, "each call has its receipt");
-    assert_eq!(rt; ended_as(&closing, End::Filed), 200);
+    assert_eq!(rt; ended_as(&closing, ClaimEnd::Filed), 200);
     assert_eq!(rt; closing.rows.len(), 200);
     Ok(())
 }
@@ -214,7 +213,7 @@ fn a_trial_that_is_dropped_at_the_gate_ends_stray(rt: HostRuntime) -> Result<(),
     let scene = Plays::new(Play::Drop);
     let closing = play(rt.alloc(), &rt, keys, 1, &[1], &scene)?;
     assert_eq!(rt; closing.rows.len(), 1);
-    assert_eq!(rt; ended_as(&closing, End::Stray), 1);
+    assert_eq!(rt; ended_as(&closing, ClaimEnd::Stray), 1);
     Ok(())
 }
 
@@ -223,8 +222,8 @@ fn runs_that_are_parked_at_the_stop_are_handed_back(rt: HostRuntime) -> Result<(
     let keys = RandomState::new(&rt)?;
     let scene = Plays::new(Play::Stop);
     let closing = play(rt.alloc(), &rt, keys, 2, &[1], &scene)?;
-    let filed = ended_as(&closing, End::Filed);
-    let handed_back = ended_as(&closing, End::HandedBack);
+    let filed = ended_as(&closing, ClaimEnd::Filed);
+    let handed_back = ended_as(&closing, ClaimEnd::HandedBack);
     // Some trials may not have been claimed yet, and one that was handed back may be claimed again by a worker that
     // hasn't seen the end.
     assert!(rt;

@@ -1,6 +1,6 @@
 //! What went wrong.
 
-use pf_fault::NoMemory;
+use pf_errors::NoMemory;
 use std::alloc::{AllocError, AllocFailed};
 
 /// What went wrong.

@@ -1,17 +1,16 @@
 //! A farm with its gate and its clients, from its opening to its end.
 
 ghost use Rattle.std.specs.Prelude.{◌≡◌, ◌<◌, ◌≤◌, IfOk, Some, length, vec_len};
-ghost use Rattle.pf_farm.specs.Farms.{farm_of};
+ghost use Rattle.pf_farm.specs.Farms.{opened_farm};
 ghost use Rattle.pf_farm.specs.Seats.{AllIdle, IsRing};
 
 use crate::missed::Missed;
-use crate::waiting::Mark;
+use crate::waiting::GateMark;
+use pf_errors::OrNoMemory;
 use pf_farm::{
     Blanks, ClientSeat, Closing, Farm, Floor, Gate, MOST_SEATS, NoSeat, WorkSeat, work_all,
 };
-use pf_farm_names::FarmNames;
-use pf_fault::OrNoMemory;
-use pf_register::NewRegister;
+use pf_farm_accounts::{FarmNames, NewRegister};
 use std::alloc::Global;
 use std::hash::RandomState;
 use std::marker::Brand;
@@ -41,7 +40,7 @@ pub(crate) fn seated<N: FarmNames>(
     requires none { farm.old.given ≡ 0 }
     requires few { length projects.now ≤ MOST_SEATS }
     ensures seats { IfOk result (λ v. vec_len v ≡ length projects.now) }
-    ensures given { IfOk result (λ v. farm.new ≡ farm_of farm.old.workers (length projects.now)) }
+    ensures given { IfOk result (λ v. farm.new ≡ opened_farm farm.old.workers (length projects.now)) }
 {
     let mut seats = Vec::new(alloc);
     'projects: for project in projects {
@@ -60,7 +59,7 @@ fn client_plays<N: FarmNames, R: Wait, S: Scene>(
     rt: &R,
     floor: &Floor<N>,
     scene: &S,
-    failed: &Mark,
+    failed: &GateMark,
     seat: &mut ClientSeat<N>,
 ) {
     if scene.client(alloc, rt, floor, seat).is_err() {
@@ -75,7 +74,7 @@ fn clients_play<N: FarmNames + Send + Sync, R: Threads + Wait + Sync, S: Scene>(
     rt: &R,
     floor: &Floor<N>,
     scene: &S,
-    failed: &Mark,
+    failed: &GateMark,
     seats: &mut [ClientSeat<N>],
 )
     requires { 0 < length seats.old }
@@ -114,7 +113,7 @@ fn all_play<'a, N: FarmNames + Send + Sync, R: Threads + Wait + Sync, S: Scene>(
     rt: &'a R,
     floor: &'a Floor<N>,
     scene: &'a S,
-    failed: &'a Mark,
+    failed: &'a GateMark,
     clients: &'a mut [ClientSeat<N>],
     seats: &'a mut [WorkSeat<N>],
 )
@@ -159,7 +158,7 @@ fn play_by<N: FarmNames + Send + Sync, R: Threads + Wait + Sync, S: Scene>(
 {
     let (mut farm, mut seats) = Farm::<N>::open(alloc, keys, blanks, workers)?;
     let mut clients = seated(alloc, &mut farm, projects)?;
-    let failed = Mark::new();
+    let failed = GateMark::new();
     let floor = farm.floor();
     all_play(alloc, rt, floor, scene, &failed, &mut clients, &mut seats);
     let closing = farm.close(clients, seats);

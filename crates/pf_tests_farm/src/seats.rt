@@ -4,9 +4,9 @@ ghost use Rattle.std.specs.Prelude.{◌≡◌, ◌<◌, Some};
 
 use crate::missed::Missed;
 use crate::scene::{blanks, seated};
+use pf_errors::OrNoMemory;
 use pf_farm::{Blanks, Farm, MOST_SEATS, NoSeat};
-use pf_farm_names::FarmNames;
-use pf_fault::OrNoMemory;
+use pf_farm_accounts::FarmNames;
 use std::alloc::Global;
 use std::hash::RandomState;
 use std::marker::Brand;

@@ -5,9 +5,9 @@ ghost use Rattle.pf_sched.specs.Slices.{Sliced};
 use crate::calls::{SPAWNING, SUM, fetch, order, submit};
 use crate::missed::Missed;
 use crate::scene::{Scene, play};
-use crate::waiting::Mark;
+use crate::waiting::GateMark;
 use pf_farm::{ClientSeat, Floor, Gate};
-use pf_farm_names::FarmNames;
+use pf_farm_accounts::FarmNames;
 use pf_sched::{Parked, Scratch, Slice, run_slice};
 use std::alloc::Global;
 use std::hash::RandomState;
@@ -19,14 +19,14 @@ use std::test::Fail;
 /// has begun: so the first was parked by one worker, and went on at the other.
 #[derive(Drop)]
 struct OneIsStolen {
-    first_slices: Mark,
-    third_begun: Mark,
-    second_ordered: Mark,
-    second_begun: Mark,
-    first_fetched: Mark,
-    out_of_order: Mark,
+    first_slices: GateMark,
+    third_begun: GateMark,
+    second_ordered: GateMark,
+    second_begun: GateMark,
+    first_fetched: GateMark,
+    out_of_order: GateMark,
     /// Waits at the gate that lasted too long.
-    late: Mark,
+    late: GateMark,
 }
 
 impl Gate for OneIsStolen {
@@ -110,13 +110,13 @@ impl Scene for OneIsStolen {
 #[test]
 fn gate_steal(rt: HostRuntime) -> Result<(), Fail> {
     let scene = OneIsStolen {
-        first_slices: Mark::new(),
-        third_begun: Mark::new(),
-        second_ordered: Mark::new(),
-        second_begun: Mark::new(),
-        first_fetched: Mark::new(),
-        out_of_order: Mark::new(),
-        late: Mark::new(),
+        first_slices: GateMark::new(),
+        third_begun: GateMark::new(),
+        second_ordered: GateMark::new(),
+        second_begun: GateMark::new(),
+        first_fetched: GateMark::new(),
+        out_of_order: GateMark::new(),
+        late: GateMark::new(),
     };
     let keys = RandomState::new(&rt)?;
     let closing = play(rt.alloc(), &rt, keys, 2, &[1, 2, 3], &scene)?;

@@ -6,10 +6,10 @@ ghost use Rattle.pf_sched.specs.Slices.{Sliced};
 use crate::calls::{SUM, await_done, fetch, order, status, submit};
 use crate::missed::Missed;
 use crate::scene::{Scene, play};
-use crate::waiting::Mark;
-use pf_book::Stage;
+use crate::waiting::GateMark;
+use pf_book::TrialStage;
 use pf_farm::{ClientSeat, Floor, Gate};
-use pf_farm_names::FarmNames;
+use pf_farm_accounts::FarmNames;
 use pf_sched::{Parked, Scratch, Slice, run_slice};
 use std::alloc::Global;
 use std::hash::RandomState;
@@ -18,34 +18,34 @@ use std::test::Fail;
 
 /// What is known of one project's trial.
 #[derive(Drop)]
-struct Side {
-    begun: Mark,
-    answered: Mark,
-    fetched: Mark,
+struct ProjectSide {
+    begun: GateMark,
+    answered: GateMark,
+    fetched: GateMark,
 }
 
-impl Side {
-    fn new() -> Side {
-        Side {
-            begun: Mark::new(),
-            answered: Mark::new(),
-            fetched: Mark::new(),
+impl ProjectSide {
+    fn new() -> ProjectSide {
+        ProjectSide {
+            begun: GateMark::new(),
+            answered: GateMark::new(),
+            fetched: GateMark::new(),
         }
     }
 }
 
 #[derive(Drop)]
 struct TwoTrials {
-    begun: Mark,
-    first: Side,
-    second: Side,
+    begun: GateMark,
+    first: ProjectSide,
+    second: ProjectSide,
     /// Waits at the gate that lasted too long.
-    late: Mark,
+    late: GateMark,
 }
 
 impl TwoTrials {
     /// The side of a project, and the other one.
-    fn sides(&self, project: u32) -> (&Side, &Side) {
+    fn sides(&self, project: u32) -> (&ProjectSide, &ProjectSide) {
         if project == 1 {
             (&self.first, &self.second)
         } else {
@@ -89,7 +89,7 @@ impl Scene for TwoTrials {
         submit(alloc, rt, floor, seat, SUM)?;
         let ticket = order(alloc, rt, floor, seat, 1, 1, 100)?;
         side.begun.wait_for("the trial doesn't begin")?;
-        if status(alloc, rt, floor, seat, ticket)? != Stage::Running {
+        if status(alloc, rt, floor, seat, ticket)? != TrialStage::Running {
             return Err(Missed::that("the trial isn't running"));
         }
         side.answered.set();
@@ -103,10 +103,10 @@ impl Scene for TwoTrials {
 #[test]
 fn gate_two_trials(rt: HostRuntime) -> Result<(), Fail> {
     let scene = TwoTrials {
-        begun: Mark::new(),
-        first: Side::new(),
-        second: Side::new(),
-        late: Mark::new(),
+        begun: GateMark::new(),
+        first: ProjectSide::new(),
+        second: ProjectSide::new(),
+        late: GateMark::new(),
     };
     let keys = RandomState::new(&rt)?;
     let closing = play(rt.alloc(), &rt, keys, 2, &[1, 2], &scene)?;

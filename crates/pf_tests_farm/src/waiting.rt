@@ -12,13 +12,13 @@ const TURNS_A_YIELD: u64 = 100;
 
 /// A mark.
 #[derive(Drop)]
-pub struct Mark {
+pub struct GateMark {
     count: AtomicU64,
 }
 
-impl Mark {
-    pub fn new() -> Mark {
-        Mark {
+impl GateMark {
+    pub fn new() -> GateMark {
+        GateMark {
             count: AtomicU64::new(0),
         }
     }
@@ -46,7 +46,7 @@ impl Mark {
 
     /// Waits at the gate until it was set. A slice goes on all the same where that lasts too long, so the wait is noted
     /// as late.
-    pub fn hold(&self, late: &Mark) {
+    pub fn hold(&self, late: &GateMark) {
         if !self.wait(1) {
             late.set();
         }
@@ -65,7 +65,7 @@ impl Mark {
 /// Lets other threads go on for so many turns. Where the processor has other work, a yield takes milliseconds, so few
 /// of the turns yield.
 pub fn rest(turns: u32) {
-    let turn = Mark::new();
+    let turn = GateMark::new();
     for _ in 0..turns {
         if turn.set() % TURNS_A_YIELD == 0 {
             thread::yield_now();

@@ -1,7 +1,7 @@
 //! Each call of a client and each claim of a worker once, at one book.
 
 use pf_book::{Book, Reply};
-use pf_request::{Kind, Order, Request, RunChoices, ShortBytes, Source};
+use pf_request::{Order, Request, RequestKind, RunChoices, ShortBytes, Source};
 use pf_sched::{Finished, Job, Scratch, Silent, run_to_end};
 use std::alloc::Global;
 use std::hash::RandomState;
@@ -37,7 +37,7 @@ fn ordered(alloc: Global, book: &mut Book, project: u32) -> Result<Reply, Fail> 
     let request = Request {
         root: ShortBytes::from_slice(alloc, b"main")?,
         property: ShortBytes::from_slice(alloc, b"returns")?,
-        kind: Kind::Run(RunChoices::Seed(0)),
+        kind: RequestKind::Run(RunChoices::Seed(0)),
         limit: 100,
     };
     Ok(book.order(alloc, project, Order { module: 1, request })?)

@@ -1,9 +1,9 @@
 //! Hunts by workers in threads, over modules of their own, and what their observer is notified of.
 
-use pf_module::ReadModule;
-use pf_request::{Kind, Request, RunChoices, ShortBytes, Source};
+use pf_check::ReadModule;
+use pf_hunt::{Hunt, HuntObserver, Leak, Pace, first_failing, other_jobs, tally_all};
+use pf_request::{Request, RequestKind, RunChoices, ShortBytes, Source};
 use pf_sched::Job;
-use pf_seeds::{Hunt, HuntObserver, Leak, Pace, first_failing, other_jobs, tally_all};
 use pf_strategy::Strategy;
 use std::alloc::Global;
 use std::test::Fail;
@@ -36,7 +36,7 @@ fn request_of(alloc: Global, property: &str) -> Result<Request, Fail> {
     Ok(Request {
         root: ShortBytes::from_slice(alloc, b"main")?,
         property: ShortBytes::from_slice(alloc, property.as_bytes())?,
-        kind: Kind::Run(RunChoices::Seed(0)),
+        kind: RequestKind::Run(RunChoices::Seed(0)),
         limit: 2000,
     })
 }
@@ -75,20 +75,20 @@ fn hunt_of(
 /// How many seeds a hunt reported at last; the leak that it reported, by its seed and its processes, and how often. It
 /// is to stop after twenty seeds.
 #[derive(Drop)]
-struct Told {
+struct HeardHunt {
     done: u64,
     leak: (u64, u32),
     leaks: u64,
 }
 
 /// Nothing is reported yet.
-const NOTHING: Told = Told {
+const NOTHING: HeardHunt = HeardHunt {
     done: 0,
     leak: (0, 0),
     leaks: 0,
 };
 
-impl HuntObserver for Told {
+impl HuntObserver for HeardHunt {
     fn progress(&mut self, done: u64, _failures: u64) -> Pace {
         self.done = done;
         if done < 20 { Pace::Longer } else { Pace::Stop }

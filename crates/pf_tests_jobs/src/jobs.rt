@@ -1,7 +1,7 @@
 //! Jobs that are run whole, slice by slice, and with their events.
 
-use pf_module::ReadModule;
-use pf_request::{Kind, Request, RunChoices, ShortBytes, Source};
+use pf_check::ReadModule;
+use pf_request::{Request, RequestKind, RunChoices, ShortBytes, Source};
 use pf_sched::{
     Finished, Job, JobResult, Scratch, Silent, Slice, choices_by_priorities, report_by_schedule,
     run_slice, run_to_end, start,
@@ -38,7 +38,12 @@ fn module_of(alloc: Global, source: &str) -> Result<ReadModule, Fail> {
 }
 
 /// The job of runs of `main`.
-fn job_of(alloc: Global, source: &str, property: &str, kind: Kind) -> Result<Arc<Job>, Fail> {
+fn job_of(
+    alloc: Global,
+    source: &str,
+    property: &str,
+    kind: RequestKind,
+) -> Result<Arc<Job>, Fail> {
     let module = module_of(alloc, source)?;
     let request = Request {
         root: ShortBytes::from_slice(alloc, b"main")?,
@@ -75,7 +80,7 @@ fn is_told(alloc: Global, finished: &Finished) -> Result<bool, Fail> {
 /// Whether the run of the talk gives that report whole, shared, and by slices.
 fn talks(alloc: Global) -> Result<bool, Fail> {
     let numbers = Vec::from_slice(alloc, &CHOICES)?;
-    let kind = Kind::Run(RunChoices::schedule(alloc, numbers)?);
+    let kind = RequestKind::Run(RunChoices::schedule(alloc, numbers)?);
     let job = job_of(alloc, TALK, "returns", kind)?;
     let mut scratch = Scratch::new(alloc);
     let whole = run_to_end(alloc, Arc::try_clone(&job)?, &mut scratch, &mut Silent)?;
@@ -99,7 +104,12 @@ fn text_by(alloc: Global, job: &Job, schedule: &[u32]) -> Result<Vec<u8>, Fail> 
 /// Whether the talk gives its text by a schedule in place of a seed, and its property holds by the schedule that
 /// priorities choose.
 fn goes_by_schedules(alloc: Global) -> Result<bool, Fail> {
-    let job = job_of(alloc, TALK, "returns", Kind::Run(RunChoices::Seed(7)))?;
+    let job = job_of(
+        alloc,
+        TALK,
+        "returns",
+        RequestKind::Run(RunChoices::Seed(7)),
+    )?;
     let given = text_by(alloc, &job, CHOICES.as_slice())?;
     let chosen = choices_by_priorities(alloc, &job, 7, &mut Scratch::new(alloc))?;
     let guided = text_by(alloc, &job, chosen.as_slice())?;
@@ -115,7 +125,12 @@ fn a_schedule_goes_in_place_of_a_seed(rt: HostRuntime) -> Result<(), Fail> {
 /// Whether the race is shrunk, by slices, to the choice of the second message.
 fn shrinks(alloc: Global) -> Result<bool, Fail> {
     let schedule = Arc::new(alloc, vec![in alloc; 0, 0, 0, 0, 0, 0, 0, 3, 1]?)?;
-    let job = job_of(alloc, RACE, "true", Kind::Shrink { schedule, runs: 20 })?;
+    let job = job_of(
+        alloc,
+        RACE,
+        "true",
+        RequestKind::Shrink { schedule, runs: 20 },
+    )?;
     let finished = sliced(alloc, &job)?;
     let Some(
         JobResult::Shrunk {

@@ -1,7 +1,7 @@
 //! A worked list of steps: one run goes from worker to worker.
 
-use pf_request::{Call, Chore, Kind, Order, Request, RunChoices, ShortBytes, Source, Step};
-use pf_workshop::{Response, Workshop};
+use pf_pool::{Response, World};
+use pf_request::{Call, Chore, Order, Request, RequestKind, RunChoices, ShortBytes, Source, Step};
 use std::alloc::Global;
 use std::hash::RandomState;
 use std::test::Fail;
@@ -19,20 +19,20 @@ const CHORES: [(u32, Chore); 11] = [
     (0, Chore::Slice { turns: 1 }),
     (0, Chore::Park),
     (63, Chore::Steal { from: 0 }),
-    (63, Chore::GiveBack),
+    (63, Chore::HandBack),
     (3, Chore::Claim),
     (3, Chore::Slice { turns: 100 }),
     (3, Chore::File),
 ];
 
 /// Project 7 submits the module and orders its run.
-fn order(alloc: Global, workshop: &mut Workshop) -> Result<(), Fail> {
+fn order(alloc: Global, workshop: &mut World) -> Result<(), Fail> {
     let source = Source::new(alloc, Vec::from_slice(alloc, ECHO)?)?;
     drop(workshop.call(alloc, 7, Call::Submit(source))?);
     let request = Request {
         root: ShortBytes::from_slice(alloc, b"main")?,
         property: ShortBytes::from_slice(alloc, b"returns")?,
-        kind: Kind::Run(RunChoices::Seed(1)),
+        kind: RequestKind::Run(RunChoices::Seed(1)),
         limit: 1000,
     };
     let call = Call::Order(Order { module: 1, request });
@@ -45,7 +45,7 @@ fn is_done(response: Response) -> bool {
 }
 
 /// The index of the first chore that isn't done.
-fn first_undone(alloc: Global, workshop: &mut Workshop) -> Result<Option<usize>, Fail> {
+fn first_undone(alloc: Global, workshop: &mut World) -> Result<Option<usize>, Fail> {
     for (index, &(worker, chore)) in CHORES.iter().enumerate() {
         let step = Step::Chore {
             worker,
@@ -62,7 +62,7 @@ fn first_undone(alloc: Global, workshop: &mut Workshop) -> Result<Option<usize>,
 
 /// The same in a workshop of 64 workers in which the run is ordered.
 fn undone(alloc: Global, keys: RandomState) -> Result<Option<usize>, Fail> {
-    let mut workshop = Workshop::new(alloc, keys, 64)?;
+    let mut workshop = World::new(alloc, keys, 64)?;
     order(alloc, &mut workshop)?;
     first_undone(alloc, &mut workshop)
 }

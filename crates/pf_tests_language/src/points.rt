@@ -5,7 +5,7 @@ ghost use Rattle.pf_stepper.specs.Turns.{CanMove};
 
 use pf_check::read;
 use pf_nodes::Pool;
-use pf_stepper::{Machine, Move, PlainInbox, Point, Room};
+use pf_stepper::{Machine, MachineRoom, Move, PlainInbox, Point};
 use pf_syntax::{FunctionId, Module, Node, NodeId, Operator};
 use pf_terms::Term;
 use smallvec::SmallVec;
@@ -47,7 +47,7 @@ pub(crate) fn begun(alloc: Global, source: &str) -> Result<Machine, Fail>
     let whole = format!(in alloc; "-module(m). {source}")?;
     let module = Arc::new(alloc, read(alloc, whole.as_bytes())?)?;
     let args = SmallVec::new(alloc);
-    Ok(Machine::new(0, module, FunctionId(1), args, Room::new(alloc))?)
+    Ok(Machine::new(0, module, FunctionId(1), args, MachineRoom::new(alloc))?)
 }
 
 /// Where a process that has the message 3 is after so many steps, or at the move that stops it before.

@@ -6,7 +6,7 @@ ghost use Rattle.pf_stepper.specs.Turns.{CanMove};
 use pf_check::read;
 use pf_mailbox::Mailbox;
 use pf_nodes::Pool;
-use pf_stepper::{Machine, Move, Room};
+use pf_stepper::{Machine, MachineRoom, Move};
 use pf_syntax::FunctionId;
 use pf_terms::{NoMemory, Term};
 use smallvec::SmallVec;
@@ -24,7 +24,7 @@ fn begun(alloc: Global) -> Result<Machine, Fail>
     )?;
     let module = Arc::new(alloc, module)?;
     let args = SmallVec::new(alloc);
-    Ok(Machine::new(0, module, FunctionId(0), args, Room::new(alloc))?)
+    Ok(Machine::new(0, module, FunctionId(0), args, MachineRoom::new(alloc))?)
 }
 
 /// The same mailbox, packed and unpacked.

@@ -1,7 +1,7 @@
 //! Charts of the reports, and the pieces that they must have.
 
 use crate::reports::report;
-use crate::scenes::{NAME, SCENES, Scene};
+use crate::scenes::{ChartScene, NAME, SCENES};
 use pf_chart::{Manner, put_chart};
 use pf_terms::AtomTable;
 use std::alloc::Global;
@@ -16,7 +16,12 @@ fn owned(alloc: Global, names: &[&[u8]]) -> Result<Vec<Vec<u8>>, Fail> {
 }
 
 /// Puts the chart of a run of `main`.
-fn put(alloc: Global, text: &mut Vec<u8>, atoms: &AtomTable, scene: &Scene) -> Result<(), Fail> {
+fn put(
+    alloc: Global,
+    text: &mut Vec<u8>,
+    atoms: &AtomTable,
+    scene: &ChartScene,
+) -> Result<(), Fail> {
     let manner = Manner {
         compact: scene.is_compact,
         page: 1,
@@ -37,7 +42,7 @@ fn holds(text: &str, has: bool, pieces: &[&str]) -> Result<(), Fail> {
 }
 
 /// Checks that the chart of a scene is as it has to be.
-fn look(alloc: Global, atoms: &AtomTable, scene: &Scene) -> Result<(), Fail> {
+fn look(alloc: Global, atoms: &AtomTable, scene: &ChartScene) -> Result<(), Fail> {
     let mut text = Vec::new(alloc);
     put(alloc, &mut text, atoms, scene)?;
     let text = std::str::from_utf8(&text)?;

@@ -6,26 +6,26 @@ use std::cell::Cell;
 use std::test::Fail;
 
 /// An item that counts its drops.
-struct Counted<'a> {
+struct CountedDrop<'a> {
     drops: &'a Cell<u32>,
 }
 
-impl Drop for Counted<'_> {
+impl Drop for CountedDrop<'_> {
     fn drop(self) {
         self.drops.set(self.drops.get().wrapping_add(1));
-        let Counted { drops: _ } = self;
+        let CountedDrop { drops: _ } = self;
     }
 }
 
 /// Puts n items at the end.
 fn add<'a>(
-    list: &mut MailList<Counted<'a>>,
-    pool: &mut Pool<Counted<'a>>,
+    list: &mut MailList<CountedDrop<'a>>,
+    pool: &mut Pool<CountedDrop<'a>>,
     drops: &'a Cell<u32>,
     count: u32,
 ) -> Result<(), Fail> {
     for _ in 0..count {
-        if list.push_back(pool, Counted { drops }).is_err() {
+        if list.push_back(pool, CountedDrop { drops }).is_err() {
             return Err(Fail::from("no memory"));
         }
     }
@@ -35,8 +35,8 @@ fn add<'a>(
 /// Passes over the first item and takes the second one. It gives the mark and the length before the mark goes back to
 /// the front.
 fn take_second<'a>(
-    list: &mut MailList<Counted<'a>>,
-    pool: &mut Pool<Counted<'a>>,
+    list: &mut MailList<CountedDrop<'a>>,
+    pool: &mut Pool<CountedDrop<'a>>,
 ) -> Option<(usize, usize)> {
     list.marked()?;
     list.pass();

@@ -31,7 +31,7 @@ pub(crate) enum Did {
 }
 
 /// How a run ends.
-pub(crate) enum Ends {
+pub(crate) enum RunEnd {
     AtLimit,
     WithoutMemory,
     With(AtomId),
@@ -40,10 +40,10 @@ pub(crate) enum Ends {
 
 /// A report: of each event its choice, who acts and what is reported, and after these so many references that the root
 /// makes.
-pub(crate) struct Told {
+pub(crate) struct ReportScene {
     pub(crate) events: &'static [(u32, Actor, Did)],
     pub(crate) references: u64,
-    pub(crate) ends: Ends,
+    pub(crate) ends: RunEnd,
 }
 
 fn label(did: &Did) -> Label {
@@ -97,7 +97,7 @@ fn comes(did: &Did) -> Label {
     Label::Delivers(signal, suffix)
 }
 
-fn events(alloc: Global, told: &Told) -> Result<Vec<Event>, Fail> {
+fn events(alloc: Global, told: &ReportScene) -> Result<Vec<Event>, Fail> {
     let mut events = Vec::new(alloc);
     for (choice, actor, did) in told.events {
         events.push(Event {
@@ -123,16 +123,16 @@ fn add_references(events: &mut Vec<Event>, count: u64) -> Result<(), Fail> {
     Ok(())
 }
 
-fn outcome(alloc: Global, ends: &Ends) -> Result<Outcome, Fail> {
+fn outcome(alloc: Global, ends: &RunEnd) -> Result<Outcome, Fail> {
     Ok(match ends {
-        Ends::AtLimit => Outcome::Limit,
-        Ends::WithoutMemory => Outcome::Memory,
-        Ends::With(atom) => Outcome::Finished(Term::Atom(*atom)),
-        Ends::InDeadlock(waiting) => Outcome::Deadlock(Vec::from_slice(alloc, *waiting)?),
+        RunEnd::AtLimit => Outcome::Limit,
+        RunEnd::WithoutMemory => Outcome::Memory,
+        RunEnd::With(atom) => Outcome::Finished(Term::Atom(*atom)),
+        RunEnd::InDeadlock(waiting) => Outcome::Deadlock(Vec::from_slice(alloc, *waiting)?),
     })
 }
 
-pub(crate) fn report(alloc: Global, told: &Told) -> Result<Report, Fail> {
+pub(crate) fn report(alloc: Global, told: &ReportScene) -> Result<Report, Fail> {
     let outcome = outcome(alloc, &told.ends)?;
     let mut events = events(alloc, told)?;
     add_references(&mut events, told.references)?;

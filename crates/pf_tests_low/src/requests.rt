@@ -1,7 +1,7 @@
 //! What is around a run: tokens of its source, quotas of its project, and the search for a small schedule.
 
-use pf_quota::{Charge, Held, Refusal, Usage, trial_steps};
-use pf_shrink::Hunt;
+use pf_quota::{Charge, Holding, LimitRefusal, Usage, trial_steps};
+use pf_shrink::ShrinkingSearch;
 use pf_tokens::tokens;
 use std::alloc::Global;
 use std::test::Fail;
@@ -37,7 +37,7 @@ fn tokens_are_as_long_as_they_can_be(rt: HostRuntime) -> Result<(), Fail> {
 }
 
 /// What a project uses that made a call, holds a module and a trial, and gave up another of each.
-fn lessened() -> Result<Usage, Refusal> {
+fn lessened() -> Result<Usage, LimitRefusal> {
     let mut usage = Usage::new();
     usage.charge(1, Charge::Call)?;
     usage.charge(1, Charge::Module { bytes: 16_384 })?;
@@ -45,8 +45,8 @@ fn lessened() -> Result<Usage, Refusal> {
     let steps = trial_steps(1_000, 20);
     usage.charge(1, Charge::Trial { steps })?;
     usage.charge(1, Charge::Trial { steps: 500 })?;
-    usage.refund(Held::Module { bytes: 16_384 });
-    usage.refund(Held::Trial { steps });
+    usage.refund(Holding::Module { bytes: 16_384 });
+    usage.refund(Holding::Trial { steps });
     Ok(usage)
 }
 
@@ -79,7 +79,7 @@ const STEPS: [(&[u32], bool); 11] = [
 ];
 
 /// Goes by such steps as long as they give the next schedule, and says how many did.
-fn go(hunt: &mut Hunt, steps: &[(&[u32], bool)]) -> usize {
+fn go(hunt: &mut ShrinkingSearch, steps: &[(&[u32], bool)]) -> usize {
     for (taken, (schedule, fails)) in steps.iter().enumerate() {
         match hunt.next() {
             Some(next) if next == *schedule => {}
@@ -92,7 +92,7 @@ fn go(hunt: &mut Hunt, steps: &[(&[u32], bool)]) -> usize {
 
 #[test]
 fn a_search_ends_where_no_candidate_fails(rt: HostRuntime) -> Result<(), Fail> {
-    let mut hunt = Hunt::new(vec![in rt.alloc(); 0, 0, 0, 3]?, 12);
+    let mut hunt = ShrinkingSearch::new(vec![in rt.alloc(); 0, 0, 0, 3]?, 12);
     let gone = go(&mut hunt, &STEPS);
     assert!(rt; gone == 11 && hunt.next().is_none() && hunt.found() == Some((&[0, 1], true)));
     Ok(())

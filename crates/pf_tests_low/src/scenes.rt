@@ -1,14 +1,14 @@
 //! What happens in each run, and the pieces of its chart, by the middle of a column and of a row: of three processes
 //! column K has its middle at 180 + 200 K, and row N at 51 + 26 N up to the 40th.
 
-use crate::reports::{Did, Ends, Told};
+use crate::reports::{Did, ReportScene, RunEnd};
 use pf_terms::AtomId;
 use pf_trace::Actor;
 
 /// A report, in which manner it is drawn, the names of the functions in whose calls its processes began, and what its
 /// chart has and hasn't.
-pub(crate) struct Scene {
-    pub(crate) told: Told,
+pub(crate) struct ChartScene {
+    pub(crate) told: ReportScene,
     pub(crate) is_compact: bool,
     pub(crate) names: &'static [&'static [u8]],
     pub(crate) pieces: &'static [&'static str],
@@ -39,12 +39,14 @@ const TWO_TO_ROOT: Actor = Actor::Channel { from: 2, to: 0 };
 
 const TWO_TO_ONE: Actor = Actor::Channel { from: 2, to: 1 };
 
-pub(crate) static SCENES: [Scene; 7] = [ARROWS, ENDS, DEADLOCK, COMPACT, NAMES, LONG_RUN, EMPTY];
+pub(crate) static SCENES: [ChartScene; 7] = [
+    ARROWS, ENDS, DEADLOCK, COMPACT, NAMES, LONG_RUN, EMPTY,
+];
 
 /// Messages that arrive, one that is dropped, and three that are on their way at the end: to the right, to the left and
 /// to oneself.
-const ARROWS: Scene = Scene {
-    told: Told {
+const ARROWS: ChartScene = ChartScene {
+    told: ReportScene {
         events: &[
             (0, ROOT, Did::Spawns(1)),
             (0, ROOT, Did::Spawns(2)),
@@ -58,7 +60,7 @@ const ARROWS: Scene = Scene {
             (0, ROOT, Did::Sends(2, 7)),
         ],
         references: 0,
-        ends: Ends::AtLimit,
+        ends: RunEnd::AtLimit,
     },
     is_compact: false,
     names: &[],
@@ -88,8 +90,8 @@ const ARROWS: Scene = Scene {
 /// A child that is watched, one that is linked and one that is neither, until each has ended. The link that is there
 /// already sends nothing, nor does the demonitor, since its reference is active no more once the down has come. A link
 /// to who has ended is answered by an exit.
-const ENDS: Scene = Scene {
-    told: Told {
+const ENDS: ChartScene = ChartScene {
+    told: ReportScene {
         events: &[
             (0, ROOT, Did::SpawnsWatched(1)),
             (0, ROOT, Did::SpawnsLinked(2)),
@@ -105,7 +107,7 @@ const ENDS: Scene = Scene {
             (0, ROOT_TO_THREE, Did::MissesLink),
         ],
         references: 0,
-        ends: Ends::AtLimit,
+        ends: RunEnd::AtLimit,
     },
     is_compact: false,
     names: &[],
@@ -127,8 +129,8 @@ const ENDS: Scene = Scene {
 };
 
 /// Who is in a deadlock is red from the last wait on.
-const DEADLOCK: Scene = Scene {
-    told: Told {
+const DEADLOCK: ChartScene = ChartScene {
+    told: ReportScene {
         events: &[
             (0, ROOT, Did::Spawns(1)),
             (0, ROOT, Did::Spawns(2)),
@@ -137,7 +139,7 @@ const DEADLOCK: Scene = Scene {
             (0, TWO, Did::Waits),
         ],
         references: 0,
-        ends: Ends::InDeadlock(&[0, 2]),
+        ends: RunEnd::InDeadlock(&[0, 2]),
     },
     is_compact: false,
     names: &[],
@@ -154,8 +156,8 @@ const DEADLOCK: Scene = Scene {
 };
 
 /// A compact chart joins a send and the receive that takes the message. The second message is never received.
-const COMPACT: Scene = Scene {
-    told: Told {
+const COMPACT: ChartScene = ChartScene {
+    told: ReportScene {
         events: &[
             (0, ROOT, Did::Spawns(1)),
             (0, ROOT, Did::Spawns(2)),
@@ -169,7 +171,7 @@ const COMPACT: Scene = Scene {
             (0, TWO_TO_ONE, Did::LinkComes),
         ],
         references: 0,
-        ends: Ends::AtLimit,
+        ends: RunEnd::AtLimit,
     },
     is_compact: true,
     names: &[],
@@ -190,15 +192,15 @@ const COMPACT: Scene = Scene {
 };
 
 /// A head has the function in whose call its process began, or else who spawned it.
-const NAMES: Scene = Scene {
-    told: Told {
+const NAMES: ChartScene = ChartScene {
+    told: ReportScene {
         events: &[
             (0, ROOT, Did::Spawns(1)),
             (0, ONE, Did::Spawns(2)),
             (0, ROOT, Did::Spawns(3)),
         ],
         references: 0,
-        ends: Ends::AtLimit,
+        ends: RunEnd::AtLimit,
     },
     is_compact: false,
     names: &[
@@ -221,11 +223,11 @@ const NAMES: Scene = Scene {
 
 /// Heads are repeated after 40 rows and at the foot. What is long is shortened, and whole in its tooltip; labels are
 /// escaped.
-const LONG_RUN: Scene = Scene {
-    told: Told {
+const LONG_RUN: ChartScene = ChartScene {
+    told: ReportScene {
         events: &[(0, ROOT, Did::TakesAtom(ATOM))],
         references: 40,
-        ends: Ends::With(ATOM),
+        ends: RunEnd::With(ATOM),
     },
     is_compact: false,
     names: &[],
@@ -243,11 +245,11 @@ const LONG_RUN: Scene = Scene {
 };
 
 /// No event, since there was no memory.
-const EMPTY: Scene = Scene {
-    told: Told {
+const EMPTY: ChartScene = ChartScene {
+    told: ReportScene {
         events: &[],
         references: 0,
-        ends: Ends::WithoutMemory,
+        ends: RunEnd::WithoutMemory,
     },
     is_compact: false,
     names: &[],

@@ -54,7 +54,7 @@ const NAME: AtomId = AtomId(100);
 
 /// A call that one process makes of another, or a signal that comes from one to another.
 #[derive(Clone, Copy)]
-enum Call {
+enum TieCall {
     Open,
     OpenWatched,
     MakeReference,
@@ -80,7 +80,7 @@ enum Call {
 fn ask(
     ties: &mut Ties,
     alloc: Global,
-    call: Call,
+    call: TieCall,
     ends: (u32, u32),
     number: u64,
 ) -> Result<bool, Fail> {
@@ -89,18 +89,18 @@ fn ask(
         return Err(Fail::from("no such process"));
     }
     Ok(match call {
-        Call::Open => ties.open(alloc, Some(from))? == to,
-        Call::OpenWatched => ties.open_watched(alloc, from)? == (to, number),
-        Call::MakeReference => ties.make_reference() == number,
-        Call::Link => ties.link(alloc, from, to)?,
-        Call::Unlink => ties.unlink(from, to),
-        Call::Monitor => ties.monitor(alloc, from, to)? == number,
-        Call::Demonitor => ties.demonitor(from, number) == Some(to),
-        Call::SetFlag => !ties.set_flag(from, true),
-        Call::Register => ties.register(alloc, NAME, from).is_ok(),
-        Call::Whereis => ties.whereis(NAME) == Some(from),
-        Call::Unregister => ties.unregister(NAME).is_ok(),
-        Call::Lives => ties.lives(from),
+        TieCall::Open => ties.open(alloc, Some(from))? == to,
+        TieCall::OpenWatched => ties.open_watched(alloc, from)? == (to, number),
+        TieCall::MakeReference => ties.make_reference() == number,
+        TieCall::Link => ties.link(alloc, from, to)?,
+        TieCall::Unlink => ties.unlink(from, to),
+        TieCall::Monitor => ties.monitor(alloc, from, to)? == number,
+        TieCall::Demonitor => ties.demonitor(from, number) == Some(to),
+        TieCall::SetFlag => !ties.set_flag(from, true),
+        TieCall::Register => ties.register(alloc, NAME, from).is_ok(),
+        TieCall::Whereis => ties.whereis(NAME) == Some(from),
+        TieCall::Unregister => ties.unregister(NAME).is_ok(),
+        TieCall::Lives => ties.lives(from),
         _ => return meet(ties, alloc, call, ends, number),
     })
 }
@@ -109,7 +109,7 @@ fn ask(
 fn meet(
     ties: &mut Ties,
     alloc: Global,
-    call: Call,
+    call: TieCall,
     ends: (u32, u32),
     number: u64,
 ) -> Result<bool, Fail> {
@@ -118,12 +118,12 @@ fn meet(
         return Err(Fail::from("no such process"));
     }
     match call {
-        Call::OnLink => ties.on_link(alloc, from, to)?,
-        Call::OnUnlink => ties.on_unlink(from, to),
-        Call::OnMonitor => ties.on_monitor(alloc, from, to, number)?,
-        Call::OnDemonitor => ties.on_demonitor(to, number),
-        Call::OnDown => return Ok(ties.on_down(to, number)),
-        Call::End => {
+        TieCall::OnLink => ties.on_link(alloc, from, to)?,
+        TieCall::OnUnlink => ties.on_unlink(from, to),
+        TieCall::OnMonitor => ties.on_monitor(alloc, from, to, number)?,
+        TieCall::OnDemonitor => ties.on_demonitor(to, number),
+        TieCall::OnDown => return Ok(ties.on_down(to, number)),
+        TieCall::End => {
             let told = ties.ended(alloc, to, &Term::Atom(AtomId::KILL))?;
             return Ok(told.len() as u64 == number);
         }
@@ -136,33 +136,33 @@ fn meet(
 }
 
 /// Calls among two processes and those that they open, with what each gives.
-const CALLS: [(Call, (u32, u32), u64); 24] = [
-    (Call::Open, (0, 2), 0),
-    (Call::OpenWatched, (1, 3), 0),
-    (Call::MakeReference, (0, 0), 1),
-    (Call::Link, (0, 1), 0),
-    (Call::OnLink, (0, 1), 0),
-    (Call::Monitor, (0, 1), 2),
-    (Call::OnMonitor, (0, 1), 2),
-    (Call::Monitor, (0, 2), 3),
-    (Call::OnMonitor, (0, 2), 3),
-    (Call::Demonitor, (0, 2), 3),
-    (Call::OnDemonitor, (0, 2), 3),
-    (Call::SetFlag, (0, 0), 0),
-    (Call::Register, (1, 1), 0),
-    (Call::Whereis, (1, 1), 0),
-    (Call::Lives, (1, 1), 0),
+const CALLS: [(TieCall, (u32, u32), u64); 24] = [
+    (TieCall::Open, (0, 2), 0),
+    (TieCall::OpenWatched, (1, 3), 0),
+    (TieCall::MakeReference, (0, 0), 1),
+    (TieCall::Link, (0, 1), 0),
+    (TieCall::OnLink, (0, 1), 0),
+    (TieCall::Monitor, (0, 1), 2),
+    (TieCall::OnMonitor, (0, 1), 2),
+    (TieCall::Monitor, (0, 2), 3),
+    (TieCall::OnMonitor, (0, 2), 3),
+    (TieCall::Demonitor, (0, 2), 3),
+    (TieCall::OnDemonitor, (0, 2), 3),
+    (TieCall::SetFlag, (0, 0), 0),
+    (TieCall::Register, (1, 1), 0),
+    (TieCall::Whereis, (1, 1), 0),
+    (TieCall::Lives, (1, 1), 0),
     // An exit by the link, and a down by reference 2.
-    (Call::End, (1, 1), 2),
-    (Call::OnExit, (1, 0), 0),
-    (Call::OnDown, (1, 0), 2),
-    (Call::Register, (0, 0), 0),
-    (Call::Unregister, (0, 0), 0),
-    (Call::Unlink, (0, 2), 0),
-    (Call::OnUnlink, (0, 2), 0),
-    (Call::End, (2, 2), 0),
+    (TieCall::End, (1, 1), 2),
+    (TieCall::OnExit, (1, 0), 0),
+    (TieCall::OnDown, (1, 0), 2),
+    (TieCall::Register, (0, 0), 0),
+    (TieCall::Unregister, (0, 0), 0),
+    (TieCall::Unlink, (0, 2), 0),
+    (TieCall::OnUnlink, (0, 2), 0),
+    (TieCall::End, (2, 2), 0),
     // The down of who was watched from its begin.
-    (Call::End, (3, 3), 1),
+    (TieCall::End, (3, 3), 1),
 ];
 
 /// The first of the calls that gives something else.

@@ -2,7 +2,7 @@
 
 ghost use Rattle.std.specs.Prelude.{◌≡◌, ◌<◌};
 
-use pf_fault::OrNoMemory;
+use pf_errors::OrNoMemory;
 use pf_terms::{AtomTable, Counted, FailAt, Term};
 use pf_termtext::{NoTerm, print, read};
 use std::alloc::Global;

@@ -1,6 +1,6 @@
 //! Whole commands: what goes out, and what is left if a call of the reader or of the writer fails.
 
-use crate::streams::{Ended, Failing, Worked, carry_out};
+use crate::streams::{Failing, WorkEnd, Worked, carry_out};
 use pf_cli::{Args, read_args};
 use std::alloc::Global;
 use std::hash::RandomState;
@@ -74,7 +74,7 @@ p2 refused B5\np2 refused B3\nw4 not now N2\n",
 };
 
 /// Whether the work ended so, and the first n bytes of the text went out.
-fn is_left(worked: &Worked, ended: Ended, text: &str, count: usize) -> bool {
+fn is_left(worked: &Worked, ended: WorkEnd, text: &str, count: usize) -> bool {
     worked.ended == ended && worked.out.len() == count && text.as_bytes().starts_with(&worked.out)
 }
 
@@ -85,7 +85,7 @@ fn leaves(
     args: &Args,
     case: &Case,
     failing: Failing,
-    ended: Ended,
+    ended: WorkEnd,
     count: usize,
 ) -> bool {
     let worked = carry_out(alloc, keys, args, case.input.as_bytes(), failing);
@@ -111,18 +111,25 @@ fn is_answered(alloc: Global, keys: RandomState, args: &Args, case: &Case) -> bo
         args,
         case,
         none,
-        Ended::Status(case.status),
+        WorkEnd::Status(case.status),
         all,
-    ) && leaves(alloc, keys, args, case, read, Ended::NotRead, case.answered)
-        && leaves(
-            alloc,
-            keys,
-            args,
-            case,
-            write,
-            Ended::NotWritten,
-            case.written,
-        )
+    ) && leaves(
+        alloc,
+        keys,
+        args,
+        case,
+        read,
+        WorkEnd::NotRead,
+        case.answered,
+    ) && leaves(
+        alloc,
+        keys,
+        args,
+        case,
+        write,
+        WorkEnd::NotWritten,
+        case.written,
+    )
 }
 
 /// Whether the words of a case ask for what is answered so.

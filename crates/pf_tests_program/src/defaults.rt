@@ -1,8 +1,8 @@
 //! What the words of each command ask for that name no more than it wants.
 
-use crate::readings::{Wanted, come_to};
-use pf_cli::{Args, Asked, Edition, Format, HuntArgs, Roots, RunArgs, Sought};
-use pf_request::{Kind, Request, RunChoices};
+use crate::readings::{WantedReading, come_to};
+use pf_cli::{Args, CliCommand, Edition, Format, HuntArgs, HuntGoal, Roots, RunArgs};
+use pf_request::{Request, RequestKind, RunChoices};
 use pf_strategy::Strategy;
 
 /// Words of each command.
@@ -46,7 +46,7 @@ fn is_plain_run(run: &RunArgs) -> bool {
 
 fn is_plain_hunt(hunt: &HuntArgs) -> bool {
     is_of_defaults(&hunt.request)
-        && matches!(hunt.request.kind, Kind::Run(RunChoices::Seed(0)))
+        && matches!(hunt.request.kind, RequestKind::Run(RunChoices::Seed(0)))
         && matches!(hunt.edition, Edition::First)
         && hunt.more.is_empty()
         && (hunt.first, hunt.end) == (0, 10_000)
@@ -56,7 +56,7 @@ fn is_plain_hunt(hunt: &HuntArgs) -> bool {
         && !hunt.fail_fast
         && !hunt.leaks
         && matches!(hunt.roots, Roots::Main)
-        && matches!(hunt.sought, Sought::Failure { runs: None })
+        && matches!(hunt.sought, HuntGoal::Failure { runs: None })
 }
 
 /// Whether nothing is asked for but what the command wants and its defaults.
@@ -73,7 +73,7 @@ fn has_defaults(args: &Args) -> bool {
 
 /// Whether these are the defaults of a command, whose file is the standard input, which reports in text and explains no
 /// more.
-pub fn is_plain(asked: &Asked) -> bool {
+pub fn is_plain(asked: &CliCommand) -> bool {
     has_defaults(&asked.args)
         && asked.args.file().is_none()
         && matches!(asked.format, Format::Text)
@@ -83,6 +83,6 @@ pub fn is_plain(asked: &Asked) -> bool {
 #[test]
 fn commands_have_their_defaults(rt: HostRuntime) {
     for words in WORDS {
-        assert!(rt; come_to(rt.alloc(), words, Wanted::Defaults));
+        assert!(rt; come_to(rt.alloc(), words, WantedReading::Defaults));
     }
 }

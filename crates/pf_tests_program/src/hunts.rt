@@ -1,7 +1,7 @@
 //! What single words of a hunt ask for.
 
-use crate::readings::{Wanted, come_to};
-use pf_cli::{Args, HuntArgs, Roots, Sought};
+use crate::readings::{WantedReading, come_to};
+use pf_cli::{Args, HuntArgs, HuntGoal, Roots};
 
 /// What a word of a hunt asks for beside the defaults.
 #[derive(Clone, Copy)]
@@ -43,8 +43,8 @@ const CASES: [(&str, Named); 11] = [
 fn has(hunt: &HuntArgs, named: Named) -> bool {
     match named {
         Named::Roots => matches!(hunt.roots, Roots::Every),
-        Named::Outcomes => matches!(hunt.sought, Sought::Outcomes),
-        Named::Shrinking => matches!(hunt.sought, Sought::Failure { runs: Some(7) }),
+        Named::Outcomes => matches!(hunt.sought, HuntGoal::Outcomes),
+        Named::Shrinking => matches!(hunt.sought, HuntGoal::Failure { runs: Some(7) }),
         Named::Span(first, end, time) => {
             hunt.first == first && hunt.end == end && hunt.time == time
         }
@@ -60,6 +60,6 @@ pub fn hunts(args: &Args, named: Named) -> bool {
 fn hunts_have_what_one_word_names(rt: HostRuntime) {
     for (word, named) in CASES {
         let words = ["pulsefarm", "hunt", "a", word];
-        assert!(rt; come_to(rt.alloc(), &words, Wanted::Hunt(named)));
+        assert!(rt; come_to(rt.alloc(), &words, WantedReading::Hunt(named)));
     }
 }

@@ -3,13 +3,13 @@
 use crate::defaults::is_plain;
 use crate::hunts::{Named, hunts};
 use crate::values::is_named;
-use pf_cli::{Args, Asked, Reading, read, read_args, status_of_kind};
-use pf_request::{Kind, RunChoices};
+use pf_cli::{Args, CliCommand, ReadWords, read, read_args, status_of_kind};
+use pf_request::{RequestKind, RunChoices};
 use std::alloc::Global;
 
 /// How words are to be read.
 #[derive(Clone, Copy)]
-pub enum Wanted<'a> {
+pub enum WantedReading<'a> {
     /// The values that the words of each command name.
     Values,
     /// The defaults of a command.
@@ -28,7 +28,7 @@ pub enum Wanted<'a> {
 fn is_scheduled(args: &Args) -> bool {
     match args {
         Args::Run(run) => match &run.request.kind {
-            Kind::Run(RunChoices::Schedule(given)) => given.as_slice() == [7, 0].as_slice(),
+            RequestKind::Run(RunChoices::Schedule(given)) => given.as_slice() == [7, 0].as_slice(),
             _ => false,
         },
         _ => false,
@@ -36,30 +36,31 @@ fn is_scheduled(args: &Args) -> bool {
 }
 
 /// Whether this is asked for.
-fn is_asked(asked: &Asked, wanted: Wanted) -> bool {
+fn is_asked(asked: &CliCommand, wanted: WantedReading) -> bool {
     match wanted {
-        Wanted::Values => is_named(asked),
-        Wanted::Defaults => is_plain(asked),
-        Wanted::Hunt(named) => hunts(&asked.args, named),
-        Wanted::Scheduled => is_scheduled(&asked.args),
+        WantedReading::Values => is_named(asked),
+        WantedReading::Defaults => is_plain(asked),
+        WantedReading::Hunt(named) => hunts(&asked.args, named),
+        WantedReading::Scheduled => is_scheduled(&asked.args),
         _ => false,
     }
 }
 
 /// Whether it is a text with a status.
-fn is_text(wanted: Wanted, text: &str, status: u8, is_fault: bool) -> bool {
+fn is_text(wanted: WantedReading, text: &str, status: u8, is_fault: bool) -> bool {
     match wanted {
-        Wanted::Text(told, end) => text == told && status == end && is_fault == (end != 0),
+        WantedReading::Text(told, end) => text == told && status == end && is_fault == (end != 0),
         _ => false,
     }
 }
 
 /// Whether it is what is wanted.
-fn is_so(reading: &Reading, wanted: Wanted) -> bool {
+fn is_so(reading: &ReadWords, wanted: WantedReading) -> bool {
     match reading {
-        Reading::Asked(asked) => is_asked(asked, wanted),
-        Reading::ScheduleIn(file) => matches!(wanted, Wanted::ScheduleIn(name) if *file == name),
-        Reading::Text {
+        ReadWords::Asked(asked) => is_asked(asked, wanted),
+        ReadWords::ScheduleIn(file) =>
+            matches!(wanted, WantedReading::ScheduleIn(name) if *file == name),
+        ReadWords::Text {
             text,
             status,
             is_fault,
@@ -68,7 +69,7 @@ fn is_so(reading: &Reading, wanted: Wanted) -> bool {
 }
 
 /// Whether these words, with this text for the schedule in a file if any is known, are read as is wanted.
-fn come_with(alloc: Global, words: &[&str], schedule: Option<&str>, wanted: Wanted) -> bool {
+fn come_with(alloc: Global, words: &[&str], schedule: Option<&str>, wanted: WantedReading) -> bool {
     match read(alloc, words, schedule) {
         Ok(reading) => is_so(&reading, wanted),
         Err(_) => false,
@@ -76,7 +77,7 @@ fn come_with(alloc: Global, words: &[&str], schedule: Option<&str>, wanted: Want
 }
 
 /// Whether these words are read as is wanted.
-pub fn come_to(alloc: Global, words: &[&str], wanted: Wanted) -> bool {
+pub fn come_to(alloc: Global, words: &[&str], wanted: WantedReading) -> bool {
     come_with(alloc, words, None, wanted)
 }
 
@@ -92,8 +93,8 @@ const SCHEDULED: [&str; 5] = [
 #[test]
 fn a_file_of_a_schedule_is_read_first(rt: HostRuntime) {
     let alloc = rt.alloc();
-    assert!(rt; come_to(alloc, &SCHEDULED, Wanted::ScheduleIn("a b.txt")));
-    assert!(rt; come_with(alloc, &SCHEDULED, Some("7,0"), Wanted::Scheduled));
+    assert!(rt; come_to(alloc, &SCHEDULED, WantedReading::ScheduleIn("a b.txt")));
+    assert!(rt; come_with(alloc, &SCHEDULED, Some("7,0"), WantedReading::Scheduled));
 }
 
 /// Words without work.
@@ -107,8 +108,8 @@ const REFUSED: &str =
 #[test]
 fn words_without_work_come_to_a_text(rt: HostRuntime) {
     let alloc = rt.alloc();
-    assert!(rt; come_to(alloc, &VERSION, Wanted::Text("pulsefarm 0.1.0\n", 0)));
-    assert!(rt; come_to(alloc, &TWO_FILES, Wanted::Text(REFUSED, 2)));
+    assert!(rt; come_to(alloc, &VERSION, WantedReading::Text("pulsefarm 0.1.0\n", 0)));
+    assert!(rt; come_to(alloc, &TWO_FILES, WantedReading::Text(REFUSED, 2)));
 }
 
 /// The status that these words are refused with; none where they ask for work.

@@ -4,10 +4,10 @@ ghost use Rattle.std.specs.Prelude.{◌≡◌, ◌<◌};
 
 use pf_cli::Args;
 use pf_command::{Shrink, run_source, serve};
-use pf_fault::OrNoMemory;
+use pf_errors::OrNoMemory;
 use pf_sched::Silent;
 use pf_terms::{Counted, FailAt, StreamFault};
-use pf_wire::{Ending, run_steps};
+use pf_wire::{InputEnd, run_steps};
 use std::alloc::Global;
 use std::hash::RandomState;
 use std::io;
@@ -37,7 +37,7 @@ impl Write for Narrow {
 
 /// How the work ended: with a status, or by a fault.
 #[derive(Clone, Copy, PartialEq, Eq)]
-pub enum Ended {
+pub enum WorkEnd {
     Status(u8),
     NotRead,
     NotWritten,
@@ -48,7 +48,7 @@ pub enum Ended {
 #[derive(Drop)]
 pub struct Worked {
     pub out: Vec<u8>,
-    pub ended: Ended,
+    pub ended: WorkEnd,
 }
 
 /// The calls of the reader and of the writer that fail, counted from 1, 0 for none.
@@ -58,12 +58,12 @@ pub struct Failing {
     pub write: u64,
 }
 
-fn end_of(answer: Result<u8, OrNoMemory<StreamFault>>) -> Ended {
+fn end_of(answer: Result<u8, OrNoMemory<StreamFault>>) -> WorkEnd {
     match answer {
-        Ok(status) => Ended::Status(status),
-        Err(OrNoMemory::Fault(StreamFault::Read(_))) => Ended::NotRead,
-        Err(OrNoMemory::Fault(StreamFault::Write(_))) => Ended::NotWritten,
-        Err(OrNoMemory::NoMemory) => Ended::NoMemory,
+        Ok(status) => WorkEnd::Status(status),
+        Err(OrNoMemory::Fault(StreamFault::Read(_))) => WorkEnd::NotRead,
+        Err(OrNoMemory::Fault(StreamFault::Write(_))) => WorkEnd::NotWritten,
+        Err(OrNoMemory::NoMemory) => WorkEnd::NoMemory,
     }
 }
 
@@ -81,7 +81,7 @@ fn answer<L: Ledger, M: Ledger>(
             let observer = Silent;
             serve(alloc, reader, Shrink { args, observer }, writer)
         }
-        _ => run_steps(alloc, keys, reader, writer, &mut Ending::new()),
+        _ => run_steps(alloc, keys, reader, writer, &mut InputEnd::new()),
     }
 }
 

@@ -1,8 +1,8 @@
 //! What the words of each command ask for that name all it takes.
 
-use crate::readings::{Wanted, come_to};
-use pf_cli::{Args, Asked, ChartArgs, FarmArgs, Format, HuntArgs, Roots, RunArgs, Sought};
-use pf_request::{Kind, Request, RunChoices};
+use crate::readings::{WantedReading, come_to};
+use pf_cli::{Args, ChartArgs, CliCommand, FarmArgs, Format, HuntArgs, HuntGoal, Roots, RunArgs};
+use pf_request::{Request, RequestKind, RunChoices};
 use pf_strategy::Strategy;
 
 /// Words of each command; a file is called as its command.
@@ -92,7 +92,7 @@ fn is_run(run: &RunArgs) -> bool {
         && run.priorities.is_none()
         && matches!(
             run.request.kind,
-            Kind::Run(RunChoices::Weighted {
+            RequestKind::Run(RunChoices::Weighted {
                 seed: 7,
                 run: 3,
                 deliver: 1,
@@ -107,17 +107,18 @@ fn is_chart(chart: &ChartArgs) -> bool {
         && chart.run.priorities == Some(u64::MAX)
         && matches!(
             chart.run.request.kind,
-            Kind::Run(RunChoices::Seed(u64::MAX))
+            RequestKind::Run(RunChoices::Seed(u64::MAX))
         )
         && chart.compact
         && chart.page == u32::MAX
 }
 
 /// Whether it is the shrinking of this schedule within the most runs that a number names.
-fn is_shrinking(kind: &Kind, numbers: &[u32]) -> bool {
+fn is_shrinking(kind: &RequestKind, numbers: &[u32]) -> bool {
     match kind {
-        Kind::Shrink { schedule, runs } => schedule.as_slice() == numbers && *runs == u32::MAX,
-        Kind::Run(_) => false,
+        RequestKind::Shrink { schedule, runs } => schedule.as_slice() == numbers
+            && *runs == u32::MAX,
+        RequestKind::Run(_) => false,
     }
 }
 
@@ -140,10 +141,10 @@ fn is_hunt(hunt: &HuntArgs) -> bool {
         && hunt.fail_fast
         && hunt.leaks
         && matches!(hunt.roots, Roots::Named)
-        && matches!(hunt.sought, Sought::Failure { runs: None })
+        && matches!(hunt.sought, HuntGoal::Failure { runs: None })
         && matches!(
             hunt.request.kind,
-            Kind::Run(RunChoices::Weighted {
+            RequestKind::Run(RunChoices::Weighted {
                 seed: 0,
                 run: 2,
                 deliver: 5,
@@ -156,7 +157,7 @@ fn is_farm(farm: &FarmArgs) -> bool {
 }
 
 /// Whether a command asks for what its words name.
-pub fn is_named(asked: &Asked) -> bool {
+pub fn is_named(asked: &CliCommand) -> bool {
     let is_json = matches!(asked.format, Format::Json);
     match &asked.args {
         Args::Run(run) => is_run(run) && is_json && asked.explain,
@@ -172,6 +173,6 @@ pub fn is_named(asked: &Asked) -> bool {
 #[test]
 fn commands_have_what_their_words_name(rt: HostRuntime) {
     for words in WORDS {
-        assert!(rt; come_to(rt.alloc(), words, Wanted::Values));
+        assert!(rt; come_to(rt.alloc(), words, WantedReading::Values));
     }
 }

@@ -20,22 +20,22 @@ abbrev pub long : ℕ → Option ℕ
 long value = if nat_lt value (2 ^ 64) then Some value else None
 
 -- a number is below 4,294,967,296
-abbrev pub number_of : List ℕ → Option ℕ
-number_of text = if is_numeral text then small (decimal text) else None
+abbrev pub number_of_digits : List ℕ → Option ℕ
+number_of_digits text = if is_numeral text then small (decimal text) else None
 
 -- a long number is below 18,446,744,073,709,551,616
 abbrev pub long_number_of : List ℕ → Option ℕ
 long_number_of text = if is_numeral text then long (decimal text) else None
 
-abbrev pub with_number : Option ℕ → Option (List ℕ) → Option (List ℕ)
-with_number (Some n) (Some ns) = Some (n ∷ ns)
-with_number _ _ = None
+abbrev pub number_before : Option ℕ → Option (List ℕ) → Option (List ℕ)
+number_before (Some n) (Some ns) = Some (n ∷ ns)
+number_before _ _ = None
 
 -- the numbers of some texts, where each is one
-abbrev pub numbers_of : List (List ℕ) → Option (List ℕ)
-numbers_of [] = Some []
-numbers_of (t ∷ ts) = with_number (number_of t) (numbers_of ts)
+abbrev pub numbers_of_texts : List (List ℕ) → Option (List ℕ)
+numbers_of_texts [] = Some []
+numbers_of_texts (t ∷ ts) = number_before (number_of_digits t) (numbers_of_texts ts)
 
 -- a schedule is `none`, which has no number, or numbers with commas between them
 abbrev pub schedule_of : List ℕ → Option (List ℕ)
-schedule_of text = if bytes_eq text (codes "none") then Some [] else numbers_of (slice_split (λ b. b == 44) text)
+schedule_of text = if bytes_eq text (codes "none") then Some [] else numbers_of_texts (slice_split (λ b. b == 44) text)

@@ -2,7 +2,7 @@
 
 ghost use Rattle.std.specs.Prelude.{◌≡◌, ◌++◌, OnOk, flat_map, is_some};
 ghost use Rattle.std.specs.List.{list_all};
-ghost use Rattle.pf_tokens.specs.Bytes.{is_word};
+ghost use Rattle.pf_tokens.specs.Bytes.{is_word_byte};
 ghost use Rattle.pf_tokens.specs.TokenKinds.{reserved_of};
 ghost use Rattle.pf_model.specs.TermText.{atom_text, is_plain_name, quoted_byte};
 
@@ -17,7 +17,7 @@ fn is_reserved(word: &[u8]) -> bool
 }
 
 fn are_word(bytes: &[u8]) -> bool
-    ensures { result ≡ list_all is_word bytes.now }
+    ensures { result ≡ list_all is_word_byte bytes.now }
 {
     bytes.iter().all(|byte| is_word(*byte))
 }

@@ -4,7 +4,7 @@ use Rattle.std.specs.Prelude.{is_some}
 use Rattle.std.proofs.lemmas.Bool.{false≢true}
 use Rattle.std.proofs.lemmas.Bool.Decides.{nat_tests}
 use Rattle.pf_model.specs.Maps.{got, put, without}
-use Rattle.pf_model.specs.Actions.{is_named}
+use Rattle.pf_model.specs.Actions.{has_name}
 use Rattle.pf_model.specs.Ends.{without_name}
 use Rattle.pf_model.proofs.Maps.{got_put, got_other, got_without, got_without_other}
 use Rattle.pf_ties.specs.Names.{AreInverse}
@@ -72,12 +72,12 @@ inverse_same a b n p h e = rw (without_none n a e) h
 
 -- ---- whether a process has a name
 
-named_from : (p n : ℕ) (a : Entries) → got n a ≡ Some p → is_named p a ≡ true
+named_from : (p n : ℕ) (a : Entries) → got n a ≡ Some p → has_name p a ≡ true
 named_from p n [] e = none_some None p refl e
 named_from p n (x ∷ xs) e = by (n == x.0) (p == x.1) refl e (named_from p n xs)
   where
-    by : (t u : Bool) → (p == x.1) ≡ u → (if t then Some x.1 else got n xs) ≡ Some p → (got n xs ≡ Some p → is_named p xs ≡ true)
-        → (if u then true else is_named p xs) ≡ true
+    by : (t u : Bool) → (p == x.1) ≡ u → (if t then Some x.1 else got n xs) ≡ Some p → (got n xs ≡ Some p → has_name p xs ≡ true)
+        → (if u then true else has_name p xs) ≡ true
     by t true k e r = refl
     by true false k e r = absurd (false≢true (sym k ∙ eq_of x.1 p (some_is x.1 p e)))
     by false false k e r = r e
@@ -93,23 +93,23 @@ got_more n p x xs h e = by (n == x.0) refl
 got_head : (x : ℕ × ℕ) (xs : Entries) → got x.0 (x ∷ xs) ≡ Some x.1
 got_head x xs = rw (eq_self x.0) refl
 
-unnamed_from : (p low : ℕ) (a : Entries) → Rises low a → ((n : ℕ) → got n a ≡ Some p → ⊥) → is_named p a ≡ false
+unnamed_from : (p low : ℕ) (a : Entries) → Rises low a → ((n : ℕ) → got n a ≡ Some p → ⊥) → has_name p a ≡ false
 unnamed_from p low [] h never = refl
 unnamed_from p low (x ∷ xs) h never =
     by (p == x.1) refl (unnamed_from p (suc x.0) xs h.1 (λ n e. never n (got_more n p x xs h.1 e)))
   where
-    by : (t : Bool) → (p == x.1) ≡ t → is_named p xs ≡ false → (if t then true else is_named p xs) ≡ false
+    by : (t : Bool) → (p == x.1) ≡ t → has_name p xs ≡ false → (if t then true else has_name p xs) ≡ false
     by true k r = absurd (never x.0 (got_head x xs ∙ ap (λ y. Some y) (sym (same_from p x.1 k))))
     by false k r = r
 
-pub named_same : (a b : Entries) (p : ℕ) → AreInverse a b → is_some (got p b) ≡ is_named p a
+pub named_same : (a b : Entries) (p : ℕ) → AreInverse a b → is_some (got p b) ≡ has_name p a
 named_same a b p h = by (got p b) refl
   where
-    by : (o : Option ℕ) → got p b ≡ o → is_some o ≡ is_named p a
+    by : (o : Option ℕ) → got p b ≡ o → is_some o ≡ has_name p a
     by None e = sym (unnamed_from p 0 a h.rising (λ n g. none_some (got p b) n e (h.there n p g)))
     by (Some n) e = sym (named_from p n a (h.back n p e))
 
-pub unnamed_none : (a b : Entries) (p : ℕ) → AreInverse a b → is_named p a ≡ false → got p b ≡ None
+pub unnamed_none : (a b : Entries) (p : ℕ) → AreInverse a b → has_name p a ≡ false → got p b ≡ None
 unnamed_none a b p h f = by (got p b) (named_same a b p h ∙ f)
   where
     by : (o : Option ℕ) → is_some o ≡ false → o ≡ None
@@ -118,11 +118,11 @@ unnamed_none a b p h f = by (got p b) (named_same a b p h ∙ f)
 
 -- ---- a process without its name
 
-kept : (p : ℕ) (a : Entries) → is_named p a ≡ false → without_name p a ≡ a
+kept : (p : ℕ) (a : Entries) → has_name p a ≡ false → without_name p a ≡ a
 kept p [] f = refl
 kept p (x ∷ xs) f = by (p == x.1) (x.1 == p) (eq_flip p x.1) f (kept p xs)
   where
-    by : (t u : Bool) → t ≡ u → (if t then true else is_named p xs) ≡ false → (is_named p xs ≡ false → without_name p xs ≡ xs)
+    by : (t u : Bool) → t ≡ u → (if t then true else has_name p xs) ≡ false → (has_name p xs ≡ false → without_name p xs ≡ xs)
         → (if not u then x ∷ without_name p xs else without_name p xs) ≡ x ∷ xs
     by true u e f r = absurd (false≢true (sym f))
     by false true e f r = absurd (false≢true e)

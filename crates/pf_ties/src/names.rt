@@ -2,7 +2,7 @@
 
 ghost use Rattle.std.specs.Prelude.{◌≡◌, [], false, None, OnErr, OnOk};
 ghost use Rattle.pf_model.specs.Maps.{got, put, without};
-ghost use Rattle.pf_model.specs.Actions.{is_named};
+ghost use Rattle.pf_model.specs.Actions.{has_name};
 ghost use Rattle.pf_model.specs.Ends.{without_name};
 
 use pf_sorted::SortedMap;
@@ -12,12 +12,12 @@ use std::marker::Model;
 
 /// The process of each name in use. Contracts see it by the name's number.
 #[derive(Drop)]
-pub(crate) struct Names {
+pub(crate) struct RegisteredNames {
     by_name: SortedMap<u32>,
     by_process: SortedMap<u32>,
 }
 
-impl Model for Names {
+impl Model for RegisteredNames {
     ghost use Rattle.std.specs.Prelude.{ℕ, List};
     ghost use Rattle.pf_ties.specs.Names.{AreInverse};
 
@@ -28,11 +28,11 @@ impl Model for Names {
     ghost invariant = { λ n. AreInverse n.by_name n.by_process };
 }
 
-impl Names {
-    pub(crate) fn new(alloc: Global) -> Names
+impl RegisteredNames {
+    pub(crate) fn new(alloc: Global) -> RegisteredNames
         ensures { result ≡ [] }
     {
-        Names {
+        RegisteredNames {
             by_name: SortedMap::new(alloc),
             by_process: SortedMap::new(alloc),
         }
@@ -46,7 +46,7 @@ impl Names {
 
     /// Whether a process has a name.
     pub(crate) fn is_named(&self, pid: u32) -> bool
-        ensures { result ≡ is_named pid self.now }
+        ensures { result ≡ has_name pid self.now }
     {
         self.by_process.has(u64::from(pid))
     }
@@ -54,7 +54,7 @@ impl Names {
     /// Gives a process a name.
     pub(crate) fn insert(&mut self, name: AtomId, pid: u32) -> Result<(), NoMemory>
         requires new { got name.0 self.old ≡ None }
-        requires unnamed { is_named pid self.old ≡ false }
+        requires unnamed { has_name pid self.old ≡ false }
         ensures named { OnOk result (self.new ≡ put name.0 pid self.old) }
         ensures refused { OnErr result (self.new ≡ self.old) }
     {

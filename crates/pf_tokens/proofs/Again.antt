@@ -8,10 +8,10 @@ use Rattle.std.proofs.lemmas.List.{take_at, append-nil}
 use Rattle.std.proofs.lemmas.Slice.Eq.{bytes_eq-Decides}
 use Rattle.pf_tokens.specs.declared.bytes.Class.{Class}
 use Rattle.pf_tokens.specs.declared.bytes.Class.TheVariants as classes
-use Rattle.pf_fault.specs.declared.code.Code.TheVariants.{UnexpectedByte, IntegerTooLarge}
-use Rattle.pf_tokens.specs.declared.marks.Mark.{Mark}
+use Rattle.pf_errors.specs.declared.code.Code.TheVariants.{UnexpectedByte, IntegerTooLarge}
+use Rattle.pf_tokens.specs.declared.marks.TokenMark.{TokenMark}
 use Rattle.pf_tokens.specs.declared.words.Reserved.{Reserved}
-use Rattle.pf_tokens.specs.Bytes.{is_digit, is_lower, is_upper, is_word, is_comment, class_of}
+use Rattle.pf_tokens.specs.Bytes.{is_digit, is_lower, is_upper, is_word_byte, is_comment, class_of}
 use Rattle.pf_tokens.specs.TokenKinds.{TokenKind, decimal, mark_text, marks, longest_mark, reserved_text, reserved_of, reserved_words}
 use Rattle.pf_tokens.specs.TokenKinds as kinds
 use Rattle.pf_tokens.specs.Scan.{closing, atom_unless, number_at, word_at, variable_at, mark_at, piece_of, piece_at, or_fault, token}
@@ -22,7 +22,7 @@ use Rattle.pf_tokens.proofs.Classes.{blank_class, digit_class, lower_class, uppe
 use Rattle.pf_tokens.proofs.Written.{mark_found, mark_class, one_mark, reserved_found}
 use Rattle.pf_tokens.proofs.Quotes.{with_front}
 use Rattle.pf_tokens.proofs.Skips.{IsQuoteMark, closing_skips, closing_closes, character_again}
-use Rattle.pf_fault.proofs.Bools.{both}
+use Rattle.pf_errors.proofs.Bools.{both}
 
 -- the piece of a text is that of its class
 pub piece_is : (offset : ℕ) (text : List ℕ) (k : Class) → class_of (slice_index text 0) ≡ k → piece_at offset text ≡ piece_of k offset text
@@ -62,7 +62,7 @@ name_begins : (test : ℕ → Bool) (bytes rest : List ℕ) → IsName test byte
 name_begins test [] rest h = absurd h
 name_begins test (b ∷ bs) rest h = h.0
 
-name_run : (test : ℕ → Bool) (bytes rest : List ℕ) → IsName test bytes rest → IsRun is_word bytes rest
+name_run : (test : ℕ → Bool) (bytes rest : List ℕ) → IsName test bytes rest → IsRun is_word_byte bytes rest
 name_run test [] rest h = absurd h
 name_run test (b ∷ bs) rest h = h.1
 
@@ -74,7 +74,7 @@ unreserved bytes h = by (reserved_of bytes) refl
     by (Some r) e = absurd (h r (sym ((bytes_eq-Decides (reserved_text r) bytes).0 (find_passes (λ w. bytes_eq (reserved_text w) bytes) reserved_words r e))))
 
 word_again : (text bytes rest : List ℕ) (o : Option Reserved) → text ≡ bytes ++ rest → IsName is_lower bytes rest → reserved_of bytes ≡ o → word_at text ≡ Ok (Some (atom_unless bytes o), length bytes)
-word_again text bytes rest o whole h e = rw (run_length is_word text bytes rest whole (name_run is_lower bytes rest h), front text bytes rest whole, e) refl
+word_again text bytes rest o whole h e = rw (run_length is_word_byte text bytes rest whole (name_run is_lower bytes rest h), front text bytes rest whole, e) refl
 
 pub lower_again : (offset : ℕ) (bytes rest : List ℕ) (o : Option Reserved) → IsName is_lower bytes rest → reserved_of bytes ≡ o → piece_at offset (bytes ++ rest) ≡ Ok (Some (atom_unless bytes o), length bytes)
 lower_again offset bytes rest o h e = piece_is offset (bytes ++ rest) classes.Lower (lower_class (slice_index (bytes ++ rest) 0) (name_begins is_lower bytes rest h)) ∙ word_again (bytes ++ rest) bytes rest o refl h e
@@ -87,7 +87,7 @@ underscore bytes h = by (bytes_eq bytes (codes "_")) refl
     by false e = e
 
 variable_at_again : (text bytes rest : List ℕ) (t : Bool) → text ≡ bytes ++ rest → IsName is_upper bytes rest → bytes_eq bytes (codes "_") ≡ t → variable_at text ≡ Ok (Some (cond t kinds.anonymous (kinds.variable bytes)), length bytes)
-variable_at_again text bytes rest t whole h e = rw (run_length is_word text bytes rest whole (name_run is_upper bytes rest h), front text bytes rest whole, e) refl
+variable_at_again text bytes rest t whole h e = rw (run_length is_word_byte text bytes rest whole (name_run is_upper bytes rest h), front text bytes rest whole, e) refl
 
 pub upper_again : (offset : ℕ) (bytes rest : List ℕ) (t : Bool) → IsName is_upper bytes rest → bytes_eq bytes (codes "_") ≡ t → piece_at offset (bytes ++ rest) ≡ Ok (Some (cond t kinds.anonymous (kinds.variable bytes)), length bytes)
 upper_again offset bytes rest t h e = piece_is offset (bytes ++ rest) classes.Upper (upper_class (slice_index (bytes ++ rest) 0) (name_begins is_upper bytes rest h)) ∙ variable_at_again (bytes ++ rest) bytes rest t refl h e
@@ -105,11 +105,11 @@ quoted_again quote offset meant body rest mark writes =
 
 -- ---- marks
 
-mark_again : (m : Mark) (bytes rest : List ℕ) → IsLongestMark m bytes rest → longest_mark (bytes ++ rest) ≡ Some m
+mark_again : (m : TokenMark) (bytes rest : List ℕ) → IsLongestMark m bytes rest → longest_mark (bytes ++ rest) ≡ Some m
 mark_again m bytes rest h =
     let text : List ℕ = bytes ++ rest in
-    let p : Mark → Bool = λ x. starts_with nat_eq text (mark_text x) in
-    let q : Mark → Bool = λ x. bytes_eq (mark_text x) (mark_text m) in
+    let p : TokenMark → Bool = λ x. starts_with nat_eq text (mark_text x) in
+    let q : TokenMark → Bool = λ x. bytes_eq (mark_text x) (mark_text m) in
     let stands : p m ≡ true = rw h.written (begins_again (mark_text m) rest) in
     let found = find_some p q marks m (mark_found m) stands in
     let larger = find_largest (λ x. length (mark_text x)) p q marks found.0 m refl found.1 (mark_found m) stands in
@@ -119,7 +119,7 @@ mark_again m bytes rest h =
     let same : mark_text found.0 ≡ mark_text m = sym (front text (mark_text found.0) (drop (length (mark_text found.0)) text) whole) ∙ ap (λ k. take k text) long ∙ front text bytes rest refl ∙ h.written in
     found.1 ∙ ap Some (one_mark found.0 m same)
 
-longest_again : (offset : ℕ) (m : Mark) (bytes rest : List ℕ) → IsLongestMark m bytes rest → mark_at offset (bytes ++ rest) ≡ Ok (Some (kinds.mark m), length bytes)
+longest_again : (offset : ℕ) (m : TokenMark) (bytes rest : List ℕ) → IsLongestMark m bytes rest → mark_at offset (bytes ++ rest) ≡ Ok (Some (kinds.mark m), length bytes)
 longest_again offset m bytes rest h =
     ap (or_fault UnexpectedByte offset (λ x. token (kinds.mark x) (length (mark_text x)))) (mark_again m bytes rest h) ∙ ap (λ n. Ok (Some (kinds.mark m), n)) (ap length (sym h.written))
 

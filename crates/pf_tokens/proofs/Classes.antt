@@ -4,7 +4,7 @@ use Rattle.std.proofs.lemmas.Bool.Decides.{nat_tests}
 use Rattle.std.proofs.lemmas.Bool.{eqb-true}
 use Rattle.pf_tokens.specs.declared.bytes.Class.{Class}
 use Rattle.pf_tokens.specs.declared.bytes.Class.TheVariants.{Blank, Percent, Digit, Lower, Upper, Dollar, Quote, DoubleQuote, Question, Dot, Other}
-use Rattle.pf_tokens.specs.Bytes.{is_blank, is_digit, is_lower, is_upper, is_word, class_of}
+use Rattle.pf_tokens.specs.Bytes.{is_blank, is_digit, is_lower, is_upper, is_word_byte, class_of}
 use Rattle.pf_tokens.specs.Rules.{is_opening}
 
 -- what is known of a byte of a class
@@ -52,10 +52,10 @@ lower_class b e = grind (arith, nat_tests)
 pub upper_class : (b : ℕ) → is_upper b ≡ true → class_of b ≡ Upper
 upper_class b e = grind (arith, nat_tests)
 
-pub lower_word : (b : ℕ) → is_lower b ≡ true → is_word b ≡ true
+pub lower_word : (b : ℕ) → is_lower b ≡ true → is_word_byte b ≡ true
 lower_word b e = rw e refl
 
-pub upper_word : (b : ℕ) → is_upper b ≡ true → is_word b ≡ true
+pub upper_word : (b : ℕ) → is_upper b ≡ true → is_word_byte b ≡ true
 upper_word b e = by (is_lower b)
   where
     by : (t : Bool) → (t || is_upper b || is_digit b || eqb b 64) ≡ true

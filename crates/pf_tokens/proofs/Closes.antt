@@ -1,12 +1,12 @@
 -- What is read of a quoted text or a character is there.
 use Rattle.std.proofs.Common.{◌≡◌, inl, inr, ℕ, suc, ◌+◌, Bool, true, false, cond, eqb, List, [], ◌∷◌, ◌++◌, length, Option, Some, None, Ok, Err, refl, sym, ap, subst, ◌∙◌, append_assoc, length-append, arith}
 use Rattle.std.proofs.lemmas.Bool.{eqb-true}
-use Rattle.pf_fault.specs.declared.code.Code.{Code}
-use Rattle.pf_fault.specs.declared.code.Code.TheVariants.{UnexpectedByte, Unfinished}
-use Rattle.pf_tokens.specs.declared.quoted.Step.TheVariants as steps
+use Rattle.pf_errors.specs.declared.code.Code.{Code}
+use Rattle.pf_errors.specs.declared.code.Code.TheVariants.{UnexpectedByte, Unfinished}
+use Rattle.pf_tokens.specs.declared.quoted.QuoteStep.TheVariants as steps
 use Rattle.pf_tokens.specs.Bytes.{is_quotable, is_visible, escape_of}
 use Rattle.pf_tokens.specs.Scan.{Read, put_byte, escape_step, go_on, closing, behind_dollar, behind_backslash, escaped_character}
-use Rattle.pf_tokens.specs.Rules.{Writes, WritesAll, is_plain_in, is_plain_character, IsWrong, IsCutOff}
+use Rattle.pf_tokens.specs.Rules.{WritesByte, WritesAll, is_plain_in, is_plain_character, IsWrong, IsCutOff}
 
 -- how quoted text goes wrong after bytes that are written
 abbrev pub Breaks : Code → List ℕ → ℕ → ℕ → ℕ → Type 0
@@ -20,7 +20,7 @@ Reads quote offset bytes n (Ok p) = (body rest : List ℕ) × (bytes ≡ body ++
 Reads quote offset bytes n (Err e) = (meant body rest : List ℕ) × (bytes ≡ body ++ rest) × WritesAll quote meant body × Breaks e.0 rest offset e.1 (n + length body)
 
 -- one more byte is written before
-more : (quote offset c : ℕ) (one bytes : List ℕ) (n : ℕ) (read : Read (List ℕ × ℕ)) → Writes (is_plain_in quote) c one → Reads quote offset bytes (n + length one) read → Reads quote offset (one ++ bytes) n (put_byte c read)
+more : (quote offset c : ℕ) (one bytes : List ℕ) (n : ℕ) (read : Read (List ℕ × ℕ)) → WritesByte (is_plain_in quote) c one → Reads quote offset bytes (n + length one) read → Reads quote offset (one ++ bytes) n (put_byte c read)
 more quote offset c one bytes n (Ok p) writes (body, rest, is, all, at) =
     (one ++ body, rest, ap (λ t. one ++ t) is ∙ sym (append_assoc one body (quote ∷ rest)), (one, body, refl, writes, all), omega (arith, at, length-append one body))
 more quote offset c one bytes n (Err e) writes (meant, body, rest, is, all, breaks) =
@@ -61,7 +61,7 @@ BreaksHere _ rest offset at = ⊥
 
 -- a character is written, or breaks off
 abbrev pub ReadsOne : ℕ → List ℕ → Read (ℕ × ℕ) → Type 0
-ReadsOne offset bytes (Ok p) = (one rest : List ℕ) × (bytes ≡ one ++ rest) × Writes is_plain_character p.0 one × (p.1 ≡ suc (length one))
+ReadsOne offset bytes (Ok p) = (one rest : List ℕ) × (bytes ≡ one ++ rest) × WritesByte is_plain_character p.0 one × (p.1 ≡ suc (length one))
 ReadsOne offset bytes (Err e) = BreaksHere e.0 bytes offset e.1
 
 pub character_reads : (offset : ℕ) (bytes : List ℕ) → ReadsOne offset bytes (behind_dollar offset bytes)

@@ -11,3 +11,5 @@ pub mod Says
 pub mod Stands
 pub mod Texts
 pub mod Turns
+pub mod Numbers
+pub mod Numbering

@@ -1,9 +1,9 @@
 -- One turn of the loop over a quoted text.
 use Rattle.std.proofs.Common.{◌≡◌, ℕ, ◌+◌, ◌<◌, Bool, true, false, List, [], ◌∷◌, ◌++◌, length, get_or, drop, Option, Some, None, Ok, Err, refl, sym, ap, ◌∙◌, append_assoc, add-one, drop-cons, arith}
 use Rattle.std.proofs.lemmas.List.{drop_all}
-use Rattle.pf_fault.specs.declared.code.Code.TheVariants.{Unfinished}
-use Rattle.pf_tokens.specs.declared.quoted.Step.{Step}
-use Rattle.pf_tokens.specs.declared.quoted.Step.TheVariants.{Escapes}
+use Rattle.pf_errors.specs.declared.code.Code.TheVariants.{Unfinished}
+use Rattle.pf_tokens.specs.declared.quoted.QuoteStep.{QuoteStep}
+use Rattle.pf_tokens.specs.declared.quoted.QuoteStep.TheVariants.{Escapes}
 use Rattle.pf_tokens.specs.Bytes.{escape_of}
 use Rattle.pf_tokens.specs.Scan.{Read, ◌>>=◌, put_byte, escape_step, step_of, go_on, closing}
 
@@ -17,7 +17,7 @@ with_front-put_byte front c (Ok p) = ap (λ (t : List ℕ). Ok (t, p.1)) (sym (a
 with_front-put_byte front c (Err e) = refl
 
 -- the next byte makes a step
-pub closing_goes : (front : List ℕ) (quote offset i : ℕ) (bytes : List ℕ) (escaped : Bool) (n : ℕ) (step : Step) (all : Read (List ℕ × ℕ)) → i < length bytes → step ≡ step_of quote escaped (get_or bytes i 0)
+pub closing_goes : (front : List ℕ) (quote offset i : ℕ) (bytes : List ℕ) (escaped : Bool) (n : ℕ) (step : QuoteStep) (all : Read (List ℕ × ℕ)) → i < length bytes → step ≡ step_of quote escaped (get_or bytes i 0)
     → all ≡ with_front front (closing quote offset (drop i bytes) escaped n)
     → all ≡ with_front front (go_on (closing quote offset (drop (i + 1) bytes)) offset escaped n step)
 unfolding closing

@@ -5,7 +5,7 @@ use Rattle.std.proofs.lemmas.List.{get_or-take, length-take}
 use Rattle.std.proofs.lemmas.List.Sums.{prefix_len_passes}
 use Rattle.pf_tokens.specs.Bytes.{ends}
 use Rattle.pf_tokens.specs.Rules.{IsRun}
-use Rattle.pf_fault.proofs.Bools.{both}
+use Rattle.pf_errors.proofs.Bools.{both}
 
 pub not_true : (b : Bool) → not b ≡ true → b ≡ false
 not_true true e = absurd cc

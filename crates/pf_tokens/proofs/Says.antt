@@ -9,13 +9,13 @@ use Rattle.std.proofs.lemmas.List.Sums.{prefix_len-le-length}
 use Rattle.std.proofs.lemmas.Slice.Eq.{bytes_eq-Decides}
 use Rattle.pf_tokens.specs.declared.bytes.Class.{Class}
 use Rattle.pf_tokens.specs.declared.bytes.Class.TheVariants as classes
-use Rattle.pf_fault.specs.declared.code.Code.TheVariants.{UnexpectedByte, Unfinished, IntegerTooLarge}
-use Rattle.pf_tokens.specs.declared.marks.Mark.{Mark}
+use Rattle.pf_errors.specs.declared.code.Code.TheVariants.{UnexpectedByte, Unfinished, IntegerTooLarge}
+use Rattle.pf_tokens.specs.declared.marks.TokenMark.{TokenMark}
 use Rattle.pf_tokens.specs.declared.words.Reserved.{Reserved}
-use Rattle.pf_tokens.specs.Bytes.{is_digit, is_lower, is_upper, is_word, is_comment, is_joined, ends, class_of}
+use Rattle.pf_tokens.specs.Bytes.{is_digit, is_lower, is_upper, is_word_byte, is_comment, is_joined, ends, class_of}
 use Rattle.pf_tokens.specs.TokenKinds.{TokenKind, decimal, checked, mark_text, marks, longest_mark, reserved_text, reserved_of, reserved_words}
 use Rattle.pf_tokens.specs.TokenKinds as kinds
-use Rattle.pf_tokens.specs.Scan.{Read, Cut, ◌>>=◌, atom_unless, or_fault, token, number_at, word_at, variable_at, code_at, atom_at, text_at, module_at, dot_at, mark_at, piece_of, piece_at, closing, behind_dollar}
+use Rattle.pf_tokens.specs.Scan.{Read, Cut, ◌>>=◌, atom_unless, or_fault, token, number_at, word_at, variable_at, character_at, atom_at, text_at, module_at, dot_at, mark_at, piece_of, piece_at, closing, behind_dollar}
 use Rattle.pf_tokens.specs.Rules.{IsRun, IsNumeral, IsName, IsToken, IsPiece, IsQuoted, IsLongestMark, IsFault, is_opening, OpensQuoted}
 use Rattle.pf_tokens.proofs.Runs.{run_front}
 use Rattle.pf_tokens.proofs.Tables.{find_passes, find_fails, find_largest, begins, begins_again}
@@ -77,11 +77,11 @@ number_says offset b bs e = by (b ∷ bs) (digit_run b bs e)
 
 -- ---- names
 
-name_front : (test : ℕ → Bool) (b : ℕ) (bs : List ℕ) → test b ≡ true → is_word b ≡ true → IsName test (take (prefix_len is_word (b ∷ bs)) (b ∷ bs)) (drop (prefix_len is_word (b ∷ bs)) (b ∷ bs))
+name_front : (test : ℕ → Bool) (b : ℕ) (bs : List ℕ) → test b ≡ true → is_word_byte b ≡ true → IsName test (take (prefix_len is_word_byte (b ∷ bs)) (b ∷ bs)) (drop (prefix_len is_word_byte (b ∷ bs)) (b ∷ bs))
 name_front test b bs e word =
-    let long : prefix_len is_word (b ∷ bs) ≡ suc (prefix_len is_word bs) = rw word (omega arith) in
-    let with_begin : IsRun is_word (take (suc (prefix_len is_word bs)) (b ∷ bs)) (drop (suc (prefix_len is_word bs)) (b ∷ bs)) → IsName test (take (suc (prefix_len is_word bs)) (b ∷ bs)) (drop (suc (prefix_len is_word bs)) (b ∷ bs)) = λ run. (e, run) in
-    subst (λ (k : ℕ). IsRun is_word (take k (b ∷ bs)) (drop k (b ∷ bs)) → IsName test (take k (b ∷ bs)) (drop k (b ∷ bs))) (sym long) with_begin (run_front is_word (b ∷ bs))
+    let long : prefix_len is_word_byte (b ∷ bs) ≡ suc (prefix_len is_word_byte bs) = rw word (omega arith) in
+    let with_begin : IsRun is_word_byte (take (suc (prefix_len is_word_byte bs)) (b ∷ bs)) (drop (suc (prefix_len is_word_byte bs)) (b ∷ bs)) → IsName test (take (suc (prefix_len is_word_byte bs)) (b ∷ bs)) (drop (suc (prefix_len is_word_byte bs)) (b ∷ bs)) = λ run. (e, run) in
+    subst (λ (k : ℕ). IsRun is_word_byte (take k (b ∷ bs)) (drop k (b ∷ bs)) → IsName test (take k (b ∷ bs)) (drop k (b ∷ bs))) (sym long) with_begin (run_front is_word_byte (b ∷ bs))
 
 word_token : (word rest : List ℕ) (o : Option Reserved) → reserved_of word ≡ o → IsName is_lower word rest → IsToken (atom_unless word o) word rest
 word_token word rest (Some r) e h = (h, sym ((bytes_eq-Decides (reserved_text r) word).0 (find_passes (λ w. bytes_eq (reserved_text w) word) reserved_words r e)))
@@ -89,8 +89,8 @@ word_token word rest None e h = inl (h, refl, λ r is. find_fails (λ w. bytes_e
 
 word_says : (offset b : ℕ) (bs : List ℕ) → is_lower b ≡ true → Says offset (b ∷ bs) (word_at (b ∷ bs))
 word_says offset b bs e =
-    let n = prefix_len is_word (b ∷ bs) in
-    cut (b ∷ bs) _ n (prefix_len-le-length is_word (b ∷ bs)) (word_token (take n (b ∷ bs)) (drop n (b ∷ bs)) (reserved_of (take n (b ∷ bs))) refl (name_front is_lower b bs e (lower_word b e)))
+    let n = prefix_len is_word_byte (b ∷ bs) in
+    cut (b ∷ bs) _ n (prefix_len-le-length is_word_byte (b ∷ bs)) (word_token (take n (b ∷ bs)) (drop n (b ∷ bs)) (reserved_of (take n (b ∷ bs))) refl (name_front is_lower b bs e (lower_word b e)))
 
 variable_token : (name rest : List ℕ) (t : Bool) → bytes_eq name (codes "_") ≡ t → IsName is_upper name rest → IsToken (cond t kinds.anonymous (kinds.variable name)) name rest
 variable_token name rest true e h = (h, (bytes_eq-Decides name (codes "_")).0 e)
@@ -98,8 +98,8 @@ variable_token name rest false e h = (h, refl, λ is. let passes = (bytes_eq-Dec
 
 variable_says : (offset b : ℕ) (bs : List ℕ) → is_upper b ≡ true → Says offset (b ∷ bs) (variable_at (b ∷ bs))
 variable_says offset b bs e =
-    let n = prefix_len is_word (b ∷ bs) in
-    cut (b ∷ bs) _ n (prefix_len-le-length is_word (b ∷ bs)) (variable_token (take n (b ∷ bs)) (drop n (b ∷ bs)) (bytes_eq (take n (b ∷ bs)) (codes "_")) refl (name_front is_upper b bs e (upper_word b e)))
+    let n = prefix_len is_word_byte (b ∷ bs) in
+    cut (b ∷ bs) _ n (prefix_len-le-length is_word_byte (b ∷ bs)) (variable_token (take n (b ∷ bs)) (drop n (b ∷ bs)) (bytes_eq (take n (b ∷ bs)) (codes "_")) refl (name_front is_upper b bs e (upper_word b e)))
 
 -- ---- quoted texts and characters
 
@@ -137,9 +137,9 @@ code_outcome offset bs (Err (_, at)) breaks = absurd breaks
 -- ---- marks and others
 
 module_says : (offset b : ℕ) (bs : List ℕ) → is_opening b ≡ false → class_of b ≡ classes.Question → Says offset (b ∷ bs) (module_at offset (b ∷ bs))
-module_says offset b bs opens class = by (starts_with nat_eq (b ∷ bs) (codes "?MODULE")) (ends is_word (drop 7 (b ∷ bs))) refl refl
+module_says offset b bs opens class = by (starts_with nat_eq (b ∷ bs) (codes "?MODULE")) (ends is_word_byte (drop 7 (b ∷ bs))) refl refl
   where
-    by : (p q : Bool) → starts_with nat_eq (b ∷ bs) (codes "?MODULE") ≡ p → ends is_word (drop 7 (b ∷ bs)) ≡ q → Says offset (b ∷ bs) (cond (p && q) (Ok (token kinds.own_module 7)) (Err (UnexpectedByte, offset)))
+    by : (p q : Bool) → starts_with nat_eq (b ∷ bs) (codes "?MODULE") ≡ p → ends is_word_byte (drop 7 (b ∷ bs)) ≡ q → Says offset (b ∷ bs) (cond (p && q) (Ok (token kinds.own_module 7)) (Err (UnexpectedByte, offset)))
     by true true pe qe = record { bytes = codes "?MODULE"; rest = drop 7 (b ∷ bs); whole = begins (b ∷ bs) (codes "?MODULE") pe; length_is = refl; piece = (refl, qe) }
     by true false pe qe = stray offset b bs opens (piece_is offset (b ∷ bs) classes.Question class ∙ rw (pe, qe) refl)
     by false q pe qe = stray offset b bs opens (piece_is offset (b ∷ bs) classes.Question class ∙ rw pe refl)
@@ -151,19 +151,19 @@ dot_says offset b bs opens is class = by (ends is_joined bs) refl
     by true qe = record { bytes = codes "."; rest = bs; whole = ap (λ x. x ∷ bs) is; length_is = refl; piece = (refl, qe) }
     by false qe = stray offset b bs opens (piece_is offset (b ∷ bs) classes.Dot class ∙ rw qe refl)
 
-longest_is : (text : List ℕ) (m : Mark) → longest_mark text ≡ Some m → IsLongestMark m (mark_text m) (drop (length (mark_text m)) text) × (text ≡ mark_text m ++ drop (length (mark_text m)) text)
+longest_is : (text : List ℕ) (m : TokenMark) → longest_mark text ≡ Some m → IsLongestMark m (mark_text m) (drop (length (mark_text m)) text) × (text ≡ mark_text m ++ drop (length (mark_text m)) text)
 longest_is text m e =
-    let p : Mark → Bool = λ x. starts_with nat_eq text (mark_text x) in
+    let p : TokenMark → Bool = λ x. starts_with nat_eq text (mark_text x) in
     let whole = begins text (mark_text m) (find_passes p marks m e) in
-    let largest : (other : Mark) → p other ≡ true → length (mark_text other) ≤ length (mark_text m) = λ other passes. find_largest (λ x. length (mark_text x)) p (λ x. bytes_eq (mark_text x) (mark_text other)) marks m other refl e (mark_found other) passes in
-    let longest : (other : Mark) (tail : List ℕ) → mark_text m ++ drop (length (mark_text m)) text ≡ mark_text other ++ tail → length (mark_text other) ≤ length (mark_text m) =
+    let largest : (other : TokenMark) → p other ≡ true → length (mark_text other) ≤ length (mark_text m) = λ other passes. find_largest (λ x. length (mark_text x)) p (λ x. bytes_eq (mark_text x) (mark_text other)) marks m other refl e (mark_found other) passes in
+    let longest : (other : TokenMark) (tail : List ℕ) → mark_text m ++ drop (length (mark_text m)) text ≡ mark_text other ++ tail → length (mark_text other) ≤ length (mark_text m) =
     λ other tail is. largest other (ap (λ t. starts_with nat_eq t (mark_text other)) (whole ∙ is) ∙ begins_again (mark_text other) tail) in
     (record { written = refl; longest = longest }, whole)
 
 mark_says : (offset b : ℕ) (bs : List ℕ) → is_opening b ≡ false → class_of b ≡ classes.Other → Says offset (b ∷ bs) (mark_at offset (b ∷ bs))
 mark_says offset b bs opens class = by (longest_mark (b ∷ bs)) refl
   where
-    by : (o : Option Mark) → longest_mark (b ∷ bs) ≡ o → Says offset (b ∷ bs) (or_fault UnexpectedByte offset (λ m. token (kinds.mark m) (length (mark_text m))) o)
+    by : (o : Option TokenMark) → longest_mark (b ∷ bs) ≡ o → Says offset (b ∷ bs) (or_fault UnexpectedByte offset (λ m. token (kinds.mark m) (length (mark_text m))) o)
     by (Some m) e =
         let is = longest_is (b ∷ bs) m e in
         record { bytes = mark_text m; rest = drop (length (mark_text m)) (b ∷ bs); whole = is.1; length_is = refl; piece = is.0 }
@@ -186,7 +186,7 @@ piece_of_says offset b bs classes.Percent e shows = comment_says offset b bs sho
 piece_of_says offset b bs classes.Digit e shows = number_says offset b bs shows
 piece_of_says offset b bs classes.Lower e shows = word_says offset b bs shows
 piece_of_says offset b bs classes.Upper e shows = variable_says offset b bs shows
-piece_of_says offset b bs classes.Dollar e shows = subst (λ x. Says offset (x ∷ bs) (code_at offset (x ∷ bs))) (sym shows) (code_outcome offset bs (behind_dollar offset bs) (character_reads offset bs))
+piece_of_says offset b bs classes.Dollar e shows = subst (λ x. Says offset (x ∷ bs) (character_at offset (x ∷ bs))) (sym shows) (code_outcome offset bs (behind_dollar offset bs) (character_reads offset bs))
 piece_of_says offset b bs classes.Quote e shows = subst (λ x. Says offset (x ∷ bs) (atom_at offset (x ∷ bs))) (sym shows) (quoted_outcome 39 offset bs (λ t. kinds.atom t) (closing 39 offset bs false 1) (inl refl) (λ meant bytes rest is. inr is) (closing_reads 39 offset bs false 1))
 piece_of_says offset b bs classes.DoubleQuote e shows = subst (λ x. Says offset (x ∷ bs) (text_at offset (x ∷ bs))) (sym shows) (quoted_outcome 34 offset bs (λ t. kinds.text t) (closing 34 offset bs false 1) (inr refl) (λ meant bytes rest is. is) (closing_reads 34 offset bs false 1))
 piece_of_says offset b bs classes.Question e shows = module_says offset b bs shows.0 e

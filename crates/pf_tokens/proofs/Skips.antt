@@ -1,14 +1,14 @@
 -- A quoted text that is written is read again.
 use Rattle.std.proofs.Common.{◌≡◌, inl, inr, ℕ, suc, ◌+◌, Bool, true, false, eqb, not, ◌||◌, List, [], ◌∷◌, ◌++◌, length, Ok, Err, refl, ap, add-zero, ◌∙◌, append_assoc, length-append, arith}
 use Rattle.std.proofs.lemmas.Bool.{eqb-true, eq-eqb}
-use Rattle.pf_fault.specs.declared.code.Code.TheVariants.{UnexpectedByte, Unfinished}
-use Rattle.pf_tokens.specs.declared.quoted.Step.TheVariants.{Means}
+use Rattle.pf_errors.specs.declared.code.Code.TheVariants.{UnexpectedByte, Unfinished}
+use Rattle.pf_tokens.specs.declared.quoted.QuoteStep.TheVariants.{Means}
 use Rattle.pf_tokens.specs.Bytes.{is_quotable, is_visible}
 use Rattle.pf_tokens.specs.Scan.{Read, put_byte, step_of, closing, behind_dollar}
-use Rattle.pf_tokens.specs.Rules.{Writes, WritesAll, is_plain_in, is_plain_character, IsWrong, IsCutOff}
+use Rattle.pf_tokens.specs.Rules.{WritesByte, WritesAll, is_plain_in, is_plain_character, IsWrong, IsCutOff}
 use Rattle.pf_tokens.proofs.Runs.{not_true}
 use Rattle.pf_tokens.proofs.Quotes.{with_front}
-use Rattle.pf_fault.proofs.Bools.{both}
+use Rattle.pf_errors.proofs.Bools.{both}
 
 -- a quote is no `\`
 abbrev pub IsQuoteMark : ℕ → Type 0
@@ -33,7 +33,7 @@ differs test b k fails passes = by (eqb b k) refl
     by false e = e
 
 -- a byte that is written is read
-closing_one : (quote offset c : ℕ) (one rest : List ℕ) (n : ℕ) → IsQuoteMark quote → Writes (is_plain_in quote) c one → closing quote offset (one ++ rest) false n ≡ put_byte c (closing quote offset rest false (n + length one))
+closing_one : (quote offset c : ℕ) (one rest : List ℕ) (n : ℕ) → IsQuoteMark quote → WritesByte (is_plain_in quote) c one → closing quote offset (one ++ rest) false n ≡ put_byte c (closing quote offset rest false (n + length one))
 unfolding closing
 closing_one quote offset c one rest n mark (inl plain) = rw (plain.1, plain_step quote c plain.0) refl
 closing_one quote offset c one rest n mark (inr escape) = rw (escape.2, mark.0, escape.1) refl
@@ -79,7 +79,7 @@ closing_wrong quote offset n (b ∷ []) mark (inr (e, bad)) = absurd bad
 closing_wrong quote offset n (b ∷ letter ∷ rest) mark (inr (e, bad)) = rw (e, mark.0, bad) refl
 
 -- a character that is written is read
-pub character_again : (offset code : ℕ) (one rest : List ℕ) → Writes is_plain_character code one → behind_dollar offset (one ++ rest) ≡ Ok (code, suc (length one))
+pub character_again : (offset code : ℕ) (one rest : List ℕ) → WritesByte is_plain_character code one → behind_dollar offset (one ++ rest) ≡ Ok (code, suc (length one))
 character_again offset code one rest (inl plain) =
     let parts = both (is_visible code) (not (eqb code 92)) plain.0 in
     rw (plain.1, not_true (eqb code 92) parts.1, parts.0) refl

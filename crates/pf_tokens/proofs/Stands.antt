@@ -1,18 +1,18 @@
 -- A fault that is at the front of a text is read, and no piece or fault is empty.
 use Rattle.std.proofs.Common.{◌≡◌, ◌⊎◌, inl, inr, ℕ, ◌+◌, ◌<◌, Bool, true, false, List, [], ◌∷◌, ◌++◌, length, Option, Some, None, Ok, Err, refl, ap, subst, ◌∙◌, add-zero, arith}
 use Rattle.pf_tokens.specs.declared.bytes.Class.TheVariants as classes
-use Rattle.pf_fault.specs.declared.code.Code.{Code}
-use Rattle.pf_fault.specs.declared.code.Code.TheVariants.{UnexpectedByte, Unfinished, IntegerTooLarge}
+use Rattle.pf_errors.specs.declared.code.Code.{Code}
+use Rattle.pf_errors.specs.declared.code.Code.TheVariants.{UnexpectedByte, Unfinished, IntegerTooLarge}
 use Rattle.pf_tokens.specs.Bytes.{is_digit, is_lower, is_upper}
 use Rattle.pf_tokens.specs.TokenKinds.{TokenKind}
 use Rattle.pf_tokens.specs.TokenKinds as kinds
 use Rattle.pf_tokens.specs.Scan.{Read, Cut, ◌>>=◌, token, closing, piece_at}
-use Rattle.pf_tokens.specs.Rules.{IsNumeral, IsName, IsPiece, IsFault, IsStray, OpensQuoted, WritesAll, is_opening}
+use Rattle.pf_tokens.specs.Rules.{IsNumeral, IsName, IsPiece, IsFault, IsStrayByte, OpensQuoted, WritesAll, is_opening}
 use Rattle.pf_tokens.proofs.Written.{mark_some}
 use Rattle.pf_tokens.proofs.Skips.{IsQuoteMark, closing_skips, closing_cut, closing_wrong, character_cut, character_wrong}
 use Rattle.pf_tokens.proofs.Again.{piece_is, numeral_fails}
 use Rattle.pf_tokens.proofs.Says.{Says, piece_says}
-use Rattle.pf_fault.proofs.Bools.{both}
+use Rattle.pf_errors.proofs.Bools.{both}
 
 name_some : (test : ℕ → Bool) (bytes rest : List ℕ) → IsName test bytes rest → 0 < length bytes
 name_some test [] rest h = absurd h
@@ -65,7 +65,7 @@ no_numeral b bs value (c ∷ cs) rest shut whole h =
     let open_is : is_opening b ≡ true = rw digit refl in
     cc
 
-stray_again : (offset b : ℕ) (bs : List ℕ) → IsStray (b ∷ bs) → piece_at offset (b ∷ bs) ≡ Err (UnexpectedByte, offset)
+stray_again : (offset b : ℕ) (bs : List ℕ) → IsStrayByte (b ∷ bs) → piece_at offset (b ∷ bs) ≡ Err (UnexpectedByte, offset)
 stray_again offset b bs (shut, none) = by (piece_at offset (b ∷ bs)) (piece_says offset b bs)
   where
     by : (read : Read Cut) → Says offset (b ∷ bs) read → read ≡ Err (UnexpectedByte, offset)

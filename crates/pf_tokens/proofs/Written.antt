@@ -5,8 +5,8 @@ use Rattle.std.specs.List.{find}
 use Rattle.std.specs.Str.{bytes_eq}
 use Rattle.std.proofs.lemmas.Bool.{ltb-true}
 use Rattle.pf_tokens.specs.declared.bytes.Class.TheVariants.{Other}
-use Rattle.pf_tokens.specs.declared.marks.Mark.{Mark}
-use Rattle.pf_tokens.specs.declared.marks.Mark.TheVariants as symbols
+use Rattle.pf_tokens.specs.declared.marks.TokenMark.{TokenMark}
+use Rattle.pf_tokens.specs.declared.marks.TokenMark.TheVariants as symbols
 use Rattle.pf_tokens.specs.declared.words.Reserved.{Reserved}
 use Rattle.pf_tokens.specs.declared.words.Reserved.TheVariants as words
 use Rattle.pf_tokens.specs.Bytes.{class_of}
@@ -14,7 +14,7 @@ use Rattle.pf_tokens.specs.TokenKinds.{mark_text, marks, reserved_text, reserved
 use Rattle.pf_tokens.proofs.Tables.{find_all}
 
 -- a mark is found by its text
-pub mark_found : (m : Mark) → find (λ other. bytes_eq (mark_text other) (mark_text m)) marks ≡ Some m
+pub mark_found : (m : TokenMark) → find (λ other. bytes_eq (mark_text other) (mark_text m)) marks ≡ Some m
 mark_found symbols.ExactlyEqual = refl
 mark_found symbols.ExactlyUnequal = refl
 mark_found symbols.Arrow = refl
@@ -44,7 +44,7 @@ mark_found symbols.Less = refl
 mark_found symbols.Greater = refl
 
 -- a mark begins with a byte that begins nothing else
-pub mark_class : (m : Mark) (rest : List ℕ) → class_of (slice_index (mark_text m ++ rest) 0) ≡ Other
+pub mark_class : (m : TokenMark) (rest : List ℕ) → class_of (slice_index (mark_text m ++ rest) 0) ≡ Other
 mark_class symbols.ExactlyEqual rest = refl
 mark_class symbols.ExactlyUnequal rest = refl
 mark_class symbols.Arrow rest = refl
@@ -74,13 +74,13 @@ mark_class symbols.Less rest = refl
 mark_class symbols.Greater rest = refl
 
 -- two marks that are written alike are one
-pub one_mark : (a b : Mark) → mark_text a ≡ mark_text b → a ≡ b
+pub one_mark : (a b : TokenMark) → mark_text a ≡ mark_text b → a ≡ b
 one_mark a b e =
     let same : Some a ≡ Some b = sym (mark_found a) ∙ ap (λ t. find (λ other. bytes_eq (mark_text other) t) marks) e ∙ mark_found b in
     cc
 
 -- no mark is empty
-pub mark_some : (m : Mark) → 0 < length (mark_text m)
+pub mark_some : (m : TokenMark) → 0 < length (mark_text m)
 mark_some m = ltb-true 0 (length (mark_text m)) (find_all (λ other. ltb 0 (length (mark_text other))) (λ other. bytes_eq (mark_text other) (mark_text m)) marks m refl (mark_found m))
 
 -- a reserved word is found by its text

@@ -40,8 +40,8 @@ abbrev pub is_upper : ℕ → Bool
 is_upper b = nat_le 65 b && nat_le b 90 || b == 95
 
 -- a word goes on with letters, digits, `_` and `@`
-abbrev pub is_word : ℕ → Bool
-is_word b = is_lower b || is_upper b || is_digit b || b == 64
+abbrev pub is_word_byte : ℕ → Bool
+is_word_byte b = is_lower b || is_upper b || is_digit b || b == 64
 
 -- a visible byte is from the space to `~`
 abbrev pub is_visible : ℕ → Bool

@@ -1,16 +1,16 @@
 -- The rules of tokens: how the pieces of a text are written, and where a text is at fault.
 use Rattle.std.specs.Prelude.{◌≡◌, ◌≢◌, ◌⊎◌, ℕ, ◌+◌, ◌^◌, ◌<◌, ◌≤◌, Bool, ◌==◌, ◌&&◌, ◌||◌, not, IsTrue, IsFalse, List, [], ◌∷◌, ◌++◌, length, Option, Some, None, codes}
 use Rattle.std.specs.List.{list_all}
-use Rattle.pf_fault.specs.declared.code.Code.{Code}
-use Rattle.pf_fault.specs.declared.code.Code.TheVariants.{UnexpectedByte, Unfinished, IntegerTooLarge, SourceTooLong}
-use Rattle.pf_fault.specs.declared.fault.OrNoMemory.{OrNoMemory}
-use Rattle.pf_fault.specs.declared.refusal.Refusal.{Refusal}
-use Rattle.pf_fault.specs.declared.fault.OrNoMemory.TheVariants.{NoMemory, Fault}
-use Rattle.pf_tokens.specs.declared.marks.Mark.{Mark}
+use Rattle.pf_errors.specs.declared.code.Code.{Code}
+use Rattle.pf_errors.specs.declared.code.Code.TheVariants.{UnexpectedByte, Unfinished, IntegerTooLarge, SourceTooLong}
+use Rattle.pf_errors.specs.declared.fault.OrNoMemory.{OrNoMemory}
+use Rattle.pf_errors.specs.declared.refusal.SourceRefusal.{SourceRefusal}
+use Rattle.pf_errors.specs.declared.fault.OrNoMemory.TheVariants.{NoMemory, Fault}
+use Rattle.pf_tokens.specs.declared.marks.TokenMark.{TokenMark}
 use Rattle.pf_tokens.specs.declared.words.Reserved.{Reserved}
 use Rattle.pf_tokens.specs.declared.scan.TheConstants.{MOST_SOURCE_BYTES}
-use Rattle.pf_tokens.specs.Bytes.{percent, dollar, single_quote, double_quote, backslash, is_blank, is_digit, is_lower, is_upper, is_word, is_visible, is_quotable, is_comment, is_joined, ends, escape_of}
-use Rattle.pf_tokens.specs.TokenKinds.{TokenKind, Placed, decimal, mark_text, reserved_text, put_first}
+use Rattle.pf_tokens.specs.Bytes.{percent, dollar, single_quote, double_quote, backslash, is_blank, is_digit, is_lower, is_upper, is_word_byte, is_visible, is_quotable, is_comment, is_joined, ends, escape_of}
+use Rattle.pf_tokens.specs.TokenKinds.{TokenKind, PlacedToken, decimal, mark_text, reserved_text, put_first}
 use Rattle.pf_tokens.specs.TokenKinds as kinds
 
 -- all the bytes pass, and the text after them goes on with none that does
@@ -35,11 +35,11 @@ pub record IsNumeral (value : ℕ) (bytes rest : List ℕ) : Type 0 where
 -- a name is a run of bytes of words, the first of which may begin it
 abbrev pub IsName : (ℕ → Bool) → List ℕ → List ℕ → Type 0
 IsName begins [] rest = ⊥
-IsName begins (b ∷ bs) rest = IsTrue (begins b) × IsRun is_word (b ∷ bs) rest
+IsName begins (b ∷ bs) rest = IsTrue (begins b) × IsRun is_word_byte (b ∷ bs) rest
 
 -- a byte is written as itself, where it may be, or as a `\` and the letter that stands for it
-abbrev pub Writes : (ℕ → Bool) → ℕ → List ℕ → Type 0
-Writes plain c bytes =
+abbrev pub WritesByte : (ℕ → Bool) → ℕ → List ℕ → Type 0
+WritesByte plain c bytes =
     (IsTrue (plain c) × (bytes ≡ c ∷ [])) ⊎ ((letter : ℕ) × (escape_of letter ≡ Some c) × (bytes ≡ backslash ∷ letter ∷ []))
 
 -- within quotes each byte that is allowed there is written as itself, but for the quote and `\`
@@ -54,7 +54,7 @@ is_plain_character b = is_visible b && not (b == backslash)
 abbrev pub WritesAll : ℕ → List ℕ → List ℕ → Type 0
 WritesAll quote [] bytes = bytes ≡ []
 WritesAll quote (c ∷ meant) bytes =
-    (one more : List ℕ) × (bytes ≡ one ++ more) × Writes (is_plain_in quote) c one × WritesAll quote meant more
+    (one more : List ℕ) × (bytes ≡ one ++ more) × WritesByte (is_plain_in quote) c one × WritesAll quote meant more
 
 -- a quoted text is written between two quotes
 abbrev pub IsQuoted : ℕ → List ℕ → List ℕ → Type 0
@@ -62,12 +62,12 @@ IsQuoted quote meant bytes = (body : List ℕ) × WritesAll quote meant body × 
 
 -- a character is written after `$`
 abbrev pub IsCharacter : ℕ → List ℕ → Type 0
-IsCharacter code bytes = (one : List ℕ) × Writes is_plain_character code one × (bytes ≡ dollar ∷ one)
+IsCharacter code bytes = (one : List ℕ) × WritesByte is_plain_character code one × (bytes ≡ dollar ∷ one)
 
 -- a mark is written, and no longer mark is there
-pub record IsLongestMark (m : Mark) (bytes rest : List ℕ) : Type 0 where
+pub record IsLongestMark (m : TokenMark) (bytes rest : List ℕ) : Type 0 where
   pub written : bytes ≡ mark_text m
-  pub longest : (other : Mark) (tail : List ℕ) → bytes ++ rest ≡ mark_text other ++ tail → length (mark_text other) ≤ length bytes
+  pub longest : (other : TokenMark) (tail : List ℕ) → bytes ++ rest ≡ mark_text other ++ tail → length (mark_text other) ≤ length bytes
 
 -- the bytes are a token of this kind of token, before this rest
 abbrev pub IsToken : TokenKind → List ℕ → List ℕ → Type 0
@@ -77,7 +77,7 @@ IsToken (kinds.atom name) bytes rest =
 IsToken (kinds.variable name) bytes rest = IsName is_upper bytes rest × (name ≡ bytes) × (bytes ≢ codes "_")
 IsToken kinds.anonymous bytes rest = IsName is_upper bytes rest × (bytes ≡ codes "_")
 IsToken (kinds.text meant) bytes rest = IsQuoted double_quote meant bytes
-IsToken kinds.own_module bytes rest = (bytes ≡ codes "?MODULE") × IsTrue (ends is_word rest)
+IsToken kinds.own_module bytes rest = (bytes ≡ codes "?MODULE") × IsTrue (ends is_word_byte rest)
 IsToken kinds.dot bytes rest = (bytes ≡ codes ".") × IsTrue (ends is_joined rest)
 IsToken (kinds.mark m) bytes rest = IsLongestMark m bytes rest
 IsToken (kinds.reserved r) bytes rest = IsName is_lower bytes rest × (bytes ≡ reserved_text r)
@@ -92,9 +92,9 @@ abbrev pub is_opening : ℕ → Bool
 is_opening b = is_digit b || b == double_quote || b == dollar || b == single_quote
 
 -- the first byte is none of those, and no piece is there
-abbrev pub IsStray : List ℕ → Type 0
-IsStray [] = ⊥
-IsStray (b ∷ bs) = IsFalse (is_opening b)
+abbrev pub IsStrayByte : List ℕ → Type 0
+IsStrayByte [] = ⊥
+IsStrayByte (b ∷ bs) = IsFalse (is_opening b)
     × ((kind : Option TokenKind) (bytes rest : List ℕ) → b ∷ bs ≡ bytes ++ rest → IsPiece kind bytes rest → ⊥)
 
 -- a `\` and this make no escape
@@ -136,44 +136,44 @@ IsTooLarge text = (value : ℕ) × (bytes rest : List ℕ) × (text ≡ bytes ++
 
 -- a text that begins with no piece has this fault, n bytes on
 abbrev pub IsFault : Code → ℕ → List ℕ → Type 0
-IsFault UnexpectedByte n text = (IsStray text × (n ≡ 0)) ⊎ HasWrongByte text n
+IsFault UnexpectedByte n text = (IsStrayByte text × (n ≡ 0)) ⊎ HasWrongByte text n
 IsFault Unfinished n text = IsUnfinished text × (n ≡ 0)
 IsFault IntegerTooLarge n text = IsTooLarge text × (n ≡ 0)
 IsFault _ n text = ⊥
 
 -- the bytes of a piece, and what it stands for, unless it is a blank or a comment
-pub record Operand : Type 0 where
+pub record RulePart : Type 0 where
   pub kind : Option TokenKind
   pub bytes : List ℕ
 
 -- the text is the parts, one after the other and each a piece, and then the rest
-abbrev pub Begins : List Operand → List ℕ → List ℕ → Type 0
-Begins [] text rest = text ≡ rest
-Begins (p ∷ ps) text rest = (tail : List ℕ) × (text ≡ p.bytes ++ tail) × IsPiece p.kind p.bytes tail × Begins ps tail rest
+abbrev pub BeginsWithParts : List RulePart → List ℕ → List ℕ → Type 0
+BeginsWithParts [] text rest = text ≡ rest
+BeginsWithParts (p ∷ ps) text rest = (tail : List ℕ) × (text ≡ p.bytes ++ tail) × IsPiece p.kind p.bytes tail × BeginsWithParts ps tail rest
 
 -- the tokens of parts, the first of which is at the offset
-abbrev pub tokens_from : ℕ → List Operand → List Placed
+abbrev pub tokens_from : ℕ → List RulePart → List PlacedToken
 tokens_from offset [] = []
 tokens_from offset (p ∷ ps) =
     put_first p.kind offset (offset + length p.bytes) (tokens_from (offset + length p.bytes) ps)
 
 -- how many bytes parts take
-abbrev pub total_length : List Operand → ℕ
+abbrev pub total_length : List RulePart → ℕ
 total_length [] = 0
 total_length (p ∷ ps) = length p.bytes + total_length ps
 
 -- the text is cut into pieces, and these are its tokens
-pub record HasTokens (text : List ℕ) (tokens : List Placed) : Type 0 where
+pub record HasTokens (text : List ℕ) (tokens : List PlacedToken) : Type 0 where
   pub short : length text ≤ MOST_SOURCE_BYTES
-  pub parts : List Operand
-  pub whole : Begins parts text []
+  pub parts : List RulePart
+  pub whole : BeginsWithParts parts text []
   pub tokens_are : tokens ≡ tokens_from 0 parts
 
 -- after pieces the text has this fault at the offset
 pub record HasFaultAt (text : List ℕ) (fault : Code) (offset : ℕ) : Type 0 where
-  pub parts : List Operand
+  pub parts : List RulePart
   pub rest : List ℕ
-  pub begins : Begins parts text rest
+  pub begins : BeginsWithParts parts text rest
   pub further : ℕ
   pub fault_is : IsFault fault further rest
   pub offset_is : offset ≡ total_length parts + further
@@ -185,18 +185,18 @@ HasFault text fault offset =
 
 -- the text has tokens
 abbrev pub HasSomeTokens : List ℕ → Type 0
-HasSomeTokens text = (tokens : List Placed) × HasTokens text tokens
+HasSomeTokens text = (tokens : List PlacedToken) × HasTokens text tokens
 
 -- the text has a first fault
 abbrev pub HasSomeFault : List ℕ → Type 0
 HasSomeFault text = (fault : Code) × (offset : ℕ) × HasFault text fault offset
 
 -- tokens are in order, none of them empty, from the one offset to the other
-abbrev pub IsOrdered : ℕ → List Placed → ℕ → Type 0
+abbrev pub IsOrdered : ℕ → List PlacedToken → ℕ → Type 0
 IsOrdered start [] end = start ≤ end
 IsOrdered start (t ∷ ts) end = (start ≤ t.start) × (t.start < t.end) × IsOrdered t.end ts end
 
 -- out of memory says nothing of a text, and a fault is its first
-abbrev pub IsFaultOf : List ℕ → OrNoMemory Refusal → Type 0
+abbrev pub IsFaultOf : List ℕ → OrNoMemory SourceRefusal → Type 0
 IsFaultOf text NoMemory = Unit {0}
 IsFaultOf text (Fault r) = HasFault text r.code r.offset

@@ -4,18 +4,18 @@ use Rattle.std.specs.List.{prefix_len, starts_with}
 use Rattle.std.specs.Str.{bytes_eq}
 use Rattle.pf_tokens.specs.declared.bytes.Class.{Class}
 use Rattle.pf_tokens.specs.declared.bytes.Class.TheVariants as classes
-use Rattle.pf_fault.specs.declared.code.Code.{Code}
-use Rattle.pf_fault.specs.declared.code.Code.TheVariants.{UnexpectedByte, Unfinished, IntegerTooLarge, SourceTooLong}
-use Rattle.pf_fault.specs.declared.fault.OrNoMemory.{OrNoMemory}
-use Rattle.pf_fault.specs.declared.refusal.Refusal.{Refusal}
-use Rattle.pf_fault.specs.declared.fault.OrNoMemory.TheVariants.{NoMemory, Fault}
-use Rattle.pf_tokens.specs.declared.quoted.Step.{Step}
-use Rattle.pf_tokens.specs.declared.quoted.Step.TheVariants as steps
+use Rattle.pf_errors.specs.declared.code.Code.{Code}
+use Rattle.pf_errors.specs.declared.code.Code.TheVariants.{UnexpectedByte, Unfinished, IntegerTooLarge, SourceTooLong}
+use Rattle.pf_errors.specs.declared.fault.OrNoMemory.{OrNoMemory}
+use Rattle.pf_errors.specs.declared.refusal.SourceRefusal.{SourceRefusal}
+use Rattle.pf_errors.specs.declared.fault.OrNoMemory.TheVariants.{NoMemory, Fault}
+use Rattle.pf_tokens.specs.declared.quoted.QuoteStep.{QuoteStep}
+use Rattle.pf_tokens.specs.declared.quoted.QuoteStep.TheVariants as steps
 use Rattle.pf_tokens.specs.declared.piece.Piece.{Piece}
 use Rattle.pf_tokens.specs.declared.words.Reserved.{Reserved}
 use Rattle.pf_tokens.specs.declared.scan.TheConstants.{MOST_SOURCE_BYTES}
-use Rattle.pf_tokens.specs.Bytes.{backslash, is_digit, is_word, is_comment, is_joined, is_visible, is_quotable, ends, class_of, escape_of}
-use Rattle.pf_tokens.specs.TokenKinds.{TokenKind, Placed, kind_of, decimal, checked, longest_mark, mark_text, reserved_of, put_first}
+use Rattle.pf_tokens.specs.Bytes.{backslash, is_digit, is_word_byte, is_comment, is_joined, is_visible, is_quotable, ends, class_of, escape_of}
+use Rattle.pf_tokens.specs.TokenKinds.{TokenKind, PlacedToken, kind_of, decimal, checked, longest_mark, mark_text, reserved_of, put_first}
 use Rattle.pf_tokens.specs.TokenKinds as kinds
 
 -- a value, or a fault and its offset
@@ -27,8 +27,8 @@ abbrev pub Cut : Type 0
 Cut = Option TokenKind × ℕ
 
 -- what a piece of the program shows
-abbrev pub shown : Piece → Cut
-shown p = (option_map kind_of p.kind, p.length)
+abbrev pub shown_piece : Piece → Cut
+shown_piece p = (option_map kind_of p.kind, p.length)
 
 infixl 10 ◌>>=◌
 abbrev pub ◌>>=◌ : {A B : Type 0} → Read A → (A → Read B) → Read B
@@ -36,22 +36,22 @@ abbrev pub ◌>>=◌ : {A B : Type 0} → Read A → (A → Read B) → Read B
 (Err e) >>= f = Err e
 
 -- out of memory says nothing of the text, and a fault is the one that was read
-abbrev pub Fails : {Y : Type 0} → OrNoMemory Refusal → Read Y → Type 0
+abbrev pub Fails : {Y : Type 0} → OrNoMemory SourceRefusal → Read Y → Type 0
 Fails NoMemory read = Unit {0}
 Fails (Fault r) read = read ≡ Err (r.code, r.offset)
 
 -- a result, seen by a view, is what was read, unless memory ran out
-abbrev pub Gives : {X Y : Type 0} → (X → Y) → Result X (OrNoMemory Refusal) → Read Y → Type 0
+abbrev pub Gives : {X Y : Type 0} → (X → Y) → Result X (OrNoMemory SourceRefusal) → Read Y → Type 0
 Gives view (Ok x) read = read ≡ Ok (view x)
 Gives view (Err e) read = Fails e read
 
 -- an escape means a byte, or fails
-abbrev pub escape_step : Option ℕ → Step
+abbrev pub escape_step : Option ℕ → QuoteStep
 escape_step (Some c) = steps.Means c
 escape_step None = steps.Fails
 
 -- what a byte within quotes does, after a `\` or not
-abbrev pub step_of : ℕ → Bool → ℕ → Step
+abbrev pub step_of : ℕ → Bool → ℕ → QuoteStep
 step_of quote true b = escape_step (escape_of b)
 step_of quote false b =
     if b == quote then steps.Closes
@@ -69,7 +69,7 @@ width true = 2
 width false = 1
 
 -- how a step goes on
-abbrev pub go_on : (Bool → ℕ → Read (List ℕ × ℕ)) → ℕ → Bool → ℕ → Step → Read (List ℕ × ℕ)
+abbrev pub go_on : (Bool → ℕ → Read (List ℕ × ℕ)) → ℕ → Bool → ℕ → QuoteStep → Read (List ℕ × ℕ)
 go_on more offset escaped n steps.Closes = Ok ([], n + 1)
 go_on more offset escaped n steps.Escapes = more true n
 go_on more offset escaped n (steps.Means c) = put_byte c (more false (n + width escaped))
@@ -132,7 +132,7 @@ word_kind word = atom_unless word (reserved_of word)
 
 -- the word at the front
 abbrev pub word_at : List ℕ → Read Cut
-word_at bytes = Ok (token (word_kind (take (prefix_len is_word bytes) bytes)) (prefix_len is_word bytes))
+word_at bytes = Ok (token (word_kind (take (prefix_len is_word_byte bytes) bytes)) (prefix_len is_word_byte bytes))
 
 -- `_` alone is the anonymous variable
 abbrev pub variable_kind : List ℕ → TokenKind
@@ -140,11 +140,11 @@ variable_kind name = if bytes_eq name (codes "_") then kinds.anonymous else kind
 
 -- the variable at the front
 abbrev pub variable_at : List ℕ → Read Cut
-variable_at bytes = Ok (token (variable_kind (take (prefix_len is_word bytes) bytes)) (prefix_len is_word bytes))
+variable_at bytes = Ok (token (variable_kind (take (prefix_len is_word_byte bytes) bytes)) (prefix_len is_word_byte bytes))
 
 -- the character at the front, as an integer
-abbrev pub code_at : ℕ → List ℕ → Read Cut
-code_at offset bytes = character offset bytes >>= λ p. Ok (token (kinds.integer p.0) p.1)
+abbrev pub character_at : ℕ → List ℕ → Read Cut
+character_at offset bytes = character offset bytes >>= λ p. Ok (token (kinds.integer p.0) p.1)
 
 -- the quoted atom at the front
 abbrev pub atom_at : ℕ → List ℕ → Read Cut
@@ -157,7 +157,7 @@ text_at offset bytes = quoted offset bytes >>= λ p. Ok (token (kinds.text p.0) 
 -- `?MODULE` at the front, with no byte of a word after it
 abbrev pub module_at : ℕ → List ℕ → Read Cut
 module_at offset bytes =
-    if starts_with nat_eq bytes (codes "?MODULE") && ends is_word (drop 7 bytes)
+    if starts_with nat_eq bytes (codes "?MODULE") && ends is_word_byte (drop 7 bytes)
     then Ok (token kinds.own_module 7) else Err (UnexpectedByte, offset)
 
 -- the dot at the front, with a blank, a comment or nothing after it
@@ -175,7 +175,7 @@ piece_of classes.Percent offset bytes = Ok (None, prefix_len is_comment bytes)
 piece_of classes.Digit offset bytes = number_at offset bytes
 piece_of classes.Lower offset bytes = word_at bytes
 piece_of classes.Upper offset bytes = variable_at bytes
-piece_of classes.Dollar offset bytes = code_at offset bytes
+piece_of classes.Dollar offset bytes = character_at offset bytes
 piece_of classes.Quote offset bytes = atom_at offset bytes
 piece_of classes.DoubleQuote offset bytes = text_at offset bytes
 piece_of classes.Question offset bytes = module_at offset bytes
@@ -187,16 +187,16 @@ unfoldable pub piece_at : ℕ → List ℕ → Read Cut
 piece_at offset bytes = piece_of (class_of (slice_index bytes 0)) offset bytes
 
 -- a piece, and then what is left
-abbrev pub scan_step : (ℕ → List ℕ → Read (List Placed)) → ℕ → List ℕ → Read (List Placed)
+abbrev pub scan_step : (ℕ → List ℕ → Read (List PlacedToken)) → ℕ → List ℕ → Read (List PlacedToken)
 scan_step more offset [] = Ok []
 scan_step more offset (b ∷ bs) =
     piece_at offset (b ∷ bs) >>= λ p. more (offset + p.1) (drop p.1 (b ∷ bs)) >>= λ ts. Ok (put_first p.0 offset (offset + p.1) ts)
 
 -- the tokens from an offset on, of at most n pieces
-unfoldable pub scan : ℕ → ℕ → List ℕ → Read (List Placed)
+unfoldable pub scan : ℕ → ℕ → List ℕ → Read (List PlacedToken)
 scan zero offset bytes = Ok []
 scan (suc n) offset bytes = scan_step (scan n) offset bytes
 
 -- the tokens of a text, unless it is too long
-abbrev pub tokens : List ℕ → Read (List Placed)
+abbrev pub tokens : List ℕ → Read (List PlacedToken)
 tokens bytes = if nat_le (length bytes) MOST_SOURCE_BYTES then scan (length bytes) 0 bytes else Err (SourceTooLong, 0)

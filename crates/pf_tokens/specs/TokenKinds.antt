@@ -2,12 +2,12 @@
 use Rattle.std.specs.Prelude.{ℕ, ◌+◌, ◌-◌, ◌*◌, ◌^◌, Bool, nat_eq, nat_lt, if◌then◌else◌, List, [], ◌∷◌, Option, Some, None, codes}
 use Rattle.std.specs.List.{fold, find, starts_with}
 use Rattle.std.specs.Str.{bytes_eq}
-use Rattle.pf_tokens.specs.declared.marks.Mark.{Mark}
-use Rattle.pf_tokens.specs.declared.marks.Mark.TheVariants as symbols
+use Rattle.pf_tokens.specs.declared.marks.TokenMark.{TokenMark}
+use Rattle.pf_tokens.specs.declared.marks.TokenMark.TheVariants as symbols
 use Rattle.pf_tokens.specs.declared.words.Reserved.{Reserved}
 use Rattle.pf_tokens.specs.declared.words.Reserved.TheVariants as words
-use Rattle.pf_tokens.specs.declared.token.Kind.{Kind}
-use Rattle.pf_tokens.specs.declared.token.Kind.TheVariants as kinds
+use Rattle.pf_tokens.specs.declared.token.TokenForm.{TokenForm}
+use Rattle.pf_tokens.specs.declared.token.TokenForm.TheVariants as kinds
 use Rattle.pf_tokens.specs.declared.token.Token.{Token}
 
 -- a token without its place in memory
@@ -19,17 +19,17 @@ pub data TokenKind : Type 0 where
   text : List ℕ → TokenKind
   own_module : TokenKind
   dot : TokenKind
-  mark : Mark → TokenKind
+  mark : TokenMark → TokenKind
   reserved : Reserved → TokenKind
 
 -- a kind of token, the offset of its first byte and that after its last
-pub record Placed : Type 0 where
+pub record PlacedToken : Type 0 where
   pub kind : TokenKind
   pub start : ℕ
   pub end : ℕ
 
 -- what a kind of token stands for
-abbrev pub kind_of : Kind → TokenKind
+abbrev pub kind_of : TokenForm → TokenKind
 kind_of (kinds.Integer n) = integer n.value
 kind_of (kinds.Atom name) = atom name.items
 kind_of (kinds.Variable name) = variable name.items
@@ -41,11 +41,11 @@ kind_of (kinds.Mark m) = mark m
 kind_of (kinds.Reserved r) = reserved r
 
 -- what a token stands for, with its offsets
-abbrev pub placed_of : Token → Placed
+abbrev pub placed_of : Token → PlacedToken
 placed_of t = record { kind = kind_of t.kind; start = t.start; end = t.end }
 
 -- how a mark is written
-abbrev pub mark_text : Mark → List ℕ
+abbrev pub mark_text : TokenMark → List ℕ
 mark_text symbols.ExactlyEqual = codes "=:="
 mark_text symbols.ExactlyUnequal = codes "=/="
 mark_text symbols.Arrow = codes "->"
@@ -75,7 +75,7 @@ mark_text symbols.Less = codes "<"
 mark_text symbols.Greater = codes ">"
 
 -- all marks, the longer ones first
-abbrev pub marks : List Mark
+abbrev pub marks : List TokenMark
 marks =
     symbols.ExactlyEqual ∷ symbols.ExactlyUnequal ∷ symbols.Arrow ∷ symbols.Append ∷ symbols.Equal ∷ symbols.Unequal
     ∷ symbols.AtMost ∷ symbols.AtLeast ∷ symbols.Subtract ∷ symbols.Generator
@@ -134,7 +134,7 @@ abbrev pub checked : ℕ → Option ℕ
 checked value = if in_range value then Some value else None
 
 -- the longest mark at the front of the bytes
-abbrev pub longest_mark : List ℕ → Option Mark
+abbrev pub longest_mark : List ℕ → Option TokenMark
 longest_mark bytes = find (λ m. starts_with nat_eq bytes (mark_text m)) marks
 
 -- the reserved word that the bytes write
@@ -142,11 +142,11 @@ abbrev pub reserved_of : List ℕ → Option Reserved
 reserved_of bytes = find (λ r. bytes_eq (reserved_text r) bytes) reserved_words
 
 -- the token of a piece, where it has one
-abbrev pub one : Option TokenKind → ℕ → ℕ → List Placed
-one None start end = []
-one (Some s) start end = record { kind = s; start = start; end = end } ∷ []
+abbrev pub one_token : Option TokenKind → ℕ → ℕ → List PlacedToken
+one_token None start end = []
+one_token (Some s) start end = record { kind = s; start = start; end = end } ∷ []
 
 -- a token before others, where the piece has one
-abbrev pub put_first : Option TokenKind → ℕ → ℕ → List Placed → List Placed
+abbrev pub put_first : Option TokenKind → ℕ → ℕ → List PlacedToken → List PlacedToken
 put_first None start end ts = ts
 put_first (Some s) start end ts = record { kind = s; start = start; end = end } ∷ ts

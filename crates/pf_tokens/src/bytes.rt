@@ -6,7 +6,7 @@ ghost use Rattle.pf_tokens.specs.Bytes.{
   is_digit,
   is_lower,
   is_upper,
-  is_word,
+  is_word_byte,
   is_visible,
   is_quotable,
   is_comment,
@@ -62,7 +62,7 @@ pub fn is_upper(byte: u8) -> bool
 
 /// A letter, a digit, `_` or `@`.
 pub fn is_word(byte: u8) -> bool
-    ensures { result ≡ is_word byte }
+    ensures { result ≡ is_word_byte byte }
 {
     is_lower(byte) || is_upper(byte) || is_digit(byte) || byte == b'@'
 }
@@ -129,7 +129,7 @@ pub fn digits_length(bytes: &[u8]) -> usize
 
 /// How many letters, digits, `_` and `@` are at the front.
 pub fn word_length(bytes: &[u8]) -> usize
-    ensures length { result ≡ prefix_len is_word bytes.now }
+    ensures length { result ≡ prefix_len is_word_byte bytes.now }
     ensures within { result ≤ length bytes.now }
 {
     bytes.iter().take_while(|b| is_word(**b)).count()
@@ -145,7 +145,7 @@ pub fn line_length(bytes: &[u8]) -> usize
 
 /// Whether the text ends here, or goes on with a byte that prolongs no word.
 pub fn ends_word(rest: &[u8]) -> bool
-    ensures { result ≡ ends is_word rest.now }
+    ensures { result ≡ ends is_word_byte rest.now }
 {
     match rest.split_first() {
         None => true,

@@ -4,7 +4,7 @@ ghost use Rattle.pf_tokens.specs.TokenKinds.{mark_text, longest_mark};
 
 /// A mark.
 #[derive(Clone, Copy, Debug, PartialEq, Eq)]
-pub enum Mark {
+pub enum TokenMark {
     /// `=:=`
     ExactlyEqual,
     /// `=/=`
@@ -62,75 +62,75 @@ pub enum Mark {
 }
 
 // The longer ones first.
-const MARKS: [Mark; 27] = [
-    Mark::ExactlyEqual,
-    Mark::ExactlyUnequal,
-    Mark::Arrow,
-    Mark::Append,
-    Mark::Equal,
-    Mark::Unequal,
-    Mark::AtMost,
-    Mark::AtLeast,
-    Mark::Subtract,
-    Mark::Generator,
-    Mark::OpenParenthesis,
-    Mark::CloseParenthesis,
-    Mark::OpenBrace,
-    Mark::CloseBrace,
-    Mark::OpenBracket,
-    Mark::CloseBracket,
-    Mark::Comma,
-    Mark::Semicolon,
-    Mark::Bar,
-    Mark::Match,
-    Mark::Send,
-    Mark::Plus,
-    Mark::Minus,
-    Mark::Times,
-    Mark::Slash,
-    Mark::Less,
-    Mark::Greater,
+const MARKS: [TokenMark; 27] = [
+    TokenMark::ExactlyEqual,
+    TokenMark::ExactlyUnequal,
+    TokenMark::Arrow,
+    TokenMark::Append,
+    TokenMark::Equal,
+    TokenMark::Unequal,
+    TokenMark::AtMost,
+    TokenMark::AtLeast,
+    TokenMark::Subtract,
+    TokenMark::Generator,
+    TokenMark::OpenParenthesis,
+    TokenMark::CloseParenthesis,
+    TokenMark::OpenBrace,
+    TokenMark::CloseBrace,
+    TokenMark::OpenBracket,
+    TokenMark::CloseBracket,
+    TokenMark::Comma,
+    TokenMark::Semicolon,
+    TokenMark::Bar,
+    TokenMark::Match,
+    TokenMark::Send,
+    TokenMark::Plus,
+    TokenMark::Minus,
+    TokenMark::Times,
+    TokenMark::Slash,
+    TokenMark::Less,
+    TokenMark::Greater,
 ];
 
-impl Mark {
+impl TokenMark {
     /// How the mark is written.
     pub fn text(self) -> &'static [u8]
         ensures { result.now ≡ mark_text self }
     {
         match self {
-            Mark::ExactlyEqual => b"=:=",
-            Mark::ExactlyUnequal => b"=/=",
-            Mark::Arrow => b"->",
-            Mark::Append => b"++",
-            Mark::Equal => b"==",
-            Mark::Unequal => b"/=",
-            Mark::AtMost => b"=<",
-            Mark::AtLeast => b">=",
-            Mark::Subtract => b"--",
-            Mark::Generator => b"<-",
-            Mark::OpenParenthesis => b"(",
-            Mark::CloseParenthesis => b")",
-            Mark::OpenBrace => b"{",
-            Mark::CloseBrace => b"}",
-            Mark::OpenBracket => b"[",
-            Mark::CloseBracket => b"]",
-            Mark::Comma => b",",
-            Mark::Semicolon => b";",
-            Mark::Bar => b"|",
-            Mark::Match => b"=",
-            Mark::Send => b"!",
-            Mark::Plus => b"+",
-            Mark::Minus => b"-",
-            Mark::Times => b"*",
-            Mark::Slash => b"/",
-            Mark::Less => b"<",
-            Mark::Greater => b">",
+            TokenMark::ExactlyEqual => b"=:=",
+            TokenMark::ExactlyUnequal => b"=/=",
+            TokenMark::Arrow => b"->",
+            TokenMark::Append => b"++",
+            TokenMark::Equal => b"==",
+            TokenMark::Unequal => b"/=",
+            TokenMark::AtMost => b"=<",
+            TokenMark::AtLeast => b">=",
+            TokenMark::Subtract => b"--",
+            TokenMark::Generator => b"<-",
+            TokenMark::OpenParenthesis => b"(",
+            TokenMark::CloseParenthesis => b")",
+            TokenMark::OpenBrace => b"{",
+            TokenMark::CloseBrace => b"}",
+            TokenMark::OpenBracket => b"[",
+            TokenMark::CloseBracket => b"]",
+            TokenMark::Comma => b",",
+            TokenMark::Semicolon => b";",
+            TokenMark::Bar => b"|",
+            TokenMark::Match => b"=",
+            TokenMark::Send => b"!",
+            TokenMark::Plus => b"+",
+            TokenMark::Minus => b"-",
+            TokenMark::Times => b"*",
+            TokenMark::Slash => b"/",
+            TokenMark::Less => b"<",
+            TokenMark::Greater => b">",
         }
     }
 }
 
 /// The longest mark at the front, if there is one.
-pub fn longest_mark(bytes: &[u8]) -> Option<Mark>
+pub fn longest_mark(bytes: &[u8]) -> Option<TokenMark>
     ensures { result ≡ longest_mark bytes.now }
 {
     MARKS

@@ -4,12 +4,12 @@ ghost use Rattle.pf_tokens.specs.Bytes.{is_visible, escape_of};
 ghost use Rattle.pf_tokens.specs.Scan.{Gives, step_of, width, closing, quoted, character};
 
 use crate::bytes::{is_quotable, is_visible};
-use pf_fault::{Code, OrNoMemory, Refusal};
+use pf_errors::{Code, OrNoMemory, SourceRefusal};
 use std::alloc::Global;
 
 /// What a byte within quotes does.
 #[derive(Clone, Copy)]
-enum Step {
+enum QuoteStep {
     /// It closes the text.
     Closes,
     /// It begins an escape.
@@ -41,22 +41,22 @@ fn width(is_escaped: bool) -> usize
 }
 
 /// What a byte within this quote does, after a `\` or not.
-fn step_of(quote: u8, is_escaped: bool, byte: u8) -> Step
+fn step_of(quote: u8, is_escaped: bool, byte: u8) -> QuoteStep
     ensures { result ≡ step_of quote is_escaped byte }
 {
     if is_escaped {
         match escape_of(byte) {
-            Some(meant) => Step::Means(meant),
-            None => Step::Fails,
+            Some(meant) => QuoteStep::Means(meant),
+            None => QuoteStep::Fails,
         }
     } else if byte == quote {
-        Step::Closes
+        QuoteStep::Closes
     } else if byte == b'\\' {
-        Step::Escapes
+        QuoteStep::Escapes
     } else if is_quotable(byte) {
-        Step::Means(byte)
+        QuoteStep::Means(byte)
     } else {
-        Step::Fails
+        QuoteStep::Fails
     }
 }
 
@@ -67,7 +67,7 @@ fn closing(
     rest: &[u8],
     offset: usize,
     quote: u8,
-) -> Result<(Vec<u8>, usize), OrNoMemory<Refusal>>
+) -> Result<(Vec<u8>, usize), OrNoMemory<SourceRefusal>>
     requires { offset + length rest.now < 2 ^ 32 }
     ensures given { Gives (λ found. (found.0.items, found.1)) result (closing quote offset rest.now false 1) }
     ensures within { IfOk result (λ found. found.1 ≤ length rest.now + 1) }
@@ -77,14 +77,17 @@ fn closing(
     let mut is_escaped = false;
     for byte in rest {
         match step_of(quote, is_escaped, *byte) {
-            Step::Closes => return Ok((text, length + 1)),
-            Step::Escapes => is_escaped = true,
-            Step::Means(meant) => {
+            QuoteStep::Closes => return Ok((text, length + 1)),
+            QuoteStep::Escapes => is_escaped = true,
+            QuoteStep::Means(meant) => {
                 text.push(meant)?;
                 length += width(is_escaped);
                 is_escaped = false;
             }
-            Step::Fails => return Err(OrNoMemory::refusal(Code::UnexpectedByte, offset + length)),
+            QuoteStep::Fails => return Err(OrNoMemory::refusal(
+                Code::UnexpectedByte,
+                offset + length,
+            )),
         }
     }
     Err(OrNoMemory::refusal(Code::Unfinished, offset))
@@ -96,7 +99,7 @@ pub fn quoted(
     alloc: Global,
     bytes: &[u8],
     offset: usize,
-) -> Result<(Vec<u8>, usize), OrNoMemory<Refusal>>
+) -> Result<(Vec<u8>, usize), OrNoMemory<SourceRefusal>>
     requires some { 0 < length bytes.now }
     requires short { offset + length bytes.now < 2 ^ 32 }
     ensures given { Gives (λ found. (found.0.items, found.1)) result (quoted offset bytes.now) }
@@ -106,7 +109,7 @@ pub fn quoted(
 }
 
 /// The code of the character at the offset, and its length. The first byte is the `$`.
-pub fn character(bytes: &[u8], offset: usize) -> Result<(u8, usize), OrNoMemory<Refusal>>
+pub fn character(bytes: &[u8], offset: usize) -> Result<(u8, usize), OrNoMemory<SourceRefusal>>
     requires some { 0 < length bytes.now }
     requires short { offset + length bytes.now < 2 ^ 32 }
     ensures given { Gives (λ found. found) result (character offset bytes.now) }

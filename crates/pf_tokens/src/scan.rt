@@ -1,13 +1,13 @@
 //! The tokens of a text, piece by piece.
 ghost use Rattle.std.specs.Prelude.{◌≡◌, ◌<◌, ◌+◌, ◌++◌, ◌^◌, ◌⊎◌, ℕ, List, length, map, OnOk, IfOk, IfErr, option_map};
-ghost use Rattle.pf_tokens.specs.TokenKinds.{Placed, kind_of, placed_of, one};
+ghost use Rattle.pf_tokens.specs.TokenKinds.{PlacedToken, kind_of, placed_of, one_token};
 ghost use Rattle.pf_tokens.specs.Rules.{HasTokens, HasFault, HasSomeTokens, HasSomeFault, IsOrdered, IsFaultOf};
 ghost use Rattle.pf_tokens.specs.Scan.{Gives, scan, tokens};
-ghost use Rattle.pf_fault.specs.declared.code.Code.{Code};
+ghost use Rattle.pf_errors.specs.declared.code.Code.{Code};
 
 use crate::piece::next_piece;
-use crate::token::{Kind, Token};
-use pf_fault::{Code, OrNoMemory, Refusal};
+use crate::token::{Token, TokenForm};
+use pf_errors::{Code, OrNoMemory, SourceRefusal};
 use std::alloc::{AllocError, Global};
 
 /// The most bytes that a source may have.
@@ -16,12 +16,12 @@ pub const MOST_SOURCE_BYTES: usize = 65_536;
 /// Puts the token of a piece at the end, where it has one.
 fn put(
     found: &mut Vec<Token>,
-    kind: Option<Kind>,
+    kind: Option<TokenForm>,
     start: usize,
     end: usize,
 ) -> Result<(), AllocError>
     ensures { OnOk result (map placed_of found.new.items
-        ≡ map placed_of found.old.items ++ one (option_map kind_of kind) start end) }
+        ≡ map placed_of found.old.items ++ one_token (option_map kind_of kind) start end) }
 {
     if let Some(kind) = kind {
         found.push(Token { kind, start, end })?;
@@ -30,7 +30,7 @@ fn put(
 }
 
 /// The tokens of a text that is not too long.
-fn scan(alloc: Global, source: &[u8]) -> Result<Vec<Token>, OrNoMemory<Refusal>>
+fn scan(alloc: Global, source: &[u8]) -> Result<Vec<Token>, OrNoMemory<SourceRefusal>>
     requires { length source.now < 2 ^ 32 }
     ensures { Gives (λ found. map placed_of found.items) result (scan (length source.now) 0 source.now) }
 {
@@ -51,7 +51,7 @@ fn scan(alloc: Global, source: &[u8]) -> Result<Vec<Token>, OrNoMemory<Refusal>>
 }
 
 /// Reads a source text from left to right.
-fn read(alloc: Global, source: &[u8]) -> Result<Vec<Token>, OrNoMemory<Refusal>>
+fn read(alloc: Global, source: &[u8]) -> Result<Vec<Token>, OrNoMemory<SourceRefusal>>
     ensures { Gives (λ found. map placed_of found.items) result (tokens source.now) }
 {
     if source.len() > MOST_SOURCE_BYTES {
@@ -62,13 +62,13 @@ fn read(alloc: Global, source: &[u8]) -> Result<Vec<Token>, OrNoMemory<Refusal>>
 
 /// The tokens of a source text, in order, or its first fault with the offset of it, in bytes from 0. Each text has
 /// its tokens or a first fault, as `one_reading` says; out of memory comes in place of either.
-pub fn tokens(alloc: Global, source: &[u8]) -> Result<Vec<Token>, OrNoMemory<Refusal>>
+pub fn tokens(alloc: Global, source: &[u8]) -> Result<Vec<Token>, OrNoMemory<SourceRefusal>>
     ensures found { IfOk result (λ found. HasTokens source.now (map placed_of found.items)) }
     ensures ordered { IfOk result (λ found. IsOrdered 0 (map placed_of found.items) (length source.now)) }
     ensures fault { IfErr result (IsFaultOf source.now) }
 
     // What the text has is what is answered, unless memory runs out.
-    ensures only { (ts : List Placed) → HasTokens source.now ts →
+    ensures only { (ts : List PlacedToken) → HasTokens source.now ts →
         Gives (λ found. map placed_of found.items) result (Ok ts) }
     ensures only_fault { (fault : Code) (offset : ℕ) → HasFault source.now fault offset →
         Gives (λ found. map placed_of found.items) result (Err (fault, offset)) }
@@ -80,7 +80,7 @@ pub fn tokens(alloc: Global, source: &[u8]) -> Result<Vec<Token>, OrNoMemory<Ref
 pub fn one_reading()
     ensures either { (text : List ℕ) → HasSomeTokens text ⊎ HasSomeFault text }
     ensures apart { (text : List ℕ) → HasSomeTokens text → HasSomeFault text → ⊥ }
-    ensures tokens { (text : List ℕ) (ts us : List Placed) → HasTokens text ts → HasTokens text us → ts ≡ us }
+    ensures tokens { (text : List ℕ) (ts us : List PlacedToken) → HasTokens text ts → HasTokens text us → ts ≡ us }
     ensures fault { (text : List ℕ) (f g : Code) (m n : ℕ) →
         HasFault text f m → HasFault text g n → (f ≡ g) × (m ≡ n) }
 {}

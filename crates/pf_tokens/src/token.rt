@@ -1,13 +1,13 @@
 //! The tokens.
 ghost use Rattle.std.specs.Prelude.{◌<◌, ◌^◌};
 
-use crate::marks::Mark;
+use crate::marks::TokenMark;
 use crate::words::Reserved;
 
 /// A token, with the offsets of its first byte and of the byte after its last, from 0.
 #[derive(Debug, Drop)]
 pub struct Token {
-    pub kind: Kind,
+    pub kind: TokenForm,
     pub start: usize,
     pub end: usize,
 }
@@ -21,7 +21,7 @@ pub struct Integer {
 
 /// What a token is.
 #[derive(Debug, Drop)]
-pub enum Kind {
+pub enum TokenForm {
     Integer(Integer),
     /// The bytes of an atom, after its escapes are read; quoted or not, but no reserved word unless quoted.
     Atom(Vec<u8>),
@@ -34,6 +34,6 @@ pub enum Kind {
     /// `?MODULE`
     Module,
     Dot,
-    Mark(Mark),
+    Mark(TokenMark),
     Reserved(Reserved),
 }

@@ -2,13 +2,13 @@
 use Rattle.std.specs.Prelude.{◌≡◌, ◌++◌, ◌<◌, ℕ, Bool, List, Option, length, map, flat_map, codes}
 use Rattle.std.specs.Fmt.{decimal}
 use Rattle.std.specs.Io.KnownBytes.{Appends}
-use Rattle.pf_fault.specs.declared.fault.OrNoMemory.{OrNoMemory}
-use Rattle.pf_fault.specs.declared.fault.OrNoMemory.TheVariants.{NoMemory, Fault}
+use Rattle.pf_errors.specs.declared.fault.OrNoMemory.{OrNoMemory}
+use Rattle.pf_errors.specs.declared.fault.OrNoMemory.TheVariants.{NoMemory, Fault}
 use Rattle.pf_terms.specs.Streams.{AppendsFront, CountsWrite}
 use Rattle.pf_terms.specs.declared.stream.StreamFault.{StreamFault}
 use Rattle.pf_model.specs.Meaning.{Event, Report}
 use Rattle.pf_model.specs.Properties.{Outcome}
-use Rattle.pf_model.specs.Reports.{event_of, outcome_of}
+use Rattle.pf_model.specs.Reports.{view_of_event, view_of_outcome}
 use Rattle.pf_model.specs.Text.{event_text, outcome_text, report_text, verdict_text}
 use Rattle.pf_model.specs.TermText.{line}
 use Rattle.pf_trace.specs.declared.event_lines.EventLines.{EventLines}
@@ -22,11 +22,11 @@ lines_text name es = flat_map (λ e. line (event_text name e)) es
 
 -- the events whose lines these are
 abbrev pub events_of : EventLines → List Event
-events_of l = map (λ s. event_of s.value) l.told.value.items
+events_of l = map (λ s. view_of_event s.value) l.told.value.items
 
 -- the events that were put so far
 abbrev pub told_so_far : LinesSoFar → List Event
-told_so_far l = map (λ s. event_of s.value) l.told.items
+told_so_far l = map (λ s. view_of_event s.value) l.told.items
 
 -- the text is theirs, a line each, if atoms have these names
 abbrev pub AreWritten : (name : ℕ → List ℕ) → EventLines → Type 0
@@ -38,33 +38,33 @@ AreWrittenSoFar name l = l.text.items ≡ lines_text name (told_so_far l)
 
 -- the report that is written
 abbrev pub report_in : WrittenReport → Report
-report_in w = record { events = events_of w.lines; outcome = outcome_of w.outcome; steps = w.steps; verdict = w.verdict }
+report_in w = record { events = events_of w.lines; outcome = view_of_outcome w.outcome; steps = w.steps; verdict = w.verdict }
 
 -- the lines after those of the events: the outcome, the steps and the verdict
 abbrev pub last_lines : (name : ℕ → List ℕ) → Outcome → (steps : ℕ) → Option Bool → List ℕ
 last_lines name o steps v = line (outcome_text name o) ++ line (codes "steps " ++ decimal steps) ++ line (verdict_text v)
 
 -- those of a report
-abbrev pub end_text : (name : ℕ → List ℕ) → Report → List ℕ
-end_text name r = last_lines name r.outcome r.steps r.verdict
+abbrev pub report_end_text : (name : ℕ → List ℕ) → Report → List ℕ
+report_end_text name r = last_lines name r.outcome r.steps r.verdict
 
 -- ---- reports that go out as they are written
 
 -- the events whose lines went out
 abbrev pub gone_from : Pieces → List Event
-gone_from p = map (λ s. event_of s.value) p.gone.items
+gone_from p = map (λ s. view_of_event s.value) p.gone.items
 
 -- all events that were put
 abbrev pub all_told : Pieces → List Event
 all_told p = gone_from p ++ told_so_far p.lines
 
 -- the bytes of the lines that wait
-abbrev pub waiting : Pieces → List ℕ
-waiting p = p.lines.text.items
+abbrev pub waiting_bytes : Pieces → List ℕ
+waiting_bytes p = p.lines.text.items
 
 -- fewer bytes wait than a piece has
 abbrev pub IsShort : Pieces → Type 0
-IsShort p = length (waiting p) < 65536
+IsShort p = length (waiting_bytes p) < 65536
 
 -- the lines that waited went out, or they wait on
 abbrev pub GoesOut : (name : ℕ → List ℕ) → (old new : Pieces) → (written_old written_new : Option (List ℕ)) → Type 0

@@ -18,7 +18,7 @@ pub struct EventLines {
 
 impl EventLines {
     ghost use Rattle.std.specs.Prelude.{[], List, ℕ, map};
-    ghost use Rattle.pf_model.specs.Reports.{event_of};
+    ghost use Rattle.pf_model.specs.Reports.{view_of_event};
     ghost use Rattle.pf_trace.specs.Written.{AreWritten, events_of};
 
     /// No line.
@@ -32,7 +32,7 @@ impl EventLines {
 
     /// A text that is the lines of these events.
     pub(crate) fn of(text: Vec<u8>, told: &Vec<Snapshot<Event>>) -> EventLines
-        ensures events { events_of result ≡ map (λ s. event_of s.value) told.now.items }
+        ensures events { events_of result ≡ map (λ s. view_of_event s.value) told.now.items }
         ensures text { result.text.items ≡ text.items }
     {
         EventLines {

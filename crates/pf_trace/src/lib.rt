@@ -19,4 +19,4 @@ pub use report::{put_last_lines, put_outcome, put_report};
 pub use shrunk::put_found;
 
 /// The turns and deliveries of a run, in their order.
-pub type Trace = Vec<Event>;
+pub type Events = Vec<Event>;

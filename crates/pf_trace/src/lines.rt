@@ -2,10 +2,10 @@
 
 ghost use Rattle.std.specs.Prelude.{◌≡◌, ◌++◌, ◌∷◌, [], List, ℕ, OnOk, length};
 ghost use Rattle.pf_terms.specs.Atoms.{name_of};
-ghost use Rattle.pf_model.specs.Reports.{event_of};
+ghost use Rattle.pf_model.specs.Reports.{view_of_event};
 ghost use Rattle.pf_model.specs.TermText.{line};
 ghost use Rattle.pf_model.specs.Text.{event_text, report_text};
-ghost use Rattle.pf_trace.specs.Written.{AreWritten, AreWrittenSoFar, end_text, events_of, told_so_far, report_in};
+ghost use Rattle.pf_trace.specs.Written.{AreWritten, AreWrittenSoFar, report_end_text, events_of, told_so_far, report_in};
 
 use crate::event_lines::EventLines;
 use crate::report::{put_event, put_last_lines};
@@ -51,9 +51,9 @@ impl LinesSoFar {
 
     /// Adds the line of an event.
     pub fn add(&mut self, atoms: &AtomTable, event: &Event) -> Result<(), NoMemory>
-        ensures event { OnOk result (told_so_far self.new ≡ told_so_far self.old ++ event_of event.now ∷ []) }
+        ensures event { OnOk result (told_so_far self.new ≡ told_so_far self.old ++ view_of_event event.now ∷ []) }
         ensures text { OnOk result (self.new.text.items ≡ self.old.text.items
-            ++ line (event_text (name_of atoms.now) (event_of event.now))) }
+            ++ line (event_text (name_of atoms.now) (view_of_event event.now))) }
         ensures line { OnOk result (AreWrittenSoFar (name_of atoms.now) self.old
             → AreWrittenSoFar (name_of atoms.now) self.new) }
     {
@@ -101,7 +101,7 @@ impl WrittenReport {
     /// Puts what follows the lines of the events: the outcome, the steps and the verdict, a line each.
     pub fn put_end(&self, out: &mut Vec<u8>, atoms: &AtomTable) -> Result<(), NoMemory>
         ensures { OnOk result (out.new.items ≡ out.old.items
-            ++ end_text (name_of atoms.now) (report_in self.now)) }
+            ++ report_end_text (name_of atoms.now) (report_in self.now)) }
     {
         put_last_lines(out, atoms, &self.outcome, self.steps, self.verdict)
     }

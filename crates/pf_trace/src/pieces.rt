@@ -4,14 +4,14 @@ ghost use Rattle.std.specs.Prelude.{◌≡◌, ◌++◌, ◌∷◌, [], List, �
 ghost use Rattle.std.specs.Io.KnownBytes.{Appends};
 ghost use Rattle.pf_terms.specs.Atoms.{name_of};
 ghost use Rattle.pf_terms.specs.Streams.{LeavesFront};
-ghost use Rattle.pf_model.specs.Reports.{event_of, outcome_of};
+ghost use Rattle.pf_model.specs.Reports.{view_of_event, view_of_outcome};
 ghost use Rattle.pf_model.specs.TermText.{line};
 ghost use Rattle.pf_model.specs.Text.{event_text};
-ghost use Rattle.pf_trace.specs.Written.{AreWrittenSoFar, GoesOut, IsShort, gone_from, last_lines, lines_text, told_so_far, waiting};
+ghost use Rattle.pf_trace.specs.Written.{AreWrittenSoFar, GoesOut, IsShort, gone_from, last_lines, lines_text, told_so_far, waiting_bytes};
 
 use crate::lines::LinesSoFar;
 use crate::report::put_last_lines;
-use pf_fault::OrNoMemory;
+use pf_errors::OrNoMemory;
 use pf_model::report::{Event, Outcome};
 use pf_terms::{AtomTable, Counted, NoMemory, StreamFault};
 use std::alloc::Global;
@@ -34,7 +34,7 @@ impl Pieces {
     /// No line.
     pub fn new(alloc: Global) -> Pieces
         ensures gone { gone_from result ≡ [] }
-        ensures waiting { told_so_far result.lines ≡ [] }
+        ensures waiting_bytes { told_so_far result.lines ≡ [] }
         ensures written { (name : ℕ → List ℕ) → AreWrittenSoFar name result.lines }
         ensures short { IsShort result }
     {
@@ -48,9 +48,9 @@ impl Pieces {
     pub fn add(&mut self, atoms: &AtomTable, event: &Event) -> Result<(), NoMemory>
         ensures gone { self.new.gone ≡ self.old.gone }
         ensures event { OnOk result (told_so_far self.new.lines
-            ≡ told_so_far self.old.lines ++ event_of event.now ∷ []) }
-        ensures held { OnOk result (waiting self.new
-            ≡ waiting self.old ++ line (event_text (name_of atoms.now) (event_of event.now))) }
+            ≡ told_so_far self.old.lines ++ view_of_event event.now ∷ []) }
+        ensures held { OnOk result (waiting_bytes self.new
+            ≡ waiting_bytes self.old ++ line (event_text (name_of atoms.now) (view_of_event event.now))) }
         ensures line { OnOk result (AreWrittenSoFar (name_of atoms.now) self.old.lines
             → AreWrittenSoFar (name_of atoms.now) self.new.lines) }
     {
@@ -69,7 +69,7 @@ impl Pieces {
             LeavesFront e (lines_text name (told_so_far self.old.lines))
             (W.contents writer.old.inner) (W.contents writer.new.inner)
             writer.old.failures.total writer.new.failures.total) }
-        ensures none_waits { OnOk result (waiting self.new ≡ []) }
+        ensures none_waits { OnOk result (waiting_bytes self.new ≡ []) }
     {
         self.gone.append(&mut self.lines.told)?;
         writer.put(&self.lines.text)?;
@@ -110,11 +110,11 @@ impl Pieces {
         requires { AreWrittenSoFar (name_of atoms.now) self.lines }
         ensures written { OnOk result (Appends (W.contents writer.old.inner) (W.contents writer.new.inner)
             (lines_text (name_of atoms.now) (told_so_far self.lines)
-            ++ last_lines (name_of atoms.now) (outcome_of outcome.now) steps verdict)) }
+            ++ last_lines (name_of atoms.now) (view_of_outcome outcome.now) steps verdict)) }
         ensures kept { OnOk result (writer.new.failures.total ≡ writer.old.failures.total) }
         ensures fault { IfErr result (λ e. LeavesFront e
             (lines_text (name_of atoms.now) (told_so_far self.lines)
-            ++ last_lines (name_of atoms.now) (outcome_of outcome.now) steps verdict)
+            ++ last_lines (name_of atoms.now) (view_of_outcome outcome.now) steps verdict)
             (W.contents writer.old.inner) (W.contents writer.new.inner)
             writer.old.failures.total writer.new.failures.total) }
     {

@@ -4,12 +4,12 @@ ghost use Rattle.std.specs.Prelude.{◌≡◌, IfErr, IfOk, OnOk, map};
 ghost use Rattle.std.specs.Io.KnownBytes.{Appends};
 ghost use Rattle.pf_terms.specs.Atoms.{name_of};
 ghost use Rattle.pf_model.specs.Meaning.{Report as ReportOf};
-ghost use Rattle.pf_model.specs.Reports.{event_of, report_of};
+ghost use Rattle.pf_model.specs.Reports.{view_of_event, view_of_report};
 ghost use Rattle.pf_model.specs.Text.{report_text};
 ghost use Rattle.pf_trace.specs.Written.{HasGoneOut, IsShort, StopsShort};
 
 use crate::pieces::Pieces;
-use pf_fault::OrNoMemory;
+use pf_errors::OrNoMemory;
 use pf_model::report::{Event, Report};
 use pf_terms::{AtomTable, Counted, StreamFault};
 use std::alloc::Global;
@@ -23,11 +23,11 @@ fn print_events<W: Write, M: Ledger>(
     atoms: &AtomTable,
     writer: &mut Counted<W, M>,
 ) -> Result<Pieces, OrNoMemory<StreamFault>>
-    ensures out { IfOk result (λ p. HasGoneOut (name_of atoms.now) (map event_of events.now) p
+    ensures out { IfOk result (λ p. HasGoneOut (name_of atoms.now) (map view_of_event events.now) p
         (W.contents writer.old.inner) (W.contents writer.new.inner)) }
     ensures short { IfOk result (λ p. IsShort p) }
     ensures kept { OnOk result (writer.new.failures.total ≡ writer.old.failures.total) }
-    ensures fault { IfErr result (λ e. (r : ReportOf) → r.events ≡ map event_of events.now
+    ensures fault { IfErr result (λ e. (r : ReportOf) → r.events ≡ map view_of_event events.now
         → StopsShort e (name_of atoms.now) r
         (W.contents writer.old.inner) (W.contents writer.new.inner)
         writer.old.failures.total writer.new.failures.total) }
@@ -49,9 +49,9 @@ pub fn print_report<W: Write, M: Ledger>(
     writer: &mut Counted<W, M>,
 ) -> Result<(), OrNoMemory<StreamFault>>
     ensures written { OnOk result (Appends (W.contents writer.old.inner) (W.contents writer.new.inner)
-        (report_text (name_of atoms.now) (report_of report.now))) }
+        (report_text (name_of atoms.now) (view_of_report report.now))) }
     ensures kept { OnOk result (writer.new.failures.total ≡ writer.old.failures.total) }
-    ensures fault { IfErr result (λ e. StopsShort e (name_of atoms.now) (report_of report.now)
+    ensures fault { IfErr result (λ e. StopsShort e (name_of atoms.now) (view_of_report report.now)
         (W.contents writer.old.inner) (W.contents writer.new.inner)
         writer.old.failures.total writer.new.failures.total) }
 {

@@ -3,7 +3,7 @@
 ghost use Rattle.std.specs.Prelude.{◌≡◌, ◌++◌, OnOk, codes, flat_map};
 ghost use Rattle.std.specs.Fmt.{decimal};
 ghost use Rattle.pf_terms.specs.Atoms.{name_of};
-ghost use Rattle.pf_model.specs.Reports.{actor_of, event_of, outcome_of, report_of};
+ghost use Rattle.pf_model.specs.Reports.{actor_of, view_of_event, view_of_outcome, view_of_report};
 ghost use Rattle.pf_model.specs.Text.{actor_text, event_text, outcome_text, report_text, verdict_text};
 ghost use Rattle.pf_model.specs.TermText.{line, pid_text};
 ghost use Rattle.pf_trace.specs.Written.{last_lines};
@@ -43,7 +43,7 @@ fn put_actor(out: &mut Vec<u8>, actor: Actor) -> Result<(), NoMemory>
 /// Puts the line of an event: CHOICE/N, who acts, what it did.
 pub(crate) fn put_event(out: &mut Vec<u8>, atoms: &AtomTable, event: &Event) -> Result<(), NoMemory>
     ensures { OnOk result (out.new.items ≡ out.old.items
-        ++ line (event_text (name_of atoms.now) (event_of event.now))) }
+        ++ line (event_text (name_of atoms.now) (view_of_event event.now))) }
 {
     put_choice(out, event.choice, event.count)?;
     put_actor(out, event.actor)?;
@@ -54,7 +54,7 @@ pub(crate) fn put_event(out: &mut Vec<u8>, atoms: &AtomTable, event: &Event) -> 
 
 fn put_events(out: &mut Vec<u8>, atoms: &AtomTable, events: &[Event]) -> Result<(), NoMemory>
     ensures { OnOk result (out.new.items ≡ out.old.items
-        ++ flat_map (λ e. line (event_text (name_of atoms.now) (event_of e))) events.now) }
+        ++ flat_map (λ e. line (event_text (name_of atoms.now) (view_of_event e))) events.now) }
 {
     for event in events {
         put_event(out, atoms, event)?;
@@ -77,7 +77,7 @@ fn put_pids(out: &mut Vec<u8>, pids: &[u32]) -> Result<(), NoMemory>
 /// Puts the outcome of a run, as a line.
 pub fn put_outcome(out: &mut Vec<u8>, atoms: &AtomTable, outcome: &Outcome) -> Result<(), NoMemory>
     ensures { OnOk result (out.new.items ≡ out.old.items
-        ++ line (outcome_text (name_of atoms.now) (outcome_of outcome.now))) }
+        ++ line (outcome_text (name_of atoms.now) (view_of_outcome outcome.now))) }
 {
     match outcome {
         Outcome::Finished(value) => {
@@ -125,7 +125,7 @@ pub fn put_last_lines(
     verdict: Option<bool>,
 ) -> Result<(), NoMemory>
     ensures { OnOk result (out.new.items ≡ out.old.items
-        ++ last_lines (name_of atoms.now) (outcome_of outcome.now) steps verdict) }
+        ++ last_lines (name_of atoms.now) (view_of_outcome outcome.now) steps verdict) }
 {
     put_outcome(out, atoms, outcome)?;
     put_steps(out, steps)?;
@@ -135,7 +135,7 @@ pub fn put_last_lines(
 /// Puts the text of a report.
 pub fn put_report(out: &mut Vec<u8>, atoms: &AtomTable, report: &Report) -> Result<(), NoMemory>
     ensures { OnOk result (out.new.items ≡ out.old.items
-        ++ report_text (name_of atoms.now) (report_of report.now)) }
+        ++ report_text (name_of atoms.now) (view_of_report report.now)) }
 {
     put_events(out, atoms, &report.events)?;
     put_last_lines(out, atoms, &report.outcome, report.steps, report.verdict)

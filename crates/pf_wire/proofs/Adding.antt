@@ -11,9 +11,9 @@ use Rattle.pf_model.specs.Shrinking.{report, shrunk_to, nothing_fails}
 use Rattle.pf_model.specs.TermText.{line}
 use Rattle.pf_model.specs.Text.{outcome_text, report_text, verdict_text}
 use Rattle.pf_desks.specs.Told.{result_rest}
-use Rattle.pf_trace.specs.Written.{end_text}
+use Rattle.pf_trace.specs.Written.{report_end_text}
 use Rattle.pf_wire.specs.Whole.{events_text, result_events, result_end, report_lines, with_report, whole_text}
-use Rattle.pf_wire.specs.declared.told.Told.{Told}
+use Rattle.pf_wire.specs.declared.told.WrittenAnswer.{WrittenAnswer}
 use Rattle.pf_wire.specs.declared.told.ToldReport.{ToldReport}
 use Rattle.pf_trace.proofs.Fronts.{front_of_both, front_of_more}
 use Rattle.pf_wire.proofs.Leaving.{IsAdded}
@@ -59,7 +59,7 @@ four : (e o s v : List ℕ) → e ++ (o ++ s ++ v) ≡ e ++ o ++ s ++ v
 four e o s v = sym (append_assoc e (o ++ s) v) ∙ ap (λ (t : List ℕ). t ++ v) (sym (append_assoc e o s))
 
 -- those of its events, and those that follow them
-report_in_two : (name : ℕ → List ℕ) (r : Report) → events_text name r ++ end_text name r ≡ report_text name r
+report_in_two : (name : ℕ → List ℕ) (r : Report) → events_text name r ++ report_end_text name r ≡ report_text name r
 report_in_two name r =
     four (events_text name r) (line (outcome_text name r.outcome)) (line (codes "steps " ++ decimal r.steps)) (line (verdict_text r.verdict))
 
@@ -78,7 +78,7 @@ rest_told atoms r text none end n e =
 -- ---- what is answered
 
 -- a text comes after what was put
-pub told_with : (put : List ℕ) (t : Told) (r : ToldReport) → put ≡ t.text.items → t.report ≡ Some r → put ++ report_lines r ≡ whole_text t
+pub told_with : (put : List ℕ) (t : WrittenAnswer) (r : ToldReport) → put ≡ t.text.items → t.report ≡ Some r → put ++ report_lines r ≡ whole_text t
 told_with put t r p e = ap (λ (s : List ℕ). s ++ report_lines r) p ∙ ap (with_report t.text.items) (sym e)
 
 -- a beginning of what was put went out

@@ -4,23 +4,23 @@ use Rattle.std.specs.Prelude.{if◌then◌else◌, option_and_then}
 use Rattle.std.specs.Io.KnownBytes.{Consumes, IsAtEnd}
 use Rattle.std.proofs.KnownBytes.{Consumes-nil, Consumes-trans}
 use Rattle.std.proofs.lemmas.List.{append-nil}
-use Rattle.pf_fault.proofs.Bools.{both}
-use Rattle.pf_worlds.specs.Steps.{WorkshopStep}
-use Rattle.pf_worlds.specs.Workshop.{Workshop}
-use Rattle.pf_lines.specs.Commands.{Line, with_byte, first_line, asked_by, words_of, command_at}
-use Rattle.pf_lines.specs.Complete.{is_due, has_source, size_in}
-use Rattle.pf_lines.proofs.Completed.{with_more}
+use Rattle.pf_errors.proofs.Bools.{both}
+use Rattle.pf_world.specs.Steps.{WorldStep}
+use Rattle.pf_world.specs.World.{World}
+use Rattle.pf_protocol.specs.Commands.{Line, with_byte, first_line, content_of_line, words_of_line, command_at}
+use Rattle.pf_protocol.specs.Complete.{is_due, has_source, size_in}
+use Rattle.pf_protocol.proofs.Completed.{with_more}
 use Rattle.pf_wire.specs.Steps.{AreRead, AnswersOne}
-use Rattle.pf_wire.specs.Turns.{Follows, TakesPiece}
+use Rattle.pf_wire.specs.Turns.{MayFollow, TakesPiece}
 use Rattle.pf_wire.specs.Endings.{LeadsTo, LeadsToNone, ReadsUpTo, RefusesLine, ReportsLine, rest_after}
-use Rattle.pf_wire.specs.declared.ending.Ending.{Ending}
+use Rattle.pf_wire.specs.declared.ending.InputEnd.{InputEnd}
 use Rattle.pf_wire.specs.declared.steps.TheConstants.{MOST_BYTES}
 use Rattle.pf_wire.proofs.Progress.{due_stays}
 use Rattle.pf_wire.proofs.Leaving.{goes}
 
 -- ---- some commands, and then more
 
-rest_after_next : (m n : ℕ) (mid : List ℕ) (o : Option (WorkshopStep × List ℕ)) → ((bs : List ℕ) → rest_after m bs ≡ Some mid → rest_after (m + n) bs ≡ rest_after n mid)
+rest_after_next : (m n : ℕ) (mid : List ℕ) (o : Option (WorldStep × List ℕ)) → ((bs : List ℕ) → rest_after m bs ≡ Some mid → rest_after (m + n) bs ≡ rest_after n mid)
     → option_and_then (λ p. rest_after m p.1) o ≡ Some mid → option_and_then (λ p. rest_after (m + n) p.1) o ≡ rest_after n mid
 rest_after_next m n mid None h e = absurd cc
 rest_after_next m n mid (Some p) h e = h p.1 e
@@ -36,7 +36,7 @@ pub leads_first : (over : Bool) (bytes : List ℕ) (j : ℕ) → LeadsTo over by
 leads_first over bytes j = (0, omega arith, λ more f. refl)
 
 -- one command that is due
-pub leads_one : (over : Bool) (rest after text : List ℕ) (w w' : Workshop) (k : ℕ) → is_due over rest ≡ true → AnswersOne rest k w text (Some after) w'
+pub leads_one : (over : Bool) (rest after text : List ℕ) (w w' : World) (k : ℕ) → is_due over rest ≡ true → AnswersOne rest k w text (Some after) w'
     → LeadsTo over rest after k (k + 1)
 leads_one over rest after text w w' k due a =
     (1, refl, λ more f. ap (option_and_then (λ p. rest_after 0 p.1)) (due_stays over rest more due f ∙ ap (with_more more) a.2))
@@ -70,9 +70,9 @@ text_stays [] more h = absurd cc
 text_stays (b ∷ bs) more h = same_text (b == 10) b bs (bs ++ more) (first_line bs) (first_line (bs ++ more)) (text_stays bs more) h
 
 -- what is due has the same first line, whatever may follow
-due_text : (over : Bool) (rest more : List ℕ) → is_due over rest ≡ true → Follows over more → (first_line (rest ++ more)).text ≡ (first_line rest).text
+due_text : (over : Bool) (rest more : List ℕ) → is_due over rest ≡ true → MayFollow over more → (first_line (rest ++ more)).text ≡ (first_line rest).text
 due_text false rest more due f =
-    text_stays rest more (both (first_line rest).is_ended (has_source (size_in (asked_by (words_of (first_line rest).text))) (first_line rest).rest) due).0
+    text_stays rest more (both (first_line rest).is_ended (has_source (size_in (content_of_line (words_of_line (first_line rest).text))) (first_line rest).rest) due).0
 due_text true rest more due f = rw (f refl) (ap (λ (bs : List ℕ). (first_line bs).text) (append-nil rest))
 
 -- ---- all that is read
@@ -102,7 +102,7 @@ pub reads_further : (over : Bool) (kept rest : List ℕ) (k l taken : ℕ) (r0 r
 reads_further over kept rest k l taken r0 r1 s b = (s.0, s.1, s.2, s.3, leads_both over s.0 kept rest 1 k l s.4 b)
 
 -- the line that ends the work is the one after the commands that were read
-pub refuses_line : (over : Bool) (kept : List ℕ) (k taken : ℕ) (r0 r1 : Option (List ℕ)) (e : Ending) → ReadsUpTo over kept k taken r0 r1 → taken ≤ MOST_BYTES
+pub refuses_line : (over : Bool) (kept : List ℕ) (k taken : ℕ) (r0 r1 : Option (List ℕ)) (e : InputEnd) → ReadsUpTo over kept k taken r0 r1 → taken ≤ MOST_BYTES
     → LeadsToNone over kept k e → RefusesLine r0 e
 refuses_line over kept k taken r0 r1 e s le t =
     let c = goes over r0 r1 s.0 taken s.1 s.2 le s.3 in

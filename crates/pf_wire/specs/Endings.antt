@@ -1,12 +1,12 @@
 -- The line that is no command, and how it is reported.
 use Rattle.std.specs.Prelude.{◌≡◌, ◌⊎◌, ℕ, zero, suc, ◌+◌, Bool, true, false, nat_le, List, [], ◌++◌, length, take, Option, Some, None, option_and_then}
 use Rattle.std.specs.Io.KnownBytes.{Consumes, IsAtEnd}
-use Rattle.pf_lines.specs.Commands.{command_at, first_line}
-use Rattle.pf_lines.specs.Complete.{is_due}
+use Rattle.pf_protocol.specs.Commands.{command_at, first_line}
+use Rattle.pf_protocol.specs.Complete.{is_due}
 use Rattle.pf_wire.specs.Steps.{AreRead}
-use Rattle.pf_wire.specs.Turns.{Follows}
+use Rattle.pf_wire.specs.Turns.{MayFollow}
 use Rattle.pf_wire.specs.declared.ending.RefusedLine.{RefusedLine}
-use Rattle.pf_wire.specs.declared.ending.Ending.{Ending}
+use Rattle.pf_wire.specs.declared.ending.InputEnd.{InputEnd}
 use Rattle.pf_wire.specs.declared.steps.TheConstants.{MOST_BYTES}
 
 -- what is kept of a line: its first 65,536 bytes, and whether these are all of it; or nothing of it, if memory is short
@@ -24,22 +24,22 @@ rest_after zero bytes = Some bytes
 rest_after (suc n) bytes = option_and_then (λ p. rest_after n p.1) (command_at bytes)
 
 -- what was read begins with n commands, and the line that follows them is none: it is reported, as number n + 1
-abbrev pub RefusesLine : Option (List ℕ) → Ending → Type 0
+abbrev pub RefusesLine : Option (List ℕ) → InputEnd → Type 0
 RefusesLine r0 e = (bytes : List ℕ) × (rest : List ℕ) × (n : ℕ) × AreRead r0 bytes × (rest_after n bytes ≡ Some rest) × (command_at rest ≡ None)
     × ReportsLine e.refused (n + 1) (first_line rest).text
 
 -- by the status, a line that is no command is reported, or none is
-abbrev pub EndsAs : Option (List ℕ) → (status : ℕ) → (old new : Ending) → Type 0
+abbrev pub EndsAs : Option (List ℕ) → (status : ℕ) → (old new : InputEnd) → Type 0
 EndsAs r0 status e e' = (status ≡ 2 → RefusesLine r0 e') × (status ≡ 0 → e'.refused ≡ e.refused)
 
 -- ---- when more bytes may follow
 
 -- whatever follows, some commands of the bytes lead to the rest; they are numbered from j up to k
 abbrev pub LeadsTo : Bool → (bytes rest : List ℕ) → (j k : ℕ) → Type 0
-LeadsTo over bytes rest j k = (n : ℕ) × (k ≡ j + n) × ((more : List ℕ) → Follows over more → rest_after n (bytes ++ more) ≡ Some (rest ++ more))
+LeadsTo over bytes rest j k = (n : ℕ) × (k ≡ j + n) × ((more : List ℕ) → MayFollow over more → rest_after n (bytes ++ more) ≡ Some (rest ++ more))
 
 -- they lead to a line that is none, which is reported
-abbrev pub LeadsToNone : Bool → (bytes : List ℕ) → (j : ℕ) → Ending → Type 0
+abbrev pub LeadsToNone : Bool → (bytes : List ℕ) → (j : ℕ) → InputEnd → Type 0
 LeadsToNone over bytes j e = (rest : List ℕ) × (k : ℕ) × LeadsTo over bytes rest j k × (is_due over rest ≡ true) × (command_at rest ≡ None)
     × ReportsLine e.refused k (first_line rest).text
 

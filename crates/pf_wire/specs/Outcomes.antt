@@ -1,10 +1,10 @@
 -- Who did a step, and so is sent its answer.
 use Rattle.std.specs.Prelude.{ℕ, zero}
-use Rattle.pf_worlds.specs.Steps.{WorkshopStep, client_calls, worker_does}
+use Rattle.pf_world.specs.Steps.{WorldStep, client_calls, worker_does}
 use Rattle.pf_wire.specs.declared.outcome.Requester.{Requester}
 use Rattle.pf_wire.specs.declared.outcome.Requester.TheVariants.{Client, Worker}
 
-abbrev pub requester_of : WorkshopStep → Requester
+abbrev pub requester_of : WorldStep → Requester
 requester_of (client_calls q c) = Client q
 requester_of (worker_does w q t k) = Worker w q
 

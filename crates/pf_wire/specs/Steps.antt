@@ -2,23 +2,23 @@
 use Rattle.std.specs.Prelude.{◌≡◌, ℕ, ◌+◌, Bool, if◌then◌else◌, List, [], ◌++◌, length, map, take, Option, Some, None, false, IfSome, codes}
 use Rattle.std.specs.Fmt.{decimal}
 use Rattle.std.specs.Io.KnownBytes.{Appends, Consumes}
-use Rattle.pf_fault.specs.Codes.{code_text}
-use Rattle.pf_fault.specs.declared.code.Code.TheVariants as code
-use Rattle.pf_fault.specs.declared.fault.OrNoMemory.{OrNoMemory}
-use Rattle.pf_fault.specs.declared.fault.OrNoMemory.TheVariants.{NoMemory, Fault}
+use Rattle.pf_errors.specs.Codes.{code_text}
+use Rattle.pf_errors.specs.declared.code.Code.TheVariants as code
+use Rattle.pf_errors.specs.declared.fault.OrNoMemory.{OrNoMemory}
+use Rattle.pf_errors.specs.declared.fault.OrNoMemory.TheVariants.{NoMemory, Fault}
 use Rattle.pf_terms.specs.declared.stream.StreamFault.{StreamFault}
 use Rattle.pf_terms.specs.declared.stream.StreamFault.TheVariants.{Read, Write}
 use Rattle.pf_terms.specs.Streams.{AppendsFront}
 use Rattle.pf_model.specs.TermText.{line}
-use Rattle.pf_worlds.specs.Workshop.{RunProfile, Workshop, new_workshop}
-use Rattle.pf_worlds.specs.Chores.{Response}
-use Rattle.pf_worlds.specs.Steps.{WorkshopStep}
-use Rattle.pf_worlds.specs.Memory.{RespondsTo, RespondsInTurn}
-use Rattle.pf_worlds.specs.Alone.{heard, heard_alone}
-use Rattle.pf_worlds.specs.Told.{outcome_text, outcomes_text}
-use Rattle.pf_workshop.specs.Profile.{ForRight}
-use Rattle.pf_lines.specs.Commands.{Commands, command_at}
-use Rattle.pf_lines.specs.Complete.{CompleteCommands}
+use Rattle.pf_world.specs.World.{RunProfile, World, new_world}
+use Rattle.pf_world.specs.Chores.{Response}
+use Rattle.pf_world.specs.Steps.{WorldStep}
+use Rattle.pf_world.specs.Memory.{RespondsTo, RespondsInTurn}
+use Rattle.pf_world.specs.Alone.{heard, heard_alone}
+use Rattle.pf_world.specs.Told.{step_text, outcomes_text}
+use Rattle.pf_pool.specs.Profile.{ForRight}
+use Rattle.pf_protocol.specs.Commands.{Commands, command_at}
+use Rattle.pf_protocol.specs.Complete.{CompleteCommands}
 use Rattle.pf_wire.specs.declared.steps.TheConstants.{MOST_BYTES, WORKERS}
 
 -- the line that would be command number k, counted from 1, is no command
@@ -30,21 +30,21 @@ steps_status good = if good then 0 else 2
 
 -- the text that the first command, number k, is answered with in a workshop, where these bytes follow it and that
 -- workshop; nothing follows if it is no command
-abbrev pub AnswersOne : List ℕ → ℕ → Workshop → List ℕ → Option (List ℕ) → Workshop → Type 0
+abbrev pub AnswersOne : List ℕ → ℕ → World → List ℕ → Option (List ℕ) → World → Type 0
 AnswersOne bytes k w text (Some rest) w' =
-    (s : WorkshopStep) × (a : Option Response) × (command_at bytes ≡ Some (s, rest)) × (text ≡ outcome_text s a) × ForRight (λ p. RespondsTo p w s a w')
+    (s : WorldStep) × (a : Option Response) × (command_at bytes ≡ Some (s, rest)) × (text ≡ step_text s a) × ForRight (λ p. RespondsTo p w s a w')
 AnswersOne bytes k w text None w' = (command_at bytes ≡ None) × (text ≡ last_text false k)
 
 -- the text and the status that some bytes are answered with: the answers to the steps of their commands, and if a line
 -- is no command that it is none. Up to the first step in which an allocation failed, each project is answered as if it
 -- were alone
 pub record StepsText (p : RunProfile) (bytes text : List ℕ) (status : ℕ) : Type 0 where
-  pub steps : List WorkshopStep
+  pub steps : List WorldStep
   pub good : Bool
   pub commands : Commands bytes steps good
   pub outcomes : List (Option Response)
-  pub last : Workshop
-  pub in_turn : RespondsInTurn p (new_workshop WORKERS) steps outcomes last
+  pub last : World
+  pub in_turn : RespondsInTurn p (new_world WORKERS) steps outcomes last
   pub writes : text ≡ outcomes_text steps outcomes ++ last_text good (length steps + 1)
   pub ends : status ≡ steps_status good
   pub isolated : (answers : List Response) (others : List (Option Response)) → outcomes ≡ map Some answers ++ others
@@ -70,8 +70,8 @@ StepsAnsweredInPart p r0 w0 w1 = (bytes : List ℕ) × AreRead r0 bytes × Answe
 
 -- the complete commands in what was read are answered, each with its whole text
 abbrev pub WholeAnswered : RunProfile → (read_old read_new written_old written_new : Option (List ℕ)) → Type 0
-WholeAnswered p r0 r1 w0 w1 = (bytes : List ℕ) × (steps : List WorkshopStep) × (outcomes : List (Option Response)) × (last : Workshop)
-    × Consumes r0 r1 bytes × CompleteCommands bytes steps × RespondsInTurn p (new_workshop WORKERS) steps outcomes last
+WholeAnswered p r0 r1 w0 w1 = (bytes : List ℕ) × (steps : List WorldStep) × (outcomes : List (Option Response)) × (last : World)
+    × Consumes r0 r1 bytes × CompleteCommands bytes steps × RespondsInTurn p (new_world WORKERS) steps outcomes last
     × Appends w0 w1 (outcomes_text steps outcomes)
 
 -- what a fault leaves: which stream failed once more, and what went out

@@ -1,36 +1,36 @@
 -- How far the commands of some bytes were answered, when more bytes may follow them.
 use Rattle.std.specs.Prelude.{◌≡◌, ℕ, ◌+◌, ◌<◌, ◌≤◌, ◌⊎◌, Bool, true, false, List, [], ◌++◌, length, Option}
 use Rattle.std.specs.Io.KnownBytes.{Appends, Consumes, IsAtEnd, Keeps}
-use Rattle.pf_fault.specs.declared.fault.OrNoMemory.{OrNoMemory}
-use Rattle.pf_fault.specs.declared.fault.OrNoMemory.TheVariants.{NoMemory, Fault}
+use Rattle.pf_errors.specs.declared.fault.OrNoMemory.{OrNoMemory}
+use Rattle.pf_errors.specs.declared.fault.OrNoMemory.TheVariants.{NoMemory, Fault}
 use Rattle.pf_terms.specs.declared.stream.StreamFault.{StreamFault}
 use Rattle.pf_terms.specs.declared.stream.StreamFault.TheVariants.{Read, Write}
 use Rattle.pf_terms.specs.Streams.{AppendsFront}
-use Rattle.pf_worlds.specs.Workshop.{RunProfile, Workshop}
-use Rattle.pf_worlds.specs.Chores.{Response}
-use Rattle.pf_worlds.specs.Steps.{WorkshopStep}
-use Rattle.pf_worlds.specs.Memory.{RespondsInTurn}
-use Rattle.pf_worlds.specs.Told.{outcomes_text}
-use Rattle.pf_lines.specs.Commands.{Commands}
-use Rattle.pf_lines.specs.Complete.{CompleteCommands}
+use Rattle.pf_world.specs.World.{RunProfile, World}
+use Rattle.pf_world.specs.Chores.{Response}
+use Rattle.pf_world.specs.Steps.{WorldStep}
+use Rattle.pf_world.specs.Memory.{RespondsInTurn}
+use Rattle.pf_world.specs.Told.{outcomes_text}
+use Rattle.pf_protocol.specs.Commands.{Commands}
+use Rattle.pf_protocol.specs.Complete.{CompleteCommands}
 use Rattle.pf_wire.specs.Steps.{last_text}
 use Rattle.pf_wire.specs.declared.steps.TheConstants.{MOST_BYTES}
 
 -- what may follow: anything, but nothing if the input is over
-abbrev pub Follows : Bool → List ℕ → Type 0
-Follows over more = over ≡ true → more ≡ []
+abbrev pub MayFollow : Bool → List ℕ → Type 0
+MayFollow over more = over ≡ true → more ≡ []
 
 -- Turns p over bytes v j text rest w k: whatever follows, the bytes are some commands and then the rest, which are
 -- complete commands unless the input is over; their steps lead from the workshop v to w, the text is their answers, and
 -- they are numbered from j up to k
-pub record Turns (p : RunProfile) (over : Bool) (bytes : List ℕ) (v : Workshop) (j : ℕ) (text rest : List ℕ) (w : Workshop) (k : ℕ) : Type 0 where
-  pub steps : List WorkshopStep
+pub record Turns (p : RunProfile) (over : Bool) (bytes : List ℕ) (v : World) (j : ℕ) (text rest : List ℕ) (w : World) (k : ℕ) : Type 0 where
+  pub steps : List WorldStep
   pub outcomes : List (Option Response)
-  pub commands : (more : List ℕ) → Follows over more → (ss : List WorkshopStep) (good : Bool)
+  pub commands : (more : List ℕ) → MayFollow over more → (ss : List WorldStep) (good : Bool)
       → Commands (rest ++ more) ss good → Commands (bytes ++ more) (steps ++ ss) good
-  pub wholes : over ≡ false → (more : List ℕ) (ss : List WorkshopStep)
+  pub wholes : over ≡ false → (more : List ℕ) (ss : List WorldStep)
       → CompleteCommands (rest ++ more) ss → CompleteCommands (bytes ++ more) (steps ++ ss)
-  pub in_turn : (ss : List WorkshopStep) (xs : List (Option Response)) (last : Workshop)
+  pub in_turn : (ss : List WorldStep) (xs : List (Option Response)) (last : World)
       → RespondsInTurn p w ss xs last → RespondsInTurn p v (steps ++ ss) (outcomes ++ xs) last
   pub paired : length steps ≡ length outcomes
   pub writes : text ≡ outcomes_text steps outcomes
@@ -38,29 +38,29 @@ pub record Turns (p : RunProfile) (over : Bool) (bytes : List ℕ) (v : Workshop
 
 -- whatever follows, the first line is no command
 abbrev pub IsNoCommand : Bool → List ℕ → Type 0
-IsNoCommand over rest = (more : List ℕ) → Follows over more → Commands (rest ++ more) [] false
+IsNoCommand over rest = (more : List ℕ) → MayFollow over more → Commands (rest ++ more) [] false
 
 -- the text answers some commands, the last of which may be none
-pub data Tells (p : RunProfile) (over : Bool) (bytes : List ℕ) (v : Workshop) (j : ℕ) (text : List ℕ) : Type 0 where
-  so_far : (rest : List ℕ) (w : Workshop) (k : ℕ) → Turns p over bytes v j text rest w k → Tells p over bytes v j text
-  no_more : (front rest : List ℕ) (w : Workshop) (k : ℕ) → Turns p over bytes v j front rest w k → IsNoCommand over rest
-      → text ≡ front ++ last_text false k → Tells p over bytes v j text
+pub data AnswersCommands (p : RunProfile) (over : Bool) (bytes : List ℕ) (v : World) (j : ℕ) (text : List ℕ) : Type 0 where
+  so_far : (rest : List ℕ) (w : World) (k : ℕ) → Turns p over bytes v j text rest w k → AnswersCommands p over bytes v j text
+  no_more : (front rest : List ℕ) (w : World) (k : ℕ) → Turns p over bytes v j front rest w k → IsNoCommand over rest
+      → text ≡ front ++ last_text false k → AnswersCommands p over bytes v j text
 
 -- what went out is the text of commands up to a rest, which is not due
-abbrev pub TellsUpTo : RunProfile → Bool → (bytes : List ℕ) → Workshop → ℕ → (rest : List ℕ) → Workshop → ℕ → (written_old written_new : Option (List ℕ)) → Type 0
+abbrev pub TellsUpTo : RunProfile → Bool → (bytes : List ℕ) → World → ℕ → (rest : List ℕ) → World → ℕ → (written_old written_new : Option (List ℕ)) → Type 0
 TellsUpTo p over bytes v j rest w k w0 w1 = (text : List ℕ) × Turns p over bytes v j text rest w k × Appends w0 w1 text
 
 -- what went out is the text of commands and of a line that is none
-abbrev pub TellsAll : RunProfile → Bool → (bytes : List ℕ) → Workshop → ℕ → (written_old written_new : Option (List ℕ)) → Type 0
-TellsAll p over bytes v j w0 w1 = (front rest : List ℕ) × (w : Workshop) × (k : ℕ) × Turns p over bytes v j front rest w k
+abbrev pub TellsAll : RunProfile → Bool → (bytes : List ℕ) → World → ℕ → (written_old written_new : Option (List ℕ)) → Type 0
+TellsAll p over bytes v j w0 w1 = (front rest : List ℕ) × (w : World) × (k : ℕ) × Turns p over bytes v j front rest w k
     × IsNoCommand over rest × Appends w0 w1 (front ++ last_text false k)
 
 -- a beginning of such a text went out
-abbrev pub TellsInPart : RunProfile → Bool → (bytes : List ℕ) → Workshop → ℕ → (written_old written_new : Option (List ℕ)) → Type 0
-TellsInPart p over bytes v j w0 w1 = (text : List ℕ) × Tells p over bytes v j text × AppendsFront w0 w1 text
+abbrev pub TellsInPart : RunProfile → Bool → (bytes : List ℕ) → World → ℕ → (written_old written_new : Option (List ℕ)) → Type 0
+TellsInPart p over bytes v j w0 w1 = (text : List ℕ) × AnswersCommands p over bytes v j text × AppendsFront w0 w1 text
 
 -- what a fault leaves: whether a write failed, and what went out
-abbrev pub TurnsLeave : RunProfile → OrNoMemory StreamFault → Bool → (bytes : List ℕ) → Workshop → ℕ → (written_old written_new : Option (List ℕ)) → (writes_old writes_new : ℕ) → Type 0
+abbrev pub TurnsLeave : RunProfile → OrNoMemory StreamFault → Bool → (bytes : List ℕ) → World → ℕ → (written_old written_new : Option (List ℕ)) → (writes_old writes_new : ℕ) → Type 0
 TurnsLeave p NoMemory over bytes v j w0 w1 n0 n1 = (n1 ≡ n0) × TellsInPart p over bytes v j w0 w1
 TurnsLeave p (Fault (Read e)) over bytes v j w0 w1 n0 n1 = ⊥
 TurnsLeave p (Fault (Write e)) over bytes v j w0 w1 n0 n1 = (n1 ≡ n0 + 1) × TellsInPart p over bytes v j w0 w1

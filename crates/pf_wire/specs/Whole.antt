@@ -5,8 +5,8 @@ use Rattle.pf_model.specs.Meaning.{Report}
 use Rattle.pf_model.specs.Shrinking.{Result, report, shrunk_to, nothing_fails}
 use Rattle.pf_model.specs.TermText.{line}
 use Rattle.pf_model.specs.Text.{event_text}
-use Rattle.pf_trace.specs.Written.{end_text}
-use Rattle.pf_wire.specs.declared.told.Told.{Told}
+use Rattle.pf_trace.specs.Written.{report_end_text}
+use Rattle.pf_wire.specs.declared.told.WrittenAnswer.{WrittenAnswer}
 use Rattle.pf_wire.specs.declared.told.ToldReport.{ToldReport}
 
 -- the lines of a report's events
@@ -21,8 +21,8 @@ result_events atoms nothing_fails = []
 
 -- those that follow them
 abbrev pub result_end : List (List ℕ) → Result → List ℕ
-result_end atoms (report r) = end_text (name_of atoms) r
-result_end atoms (shrunk_to f r) = end_text (name_of atoms) r
+result_end atoms (report r) = report_end_text (name_of atoms) r
+result_end atoms (shrunk_to f r) = report_end_text (name_of atoms) r
 result_end atoms nothing_fails = []
 
 -- the lines of a report in an answer
@@ -35,5 +35,5 @@ with_report text None = text
 with_report text (Some r) = text ++ report_lines r
 
 -- the whole answer
-abbrev pub whole_text : Told → List ℕ
+abbrev pub whole_text : WrittenAnswer → List ℕ
 whole_text t = with_report t.text.items t.report

@@ -1,10 +1,10 @@
 //! Where reading ended before the input did, for whoever says why.
 
 ghost use Rattle.std.specs.Prelude.{◌≡◌, None, false};
-ghost use Rattle.pf_lines.specs.Commands.{first_line};
+ghost use Rattle.pf_protocol.specs.Commands.{first_line};
 ghost use Rattle.pf_wire.specs.Endings.{IsKept, ReportsLine};
 
-use pf_lines::first_line;
+use pf_protocol::first_line;
 use std::alloc::Global;
 
 /// How much of a line that is no command is kept.
@@ -23,7 +23,7 @@ pub struct RefusedLine {
 
 /// Where reading ended.
 #[derive(Drop)]
-pub struct Ending {
+pub struct InputEnd {
     /// The line that is no command, if one is.
     pub refused: Option<RefusedLine>,
     /// Whether as many bytes were taken as may be.
@@ -41,13 +41,13 @@ fn kept(alloc: Global, line: &[u8]) -> (Vec<u8>, bool)
     }
 }
 
-impl Ending {
+impl InputEnd {
     /// Nothing was read yet.
-    pub fn new() -> Ending
+    pub fn new() -> InputEnd
         ensures refused { result.refused ≡ None }
         ensures full { result.is_full ≡ false }
     {
-        Ending {
+        InputEnd {
             refused: None,
             is_full: false,
         }

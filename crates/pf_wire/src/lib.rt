@@ -8,8 +8,8 @@ mod steps;
 mod stream;
 mod told;
 
-pub use ending::{Ending, RefusedLine};
+pub use ending::{InputEnd, RefusedLine};
 pub use outcome::{Requester, put_outcome};
 pub use steps::{MOST_BYTES, WORKERS, put_no_command, run_steps};
 pub use stream::Gathered;
-pub use told::{Told, ToldReport};
+pub use told::{ToldReport, WrittenAnswer};

@@ -2,23 +2,23 @@
 
 ghost use Rattle.std.specs.Prelude.{◌≡◌, ◌++◌, None, OnOk, codes};
 ghost use Rattle.std.specs.Fmt.{decimal};
-ghost use Rattle.pf_fault.specs.Codes.{code_text, no_memory_text};
-ghost use Rattle.pf_fault.specs.declared.code.Code.TheVariants as code;
+ghost use Rattle.pf_errors.specs.Codes.{code_text, no_memory_text};
+ghost use Rattle.pf_errors.specs.declared.code.Code.TheVariants as code;
 ghost use Rattle.pf_desks.specs.Told.{to_project};
-ghost use Rattle.pf_worlds.specs.Steps.{WorkshopStep};
-ghost use Rattle.pf_worlds.specs.Told.{memory_text, outcome_text, to_worker};
-ghost use Rattle.pf_worlds.specs.View.{view_of_step};
-ghost use Rattle.pf_workshop.specs.Responses.{response_in};
+ghost use Rattle.pf_world.specs.Steps.{WorldStep};
+ghost use Rattle.pf_world.specs.Told.{memory_text, step_text, to_worker};
+ghost use Rattle.pf_world.specs.View.{view_of_step};
+ghost use Rattle.pf_pool.specs.Responses.{response_in};
 ghost use Rattle.pf_wire.specs.Outcomes.{project_in, requester_of, worker_in};
 ghost use Rattle.pf_wire.specs.Whole.{whole_text};
 
 use crate::reply::{put_code, put_project, put_reply};
-use crate::told::Told;
-use pf_fault::Code;
+use crate::told::WrittenAnswer;
+use pf_errors::Code;
+use pf_pool::Response;
 use pf_request::Step;
 use pf_terms::NoMemory;
 use pf_text::{put, put_byte, put_number};
-use pf_workshop::Response;
 use std::alloc::Global;
 
 /// Who did a step, and so is sent its answer: a client of a project, or a worker about a trial of a project.
@@ -128,7 +128,7 @@ fn put_chore_memory(out: &mut Vec<u8>, worker: u32) -> Result<(), NoMemory>
 
 /// Puts that an allocation failed.
 fn put_memory(out: &mut Vec<u8>, requester: Requester) -> Result<(), NoMemory>
-    ensures { (s : WorkshopStep) → requester ≡ requester_of s
+    ensures { (s : WorldStep) → requester ≡ requester_of s
         → OnOk result (out.new.items ≡ out.old.items ++ memory_text s) }
 {
     match requester {
@@ -140,13 +140,13 @@ fn put_memory(out: &mut Vec<u8>, requester: Requester) -> Result<(), NoMemory>
 /// Puts the text of the answer to a step. The lines of a report's events stay where they were written.
 pub fn put_outcome(
     alloc: Global,
-    told: &mut Told,
+    told: &mut WrittenAnswer,
     requester: Requester,
     outcome: Result<Response, NoMemory>,
 ) -> Result<(), NoMemory>
     requires { told.old.report ≡ None }
-    ensures { (s : WorkshopStep) → requester ≡ requester_of s
-        → OnOk result (whole_text told.new ≡ told.old.text.items ++ outcome_text s (response_in outcome)) }
+    ensures { (s : WorldStep) → requester ≡ requester_of s
+        → OnOk result (whole_text told.new ≡ told.old.text.items ++ step_text s (response_in outcome)) }
 {
     match outcome {
         Ok(Response::Reply(reply)) => put_reply(alloc, told, requester.project(), reply),

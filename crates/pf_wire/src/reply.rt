@@ -2,16 +2,16 @@
 
 ghost use Rattle.std.specs.Prelude.{◌≡◌, ◌++◌, None, OnOk, codes};
 ghost use Rattle.std.specs.Fmt.{decimal};
-ghost use Rattle.pf_fault.specs.Codes.{code_text};
+ghost use Rattle.pf_errors.specs.Codes.{code_text};
 ghost use Rattle.pf_model.specs.Text.{complete_text};
-ghost use Rattle.pf_desks.specs.Told.{lines_of, reply_head, reply_rest, reply_text, result_head, stage_text, to_project, usage_text};
+ghost use Rattle.pf_desks.specs.Told.{line_count, reply_head, reply_rest, reply_text, result_head, stage_text, to_project, usage_text};
 ghost use Rattle.pf_trace.specs.Written.{report_in};
 ghost use Rattle.pf_book.specs.View.{view_of_reply, view_of_stage};
 ghost use Rattle.pf_wire.specs.Whole.{whole_text};
 
-use crate::told::Told;
-use pf_book::{Reply, Stage};
-use pf_fault::Code;
+use crate::told::WrittenAnswer;
+use pf_book::{Reply, TrialStage};
+use pf_errors::Code;
 use pf_quota::Usage;
 use pf_sched::{Finished, JobResult, memory_report};
 use pf_terms::NoMemory;
@@ -53,7 +53,7 @@ pub(crate) fn put_code(alloc: Global, out: &mut Vec<u8>, code: Code) -> Result<(
 
 /// Puts how many lines a report has.
 fn put_lines(out: &mut Vec<u8>, report: &WrittenReport) -> Result<(), NoMemory>
-    ensures { OnOk result (out.new.items ≡ out.old.items ++ decimal (lines_of (report_in report.now))) }
+    ensures { OnOk result (out.new.items ≡ out.old.items ++ decimal (line_count (report_in report.now))) }
 {
     put_number(out, report.lines.len() as u64 + 3)
 }
@@ -104,13 +104,13 @@ fn put_result_head(alloc: Global, out: &mut Vec<u8>, finished: &Finished) -> Res
 }
 
 /// Puts how far a trial is.
-fn put_stage(out: &mut Vec<u8>, stage: Stage) -> Result<(), NoMemory>
+fn put_stage(out: &mut Vec<u8>, stage: TrialStage) -> Result<(), NoMemory>
     ensures { OnOk result (out.new.items ≡ out.old.items ++ stage_text (view_of_stage stage)) }
 {
     match stage {
-        Stage::Queued => put(out, b"queued"),
-        Stage::Running => put(out, b"running"),
-        Stage::Done => put(out, b"done"),
+        TrialStage::Queued => put(out, b"queued"),
+        TrialStage::Running => put(out, b"running"),
+        TrialStage::Done => put(out, b"done"),
     }
 }
 
@@ -156,7 +156,7 @@ fn put_first(alloc: Global, out: &mut Vec<u8>, project: u32, reply: &Reply) -> R
 }
 
 /// Puts the lines of a reply that follow its first.
-fn put_rest(alloc: Global, told: &mut Told, reply: Reply) -> Result<(), NoMemory>
+fn put_rest(alloc: Global, told: &mut WrittenAnswer, reply: Reply) -> Result<(), NoMemory>
     requires { told.old.report ≡ None }
     ensures { OnOk result (whole_text told.new ≡ told.old.text.items ++ reply_rest (view_of_reply reply)) }
 {
@@ -169,7 +169,7 @@ fn put_rest(alloc: Global, told: &mut Told, reply: Reply) -> Result<(), NoMemory
 /// Puts the text of a reply to a project.
 pub(crate) fn put_reply(
     alloc: Global,
-    told: &mut Told,
+    told: &mut WrittenAnswer,
     project: u32,
     reply: Reply,
 ) -> Result<(), NoMemory>

@@ -3,29 +3,29 @@
 ghost use Rattle.std.specs.Prelude.{◌≡◌, ◌≤◌, ◌<◌, ◌+◌, ◌^◌, ◌++◌, [], ℕ, List, Option, None, false, length, vec_capacity, IfOk, IfErr, MatchOption, OnOk};
 ghost use Rattle.std.specs.Option.{option_copied};
 ghost use Rattle.std.specs.Io.KnownBytes.{Consumes};
-ghost use Rattle.pf_worlds.specs.Chores as chores;
-ghost use Rattle.pf_worlds.specs.Memory.{RespondsTo};
-ghost use Rattle.pf_worlds.specs.Told.{outcome_text};
-ghost use Rattle.pf_worlds.specs.View.{view_of_step};
-ghost use Rattle.pf_workshop.specs.Profile.{ForRight};
-ghost use Rattle.pf_worlds.specs.Workshop.{new_workshop};
+ghost use Rattle.pf_world.specs.Chores as chores;
+ghost use Rattle.pf_world.specs.Memory.{RespondsTo};
+ghost use Rattle.pf_world.specs.Told.{step_text};
+ghost use Rattle.pf_world.specs.View.{view_of_step};
+ghost use Rattle.pf_pool.specs.Profile.{ForRight};
+ghost use Rattle.pf_world.specs.World.{new_world};
 ghost use Rattle.pf_wire.specs.Endings.{EndsAs, LeadsTo, LeadsToNone};
 ghost use Rattle.pf_wire.specs.Steps.{last_text, AnswersOne, StepsAnswered, StepsLeaves};
 ghost use Rattle.pf_wire.specs.Turns.{TellsAll, TellsUpTo, TurnsLeave};
 ghost use Rattle.pf_wire.specs.Whole.{whole_text};
-ghost use Rattle.pf_lines.specs.Complete.{is_due};
+ghost use Rattle.pf_protocol.specs.Complete.{is_due};
 
-use crate::ending::Ending;
+use crate::ending::InputEnd;
 use crate::outcome::{Requester, put_outcome};
 use crate::reply::put_code;
 use crate::stream::{Gathered, Input, ROOM};
-use crate::told::Told;
-use pf_fault::{Code, NoMemory, OrNoMemory};
-use pf_lines::{NoCommand, is_due, read_command};
+use crate::told::WrittenAnswer;
+use pf_errors::{Code, NoMemory, OrNoMemory};
+use pf_pool::World;
+use pf_protocol::{NoCommand, is_due, read_command};
 use pf_request::Step;
 use pf_terms::{Counted, StreamFault};
 use pf_text::{put, put_byte, put_number};
-use pf_workshop::Workshop;
 use std::alloc::Global;
 use std::hash::RandomState;
 use std::io::{Read, Write};
@@ -52,13 +52,13 @@ fn empty(alloc: Global, text: &mut Vec<u8>)
 /// Does a step, and puts the text of its answer.
 fn answer(
     alloc: Global,
-    workshop: &mut Workshop,
+    workshop: &mut World,
     step: Step,
-    told: &mut Told,
+    told: &mut WrittenAnswer,
 ) -> Result<(), NoMemory>
     requires { told.old.report ≡ None }
     ensures { OnOk result ((a : Option chores.Response)
-        × (whole_text told.new ≡ told.old.text.items ++ outcome_text (view_of_step step) a)
+        × (whole_text told.new ≡ told.old.text.items ++ step_text (view_of_step step) a)
         × ForRight (λ p. RespondsTo p workshop.old (view_of_step step) a workshop.new)) }
 {
     let requester = Requester::of(&step);
@@ -82,10 +82,10 @@ pub fn put_no_command(alloc: Global, out: &mut Vec<u8>, number: u64) -> Result<(
 /// What follows the command; nothing does if the line is none.
 fn answer_front<'a>(
     alloc: Global,
-    workshop: &mut Workshop,
+    workshop: &mut World,
     bytes: &'a [u8],
     number: u64,
-    told: &mut Told,
+    told: &mut WrittenAnswer,
 ) -> Result<Option<&'a [u8]>, NoMemory>
     ensures { IfOk result (λ rest.
         AnswersOne bytes.now number workshop.old (whole_text told.new) (option_copied rest) workshop.new) }
@@ -107,7 +107,7 @@ fn answer_front<'a>(
 
 /// What is left after the commands that were answered, and the number of the next.
 #[derive(Clone, Copy)]
-struct Left<'a> {
+struct LeftInput<'a> {
     rest: &'a [u8],
     number: u64,
 }
@@ -116,13 +116,13 @@ struct Left<'a> {
 /// there is nothing left, and the ending has that line.
 fn answer_due<'a, W: Write, M: Ledger>(
     alloc: Global,
-    workshop: &mut Workshop,
+    workshop: &mut World,
     first: u64,
     input: &'a [u8],
     is_over: bool,
     writer: &mut Counted<W, M>,
-    ending: &mut Ending,
-) -> Result<Option<Left<'a>>, OrNoMemory<StreamFault>>
+    ending: &mut InputEnd,
+) -> Result<Option<LeftInput<'a>>, OrNoMemory<StreamFault>>
     requires { first + length input.now < 2 ^ 63 }
     ensures answered { IfOk result (λ left. MatchOption left
         (ForRight (λ p. TellsAll p is_over input.now workshop.old first
@@ -140,7 +140,7 @@ fn answer_due<'a, W: Write, M: Ledger>(
     let mut gathered = Gathered {
         text: Vec::new(alloc),
     };
-    let mut told = Told {
+    let mut told = WrittenAnswer {
         text: Vec::new(alloc),
         report: None,
     };
@@ -164,19 +164,19 @@ fn answer_due<'a, W: Write, M: Ledger>(
         number += 1;
     }
     gathered.send(writer)?;
-    Ok(Some(Left { rest, number }))
+    Ok(Some(LeftInput { rest, number }))
 }
 
 /// Reads and answers by a new workshop, a piece at a time.
 fn answer_pieces<R: Read, W: Write, L: Ledger, M: Ledger>(
     alloc: Global,
-    workshop: &mut Workshop,
+    workshop: &mut World,
     piece: &mut [u8],
     reader: &mut Counted<R, L>,
     writer: &mut Counted<W, M>,
-    ending: &mut Ending,
+    ending: &mut InputEnd,
 ) -> Result<u8, OrNoMemory<StreamFault>>
-    requires is_new { workshop.old ≡ new_workshop WORKERS }
+    requires is_new { workshop.old ≡ new_world WORKERS }
     requires room { 0 < length piece.old }
     ensures answered { IfOk result (λ status. ForRight (λ p. StepsAnswered p (R.remaining reader.old.inner)
         (W.contents writer.old.inner) (W.contents writer.new.inner) status)) }
@@ -227,7 +227,7 @@ pub fn run_steps<R: Read, W: Write, L: Ledger, M: Ledger>(
     keys: RandomState,
     reader: &mut Counted<R, L>,
     writer: &mut Counted<W, M>,
-    ending: &mut Ending,
+    ending: &mut InputEnd,
 ) -> Result<u8, OrNoMemory<StreamFault>>
     ensures answered { IfOk result (λ status. ForRight (λ p. StepsAnswered p (R.remaining reader.old.inner)
         (W.contents writer.old.inner) (W.contents writer.new.inner) status)) }
@@ -244,6 +244,6 @@ pub fn run_steps<R: Read, W: Write, L: Ledger, M: Ledger>(
 {
     let mut room = vec![in alloc; 0u8; ROOM]?;
     let piece = room.as_mut_slice();
-    let mut workshop = Workshop::new(alloc, keys, WORKERS)?;
+    let mut workshop = World::new(alloc, keys, WORKERS)?;
     answer_pieces(alloc, &mut workshop, piece, reader, writer, ending)
 }

@@ -3,15 +3,15 @@
 ghost use Rattle.std.specs.Prelude.{◌≡◌, ◌≤◌, ◌<◌, ◌+◌, ◌++◌, [], List, ℕ, length, false, true, IfErr, IfOk, OnErr, OnOk};
 ghost use Rattle.std.specs.Io.KnownBytes.{Appends, Consumes};
 ghost use Rattle.pf_terms.specs.Streams.{AppendsFront, CountsWrite};
-ghost use Rattle.pf_lines.specs.Commands.{first_line};
+ghost use Rattle.pf_protocol.specs.Commands.{first_line};
 ghost use Rattle.pf_wire.specs.Turns.{TakesPiece, PieceLeaves};
 ghost use Rattle.pf_wire.specs.Whole.{report_lines, whole_text};
-ghost use Rattle.pf_lines.specs.Complete.{is_due};
+ghost use Rattle.pf_protocol.specs.Complete.{is_due};
 
 use crate::steps::MOST_BYTES;
-use crate::told::{Told, ToldReport};
-use pf_fault::OrNoMemory;
-use pf_lines::{first_line, is_due};
+use crate::told::{ToldReport, WrittenAnswer};
+use pf_errors::OrNoMemory;
+use pf_protocol::{first_line, is_due};
 use pf_terms::{Counted, StreamFault};
 use std::alloc::Global;
 use std::io::{Read, Write};
@@ -194,7 +194,7 @@ impl Gathered {
     pub fn add_told<W: Write, M: Ledger>(
         &mut self,
         writer: &mut Counted<W, M>,
-        told: &Told,
+        told: &WrittenAnswer,
     ) -> Result<(), StreamFault>
         ensures added { OnOk result ((out : List ℕ)
             × Appends (W.contents writer.old.inner) (W.contents writer.new.inner) out

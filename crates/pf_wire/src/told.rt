@@ -17,7 +17,7 @@ pub struct ToldReport {
 
 /// What a command is answered with: the text that was put, and after it the lines of a report if there is one.
 #[derive(Drop)]
-pub struct Told {
+pub struct WrittenAnswer {
     pub text: Vec<u8>,
     pub report: Option<ToldReport>,
 }
@@ -58,7 +58,7 @@ impl ToldReport {
     }
 }
 
-impl Told {
+impl WrittenAnswer {
     /// Puts the lines of a job's result, in place of those of another.
     pub(crate) fn put_report(&mut self, alloc: Global, finished: Finished) -> Result<(), NoMemory>
         ensures { OnOk result (whole_text self.new ≡ self.old.text.items

@@ -1,13 +1,13 @@
 -- How the work of a command ends.
 use Rattle.std.proofs.Common.{◌≡◌, ℕ, Bool, true, false, List, Option, Result, Ok, Err, None, Some, refl, sym, ap, ◌∙◌, subst, inl, inr}
 use Rattle.std.specs.Prelude.{IfErr, IfOk, IfSome, IsErr, IsErrAnd, OnOk, is_some, option_map, take, ◌||◌}
-use Rattle.pf_fault.specs.declared.fault.OrNoMemory.{OrNoMemory}
-use Rattle.pf_fault.specs.declared.fault.OrNoMemory.TheVariants.{NoMemory, Fault}
+use Rattle.pf_errors.specs.declared.fault.OrNoMemory.{OrNoMemory}
+use Rattle.pf_errors.specs.declared.fault.OrNoMemory.TheVariants.{NoMemory, Fault}
 use Rattle.pf_terms.specs.Streams.{CountsReadOrNone}
 use Rattle.pf_terms.specs.declared.stream.StreamFault.{StreamFault}
 use Rattle.pf_terms.specs.declared.stream.StreamFault.TheVariants.{Read, Write}
 use Rattle.clap.specs.Words.{Text}
-use Rattle.pf_cli.specs.Args.{Work, check, chart, farm, hunt, named_file, run, shrink, steps, view_of_args, view_of_hunt_args}
+use Rattle.pf_cli.specs.Args.{CommandWork, check, chart, farm, hunt, named_file, run, shrink, steps, view_of_args, view_of_hunt_args}
 use Rattle.pf_cli.specs.declared.args.Args.{Args}
 use Rattle.pf_cli.specs.declared.args.Args.TheVariants.{Run, Hunt, Shrink, Chart, Check, Steps, Farm}
 use Rattle.pf_cli.specs.declared.args.FarmArgs.{FarmArgs}
@@ -16,8 +16,8 @@ use Rattle.pf_files.specs.Suites.{goes_over_several}
 use Rattle.pf_command.specs.Streams.{Answering, Leaves, NoneFailed, Sends, Streams, streams}
 use Rattle.pf_command.specs.declared.serving.TheConstants.{MOST_BYTES}
 use Rattle.pf_wire.specs.Steps.{StepsAnswered, StepsLeaves}
-use Rattle.pf_profile.specs.Profile.{run_profile}
-use Rattle.pf_said.specs.Texts.{HasStatus, IsFailure}
+use Rattle.pf_steps.specs.Profile.{run_profile}
+use Rattle.pf_cli_messages.specs.Texts.{HasStatus, IsFailure}
 use Rattle.pf_words.specs.Words.{AnswersOf, End, FromFile, FromInput, FromNamed, FromOne, SourceEnds, StepsEnd, WorkEnds, has_source, is_farm, may_be_several, unless_several}
 
 -- ---- of a source
@@ -77,7 +77,7 @@ handed_on_source P s t (Err f) e is h = subst (λ z. SourceEnds P s t (Err z)) (
 -- ---- of work
 
 module _ (s t : Streams) (r : End) where
-  pub of_source : (w : Work) → has_source w ≡ true → SourceEnds (AnswersOf w) s t r → WorkEnds w s t r
+  pub of_source : (w : CommandWork) → has_source w ≡ true → SourceEnds (AnswersOf w) s t r → WorkEnds w s t r
   of_source (run a) is h = h
   of_source (hunt a) is h = h
   of_source (chart a) is h = h
@@ -86,7 +86,7 @@ module _ (s t : Streams) (r : End) where
   of_source steps is h = absurd cc
   of_source (farm a) is h = absurd cc
 
-  pub of_steps : (w : Work) → has_source w ≡ false → is_farm w ≡ false → StepsEnd s t r → WorkEnds w s t r
+  pub of_steps : (w : CommandWork) → has_source w ≡ false → is_farm w ≡ false → StepsEnd s t r → WorkEnds w s t r
   of_steps (run a) is not h = absurd cc
   of_steps (hunt a) is not h = absurd cc
   of_steps (chart a) is not h = absurd cc
@@ -96,7 +96,7 @@ module _ (s t : Streams) (r : End) where
   of_steps (farm a) is not h = absurd cc
 
 -- nothing was done
-pub undone : (w : Work) (s : Streams) → is_farm w ≡ false → WorkEnds w s s (Err NoMemory)
+pub undone : (w : CommandWork) (s : Streams) → is_farm w ≡ false → WorkEnds w s s (Err NoMemory)
 undone (run a) s not = ((refl, refl), refl)
 undone (hunt a) s not = ((refl, refl), refl)
 undone (chart a) s not = ((refl, refl), refl)
@@ -106,14 +106,14 @@ undone steps s not = inr refl
 undone (farm a) s not = absurd cc
 
 -- a reader that was opened just now
-pub opened : (w : Work) (u v w0 : Option (List ℕ)) (m n0 : ℕ) (t : Streams) (r : End) → v ≡ u → m ≡ 0
+pub opened : (w : CommandWork) (u v w0 : Option (List ℕ)) (m n0 : ℕ) (t : Streams) (r : End) → v ≡ u → m ≡ 0
     → WorkEnds w (streams v w0 m n0) t r → WorkEnds w (streams u w0 0 n0) t r
 opened w u v w0 m n0 t r same zero_is h =
     subst (λ k. WorkEnds w (streams u w0 k n0) t r) zero_is (subst (λ z. WorkEnds w (streams z w0 m n0) t r) same h)
 
 -- ---- from the standard input or a file
 
-module _ (w : Work) (old new : Streams) (given : ℕ) where
+module _ (w : CommandWork) (old new : Streams) (given : ℕ) where
   pub several : (file : Option Text) → may_be_several w file ≡ true → FromOne w file old new given
   several file is = subst (λ b. unless_several b (FromNamed w file old new given)) (sym is) tt
 
@@ -125,18 +125,18 @@ module _ (w : Work) (old new : Streams) (given : ℕ) where
       by false = h
 
 -- a file that can't be opened
-pub unopened : (w : Work) (unread written : Option (List ℕ)) (failed_reads failed_writes given : ℕ) → is_farm w ≡ false → IsFailure given
+pub unopened : (w : CommandWork) (unread written : Option (List ℕ)) (failed_reads failed_writes given : ℕ) → is_farm w ≡ false → IsFailure given
     → FromFile w (streams unread written failed_reads failed_writes) (streams unread written failed_reads failed_writes) given
 unopened w unread written m n given not is =
     (refl, refl, None, None, 0, 0, (Err NoMemory, undone w (streams None written 0 n) not, is))
 
 -- and one that is
-pub from_file : (w : Work) (unread before after w0 w1 : Option (List ℕ)) (m n k n0 n1 given : ℕ) (end : End)
+pub from_file : (w : CommandWork) (unread before after w0 w1 : Option (List ℕ)) (m n k n0 n1 given : ℕ) (end : End)
     → WorkEnds w (streams before w0 k n0) (streams after w1 n n1) end → HasStatus end given
     → FromFile w (streams unread w0 m n0) (streams unread w1 m n1) given
 from_file w unread before after w0 w1 m n k n0 n1 given end h has = (refl, refl, before, after, k, n, (end, h, has))
 
-module _ (w : Work) (old new : Streams) (given : ℕ) (named : Option Text) where
+module _ (w : CommandWork) (old new : Streams) (given : ℕ) (named : Option Text) where
   pub with_file : (name : Text) → named ≡ Some name → FromFile w old new given → FromOne w named old new given
   with_file name is h = from_one w old new given named (subst (λ f. FromNamed w f old new given) (sym is) h)
 

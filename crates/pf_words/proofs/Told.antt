@@ -2,9 +2,9 @@
 use Rattle.std.proofs.Common.{◌≡◌, ◌≤◌, ℕ, Bool, true, false, List, length, Option, Result, Ok, Err, None, Some, refl, sym, ap, ◌∙◌, subst, inl, inr}
 use Rattle.std.specs.Prelude.{IfSome, codes, is_some}
 use Rattle.std.specs.Str.{bytes_eq}
-use Rattle.pf_fault.specs.declared.memory.NoMemory.{NoMemory}
+use Rattle.pf_errors.specs.declared.memory.NoMemory.{NoMemory}
 use Rattle.clap.specs.Words.{Text}
-use Rattle.pf_cli.specs.Args.{Reading, Wanted, farm, reading_by, reading_of, reads, tells, view_of_farm_args, works}
+use Rattle.pf_cli.specs.Args.{ReadWords, Wanted, farm, reading_by, reading_of, reads, tells, view_of_farm_args, works}
 use Rattle.pf_command.specs.Streams.{Streams, streams}
 use Rattle.pf_text.specs.Numbers.{schedule_of}
 use Rattle.pf_words.specs.declared.words.Obeyed.{Obeyed}

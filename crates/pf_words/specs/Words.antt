@@ -1,24 +1,24 @@
 -- What words are answered with between the standard input and the standard output.
 use Rattle.std.specs.Prelude.{◌≡◌, ◌⊎◌, ◌≤◌, ℕ, Bool, true, false, ◌||◌, is_some, codes, length, List, Option, None, Some, IfSome, Result, Ok, Err}
 use Rattle.std.specs.Str.{bytes_eq}
-use Rattle.pf_fault.specs.declared.memory.NoMemory.{NoMemory}
-use Rattle.pf_fault.specs.declared.fault.OrNoMemory.{OrNoMemory}
+use Rattle.pf_errors.specs.declared.memory.NoMemory.{NoMemory}
+use Rattle.pf_errors.specs.declared.fault.OrNoMemory.{OrNoMemory}
 use Rattle.pf_terms.specs.declared.stream.StreamFault.{StreamFault}
 use Rattle.pf_text.specs.Numbers.{schedule_of}
 use Rattle.clap.specs.Words.{Text}
-use Rattle.pf_cli.specs.Args.{Reading, Wanted, Work, check, chart, farm, hunt, reading_of, reads, run, shrink, steps, tells, view_of_farm_args, works}
+use Rattle.pf_cli.specs.Args.{ReadWords, Wanted, CommandWork, check, chart, farm, hunt, reading_of, reads, run, shrink, steps, tells, view_of_farm_args, works}
 use Rattle.pf_cli.specs.declared.args.FarmArgs.{FarmArgs}
 use Rattle.pf_cli.specs.declared.args.Format.{Format}
 use Rattle.pf_cli.specs.declared.args.Format.TheVariants.{Json}
 use Rattle.pf_cli.specs.declared.args.Format.TheVariants as format
-use Rattle.pf_command.specs.Answers.{Answers}
+use Rattle.pf_command.specs.Answers.{AnswersRun}
 use Rattle.pf_command.specs.Checks.{Checks}
 use Rattle.pf_command.specs.Guided.{DrawnAnswers, RunAnswers}
 use Rattle.pf_command.specs.Hunts.{HuntAnswers}
-use Rattle.pf_command.specs.Streams.{Answered, Answering, Leaves, NoneFailed, Streams}
+use Rattle.pf_command.specs.Streams.{IsAnsweredSo, Answering, Leaves, NoneFailed, Streams}
 use Rattle.pf_wire.specs.Steps.{StepsAnswered, StepsLeaves}
-use Rattle.pf_profile.specs.Profile.{run_profile}
-use Rattle.pf_said.specs.Texts.{HasStatus, IsFailure, TellsText}
+use Rattle.pf_steps.specs.Profile.{run_profile}
+use Rattle.pf_cli_messages.specs.Texts.{HasStatus, IsFailure, TellsText}
 use Rattle.pf_files.specs.Suites.{goes_over_several}
 use Rattle.pf_words.specs.Schedules.{schedule_in}
 use Rattle.pf_words.specs.declared.words.Obeyed.{Obeyed}
@@ -31,28 +31,28 @@ abbrev pub End : Type 0
 End = Result ℕ (OrNoMemory StreamFault)
 
 -- which texts and statuses answer which bytes of a source of which this is asked for; of no source `steps` or a farm is
-abbrev pub AnswersOf : Work → Answering
+abbrev pub AnswersOf : CommandWork → Answering
 AnswersOf (run a) = RunAnswers a
 AnswersOf (hunt h) = HuntAnswers h
 AnswersOf (chart a) = DrawnAnswers a
-AnswersOf (shrink a) = Answers a
+AnswersOf (shrink a) = AnswersRun a
 AnswersOf (check explain) = Checks explain
 AnswersOf steps = λ bytes text status. ⊥
 AnswersOf (farm a) = λ bytes text status. ⊥
 
 -- what reads one source, and what is a farm
-abbrev pub has_source : Work → Bool
+abbrev pub has_source : CommandWork → Bool
 has_source steps = false
 has_source (farm a) = false
 has_source w = true
 
-abbrev pub is_farm : Work → Bool
+abbrev pub is_farm : CommandWork → Bool
 is_farm (farm a) = true
 is_farm w = false
 
 -- a source is answered; or a stream failed or memory ran out, and a beginning of the answer went out
 abbrev pub SourceEnds : Answering → (old new : Streams) → End → Type 0
-SourceEnds P old new (Ok status) = NoneFailed old new × Answered P old new status
+SourceEnds P old new (Ok status) = NoneFailed old new × IsAnsweredSo P old new status
 SourceEnds P old new (Err e) = Leaves e P old new
 
 -- the same of commands; where the system gives no random numbers nothing is done
@@ -63,7 +63,7 @@ StepsEnd old new (Err e) =
     ⊎ (new ≡ old)
 
 -- what is asked for is answered, from a reader to a writer; a farm is none of this
-abbrev pub WorkEnds : Work → (old new : Streams) → End → Type 0
+abbrev pub WorkEnds : CommandWork → (old new : Streams) → End → Type 0
 WorkEnds steps = StepsEnd
 WorkEnds (farm a) = λ old new end. ⊥
 WorkEnds w = SourceEnds (AnswersOf w)
@@ -71,7 +71,7 @@ WorkEnds w = SourceEnds (AnswersOf w)
 -- ---- from the standard input, or from a file
 
 -- what is asked for is answered from the standard input, and the program has this status
-abbrev pub FromInput : Work → (old new : Streams) → ℕ → Type 0
+abbrev pub FromInput : CommandWork → (old new : Streams) → ℕ → Type 0
 FromInput w old new given = (end : End) × WorkEnds w old new end × HasStatus end given
 
 -- the output, and as much of a reader
@@ -80,18 +80,18 @@ reading_from unread failed s = record s { unread = unread; failed_reads = failed
 
 -- it is answered from a file, which has some bytes, and nothing is read of the standard input. A file that can't be
 -- opened is none that is answered: nothing goes out then
-abbrev pub FromFile : Work → (old new : Streams) → ℕ → Type 0
+abbrev pub FromFile : CommandWork → (old new : Streams) → ℕ → Type 0
 FromFile w old new given =
     (new.unread ≡ old.unread) × (new.failed_reads ≡ old.failed_reads)
     × (before : Option (List ℕ)) × (after : Option (List ℕ)) × (m : ℕ) × (n : ℕ)
     × FromInput w (reading_from before m old) (reading_from after n new) given
 
 -- a hunt of a name, which may be a folder's, or of several sources or roots, isn't that of one source
-abbrev pub may_be_several : Work → (file : Option Text) → Bool
+abbrev pub may_be_several : CommandWork → (file : Option Text) → Bool
 may_be_several (hunt h) file = is_some file || goes_over_several h
 may_be_several w file = false
 
-abbrev pub FromNamed : Work → (file : Option Text) → (old new : Streams) → ℕ → Type 0
+abbrev pub FromNamed : CommandWork → (file : Option Text) → (old new : Streams) → ℕ → Type 0
 FromNamed w None = FromInput w
 FromNamed w (Some file) = FromFile w
 
@@ -99,7 +99,7 @@ abbrev pub unless_several : Bool → Type 0 → Type 0
 unless_several true P = Unit {0}
 unless_several false P = P
 
-abbrev pub FromOne : Work → (file : Option Text) → (old new : Streams) → ℕ → Type 0
+abbrev pub FromOne : CommandWork → (file : Option Text) → (old new : Streams) → ℕ → Type 0
 FromOne w file old new given = unless_several (may_be_several w file) (FromNamed w file old new given)
 
 -- ---- in the form that is asked for
@@ -127,7 +127,7 @@ TextTold status is_fault old new given =
     × TellsText is_fault status given old.written new.written old.failed_writes new.failed_writes
 
 -- what words ask for is done, and the program has this status; but a file for a schedule isn't read here
-abbrev pub IsDone : Reading → (old new : Streams) → ℕ → Type 0
+abbrev pub IsDone : ReadWords → (old new : Streams) → ℕ → Type 0
 IsDone (works w file) = InForm w.format (FromOne w.work file)
 IsDone (tells status is_fault) = TextTold status is_fault
 IsDone (reads file) = λ old new given. ⊥
@@ -137,7 +137,7 @@ abbrev pub IsRefused : (old new : Streams) → ℕ → Type 0
 IsRefused old new given = NothingOut old new × IsFailure given
 
 -- or the source and its schedule are both to be the standard input, and that is refused
-abbrev pub IsDoneOrRefused : Reading → (old new : Streams) → ℕ → Type 0
+abbrev pub IsDoneOrRefused : ReadWords → (old new : Streams) → ℕ → Type 0
 IsDoneOrRefused r old new given = IsDone r old new given ⊎ IsRefused old new given
 
 -- these are the contents of a file, at most 67,108,864 bytes; those of the standard input are all that it still holds,
@@ -159,7 +159,7 @@ IsDoneBy words file old new given =
     ((contents : Text) × (read : Streams) × AreContents file contents old read × IsDoneIn words contents read new given)
     ⊎ IsRefused old new given
 
-abbrev pub IsDoneAs : (words : List Text) → Reading → (old new : Streams) → ℕ → Type 0
+abbrev pub IsDoneAs : (words : List Text) → ReadWords → (old new : Streams) → ℕ → Type 0
 IsDoneAs words (reads file) = IsDoneBy words file
 IsDoneAs words (works w file) = IsDone (works w file)
 IsDoneAs words (tells status is_fault) = IsDone (tells status is_fault)

@@ -8,12 +8,13 @@ ghost use Rattle.pf_command.specs.Streams.{Sends, streams};
 ghost use Rattle.pf_words.specs.Words.{AnswersOf, SourceEnds, WorkEnds, has_source, is_farm};
 
 use crate::steps::answer_steps;
-use pf_cli::{Args, Asked, HuntArgs, RunArgs, Sought};
-use pf_command::{Answering, Chart, Check, MOST_BYTES, Shrink, print_hunt, print_source};
-use pf_files::{Answered, workers_of};
-use pf_said::{
-    Line, REFUSED, Runs, Seeds, Waiting, lacking_of, say, say_processes, say_waiting, why,
+use pf_cli::{Args, CliCommand, HuntArgs, HuntGoal, RunArgs};
+use pf_cli_messages::{
+    ProgressLine, REFUSED, Runs, Seeds, WaitingProcesses, lacking_of, say, say_processes,
+    say_waiting, why,
 };
+use pf_command::{Answering, Chart, CheckCommand, MOST_BYTES, Shrink, print_hunt, print_source};
+use pf_files::{AnsweredRoot, workers_of};
 use pf_terms::Counted;
 use std::alloc::{AllocGlobal, Global};
 use std::io::{Read, Write};
@@ -38,7 +39,7 @@ fn answer_run<W: Write, M: Ledger>(
     args: &RunArgs,
     source: Vec<u8>,
     writer: &mut Counted<W, M>,
-) -> Answered
+) -> AnsweredRoot
     ensures { Sends (RunAnswers (view_of_run_args args.now) source.items)
         (W.contents writer.old.inner) (W.contents writer.new.inner)
         writer.old.failures.total writer.new.failures.total result }
@@ -47,7 +48,7 @@ fn answer_run<W: Write, M: Ledger>(
     let status = print_source(rt.alloc(), args, source, writer, &mut processes)?;
     if processes > 0 {
         let seed = None;
-        say_waiting(rt, Waiting { processes, seed });
+        say_waiting(rt, WaitingProcesses { processes, seed });
     }
     Ok(status)
 }
@@ -55,8 +56,8 @@ fn answer_run<W: Write, M: Ledger>(
 /// The runs that the schedule of a seed may be shrunk within.
 fn most_runs(args: &HuntArgs) -> u32 {
     match args.sought {
-        Sought::Failure { runs: Some(runs) } => runs,
-        Sought::Failure { runs: None } | Sought::Outcomes => 0,
+        HuntGoal::Failure { runs: Some(runs) } => runs,
+        HuntGoal::Failure { runs: None } | HuntGoal::Outcomes => 0,
     }
 }
 
@@ -66,8 +67,8 @@ fn answer_hunt<W: Write, M: Ledger>(
     args: &HuntArgs,
     source: Vec<u8>,
     writer: &mut Counted<W, M>,
-    line: &Line,
-) -> Answered
+    line: &ProgressLine,
+) -> AnsweredRoot
     ensures { Sends (HuntAnswers (view_of_hunt_args args.now) source.items)
         (W.contents writer.old.inner) (W.contents writer.new.inner)
         writer.old.failures.total writer.new.failures.total result }
@@ -98,7 +99,7 @@ fn answer_by<W: Write, M: Ledger, C: Answering + Drop>(
     command: C,
     source: Vec<u8>,
     writer: &mut Counted<W, M>,
-) -> Answered
+) -> AnsweredRoot
     ensures { Sends (C.answers command source.items)
         (W.contents writer.old.inner) (W.contents writer.new.inner)
         writer.old.failures.total writer.new.failures.total result }
@@ -114,8 +115,8 @@ fn answer_source<W: Write, M: Ledger>(
     asked: &Args,
     source: Vec<u8>,
     writer: &mut Counted<W, M>,
-    line: &Line,
-) -> Answered
+    line: &ProgressLine,
+) -> AnsweredRoot
     requires { has_source (view_of_args asked.now) ≡ true }
     ensures { Sends (AnswersOf (view_of_args asked.now) source.items)
         (W.contents writer.old.inner) (W.contents writer.new.inner)
@@ -132,14 +133,14 @@ fn answer_source<W: Write, M: Ledger>(
         }
         Args::Check(args) => {
             let explain = args.explain;
-            answer_by(alloc, Check { explain }, source, writer)
+            answer_by(alloc, CheckCommand { explain }, source, writer)
         }
         Args::Steps(_) | Args::Farm(_) => unreachable!(),
     }
 }
 
 /// Says more of a source on standard error: if it is refused, or what is asked for of it, why.
-fn say_more(rt: &(impl Eprint + AllocGlobal), asked: &Asked, source: &[u8], status: u8) {
+fn say_more(rt: &(impl Eprint + AllocGlobal), asked: &CliCommand, source: &[u8], status: u8) {
     let args = &asked.args;
     // The answer went out: nothing more is said where memory runs out now.
     if status != REFUSED {
@@ -155,11 +156,11 @@ fn say_more(rt: &(impl Eprint + AllocGlobal), asked: &Asked, source: &[u8], stat
 /// Answers a source of these bytes, and says more of it; the line is empty at the end.
 fn answer_bytes<W: Write, M: Ledger>(
     rt: &(impl Eprint + AllocGlobal + Clock + Threads + Sync),
-    asked: &Asked,
+    asked: &CliCommand,
     source: &[u8],
     writer: &mut Counted<W, M>,
-    line: &Line,
-) -> Answered
+    line: &ProgressLine,
+) -> AnsweredRoot
     requires { has_source (view_of_args asked.now.args) ≡ true }
     ensures { Sends (AnswersOf (view_of_args asked.now.args) source.now)
         (W.contents writer.old.inner) (W.contents writer.new.inner)
@@ -176,11 +177,11 @@ fn answer_bytes<W: Write, M: Ledger>(
 /// Answers the source that a reader holds, and says more of it.
 fn answer_read<R: Read, W: Write, L: Ledger, M: Ledger>(
     rt: &(impl Eprint + AllocGlobal + Clock + Threads + Sync),
-    asked: &Asked,
+    asked: &CliCommand,
     reader: &mut Counted<R, L>,
     writer: &mut Counted<W, M>,
-    line: &Line,
-) -> Answered
+    line: &ProgressLine,
+) -> AnsweredRoot
     requires { has_source (view_of_args asked.now.args) ≡ true }
     ensures { SourceEnds (AnswersOf (view_of_args asked.now.args))
         (streams (R.remaining reader.old.inner) (W.contents writer.old.inner)
@@ -196,11 +197,11 @@ fn answer_read<R: Read, W: Write, L: Ledger, M: Ledger>(
 /// empty at the end.
 pub fn answer<R: Read, W: Write, L: Ledger, M: Ledger>(
     rt: &(impl Eprint + AllocGlobal + RandomSource + Clock + Threads + Sync),
-    asked: &Asked,
+    asked: &CliCommand,
     reader: &mut Counted<R, L>,
     writer: &mut Counted<W, M>,
-    line: &Line,
-) -> Answered
+    line: &ProgressLine,
+) -> AnsweredRoot
     requires { is_farm (view_of_args asked.now.args) ≡ false }
     ensures { WorkEnds (view_of_args asked.now.args)
         (streams (R.remaining reader.old.inner) (W.contents writer.old.inner)

@@ -5,7 +5,7 @@ ghost use Rattle.std.specs.String.{string_bytes};
 ghost use Rattle.pf_text.specs.Numbers.{schedule_of};
 ghost use Rattle.pf_words.specs.Schedules.{schedule_in, told_in};
 
-use pf_fault::{NoMemory, OrNoMemory};
+use pf_errors::{NoMemory, OrNoMemory};
 use pf_files::open;
 use pf_terms::{Counted, StreamFault};
 use pf_text::schedule_of;

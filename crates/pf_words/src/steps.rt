@@ -3,13 +3,12 @@
 ghost use Rattle.pf_command.specs.Streams.{streams};
 ghost use Rattle.pf_words.specs.Words.{StepsEnd};
 
-use pf_fault::{NoMemory, OrNoMemory};
-use pf_files::Answered;
-use pf_profile::run_steps;
-use pf_reasons::line_reason;
-use pf_said::say;
+use pf_cli_messages::{line_reason, say};
+use pf_errors::{NoMemory, OrNoMemory};
+use pf_files::AnsweredRoot;
+use pf_steps::run_steps;
 use pf_terms::{Counted, StreamFault};
-use pf_wire::{Ending, RefusedLine};
+use pf_wire::{InputEnd, RefusedLine};
 use std::alloc::{AllocGlobal, Global};
 use std::hash::RandomState;
 use std::io::{self, Read, Write};
@@ -33,8 +32,8 @@ fn answer_commands<R: Read, W: Write, L: Ledger, M: Ledger>(
     rt: &(impl AllocGlobal + RandomSource),
     reader: &mut Counted<R, L>,
     writer: &mut Counted<W, M>,
-    ending: &mut Ending,
-) -> Answered
+    ending: &mut InputEnd,
+) -> AnsweredRoot
     ensures { StepsEnd
         (streams (R.remaining reader.old.inner) (W.contents writer.old.inner)
         reader.old.failures.total writer.old.failures.total)
@@ -46,7 +45,7 @@ fn answer_commands<R: Read, W: Write, L: Ledger, M: Ledger>(
 }
 
 /// Says on standard error why reading ended before the input did.
-fn say_ending(rt: &(impl Eprint + AllocGlobal), ending: &Ending) {
+fn say_ending(rt: &(impl Eprint + AllocGlobal), ending: &InputEnd) {
     if ending.is_full {
         say(
             rt,
@@ -76,14 +75,14 @@ pub fn answer_steps<R: Read, W: Write, L: Ledger, M: Ledger>(
     rt: &(impl Eprint + AllocGlobal + RandomSource),
     reader: &mut Counted<R, L>,
     writer: &mut Counted<W, M>,
-) -> Answered
+) -> AnsweredRoot
     ensures { StepsEnd
         (streams (R.remaining reader.old.inner) (W.contents writer.old.inner)
         reader.old.failures.total writer.old.failures.total)
         (streams (R.remaining reader.new.inner) (W.contents writer.new.inner)
         reader.new.failures.total writer.new.failures.total) result }
 {
-    let mut ending = Ending::new();
+    let mut ending = InputEnd::new();
     let status = answer_commands(rt, reader, writer, &mut ending)?;
     say_ending(rt, &ending);
     Ok(status)

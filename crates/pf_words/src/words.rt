@@ -3,16 +3,16 @@
 ghost use Rattle.std.specs.Prelude.{◌≡◌, ◌≤◌, false, true, IfErr, IfOk, IfSome, map, codes, length};
 ghost use Rattle.std.specs.Str.{bytes_eq};
 ghost use Rattle.std.specs.String.{string_bytes};
-ghost use Rattle.pf_cli.specs.Args.{named_file, view_of_args, view_of_asked};
+ghost use Rattle.pf_cli.specs.Args.{named_file, view_of_args, view_of_command};
 ghost use Rattle.pf_command.specs.Streams.{streams};
-ghost use Rattle.pf_said.specs.Texts.{IsFailure};
+ghost use Rattle.pf_cli_messages.specs.Texts.{IsFailure};
 ghost use Rattle.pf_words.specs.Words.{AskedIsDone, AskedIsDoneOrRefused, Obeys, ObeysBy, ObeysByFile, ObeysIn, is_farm};
 
 use crate::schedule::{is_schedule, schedule_in, text_of_file, whole_text};
 use crate::work::work;
-use pf_cli::{Args, Asked, FarmArgs, Reading, read};
-use pf_fault::NoMemory;
-use pf_said::{Line, REFUSED, failed, no_memory, say, tell};
+use pf_cli::{Args, CliCommand, FarmArgs, ReadWords, read};
+use pf_cli_messages::{ProgressLine, REFUSED, failed, no_memory, say, tell};
+use pf_errors::NoMemory;
 use pf_terms::{Counted, StreamFault};
 use std::alloc::AllocGlobal;
 use std::fs::Files;
@@ -32,19 +32,19 @@ pub enum Obeyed<'a> {
 }
 
 /// The farm that is asked for; or what else is.
-fn farm_of<'a>(asked: Asked<'a>) -> Result<FarmArgs<'a>, Asked<'a>>
+fn farm_of<'a>(asked: CliCommand<'a>) -> Result<FarmArgs<'a>, CliCommand<'a>>
     ensures farm { IfOk result (λ farm. asked.entry.args ≡ Args.Farm farm) }
     ensures other { IfErr result (λ other.
         (other ≡ asked.entry) × (is_farm (view_of_args other.args) ≡ false)) }
 {
-    let Asked {
+    let CliCommand {
         args,
         format,
         explain,
     } = asked;
     match args {
         Args::Farm(farm) => Ok(farm),
-        args => Err(Asked {
+        args => Err(CliCommand {
             args,
             format,
             explain,
@@ -55,15 +55,15 @@ fn farm_of<'a>(asked: Asked<'a>) -> Result<FarmArgs<'a>, Asked<'a>>
 /// Does what is asked for; a farm is handed on.
 fn obey_asked<'a, R, I: Read, W: Write, L: Ledger, M: Ledger>(
     rt: &R,
-    asked: Asked<'a>,
+    asked: CliCommand<'a>,
     stdin: &mut Counted<I, L>,
     writer: &mut Counted<W, M>,
-    line: &Line,
+    line: &ProgressLine,
 ) -> Obeyed<'a>
 where
     R: Files + Print + Eprint + AllocGlobal + RandomSource + Clock + Threads + Sync,
     R::File: Drop,
-    ensures { AskedIsDone (view_of_asked asked.entry) (named_file asked.entry.args)
+    ensures { AskedIsDone (view_of_command asked.entry) (named_file asked.entry.args)
         (streams (I.remaining stdin.old.inner) (W.contents writer.old.inner)
         stdin.old.failures.total writer.old.failures.total)
         (streams (I.remaining stdin.new.inner) (W.contents writer.new.inner)
@@ -133,16 +133,16 @@ fn no_schedule(rt: &(impl Eprint + AllocGlobal), file: &str, contents: &str) -> 
 /// Does what is asked for, by a schedule that a file has. The standard input is not both the file and the source.
 fn obey_asked_by<'a, R, I: Read, W: Write, L: Ledger, M: Ledger>(
     rt: &R,
-    asked: Asked<'a>,
+    asked: CliCommand<'a>,
     file: &str,
     stdin: &mut Counted<I, L>,
     writer: &mut Counted<W, M>,
-    line: &Line,
+    line: &ProgressLine,
 ) -> Obeyed<'a>
 where
     R: Files + Print + Eprint + AllocGlobal + RandomSource + Clock + Threads + Sync,
     R::File: Drop,
-    ensures { AskedIsDoneOrRefused (view_of_asked asked.entry) (named_file asked.entry.args)
+    ensures { AskedIsDoneOrRefused (view_of_command asked.entry) (named_file asked.entry.args)
         (streams (I.remaining stdin.old.inner) (W.contents writer.old.inner)
         stdin.old.failures.total writer.old.failures.total)
         (streams (I.remaining stdin.new.inner) (W.contents writer.new.inner)
@@ -166,7 +166,7 @@ fn obey_by<'a, R, I: Read, W: Write, L: Ledger, M: Ledger>(
     file: &str,
     stdin: &mut Counted<I, L>,
     writer: &mut Counted<W, M>,
-    line: &Line,
+    line: &ProgressLine,
 ) -> Result<Obeyed<'a>, NoMemory>
 where
     R: Files + Print + Eprint + AllocGlobal + RandomSource + Clock + Threads + Sync,
@@ -178,13 +178,13 @@ where
         stdin.new.failures.total writer.new.failures.total) result }
 {
     match read(rt.alloc(), words, Some(schedule))? {
-        Reading::Asked(asked) => Ok(obey_asked_by(rt, asked, file, stdin, writer, line)),
-        Reading::Text {
+        ReadWords::Asked(asked) => Ok(obey_asked_by(rt, asked, file, stdin, writer, line)),
+        ReadWords::Text {
             text,
             status,
             is_fault,
         } => Ok(Obeyed::Status(tell(rt, &text, status, is_fault, writer))),
-        Reading::ScheduleIn(_) => unreachable!(),
+        ReadWords::ScheduleIn(_) => unreachable!(),
     }
 }
 
@@ -196,7 +196,7 @@ fn obey_text<'a, R, I: Read, W: Write, L: Ledger, M: Ledger>(
     file: &str,
     stdin: &mut Counted<I, L>,
     writer: &mut Counted<W, M>,
-    line: &Line,
+    line: &ProgressLine,
 ) -> Result<Obeyed<'a>, NoMemory>
 where
     R: Files + Print + Eprint + AllocGlobal + RandomSource + Clock + Threads + Sync,
@@ -222,7 +222,7 @@ fn obey_schedule<'a, R, I: Read, W: Write, L: Ledger, M: Ledger>(
     file: &str,
     stdin: &mut Counted<I, L>,
     writer: &mut Counted<W, M>,
-    line: &Line,
+    line: &ProgressLine,
 ) -> Result<Obeyed<'a>, NoMemory>
 where
     R: Files + Print + Eprint + AllocGlobal + RandomSource + Clock + Threads + Sync,
@@ -246,7 +246,7 @@ pub fn obey<'a, R, I: Read, W: Write, L: Ledger, M: Ledger>(
     words: &'a [&'a str],
     stdin: &mut Counted<I, L>,
     writer: &mut Counted<W, M>,
-    line: &Line,
+    line: &ProgressLine,
 ) -> Result<Obeyed<'a>, NoMemory>
 where
     R: Files + Print + Eprint + AllocGlobal + RandomSource + Clock + Threads + Sync,
@@ -258,12 +258,12 @@ where
         stdin.new.failures.total writer.new.failures.total) result }
 {
     match read(rt.alloc(), words, None)? {
-        Reading::Asked(asked) => Ok(obey_asked(rt, asked, stdin, writer, line)),
-        Reading::Text {
+        ReadWords::Asked(asked) => Ok(obey_asked(rt, asked, stdin, writer, line)),
+        ReadWords::Text {
             text,
             status,
             is_fault,
         } => Ok(Obeyed::Status(tell(rt, &text, status, is_fault, writer))),
-        Reading::ScheduleIn(file) => obey_schedule(rt, words, file, stdin, writer, line),
+        ReadWords::ScheduleIn(file) => obey_schedule(rt, words, file, stdin, writer, line),
     }
 }

@@ -6,11 +6,11 @@ ghost use Rattle.pf_command.specs.Streams.{streams};
 ghost use Rattle.pf_words.specs.Words.{FromFile, FromOne, InForm, WorkEnds, is_farm};
 
 use crate::answer::{answer, has_source};
-use pf_cli::{Args, Asked, Format};
-use pf_fault::OrNoMemory;
-use pf_files::{Answered, hunt_suite, is_suite, open};
+use pf_cli::{Args, CliCommand, Format};
+use pf_cli_messages::{ProgressLine, end};
+use pf_errors::OrNoMemory;
+use pf_files::{AnsweredRoot, hunt_suite, is_suite, open};
 use pf_json::JsonLines;
-use pf_said::{Line, end};
 use pf_terms::{Counted, StreamFault};
 use std::alloc::AllocGlobal;
 use std::fs::Files;
@@ -22,7 +22,7 @@ use std::thread::Threads;
 use std::time::Clock;
 
 /// The form in which the answer to a source goes out.
-fn form_of(asked: &Asked) -> Option<Format> {
+fn form_of(asked: &CliCommand) -> Option<Format> {
     if has_source(&asked.args) {
         Some(asked.format)
     } else {
@@ -33,12 +33,12 @@ fn form_of(asked: &Asked) -> Option<Format> {
 /// Does what is asked for with what a file holds.
 fn answer_file<H, R: Read + Drop, W: Write, L: Ledger, M: Ledger>(
     rt: &H,
-    asked: &Asked,
+    asked: &CliCommand,
     file: R,
     writer: &mut Counted<W, M>,
-    line: &Line,
+    line: &ProgressLine,
     reads: Blank,
-) -> Answered
+) -> AnsweredRoot
 where
     H: Eprint + AllocGlobal + RandomSource + Clock + Threads + Sync,
     requires farm { is_farm (view_of_args asked.now.args) ≡ false }
@@ -56,10 +56,10 @@ where
 /// The same with the file of this name; its status.
 fn work_on_file<R, W: Write, M: Ledger>(
     rt: &R,
-    asked: &Asked,
+    asked: &CliCommand,
     name: &str,
     writer: &mut Counted<W, M>,
-    line: &Line,
+    line: &ProgressLine,
 ) -> u8
 where
     R: Files + Print + Eprint + AllocGlobal + RandomSource + Clock + Threads + Sync,
@@ -91,10 +91,10 @@ where
 /// Does what is asked for, with the file that is named or with the standard input; its status.
 fn work_by<R, I: Read, W: Write, L: Ledger, M: Ledger>(
     rt: &R,
-    asked: &Asked,
+    asked: &CliCommand,
     stdin: &mut Counted<I, L>,
     writer: &mut Counted<W, M>,
-    line: &Line,
+    line: &ProgressLine,
 ) -> u8
 where
     R: Files + Print + Eprint + AllocGlobal + RandomSource + Clock + Threads + Sync,
@@ -124,10 +124,10 @@ where
 /// The same, with a JSON object in place of each line that goes out.
 fn work_in_json<R, I: Read, W: Write, L: Ledger, M: Ledger>(
     rt: &R,
-    asked: &Asked,
+    asked: &CliCommand,
     stdin: &mut Counted<I, L>,
     inner: &mut W,
-    line: &Line,
+    line: &ProgressLine,
     writes: Blank,
 ) -> u8
 where
@@ -150,10 +150,10 @@ where
 /// Does what is asked for, in the form that is asked for; its status.
 pub fn work<R, I: Read, W: Write, L: Ledger, M: Ledger>(
     rt: &R,
-    asked: &Asked,
+    asked: &CliCommand,
     stdin: &mut Counted<I, L>,
     writer: &mut Counted<W, M>,
-    line: &Line,
+    line: &ProgressLine,
 ) -> u8
 where
     R: Files + Print + Eprint + AllocGlobal + RandomSource + Clock + Threads + Sync,

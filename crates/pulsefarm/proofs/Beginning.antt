@@ -1,6 +1,6 @@
 -- What is done between streams that equal others.
 use Rattle.std.proofs.Common.{◌≡◌, subst, ℕ, List, Option, Result}
-use Rattle.pf_fault.specs.declared.memory.NoMemory.{NoMemory}
+use Rattle.pf_errors.specs.declared.memory.NoMemory.{NoMemory}
 use Rattle.pf_command.specs.Streams.{Streams, streams}
 use Rattle.pulsefarm.specs.Program.{DoesGiven}
 

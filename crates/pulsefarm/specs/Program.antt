@@ -1,10 +1,10 @@
 -- What the program does for words, between the standard input and the standard output.
 use Rattle.std.specs.Prelude.{◌≡◌, ◌⊎◌, ℕ, List, length, Option, None, Result, Ok, Err}
-use Rattle.pf_fault.specs.declared.memory.NoMemory.{NoMemory}
+use Rattle.pf_errors.specs.declared.memory.NoMemory.{NoMemory}
 use Rattle.pf_cli.specs.Args.{reading_of}
 use Rattle.pf_cli.specs.declared.args.FarmArgs.{FarmArgs}
 use Rattle.pf_command.specs.Streams.{Streams}
-use Rattle.pf_said.specs.Texts.{HasStatus, IsFailure}
+use Rattle.pf_cli_messages.specs.Texts.{HasStatus, IsFailure}
 use Rattle.pf_clients.specs.Farms.{FarmLeaves, FarmPrints}
 use Rattle.pf_words.specs.Words.{End, IsDoneAs, IsFarmOf, NothingOut}
 use Rattle.pulsefarm.specs.Words.{words_of}

@@ -5,13 +5,12 @@ ghost use Rattle.pulsefarm.specs.Program.{FarmAnswers, FarmEnds, FarmIsDone};
 
 use crate::watch::FarmWatch;
 use pf_cli::FarmArgs;
+use pf_cli_messages::{REFUSED, end, failed, say};
 use pf_clients::run_farm;
+use pf_errors::OrNoMemory;
 use pf_farm::{Blanks, MOST_SEATS};
-use pf_farm_names::FarmNames;
-use pf_fault::OrNoMemory;
-use pf_files::{Answered, open};
-use pf_register::NewRegister;
-use pf_said::{REFUSED, end, failed, say};
+use pf_farm_accounts::{FarmNames, NewRegister};
+use pf_files::{AnsweredRoot, open};
 use pf_terms::{Counted, StreamFault};
 use pf_words::random_keys;
 use std::alloc::AllocGlobal;
@@ -61,7 +60,7 @@ fn answer<R, W: Write, M: Ledger>(
     args: &FarmArgs,
     host: Host,
     writer: &mut Counted<W, M>,
-) -> Answered
+) -> AnsweredRoot
 where
     R: Files + Print + Eprint + AllocGlobal + RandomSource + Clock + Threads + Wait + Sync,
     R::File: Send + Drop,
@@ -145,7 +144,7 @@ fn run_by<N: FarmNames + Send + Sync, R, W: Write, M: Ledger>(
     files: Vec<R::File>,
     watch: &FarmWatch<R>,
     writer: &mut Counted<W, M>,
-) -> Answered
+) -> AnsweredRoot
 where
     R: Files + AllocGlobal + RandomSource + Clock + Threads + Wait + Sync,
     R::File: Send + Drop,

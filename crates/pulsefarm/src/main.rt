@@ -15,8 +15,8 @@ ghost use Rattle.pulsefarm.specs.Words.{words_of};
 use crate::args::given_words;
 use crate::farm::{Host, farm};
 use crate::stack::{STACK_BYTES, first_thread_has_stack};
-use pf_fault::NoMemory;
-use pf_said::{Clearing, Line, REFUSED, no_memory};
+use pf_cli_messages::{Clearing, ProgressLine, REFUSED, no_memory};
+use pf_errors::NoMemory;
 use pf_terms::Counted;
 use pf_words::{Obeyed, obey};
 use std::alloc::{AllocGlobal, Global};
@@ -64,7 +64,7 @@ fn obeyed<R, I: Read, W: Write, L: Ledger, M: Ledger>(
     words: &[&str],
     reader: &mut Counted<I, L>,
     writer: &mut Counted<W, M>,
-    line: &Line,
+    line: &ProgressLine,
     host: Host,
 ) -> Result<u8, NoMemory>
 where
@@ -88,7 +88,7 @@ fn answer_words<R, I: Read, W: Write, L: Ledger, M: Ledger>(
     rt: &R,
     reader: &mut Counted<I, L>,
     writer: &mut Counted<W, M>,
-    line: &Line,
+    line: &ProgressLine,
     host: Host,
 ) -> Result<u8, NoMemory>
 where
@@ -110,7 +110,7 @@ fn try_all_by<R, I: Read + Drop, W: Write + Drop, L: Ledger, M: Ledger>(
     rt: &R,
     stdin: I,
     stdout: W,
-    line: &Line,
+    line: &ProgressLine,
     host: Host,
     reads: Blank,
     writes: Blank,
@@ -136,7 +136,7 @@ fn try_all<R, I: Read + Drop, W: Write + Drop>(
     rt: &R,
     stdin: I,
     stdout: W,
-    line: &Line,
+    line: &ProgressLine,
     host: Host,
 ) -> Result<u8, NoMemory>
 where
@@ -159,7 +159,13 @@ where
     R::File: Send + Drop,
     ensures { IsStatus result }
 {
-    match try_all(rt, stdin, io::writer(rt), &Line::new(host.stderr), host) {
+    match try_all(
+        rt,
+        stdin,
+        io::writer(rt),
+        &ProgressLine::new(host.stderr),
+        host,
+    ) {
         Ok(status) => status,
         Err(NoMemory) => no_memory(rt),
     }

@@ -4,8 +4,8 @@ ghost use Rattle.std.specs.Prelude.{◌≡◌, IfOk, vec_len};
 ghost use Rattle.pf_sched.specs.Slices.{Sliced};
 
 use pf_clients::Watch;
+use pf_errors::NoMemory;
 use pf_farm::{Gate, WorkTally};
-use pf_fault::NoMemory;
 use pf_sched::{Parked, Scratch, Slice, run_slice};
 use std::alloc::Global;
 use std::fmt;
@@ -44,11 +44,11 @@ pub struct FarmWatch<'a, C> {
 
 /// How far the trials of all projects are.
 #[derive(Drop)]
-struct Shown<'a> {
+struct ShownTrials<'a> {
     trials: &'a [Trials],
 }
 
-impl fmt::Display for Shown<'_> {
+impl fmt::Display for ShownTrials<'_> {
     fn fmt<W: fmt::Write>(&self, f: &mut fmt::Formatter<W>) -> fmt::Result {
         f.write_str("trials done of ordered:")?;
         for (index, trials) in self.trials.iter().take(MOST_TOLD).enumerate() {
@@ -118,7 +118,7 @@ impl<'a, C: Clock> FarmWatch<'a, C> {
         }
         self.told.store(now, Ordering::SeqCst);
         let stderr = self.stderr;
-        let shown = Shown {
+        let shown = ShownTrials {
             trials: &self.trials,
         };
         let _printed = eprint!(stderr; "\r{shown}\x1b[K");

@@ -9,20 +9,20 @@ ghost use Rattle.pf_store.specs.Sources.{holders, HeldOnceLess};
 ghost use Rattle.pf_request.specs.View.{view_of_order};
 ghost use Rattle.pf_book.specs.View.{code_of};
 ghost use Rattle.pf_book.specs.Kept.{Counts};
-ghost use Rattle.pf_book.specs.Orders.{Asked, IsRefusal};
+ghost use Rattle.pf_book.specs.Orders.{OrderAsksFor, IsRefusal};
 ghost use Rattle.pf_book.specs.Plans.{IsPlan, IsCharged, CanChange, KeepsModules, FollowsPlan};
 
 use crate::desk::Desk;
 use crate::entry::Entry;
 use crate::job::job_of;
 use crate::numbers::numbered;
-use crate::plan::{Change, Plan};
-use crate::refusal::Refusal;
+use crate::plan::{DeskChange, Plan};
+use crate::refusal::CallRefusal;
 use crate::reply::Reply;
 use crate::trial::Trial;
-use pf_fault::OrNoMemory;
-use pf_module::ReadModule;
-use pf_quota::{Charge, Held, Usage, trial_steps};
+use pf_check::ReadModule;
+use pf_errors::OrNoMemory;
+use pf_quota::{Charge, Holding, Usage, trial_steps};
 use pf_request::{Order, Source};
 use pf_sched::{Finished, Job};
 use pf_store::Store;
@@ -46,21 +46,21 @@ impl Desk {
         let mut with_module = usage;
         let bytes = source.bytes().len() as u64;
         if let Err(limit) = with_module.charge(self.edition(), Charge::Module { bytes }) {
-            return Ok(source_refused(source, Refusal::PastLimit(limit), usage));
+            return Ok(source_refused(source, CallRefusal::PastLimit(limit), usage));
         }
         match store.take_or_read(alloc, &source) {
             Ok(module) => {
                 let number = self.modules.len() as u64 + 1;
                 Ok(Plan {
                     noted: Entry::Submitted(source_held(store, &module)?, number),
-                    change: Change::Module(module),
+                    change: DeskChange::Module(module),
                     reply: Reply::Module(number),
                     usage: with_module,
                 })
             }
             Err(OrNoMemory::NoMemory) => Err(NoMemory),
             Err(OrNoMemory::Fault(refused)) => {
-                Ok(source_refused(source, Refusal::Source(refused.code), usage))
+                Ok(source_refused(source, CallRefusal::Source(refused.code), usage))
             }
         }
     }
@@ -90,7 +90,7 @@ impl Desk {
     /// A job that was ordered, of a module that is held: one ticket more, if the project passes no limit with it.
     fn ordered(&self, order: Box<Order>, job: Arc<Job>, usage: Usage) -> Plan
         requires charged { IsCharged self.now usage }
-        requires asked { Asked self.now.edition self.now.modules order.value (Ok job.value) }
+        requires asked { OrderAsksFor self.now.edition self.now.modules order.value (Ok job.value) }
         requires held { IsSome (held_at self.now.modules order.value.module) }
         ensures plan { IsPlan self.now (view_of_order order.value) result }
         ensures can { CanChange self.now result.change }
@@ -99,13 +99,13 @@ impl Desk {
         let mut with_trial = usage;
         let steps = trial_steps(job.limit(), job.runs());
         if let Err(limit) = with_trial.charge(self.edition(), Charge::Trial { steps }) {
-            let refusal = Refusal::PastLimit(limit);
+            let refusal = CallRefusal::PastLimit(limit);
             let noted = Entry::OrderRefused(order, refusal);
             return Plan::reply_alone(noted, Reply::Refused(refusal), usage);
         }
         let ticket = self.trials.len() as u64 + 1;
         Plan {
-            change: Change::Trial(order.module, job),
+            change: DeskChange::Trial(order.module, job),
             noted: Entry::Ordered(order, ticket),
             reply: Reply::Ticket(ticket),
             usage: with_trial,
@@ -141,7 +141,7 @@ impl Desk {
                 Plan::reply_alone(Entry::Stood(ticket, stage), Reply::Stage(stage), usage)
             }
             None => {
-                let refusal = Refusal::NoTrial;
+                let refusal = CallRefusal::NoTrial;
                 let noted = Entry::StatusRefused(ticket, refusal);
                 Plan::reply_alone(noted, Reply::Refused(refusal), usage)
             }
@@ -155,14 +155,14 @@ impl Desk {
         ensures modules { KeepsModules result.change }
     {
         let Some(trial) = numbered(&self.trials, ticket) else {
-            let refusal = Refusal::NoTrial;
+            let refusal = CallRefusal::NoTrial;
             let noted = Entry::DropRefused(ticket, refusal);
             return Plan::reply_alone(noted, Reply::Refused(refusal), usage);
         };
         let mut without = usage;
         without.refund(trial.held());
         Plan {
-            change: Change::DropTrial(ticket),
+            change: DeskChange::DropTrial(ticket),
             noted: Entry::Dropped(ticket),
             reply: Reply::GivenUp,
             usage: without,
@@ -177,18 +177,18 @@ impl Desk {
         ensures store { FollowsPlan store.old store.new self.now (Ok result) }
     {
         let Some(held) = numbered(&self.modules, number) else {
-            return withdrawal_refused(number, Refusal::NoModule, usage);
+            return withdrawal_refused(number, CallRefusal::NoModule, usage);
         };
         if self.users[number as usize - 1] > 0 {
-            return withdrawal_refused(number, Refusal::ModuleInUse, usage);
+            return withdrawal_refused(number, CallRefusal::ModuleInUse, usage);
         }
         let mut without = usage;
-        without.refund(Held::Module {
+        without.refund(Holding::Module {
             bytes: held.size() as u64,
         });
         store.give_up(held.source());
         Plan {
-            change: Change::Withdraw(number),
+            change: DeskChange::Withdraw(number),
             noted: Entry::Withdrawn(number),
             reply: Reply::GivenUp,
             usage: without,
@@ -220,14 +220,14 @@ impl Desk {
         ensures modules { KeepsModules result.change }
     {
         if !is_edition(edition) {
-            return move_refused(edition, Refusal::NoEdition, usage);
+            return move_refused(edition, CallRefusal::NoEdition, usage);
         }
         let own = self.edition();
         if edition < own {
-            return move_refused(edition, Refusal::EditionTooLow, usage);
+            return move_refused(edition, CallRefusal::EditionTooLow, usage);
         }
         Plan {
-            change: Change::Edition(edition),
+            change: DeskChange::Edition(edition),
             noted: Entry::Moved(edition),
             reply: Reply::HasEdition,
             usage,
@@ -236,19 +236,19 @@ impl Desk {
 }
 
 /// The result of the trial of a ticket, if it is filed.
-fn filed_result(trials: &[Option<Trial>], ticket: u64) -> Result<Finished, OrNoMemory<Refusal>>
+fn filed_result(trials: &[Option<Trial>], ticket: u64) -> Result<Finished, OrNoMemory<CallRefusal>>
     ensures { MatchResult result
         (λ f. fetched (held_at trials.now ticket) ≡ desk.result f.job.asked.code.atoms f.result)
         (IsRefusal (λ e. fetched (held_at trials.now ticket) ≡ desk.refused (code_of e))) }
 {
     match numbered(trials, ticket) {
         Some(trial) => trial.filed(),
-        None => Err(OrNoMemory::Fault(Refusal::NoTrial)),
+        None => Err(OrNoMemory::Fault(CallRefusal::NoTrial)),
     }
 }
 
 /// A source that is refused.
-fn source_refused(source: Source, refusal: Refusal, usage: Usage) -> Plan
+fn source_refused(source: Source, refusal: CallRefusal, usage: Usage) -> Plan
     ensures { result ≡ record {
       change = Change.Nothing;
       noted = Entry.SubmitRefused source refusal;
@@ -261,7 +261,7 @@ fn source_refused(source: Source, refusal: Refusal, usage: Usage) -> Plan
 }
 
 /// To withdraw a module is refused.
-fn withdrawal_refused(number: u64, refusal: Refusal, usage: Usage) -> Plan
+fn withdrawal_refused(number: u64, refusal: CallRefusal, usage: Usage) -> Plan
     ensures { result ≡ record {
       change = Change.Nothing;
       noted = Entry.WithdrawRefused number refusal;
@@ -281,7 +281,7 @@ fn is_edition(edition: u32) -> bool
 }
 
 /// An edition is refused.
-fn move_refused(edition: u32, refusal: Refusal, usage: Usage) -> Plan
+fn move_refused(edition: u32, refusal: CallRefusal, usage: Usage) -> Plan
     ensures { result ≡ record {
       change = Change.Nothing;
       noted = Entry.MoveRefused edition refusal;

@@ -42,8 +42,8 @@ message_to_itself =
     }
 
 --   main() -> receive x -> ok end.
-abbrev pub waiting : Module
-waiting =
+abbrev pub waiting_module : Module
+waiting_module =
     record {
       name = 21;
       atoms = fixed_names ++ codes "module" ∷ codes "m" ∷ codes "main" ∷ codes "x" ∷ codes "ok" ∷ [];
@@ -154,8 +154,8 @@ kill_by_a_link =
 
 --   main() -> C = spawn(m, kid, []), monitor(process, C), exit(C, kill), receive {'DOWN', _, process, C, R} -> R end.
 --   kid() -> process_flag(trap_exit, true), receive x -> x end.
-abbrev pub killed : Module
-killed =
+abbrev pub killed_by_exit : Module
+killed_by_exit =
     record {
       name = 21;
       atoms = fixed_names ++ codes "module" ∷ codes "m" ∷ codes "main" ∷ codes "kid" ∷ codes "spawn" ∷ codes
@@ -295,8 +295,8 @@ strings =
     }
 
 --   main() -> case 1 of 2 -> x end.
-abbrev pub no_case : Module
-no_case =
+abbrev pub no_case_fits : Module
+no_case_fits =
     record {
       name = 21;
       atoms = fixed_names ++ codes "module" ∷ codes "m" ∷ codes "main" ∷ codes "x" ∷ [];
@@ -569,8 +569,8 @@ crash_by_a_link =
 
 --   main() -> C = spawn_link(m, kid, []), unlink(C), receive x -> ok end.
 --   kid() -> 1 + a.
-abbrev pub unlinked : Module
-unlinked =
+abbrev pub unlinked_kid : Module
+unlinked_kid =
     record {
       name = 21;
       atoms = fixed_names ++ codes "module" ∷ codes "m" ∷ codes "main" ∷ codes "kid" ∷ codes "f" ∷ codes
@@ -686,8 +686,8 @@ spawned_watched =
 abbrev pub demonitors : Tree
 demonitors = builtin b.demonitor (tree (var 0) no_trees)
 
-abbrev pub flushes : Tree
-flushes = builtin b.demonitor_with (tree (var 0) (tree (cons (lit (atom 19)) (lit (list none))) no_trees))
+abbrev pub flushing_tree : Tree
+flushing_tree = builtin b.demonitor_with (tree (var 0) (tree (cons (lit (atom 19)) (lit (list none))) no_trees))
 
 --   main() -> self() ! w, {_, M} = spawn_monitor(m, kid, []), spawn(m, two, [self()]), receive x -> ok end, .., receive w -> receive A -> A end end.
 --   kid() -> ok.

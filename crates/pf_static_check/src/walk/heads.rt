@@ -2,16 +2,16 @@
 
 ghost use Rattle.std.specs.Prelude.{flat_map, map, OnOk};
 ghost use Rattle.pf_syntax.specs.SyntaxTreeOver.{head_over, heads_over};
-ghost use Rattle.pf_rules.specs.Static.{head_faults, names_of};
-ghost use Rattle.pf_rules.specs.Listing.{Lists};
+ghost use Rattle.pf_rules.specs.Static.{head_faults, names_of_module};
+ghost use Rattle.pf_rules.specs.Listing.{ListsFunctions};
 ghost use Rattle.pf_static_check.specs.Walking.{BeginsAnew};
 
-use crate::walk::Walk;
+use crate::walk::ClauseWalk;
 use pf_rules::Signatures;
 use pf_syntax::{Head, SyntaxTree};
 use pf_terms::{AtomTable, NoMemory};
 
-impl Walk {
+impl ClauseWalk {
     /// Through the functions of a module.
     pub(crate) fn functions(
         &mut self,
@@ -19,8 +19,8 @@ impl Walk {
         atoms: &AtomTable,
         own: &Signatures,
     ) -> Result<(), NoMemory>
-        requires { Lists own.now syntax.now.functions }
-        ensures { OnOk result (BeginsAnew self.old self.new (flat_map (flat_map (head_faults (names_of atoms.now syntax.now.functions))) syntax.now.functions)) }
+        requires { ListsFunctions own.now syntax.now.functions }
+        ensures { OnOk result (BeginsAnew self.old self.new (flat_map (flat_map (head_faults (names_of_module atoms.now syntax.now.functions))) syntax.now.functions)) }
     {
         for function in syntax.functions() {
             self.heads(syntax, atoms, own, &function.heads)?;
@@ -36,8 +36,8 @@ impl Walk {
         own: &Signatures,
         heads: &[Head],
     ) -> Result<(), NoMemory>
-        requires { Lists own.now syntax.now.functions }
-        ensures { OnOk result (BeginsAnew self.old self.new (flat_map (head_faults (names_of atoms.now syntax.now.functions)) (map (head_over syntax.now.node_table) heads.now))) }
+        requires { ListsFunctions own.now syntax.now.functions }
+        ensures { OnOk result (BeginsAnew self.old self.new (flat_map (head_faults (names_of_module atoms.now syntax.now.functions)) (map (head_over syntax.now.node_table) heads.now))) }
     {
         for head in heads {
             self.head(syntax, atoms, own, head)?;
@@ -53,8 +53,8 @@ impl Walk {
         own: &Signatures,
         head: &Head,
     ) -> Result<(), NoMemory>
-        requires { Lists own.now syntax.now.functions }
-        ensures { OnOk result (BeginsAnew self.old self.new (head_faults (names_of atoms.now syntax.now.functions) (head_over syntax.now.node_table head.now))) }
+        requires { ListsFunctions own.now syntax.now.functions }
+        ensures { OnOk result (BeginsAnew self.old self.new (head_faults (names_of_module atoms.now syntax.now.functions) (head_over syntax.now.node_table head.now))) }
     {
         let start = self.variables.trail_len();
         self.expr_patterns(syntax, &head.parameters)?;

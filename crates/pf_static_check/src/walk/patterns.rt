@@ -7,12 +7,12 @@ ghost use Rattle.pf_syntax.specs.SyntaxTreeOver.{expr_pattern_over, expr_pattern
 ghost use Rattle.pf_static_check.specs.Walking.{SafeWalked, ExprPatternWalked, ExprPatternsWalked};
 
 use crate::variable_states::Status;
-use crate::walk::Walk;
-use pf_fault::Code;
+use crate::walk::ClauseWalk;
+use pf_errors::Code;
 use pf_syntax::{ExprPatternId, ExprPatternNode, Ident, SyntaxTree};
 use pf_terms::NoMemory;
 
-impl Walk {
+impl ClauseWalk {
     /// Through a pattern.
     #[cycle(expr_patterns)]
     pub(super) fn expr_pattern(

@@ -1,9 +1,9 @@
 use Rattle.std.proofs.Common.{◌≡◌, ℕ, List, ◌∷◌, Option, Some, None, is_some, false, refl, sym, ap, ◌∙◌, arith}
 use Rattle.std.specs.Option.{option_map}
-use Rattle.pf_desks.specs.World.{desk_at}
+use Rattle.pf_desks.specs.Desks.{desk_at}
 use Rattle.pf_book.specs.Queued.{job_at}
 use Rattle.pf_book.specs.Queues.{HoldsRoom}
-use Rattle.pf_book.specs.declared.queue.Queue.{Queue}
+use Rattle.pf_book.specs.declared.queue.TrialQueue.{TrialQueue}
 use Rattle.pf_book.proofs.Queued.{first_passed, front_is}
 use Rattle.pf_book.proofs.Worked.{none_waiting}
 use Rattle.pf_book.proofs.book.let_pass.Goals as goal
@@ -19,7 +19,7 @@ loop-project-preserved c =
     let q = c.in-Some.field-0.now.0 in
     let t = c.in-Some.field-0.now.1 in
     let k = c.loop-project.queue in
-    let k' : Queue = record { waiting = c.pop_front.new.self; running = k.running } in
+    let k' : TrialQueue = record { waiting = c.pop_front.new.self; running = k.running } in
     let front = c.in-Some.ensures.item in
     let items : k.waiting.items ≡ (q, t) ∷ k'.waiting.items =
     front_is k.waiting.items (q, t) front.3.0 front.1 ∙ ap (λ (l : List (ℕ × ℕ)). (q, t) ∷ l) (sym c.pop_front.ensures.rest) in

@@ -1,11 +1,11 @@
 use Rattle.std.proofs.Common.{rules, ◌≡◌, Some, Ok, Err, sym, subst}
-use Rattle.pf_fault.specs.declared.code.Code.{Code}
+use Rattle.pf_errors.specs.declared.code.Code.{Code}
 use Rattle.pf_request.specs.Job.{Job}
 use Rattle.pf_request.specs.View.{view_of_request}
 use Rattle.pf_desks.specs.Desk.{held_at}
 use Rattle.pf_sched.specs.Asked.{Asks, IsRefusal}
 use Rattle.pf_sched.specs.Views as job
-use Rattle.pf_book.specs.Orders.{Asked}
+use Rattle.pf_book.specs.Orders.{OrderAsksFor}
 use Rattle.pf_book.specs.View.{code_of}
 use Rattle.pf_book.proofs.Profiles.{order_asks}
 use Rattle.pf_book.proofs.job.job_of.Goals as goal
@@ -28,4 +28,4 @@ returns-in-Err-Fault-clause-asked c =
     let found : held_at c.args.modules.now c.args.order.now.module ≡ Some m = search rules in
     let asks : Asks m e r (Err (job.code_of c.in-Err-Fault.refusal)) = subst (IsRefusal (Asks m e r)) c.in-Err-Fault.field-0-is c.in-Err-Fault.ensures in
     let same : code_of c.from.result ≡ job.code_of c.in-Err-Fault.refusal = search rules in
-    subst (λ (x : Code). Asked e c.args.modules.now c.args.order.now (Err x)) (sym same) (order_asks e c.args.modules.now c.args.order.now m _ found asks)
+    subst (λ (x : Code). OrderAsksFor e c.args.modules.now c.args.order.now (Err x)) (sym same) (order_asks e c.args.modules.now c.args.order.now m _ found asks)

@@ -4,12 +4,12 @@ use Rattle.std.specs.List.Sorted.{IsNonDecreasingBy}
 use Rattle.std.proofs.lemmas.List.{length-map}
 use Rattle.std.proofs.lemmas.Result.{on_ok_weaker}
 use Rattle.pf_terms.specs.Atoms.{name_of}
-use Rattle.pf_model.specs.Reports.{event_of, report_of}
-use Rattle.pf_chart.specs.Chart.{first_row, has_row, page_drawn, page_of, rows_from, shown}
+use Rattle.pf_model.specs.Reports.{view_of_event, view_of_report}
+use Rattle.pf_chart.specs.Chart.{first_row, has_row, page_drawn, page_of, rows_from, shown_events}
 use Rattle.pf_chart.specs.Origins.{process_of, texts}
 use Rattle.pf_chart.specs.Pages.{page_in}
 use Rattle.pf_chart.specs.Sheets.{pitch_of}
-use Rattle.pf_chart.specs.declared.rows.Row.{Row}
+use Rattle.pf_chart.specs.declared.rows.EventRow.{EventRow}
 use Rattle.pf_chart.proofs.Charts.{chart_of, length_told, page_is, paged, told}
 use Rattle.pf_chart.proofs.Lined.{drawn_grows, grown_on, grows_by, lines_of, lines_within}
 use Rattle.pf_chart.proofs.Placed.{in_order}
@@ -21,14 +21,14 @@ put-requires-clause-whole c = λ os. refl
 
 pub new-sheet-requires : goal.new-sheet-requires
 new-sheet-requires c =
-    subst (λ (rows : List Row). IsNonDecreasingBy (λ (r : Row). r.index) rows) (sym c.deref-3.ensures.value)
+    subst (λ (rows : List EventRow). IsNonDecreasingBy (λ (r : EventRow). r.index) rows) (sym c.deref-3.ensures.value)
     (in_order c.args.manner.compact c.in_ok-all_rows.all_rows.items _ c.in_ok-all_rows.ensures.places)
 
 pub returns : goal.returns
 returns c =
     let manner = c.args.manner in
     let compact = manner.compact in
-    let report = report_of c.args.report.now in
+    let report = view_of_report c.args.report.now in
     let all = c.in_ok-all_rows.all_rows in
     let rows = c.page_of-rows.result.now in
     let layout = c.in_ok-layout.layout in
@@ -36,18 +36,18 @@ returns c =
     let laid = c.in_ok-layout.ensures.laid in
     let sheet = c.new-sheet.result in
     let with_rows : map told all.items ≡ filter (has_row compact) report.events =
-    c.in_ok-all_rows.ensures.events ∙ ap (λ es. filter (has_row compact) (map event_of es)) c.deref.ensures.value in
-    let are : map told rows ≡ shown manner report =
+    c.in_ok-all_rows.ensures.events ∙ ap (λ es. filter (has_row compact) (map view_of_event es)) c.deref.ensures.value in
+    let are : map told rows ≡ shown_events manner report =
     ap (map told) (c.page_of-rows.ensures ∙ ap (page_of manner.page) c.deref-2.ensures.value) ∙ paged manner.page all.items ∙ ap (page_of manner.page) with_rows in
     let processes : c.len-processes.result ≡ length (map process_of columns) = omega (arith, c.len-processes.ensures, layout.columns.ok.0, length-map columns process_of) in
-    let places : map (λ (r : Row). r.index) sheet.rows.now ≡ rows_from compact 0 report.events =
-    ap (map (λ (r : Row). r.index)) (c.new-sheet.ensures.rows ∙ c.deref-3.ensures.value) ∙ c.in_ok-all_rows.ensures.places
-    ∙ ap (λ es. rows_from compact 0 (map event_of es)) c.deref.ensures.value in
+    let places : map (λ (r : EventRow). r.index) sheet.rows.now ≡ rows_from compact 0 report.events =
+    ap (map (λ (r : EventRow). r.index)) (c.new-sheet.ensures.rows ∙ c.deref-3.ensures.value) ∙ c.in_ok-all_rows.ensures.places
+    ∙ ap (λ es. rows_from compact 0 (map view_of_event es)) c.deref.ensures.value in
     let size : c.len.result ≡ length all.items = omega (arith, c.len.ensures, all.ok.0) in
     let above : sheet.above ≡ first_row manner.page (length (filter (has_row compact) report.events)) =
     c.new-sheet.ensures.above ∙ c.first_row-above.ensures.first ∙ ap (first_row manner.page) (size ∙ sym (length_told all.items) ∙ ap length with_rows) in
     let page = page_is sheet (pitch_of (length (map process_of columns))) (rows_from compact 0 report.events)
-    (first_row manner.page (length (filter (has_row compact) report.events))) (length (shown manner report))
+    (first_row manner.page (length (filter (has_row compact) report.events))) (length (shown_events manner report))
     (c.new-sheet.ensures.pitch ∙ ap pitch_of processes) places above (c.new-sheet.ensures.count ∙ sym (length_told rows) ∙ ap length are) in
     let before = grown_on (grows_by _ _ _ c.in_ok-open.ensures) (grown_on (drawn_grows _ _ _ c.in_ok-put_words.ensures) (drawn_grows _ _ _ c.in_ok-put.ensures)) in
     let drawn = page_drawn manner report (length (map process_of columns)) in

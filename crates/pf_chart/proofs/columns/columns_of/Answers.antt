@@ -1,7 +1,7 @@
 use Rattle.std.proofs.Common.{map, rules, sym, ap, ◌∙◌, subst}
 use Rattle.std.specs.List.Sorted.{IsNonDecreasingBy, IsPermutation}
 use Rattle.std.proofs.lemmas.List.Sorted.{IsNonDecreasingBy-from_sort_by_key, IsPermutation-map}
-use Rattle.pf_model.specs.Reports.{event_of, report_of}
+use Rattle.pf_model.specs.Reports.{view_of_event, view_of_report}
 use Rattle.pf_chart.specs.Origins.{process_of}
 use Rattle.pf_chart.specs.Processes.{Process, processes_of}
 use Rattle.pf_chart.specs.declared.columns.Column.{Column}
@@ -10,9 +10,9 @@ use Rattle.pf_chart.proofs.columns.columns_of.Goals as goal
 
 pub returns : goal.returns
 returns c =
-    let all = processes_of (report_of c.args.report.now).events in
+    let all = processes_of (view_of_report c.args.report.now).events in
     let sorted = c.sort_unstable_by_key.new.self.items in
-    let spawned = c.in_ok-columns.ensures ∙ ap (λ es. processes_of (map event_of es)) c.deref.ensures.value in
+    let spawned = c.in_ok-columns.ensures ∙ ap (λ es. processes_of (map view_of_event es)) c.deref.ensures.value in
     record {
       all = subst (λ ps. IsPermutation all ps) (sym c.mark_outcome.ensures)
           (subst (λ ps. IsPermutation ps (map process_of sorted)) spawned

@@ -1,7 +1,7 @@
 use Rattle.std.proofs.Common.{◌≡◌, ◌∙◌, get_or, map, ap, refl, rules}
 use Rattle.std.specs.List.{filter}
 use Rattle.std.proofs.lemmas.List.{take_all}
-use Rattle.pf_model.specs.Reports.{event_of}
+use Rattle.pf_model.specs.Reports.{view_of_event}
 use Rattle.pf_chart.specs.Chart.{has_row, rows_from}
 use Rattle.pf_chart.proofs.Charts.{row_next}
 use Rattle.pf_chart.proofs.rows.rows_of.Goals as goal
@@ -21,6 +21,6 @@ returns c =
     let es = c.args.events.now in
     let all = take_all c.loop-index.index es c.loop-index-test.false in
     record {
-      events = c.loop-index.invariant.events ∙ ap (λ xs. filter (has_row c.args.compact) (map event_of xs)) all;
-      places = c.loop-index.invariant.places ∙ ap (λ xs. rows_from c.args.compact 0 (map event_of xs)) all;
+      events = c.loop-index.invariant.events ∙ ap (λ xs. filter (has_row c.args.compact) (map view_of_event xs)) all;
+      places = c.loop-index.invariant.places ∙ ap (λ xs. rows_from c.args.compact 0 (map view_of_event xs)) all;
     }

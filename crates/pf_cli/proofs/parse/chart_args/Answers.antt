@@ -1,7 +1,7 @@
 use Rattle.std.proofs.Common.{ap, inl, inr, ◌∙◌, sym}
 use Rattle.std.specs.Prelude.{codes, option_map}
 use Rattle.clap.specs.Words.{first_of, found_of, rows_of}
-use Rattle.pf_cli.specs.Args.{chart_asked, is_given, run_of, view_of_run_args}
+use Rattle.pf_cli.specs.Args.{chart_asked, is_given, run_args_of, view_of_run_args}
 use Rattle.pf_cli.proofs.Guided.{run_chosen, unpaged}
 use Rattle.pf_cli.proofs.parse.chart_args.Goals as goal
 
@@ -14,6 +14,6 @@ returns-clause-err c =
       | inl h ↦ inl h
       | inr h ↦ inr (
         h.0 ∙ sym (run_chosen text rows (view_of_run_args c.in-Ok.run') c.in-Ok.ensures.ok),
-        ap (chart_asked (run_of text rows) compact) h.1 ∙ unpaged (run_of text rows) compact,
+        ap (chart_asked (run_args_of text rows) compact) h.1 ∙ unpaged (run_args_of text rows) compact,
       )
     ]

@@ -1,8 +1,8 @@
 use Rattle.std.proofs.Common.{◌++◌, refl, ap, ◌∙◌}
 use Rattle.pf_request.specs.Calls.{usage}
-use Rattle.pf_worlds.specs.Steps.{client_calls}
-use Rattle.pf_worlds.specs.Told.{outcome_text}
-use Rattle.pf_workshop.specs.Responses.{response_in}
+use Rattle.pf_world.specs.Steps.{client_calls}
+use Rattle.pf_world.specs.Told.{step_text}
+use Rattle.pf_pool.specs.Responses.{response_in}
 use Rattle.pf_clients.proofs.Lines.{outcome_of_call}
 use Rattle.pf_clients.proofs.client.text_of.Goals as goal
 
@@ -11,5 +11,5 @@ pub returns : goal.returns
 returns c =
     let q = c.args.project in
     let step = client_calls q usage in
-    c.in_ok-put_outcome.ensures step refl ∙ ap (λ t. t ++ outcome_text step (response_in c.response_of-response.result)) c.new.ensures.items
-    ∙ ap (outcome_text step) c.response_of-response.ensures ∙ outcome_of_call q usage c.args.outcome
+    c.in_ok-put_outcome.ensures step refl ∙ ap (λ t. t ++ step_text step (response_in c.response_of-response.result)) c.new.ensures.items
+    ∙ ap (step_text step) c.response_of-response.ensures ∙ outcome_of_call q usage c.args.outcome

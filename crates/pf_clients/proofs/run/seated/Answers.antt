@@ -1,9 +1,9 @@
 use Rattle.std.proofs.Common.{rules, ◌≡◌, ℕ, ◌+◌, ◌∷◌, [], ◌++◌, Some, length, refl, sym, ap, ◌∙◌, subst, arith, append-nil, append_assoc, length-append}
 use Rattle.std.specs.Vec.Iter.{into_iter_items}
-use Rattle.pf_hall.specs.Clients.{empty_client}
-use Rattle.pf_farm.specs.Farms.{farm_of}
+use Rattle.pf_farm_state.specs.Clients.{empty_client}
+use Rattle.pf_farm.specs.Farms.{opened_farm}
 use Rattle.pf_clients.specs.declared.client.Client.{Client}
-use Rattle.pf_clients.specs.declared.client.Ended.TheVariants.{Answered}
+use Rattle.pf_clients.specs.declared.client.FileEnd.TheVariants.{Answered}
 use Rattle.pf_clients.specs.Pairs.{EachTwo}
 use Rattle.pf_clients.proofs.Pairs.{nothing_left, two_more}
 use Rattle.pf_clients.proofs.Served.{all_new}
@@ -18,7 +18,7 @@ files-init g c =
       rest = sym c.into_iter-file-iterator.ensures.into_iter_gives.0;
       rest_len = search rules;
       project = refl;
-      farm = ap (farm_of c.args.farm.now.workers) c.requires.none;
+      farm = ap (opened_farm c.args.farm.now.workers) c.requires.none;
     }
 
 pub files-preserved : goal.files-preserved
@@ -39,7 +39,7 @@ files-preserved g c =
       rest = l.invariant.rest ∙ ap (λ t. l.yielded ++ t) steps ∙ sym (append_assoc l.yielded (x ∷ []) left);
       rest_len = omega (arith, l.invariant.rest_len, ap (λ t. length t) steps, more);
       project = omega (arith, l.invariant.project, more);
-      farm = c.in-Ok.ensures.seat.1 ∙ ap (λ f. farm_of f.workers (f.given + 1)) l.invariant.farm ∙ ap (farm_of c.args.farm.now.workers) count;
+      farm = c.in-Ok.ensures.seat.1 ∙ ap (λ f. opened_farm f.workers (f.given + 1)) l.invariant.farm ∙ ap (opened_farm c.args.farm.now.workers) count;
     }
 
 pub returns-clause-seated : goal.returns-clause-seated

@@ -1,7 +1,7 @@
 use Rattle.std.proofs.Common.{◌≡◌, ◌+◌, ◌++◌, [], length, Some, vec_len}
 use Rattle.std.specs.Vec.Iter.{into_iter_items}
-use Rattle.pf_hall.specs.Clients.{empty_client}
-use Rattle.pf_farm.specs.Farms.{farm_of}
+use Rattle.pf_farm_state.specs.Clients.{empty_client}
+use Rattle.pf_farm.specs.Farms.{opened_farm}
 use Rattle.pf_clients.specs.Pairs.{EachTwo}
 use Rattle.pf_clients.proofs.run.seated.Given as goal
 
@@ -12,5 +12,5 @@ invariant-files g l = record {
   rest : l.fn.files.items ≡ l.yielded ++ into_iter_items l.file-iterator;
   rest_len : length l.yielded + length (into_iter_items l.file-iterator) ≡ vec_len l.fn.files;
   project : l.project ≡ length l.yielded;
-  farm : l.farm ≡ farm_of l.fn.farm.workers (length l.yielded);
+  farm : l.farm ≡ opened_farm l.fn.farm.workers (length l.yielded);
 }

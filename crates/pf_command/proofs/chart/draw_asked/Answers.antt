@@ -2,7 +2,7 @@ use Rattle.std.proofs.Common.{ℕ, List, subst}
 use Rattle.std.proofs.lemmas.Result.{IfOk-weaker}
 use Rattle.pf_cli.specs.Args.{view_of_chart_args}
 use Rattle.pf_command.specs.Answers.{IsModuleOf, run_args}
-use Rattle.pf_command.specs.Charts.{ChartAnswers, Draws}
+use Rattle.pf_command.specs.Charts.{ChartAnswers, DrawsJob}
 use Rattle.pf_command.specs.Guided.{DrawnAnswers, manner_of}
 use Rattle.pf_command.proofs.ByPriorities.{answers_own}
 use Rattle.pf_command.proofs.chart.draw_asked.Goals as goal
@@ -16,5 +16,5 @@ returns-in-None c =
     (λ a. (bytes : List ℕ) → IsModuleOf bytes m → ChartAnswers c.manner_of.result (run_args args.run.request args.run.edition) bytes a.text.items a.status)
     (λ a. (bytes : List ℕ) → IsModuleOf bytes m → DrawnAnswers asked bytes a.text.items a.status)
     (λ a answers bytes of.
-    answers_own asked.run (Draws asked.run.request.root (manner_of asked)) bytes a.text.items a.status c.in-None.is
+    answers_own asked.run (DrawsJob asked.run.request.root (manner_of asked)) bytes a.text.items a.status c.in-None.is
     (subst (λ m. ChartAnswers m (run_args args.run.request args.run.edition) bytes a.text.items a.status) c.manner_of.ensures (answers bytes of))) c.draw_module.ensures

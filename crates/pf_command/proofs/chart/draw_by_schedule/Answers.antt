@@ -1,6 +1,6 @@
 use Rattle.std.proofs.Common.{inr}
 use Rattle.std.proofs.lemmas.Result.{IfOk-weaker}
-use Rattle.pf_model.specs.Reports.{report_of}
+use Rattle.pf_model.specs.Reports.{view_of_report}
 use Rattle.pf_model.specs.Shrinking.{by_schedule}
 use Rattle.pf_command.specs.Charts.{DrawsMeaning, DrawsRun}
 use Rattle.pf_command.proofs.Drawn.{rescheduled}
@@ -15,6 +15,6 @@ returns c =
     let numbers = c.args.schedule.now in
     let j = by_schedule own numbers in
     let root = c.args.root.now in
-    let run = report_of c.in_ok-run.run' in
+    let run = view_of_report c.in_ok-run.run' in
     IfOk-weaker c.draw_run.result (DrawsRun own root c.args.manner run) (DrawsMeaning j root c.args.manner)
     (λ a drawn. (run, c.in_ok-run.ensures, (drawn.0, rescheduled own numbers run drawn.0 drawn.1, drawn.2, drawn.3))) c.draw_run.ensures

@@ -1,7 +1,7 @@
 use Rattle.std.proofs.Common.{◌≡◌, ◌<◌, ◌∙◌, IfOk, subst, sym}
 use Rattle.pf_model.specs.Shrinking.{IsResult}
 use Rattle.pf_request.specs.Job.{Job}
-use Rattle.pf_command.specs.Charts.{Draws, IsRootOf}
+use Rattle.pf_command.specs.Charts.{DrawsJob, IsRootOf}
 use Rattle.pf_command.proofs.chart.draw_finished.Goals as goal
 
 pub draw_result-requires-clause-shrinks : goal.draw_result-requires-clause-shrinks
@@ -25,4 +25,4 @@ returns-in-Some c =
     let f = c.args.finished.now in
     let root = c.args.root.now in
     let job : c.deref.result.now ≡ f.job = c.deref.ensures ∙ c.job.ensures in
-    subst (λ j. IfOk c.draw_result.result (λ a. Draws root c.args.manner j a.text.items a.status)) job c.draw_result.ensures
+    subst (λ j. IfOk c.draw_result.result (λ a. DrawsJob root c.args.manner j a.text.items a.status)) job c.draw_result.ensures

@@ -1,12 +1,12 @@
 use Rattle.std.proofs.Common.{◌≡◌, ◌∙◌, ap, ℕ, List, Ok, Err}
 use Rattle.std.proofs.lemmas.Result.{IfOk-weaker}
-use Rattle.pf_fault.specs.Codes.{code_text}
+use Rattle.pf_errors.specs.Codes.{code_text}
 use Rattle.pf_request.specs.View.{view_of_request}
 use Rattle.pf_sched.specs.Asked.{Asks}
 use Rattle.pf_sched.specs.Views.{code_of}
 use Rattle.pf_cli.specs.Args.{view_of_chart_args}
 use Rattle.pf_command.specs.Answers.{AsksOf, IsModuleOf, Refuses, run_args}
-use Rattle.pf_command.specs.Charts.{ChartAnswers, Draws}
+use Rattle.pf_command.specs.Charts.{ChartAnswers, DrawsJob}
 use Rattle.pf_command.specs.Guided.{AsksOfRun, DrawnAnswers, manner_of, refused}
 use Rattle.pf_command.specs.Hunts.{choices_of}
 use Rattle.pf_command.proofs.ByPriorities.{answers_guided, asks_shared, draws_alike}
@@ -27,7 +27,7 @@ returns-in-Ok c =
     (λ a. (bytes : List ℕ) → IsModuleOf bytes m → ChartAnswers c.manner_of.result (run_args q c.args.args.now.run.edition) bytes a.text.items a.status)
     (λ a. (bytes : List ℕ) → IsModuleOf bytes m → DrawnAnswers drawn bytes a.text.items a.status)
     (λ a answers bytes of.
-    answers_guided asked (Draws asked.request.root (manner_of drawn)) bytes a.text.items a.status c.args.seed m j by.0 (view_of_request q) c.requires of asks by.1 by.2
+    answers_guided asked (DrawsJob asked.request.root (manner_of drawn)) bytes a.text.items a.status c.args.seed m j by.0 (view_of_request q) c.requires of asks by.1 by.2
     (draws_alike (AsksOf (run_args q c.args.args.now.run.edition)) (view_of_request q) asked.request c.manner_of.result (manner_of drawn) (choices_of by.0) bytes a.text.items a.status
     by.2 c.manner_of.ensures (answers bytes of)))
     c.draw_module.ensures
@@ -44,5 +44,5 @@ returns-in-Err-Fault c =
     let known : c.code.result ≡ code = c.code.ensures ∙ ap code_of c.in-Err-Fault.refusal-is in
     IfOk-weaker c.refused_by_code.result (λ a. Refuses a (code_text code))
     (λ a. (bytes : List ℕ) → IsModuleOf bytes m → DrawnAnswers drawn bytes a.text.items a.status)
-    (λ a is bytes of. row_job_refused (AsksOfRun asked) (Draws asked.request.root (manner_of drawn)) m bytes a code of (refused c.args.seed code c.requires asks) is)
+    (λ a is bytes of. row_job_refused (AsksOfRun asked) (DrawsJob asked.request.root (manner_of drawn)) m bytes a code of (refused c.args.seed code c.requires asks) is)
     (rw known at c.refused_by_code.ensures)

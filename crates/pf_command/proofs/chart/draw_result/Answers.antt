@@ -1,11 +1,11 @@
 use Rattle.std.proofs.Common.{ap, ◌∙◌, subst}
 use Rattle.std.proofs.lemmas.Result.{IfOk-weaker}
-use Rattle.pf_fault.specs.Codes.{code_text}
-use Rattle.pf_fault.specs.declared.code.Code.TheVariants as code
+use Rattle.pf_errors.specs.Codes.{code_text}
+use Rattle.pf_errors.specs.declared.code.Code.TheVariants as code
 use Rattle.pf_model.specs.Shrinking.{IsResult, by_schedule}
 use Rattle.pf_sched.specs.Views.{result_of}
 use Rattle.pf_command.specs.Answers.{Refuses}
-use Rattle.pf_command.specs.Charts.{Draws, DrawsMeaning}
+use Rattle.pf_command.specs.Charts.{DrawsJob, DrawsMeaning}
 use Rattle.pf_command.proofs.Drawn.{draws_found, draws_none, no_report}
 use Rattle.pf_command.proofs.chart.draw_result.Goals as goal
 
@@ -19,7 +19,7 @@ returns-in-Shrunk c =
     let j = c.args.job.now in
     let root = c.args.root.now in
     let is = subst (λ x. IsResult j.asked (result_of x)) c.in-Shrunk.is c.requires.result in
-    IfOk-weaker c.draw_by_schedule.result (DrawsMeaning (by_schedule j.asked c.deref-in-Shrunk.result.now) root c.args.manner) (λ a. Draws root c.args.manner j a.text.items a.status)
+    IfOk-weaker c.draw_by_schedule.result (DrawsMeaning (by_schedule j.asked c.deref-in-Shrunk.result.now) root c.args.manner) (λ a. DrawsJob root c.args.manner j a.text.items a.status)
     (λ a drawn. draws_found root c.args.manner j a _ _ is (subst (λ ns. DrawsMeaning (by_schedule j.asked ns) root c.args.manner a) (c.deref-in-Shrunk.ensures.value ∙ ap (λ v. v.items) c.deref.ensures) drawn))
     c.draw_by_schedule.ensures
 
@@ -28,5 +28,5 @@ returns-in-NothingFails c =
     let j = c.args.job.now in
     let root = c.args.root.now in
     let is = subst (λ x. IsResult j.asked (result_of x)) c.in-NothingFails.is c.requires.result in
-    IfOk-weaker c.refused_by_code.result (λ a. Refuses a (code_text code.NothingFails)) (λ a. Draws root c.args.manner j a.text.items a.status)
+    IfOk-weaker c.refused_by_code.result (λ a. Refuses a (code_text code.NothingFails)) (λ a. DrawsJob root c.args.manner j a.text.items a.status)
     (λ a told. draws_none root c.args.manner j a is told) c.refused_by_code.ensures

@@ -2,7 +2,7 @@ use Rattle.std.proofs.Common.{◌≡◌, ◌∙◌, ap, [], List, ℕ, subst, sy
 use Rattle.pf_terms.specs.Atoms.{name_of}
 use Rattle.pf_syntax.specs.Module.{Checked}
 use Rattle.pf_model.specs.Module.{Module}
-use Rattle.pf_model.specs.Reports.{report_of}
+use Rattle.pf_model.specs.Reports.{view_of_report}
 use Rattle.pf_chart.specs.Chart.{IsChart}
 use Rattle.pf_chart.specs.Origins.{texts}
 use Rattle.pf_command.specs.Charts.{AreNamesIn}
@@ -16,7 +16,7 @@ returns c =
     let atoms : table ≡ j.code.atoms = c.atoms-atoms.ensures ∙ ap (λ (m : Checked). m.atoms) c.deref.ensures
     ∙ ap (λ (k : Module). k.atoms) c.module.ensures in
     let names = texts c.as_slice.result.now in
-    let run = report_of c.args.run.now in
+    let run = view_of_report c.args.run.now in
     let text = c.put_chart.new.out.items in
     let begun =
     subst (λ (before : List ℕ). IsChart (name_of table) root names c.args.manner run before text) c.new-text.ensures.items c.in_ok-put_chart.ensures.put in

@@ -1,8 +1,8 @@
 use Rattle.std.proofs.lemmas.Result.{IfOk-weaker}
-use Rattle.pf_fault.specs.Codes.{refusal_text}
+use Rattle.pf_errors.specs.Codes.{refusal_text}
 use Rattle.pf_cli.specs.Args.{view_of_chart_args}
 use Rattle.pf_command.specs.Answers.{Refuses}
-use Rattle.pf_command.specs.Charts.{Draws}
+use Rattle.pf_command.specs.Charts.{DrawsJob}
 use Rattle.pf_command.specs.Guided.{AsksOfRun, DrawnAnswers, manner_of}
 use Rattle.pf_command.proofs.Rows.{row_refused}
 use Rattle.pf_command.proofs.chart.draw_source.Goals as goal
@@ -14,5 +14,5 @@ returns-in-Err-Fault c =
     let bytes = c.args.bytes.items in
     let reads = rw c.in-Err-Fault.field-0-is at c.in-Err-Fault.ensures.fault in
     IfOk-weaker c.refused_at.result (λ a. Refuses a (refusal_text refusal.code refusal.offset)) (λ a. DrawnAnswers asked bytes a.text.items a.status)
-    (λ a is. row_refused (AsksOfRun asked.run) (Draws asked.run.request.root (manner_of asked)) bytes a refusal.code refusal.offset reads is)
+    (λ a is. row_refused (AsksOfRun asked.run) (DrawsJob asked.run.request.root (manner_of asked)) bytes a refusal.code refusal.offset reads is)
     c.refused_at.ensures

@@ -1,5 +1,5 @@
 use Rattle.std.proofs.Common.{◌≡◌}
-use Rattle.pf_explain.specs.Explanation.{explanations}
+use Rattle.pf_diagnostics.specs.Explanation.{explanations}
 use Rattle.pf_command.specs.Checks.{asked}
 use Rattle.pf_command.proofs.check.explain_refusal.Goals as goal
 

@@ -4,7 +4,7 @@ use Rattle.std.specs.Fmt.{decimal}
 use Rattle.std.specs.Io.KnownBytes.{Appends}
 use Rattle.std.proofs.lemmas.Result.{on_err_weaker, on_ok_weaker}
 use Rattle.pf_terms.specs.Streams.{AppendsFront}
-use Rattle.pf_model.specs.Reports.{report_of}
+use Rattle.pf_model.specs.Reports.{view_of_report}
 use Rattle.pf_model.specs.Text.{schedule_text}
 use Rattle.pf_model.specs.declared.report.Event.{Event}
 use Rattle.pf_command.specs.Hunts.{choices_of, seed_text, strategy_text}
@@ -24,7 +24,7 @@ returns-in_err-add_seed-clause-front g c =
     let a = codes "seed " ++ decimal c.args.failure.now.seed ++ codes "\n" in
     let line = strategy_text c.args.strategy in
     let behind = codes "schedule " in
-    let choices = schedule_text (choices_of (report_of c.args.failure.now.report)) in
+    let choices = schedule_text (choices_of (view_of_report c.args.failure.now.report)) in
     let end = codes "\n" in
     at_fault c.from_residual.result (longer_4 a line behind choices end w _ (rw c.new-waiting.ensures at c.in_err-add_seed.ensures.front))
 
@@ -34,9 +34,9 @@ returns-in_err-add-clause-front g c =
     let a = codes "seed " ++ decimal c.args.failure.now.seed ++ codes "\n" in
     let line = c.strategy_line.result.now in
     let behind = codes "schedule " in
-    let choices = schedule_text (choices_of (report_of c.args.failure.now.report)) in
+    let choices = schedule_text (choices_of (view_of_report c.args.failure.now.report)) in
     let end = codes "\n" in
-    let same : a ++ line ++ behind ++ choices ++ end ≡ seed_text c.args.failure.now.seed c.args.strategy (choices_of (report_of c.args.failure.now.report)) =
+    let same : a ++ line ++ behind ++ choices ++ end ≡ seed_text c.args.failure.now.seed c.args.strategy (choices_of (view_of_report c.args.failure.now.report)) =
     ap (λ (t : List ℕ). a ++ t ++ behind ++ choices ++ end) c.strategy_line.ensures in
     let one : Adds [] a c.add_seed.new.waiting.items w (g.W.Write.contents c.add_seed.new.writer.inner) = rw c.new-waiting.ensures at c.in_ok-add_seed.ensures.added in
     let front = longer_3 (a ++ line) behind choices end w _ (front_after [] a c.add_seed.new.waiting.items line _ _ _ one c.in_err-add.ensures.front) in
@@ -48,9 +48,9 @@ returns-in_err-add-2-clause-front g c =
     let a = codes "seed " ++ decimal c.args.failure.now.seed ++ codes "\n" in
     let line = c.strategy_line.result.now in
     let behind = codes "schedule " in
-    let choices = schedule_text (choices_of (report_of c.args.failure.now.report)) in
+    let choices = schedule_text (choices_of (view_of_report c.args.failure.now.report)) in
     let end = codes "\n" in
-    let same : a ++ line ++ behind ++ choices ++ end ≡ seed_text c.args.failure.now.seed c.args.strategy (choices_of (report_of c.args.failure.now.report)) =
+    let same : a ++ line ++ behind ++ choices ++ end ≡ seed_text c.args.failure.now.seed c.args.strategy (choices_of (view_of_report c.args.failure.now.report)) =
     ap (λ (t : List ℕ). a ++ t ++ behind ++ choices ++ end) c.strategy_line.ensures in
     let one : Adds [] a c.add_seed.new.waiting.items w (g.W.Write.contents c.add_seed.new.writer.inner) = rw c.new-waiting.ensures at c.in_ok-add_seed.ensures.added in
     let two = adds_both [] a c.add_seed.new.waiting.items line c.add.new.waiting.items _ _ _ one c.in_ok-add.ensures.added in
@@ -65,8 +65,8 @@ returns-in_err-add_choices-clause-front g c =
     let behind = codes "schedule " in
     let choices = schedule_text (map (λ (e : Event). e.choice) c.deref.result.now) in
     let end = codes "\n" in
-    let same : a ++ line ++ behind ++ choices ++ end ≡ seed_text c.args.failure.now.seed c.args.strategy (choices_of (report_of c.args.failure.now.report)) =
-    told_whole a behind end line (strategy_text c.args.strategy) (map (λ (e : Event). e.choice) c.deref.result.now) (choices_of (report_of c.args.failure.now.report))
+    let same : a ++ line ++ behind ++ choices ++ end ≡ seed_text c.args.failure.now.seed c.args.strategy (choices_of (view_of_report c.args.failure.now.report)) =
+    told_whole a behind end line (strategy_text c.args.strategy) (map (λ (e : Event). e.choice) c.deref.result.now) (choices_of (view_of_report c.args.failure.now.report))
     c.strategy_line.ensures (ap (map (λ (e : Event). e.choice)) c.deref.ensures.value ∙ choices_are c.args.failure.now.report) in
     let one : Adds [] a c.add_seed.new.waiting.items w (g.W.Write.contents c.add_seed.new.writer.inner) = rw c.new-waiting.ensures at c.in_ok-add_seed.ensures.added in
     let two = adds_both [] a c.add_seed.new.waiting.items line c.add.new.waiting.items _ _ _ one c.in_ok-add.ensures.added in
@@ -82,8 +82,8 @@ returns-in_err-add-3-clause-front g c =
     let behind = codes "schedule " in
     let choices = schedule_text (map (λ (e : Event). e.choice) c.deref.result.now) in
     let end = codes "\n" in
-    let same : a ++ line ++ behind ++ choices ++ end ≡ seed_text c.args.failure.now.seed c.args.strategy (choices_of (report_of c.args.failure.now.report)) =
-    told_whole a behind end line (strategy_text c.args.strategy) (map (λ (e : Event). e.choice) c.deref.result.now) (choices_of (report_of c.args.failure.now.report))
+    let same : a ++ line ++ behind ++ choices ++ end ≡ seed_text c.args.failure.now.seed c.args.strategy (choices_of (view_of_report c.args.failure.now.report)) =
+    told_whole a behind end line (strategy_text c.args.strategy) (map (λ (e : Event). e.choice) c.deref.result.now) (choices_of (view_of_report c.args.failure.now.report))
     c.strategy_line.ensures (ap (map (λ (e : Event). e.choice)) c.deref.ensures.value ∙ choices_are c.args.failure.now.report) in
     let one : Adds [] a c.add_seed.new.waiting.items w (g.W.Write.contents c.add_seed.new.writer.inner) = rw c.new-waiting.ensures at c.in_ok-add_seed.ensures.added in
     let two = adds_both [] a c.add_seed.new.waiting.items line c.add.new.waiting.items _ _ _ one c.in_ok-add.ensures.added in
@@ -100,8 +100,8 @@ returns-clause-written g c =
     let behind = codes "schedule " in
     let choices = schedule_text (map (λ (e : Event). e.choice) c.deref.result.now) in
     let end = codes "\n" in
-    let same : a ++ line ++ behind ++ choices ++ end ≡ seed_text c.args.failure.now.seed c.args.strategy (choices_of (report_of c.args.failure.now.report)) =
-    told_whole a behind end line (strategy_text c.args.strategy) (map (λ (e : Event). e.choice) c.deref.result.now) (choices_of (report_of c.args.failure.now.report))
+    let same : a ++ line ++ behind ++ choices ++ end ≡ seed_text c.args.failure.now.seed c.args.strategy (choices_of (view_of_report c.args.failure.now.report)) =
+    told_whole a behind end line (strategy_text c.args.strategy) (map (λ (e : Event). e.choice) c.deref.result.now) (choices_of (view_of_report c.args.failure.now.report))
     c.strategy_line.ensures (ap (map (λ (e : Event). e.choice)) c.deref.ensures.value ∙ choices_are c.args.failure.now.report) in
     let one : Adds [] a c.add_seed.new.waiting.items w (g.W.Write.contents c.add_seed.new.writer.inner) = rw c.new-waiting.ensures at c.in_ok-add_seed.ensures.added in
     let two = adds_both [] a c.add_seed.new.waiting.items line c.add.new.waiting.items _ _ _ one c.in_ok-add.ensures.added in
@@ -123,8 +123,8 @@ returns-clause-front g c =
     let behind = codes "schedule " in
     let choices = schedule_text (map (λ (e : Event). e.choice) c.deref.result.now) in
     let end = codes "\n" in
-    let same : a ++ line ++ behind ++ choices ++ end ≡ seed_text c.args.failure.now.seed c.args.strategy (choices_of (report_of c.args.failure.now.report)) =
-    told_whole a behind end line (strategy_text c.args.strategy) (map (λ (e : Event). e.choice) c.deref.result.now) (choices_of (report_of c.args.failure.now.report))
+    let same : a ++ line ++ behind ++ choices ++ end ≡ seed_text c.args.failure.now.seed c.args.strategy (choices_of (view_of_report c.args.failure.now.report)) =
+    told_whole a behind end line (strategy_text c.args.strategy) (map (λ (e : Event). e.choice) c.deref.result.now) (choices_of (view_of_report c.args.failure.now.report))
     c.strategy_line.ensures (ap (map (λ (e : Event). e.choice)) c.deref.ensures.value ∙ choices_are c.args.failure.now.report) in
     let one : Adds [] a c.add_seed.new.waiting.items w (g.W.Write.contents c.add_seed.new.writer.inner) = rw c.new-waiting.ensures at c.in_ok-add_seed.ensures.added in
     let two = adds_both [] a c.add_seed.new.waiting.items line c.add.new.waiting.items _ _ _ one c.in_ok-add.ensures.added in

@@ -1,10 +1,10 @@
 use Rattle.std.proofs.Common.{[], ◌∙◌}
 use Rattle.std.proofs.lemmas.Result.{IfOk-weaker}
-use Rattle.pf_seeds.specs.Notices.{HearsSome}
-use Rattle.pf_seeds.proofs.Hearing.{hears_none, hears_weaker}
+use Rattle.pf_hunt.specs.Notices.{HearsSome}
+use Rattle.pf_hunt.proofs.Hearing.{hears_none, hears_weaker}
 use Rattle.pf_cli.specs.Args.{view_of_hunt_args}
 use Rattle.pf_command.specs.Answers.{source_refused}
-use Rattle.pf_command.specs.Hunts.{EndsAs, OfEach, refused}
+use Rattle.pf_command.specs.Hunts.{HuntEndsAs, OfEach, refused}
 use Rattle.pf_command.proofs.hunt.end_of_hunt.Goals as goal
 
 pub returns-in-Ok : goal.returns-in-Ok
@@ -15,9 +15,9 @@ returns-in-Ok g c =
     let heard = g.S.HuntObserver.Heard in
     let old = c.args.seeds.now in
     let new = c.hunt_module.new.seeds in
-    IfOk-weaker c.hunt_module.result (λ x. HearsSome heard old (OfEach m (λ bytes. EndsAs h h.sought bytes x)) new)
-    (λ x. HearsSome heard old (EndsAs h h.sought bytes x) new)
-    (λ x. hears_weaker heard (OfEach m (λ bytes. EndsAs h h.sought bytes x)) (EndsAs h h.sought bytes x) old new (λ ns ends. ends bytes c.in-Ok.ensures.read))
+    IfOk-weaker c.hunt_module.result (λ x. HearsSome heard old (OfEach m (λ bytes. HuntEndsAs h h.sought bytes x)) new)
+    (λ x. HearsSome heard old (HuntEndsAs h h.sought bytes x) new)
+    (λ x. hears_weaker heard (OfEach m (λ bytes. HuntEndsAs h h.sought bytes x)) (HuntEndsAs h h.sought bytes x) old new (λ ns ends. ends bytes c.in-Ok.ensures.read))
     c.hunt_module.ensures
 
 pub returns-in_ok-answer-in-Err-Fault : goal.returns-in_ok-answer-in-Err-Fault

@@ -1,10 +1,10 @@
 use Rattle.std.proofs.Common.{Ok}
 use Rattle.std.proofs.lemmas.Result.{IfOk-weaker}
-use Rattle.pf_seeds.specs.Notices.{HearsSome}
-use Rattle.pf_seeds.proofs.Hearing.{hears_weaker}
+use Rattle.pf_hunt.specs.Notices.{HearsSome}
+use Rattle.pf_hunt.proofs.Hearing.{hears_weaker}
 use Rattle.pf_cli.specs.Args.{view_of_hunt_args}
 use Rattle.pf_command.specs.Hunts.{HuntAnswers, HuntNotifies}
-use Rattle.pf_command.specs.Streams.{Answered, Prints, streams}
+use Rattle.pf_command.specs.Streams.{IsAnsweredSo, PrintsAnswer, streams}
 use Rattle.pf_command.proofs.Streaming.{answered, leaves, none_failed}
 use Rattle.pf_command.proofs.hunt.hunt_source.Goals as goal
 
@@ -38,10 +38,10 @@ returns-clause-heard g c =
     let m1 = c.take_front.new.self.failures.total in
     let n0 = c.args.writer.now.failures.total in
     let n1 = c.print_hunt.new.writer.failures.total in
-    IfOk-weaker c.print_hunt.result (λ s. HearsSome heard old (λ ns. Prints (HuntNotifies h ns bytes) w0 w1 n0 n1 (Ok s)) new)
-    (λ s. HearsSome heard old (λ ns. Answered (HuntNotifies h ns) (streams u0 w0 m0 n0) (streams u1 w1 m1 n1) s) new)
+    IfOk-weaker c.print_hunt.result (λ s. HearsSome heard old (λ ns. PrintsAnswer (HuntNotifies h ns bytes) w0 w1 n0 n1 (Ok s)) new)
+    (λ s. HearsSome heard old (λ ns. IsAnsweredSo (HuntNotifies h ns) (streams u0 w0 m0 n0) (streams u1 w1 m1 n1) s) new)
     (λ s.
-    hears_weaker heard (λ ns. Prints (HuntNotifies h ns bytes) w0 w1 n0 n1 (Ok s))
-    (λ ns. Answered (HuntNotifies h ns) (streams u0 w0 m0 n0) (streams u1 w1 m1 n1) s) old new
+    hears_weaker heard (λ ns. PrintsAnswer (HuntNotifies h ns bytes) w0 w1 n0 n1 (Ok s))
+    (λ ns. IsAnsweredSo (HuntNotifies h ns) (streams u0 w0 m0 n0) (streams u1 w1 m1 n1) s) old new
     (λ ns k. answered (HuntNotifies h ns) bytes u0 u1 w0 w1 m0 m1 n0 n1 c.in_ok-source.ensures.front c.in_ok-source.ensures.kept (Ok s) k))
     c.print_hunt.ensures.heard

@@ -1,8 +1,8 @@
 use Rattle.std.proofs.Common.{Ok, Err}
-use Rattle.pf_fault.specs.Codes.{code_text}
+use Rattle.pf_errors.specs.Codes.{code_text}
 use Rattle.pf_sched.specs.Views.{code_of}
-use Rattle.pf_command.specs.Answers.{Answers, AsksOf, Counts, CountsBy, Tells, counted, job_refused, refused_before, run_args, told}
-use Rattle.pf_command.specs.Streams.{IsRefused}
+use Rattle.pf_command.specs.Answers.{AnswersRun, AsksOf, Counts, CountsBy, ReportsJob, counted, job_refused, refused_before, run_args, told}
+use Rattle.pf_command.specs.Streams.{IsRefusedText}
 use Rattle.pf_command.proofs.Asking.{asks_in}
 use Rattle.pf_command.proofs.Counting.{went_more, went_refused}
 use Rattle.pf_command.proofs.Streaming.{sends_more}
@@ -14,7 +14,7 @@ returns-in-Ok-clause-told g c bytes of =
     let m = c.args.module in
     let job = c.in-Ok.job in
     let asks : AsksOf asked m (Ok job) = asks_in m c.number.result asked.edition asked.request (Ok job) c.number.ensures.number c.in-Ok.ensures in
-    sends_more (Tells job) (Answers asked bytes) _ _ _ _ (λ t s tells. told m job t s of asks tells) c.print_job.result c.print_job.ensures.told
+    sends_more (ReportsJob job) (AnswersRun asked bytes) _ _ _ _ (λ t s tells. told m job t s of asks tells) c.print_job.result c.print_job.ensures.told
 
 pub returns-in-Err-Fault-clause-told : goal.returns-in-Err-Fault-clause-told
 returns-in-Err-Fault-clause-told g c bytes of =
@@ -23,7 +23,7 @@ returns-in-Err-Fault-clause-told g c bytes of =
     let code = code_of c.in-Err-Fault.refusal in
     let refused = rw c.in-Err-Fault.field-0-is at c.in-Err-Fault.ensures in
     let asks : AsksOf asked m (Err code) = asks_in m c.number.result asked.edition asked.request (Err code) c.number.ensures.number refused in
-    sends_more (IsRefused (code_text code)) (Answers asked bytes) _ _ _ _ (λ t s is. rw (is.0, is.1) (job_refused m code of asks)) c.print_code.result
+    sends_more (IsRefusedText (code_text code)) (AnswersRun asked bytes) _ _ _ _ (λ t s is. rw (is.0, is.1) (job_refused m code of asks)) c.print_code.result
     (rw c.code.ensures at c.print_code.ensures)
 
 pub returns-in-Ok-clause-waits : goal.returns-in-Ok-clause-waits

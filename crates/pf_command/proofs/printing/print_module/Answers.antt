@@ -1,5 +1,5 @@
 use Rattle.pf_cli.specs.Args.{view_of_run_args}
-use Rattle.pf_command.specs.Answers.{Answers, AsksOf, CountsBy, Tells, run_args}
+use Rattle.pf_command.specs.Answers.{AnswersRun, AsksOf, CountsBy, ReportsJob, run_args}
 use Rattle.pf_command.specs.Guided.{RunAnswers, RunCounts}
 use Rattle.pf_command.proofs.ByPriorities.{answers_own}
 use Rattle.pf_command.proofs.Counting.{counts_own, went_more}
@@ -10,8 +10,8 @@ pub returns-in-None-clause-told : goal.returns-in-None-clause-told
 returns-in-None-clause-told g c bytes of =
     let args = c.args.args.now in
     let asked = view_of_run_args args in
-    sends_more (Answers (run_args args.request args.edition) bytes) (RunAnswers asked bytes) _ _ _ _
-    (λ t s answers. answers_own asked Tells bytes t s c.in-None.is answers) c.print_asked.result (c.print_asked.ensures.told bytes of)
+    sends_more (AnswersRun (run_args args.request args.edition) bytes) (RunAnswers asked bytes) _ _ _ _
+    (λ t s answers. answers_own asked ReportsJob bytes t s c.in-None.is answers) c.print_asked.result (c.print_asked.ensures.told bytes of)
 
 pub returns-in-None-clause-waits : goal.returns-in-None-clause-waits
 returns-in-None-clause-waits g c bytes of =

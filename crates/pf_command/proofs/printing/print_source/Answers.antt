@@ -1,8 +1,8 @@
-use Rattle.pf_fault.specs.Codes.{refusal_text}
+use Rattle.pf_errors.specs.Codes.{refusal_text}
 use Rattle.pf_cli.specs.Args.{view_of_run_args}
 use Rattle.pf_command.specs.Answers.{refused_before, source_refused}
 use Rattle.pf_command.specs.Guided.{RunAnswers, RunCounts}
-use Rattle.pf_command.specs.Streams.{IsRefused}
+use Rattle.pf_command.specs.Streams.{IsRefusedText}
 use Rattle.pf_command.proofs.Counting.{went_refused}
 use Rattle.pf_command.proofs.Streaming.{sends_more}
 use Rattle.pf_command.proofs.printing.print_source.Goals as goal
@@ -13,7 +13,7 @@ returns-in-Err-Fault-clause-told g c =
     let asked = view_of_run_args c.args.args.now in
     let bytes = c.args.bytes.items in
     let reads = rw c.in-Err-Fault.field-0-is at c.in-Err-Fault.ensures.fault in
-    sends_more (IsRefused (refusal_text refusal.code refusal.offset)) (RunAnswers asked bytes) _ _ _ _
+    sends_more (IsRefusedText (refusal_text refusal.code refusal.offset)) (RunAnswers asked bytes) _ _ _ _
     (λ t s is. rw (is.0, is.1) (source_refused refusal.code refusal.offset reads)) c.print_refusal.result c.print_refusal.ensures
 
 pub returns-in-Err-Fault-clause-waits : goal.returns-in-Err-Fault-clause-waits

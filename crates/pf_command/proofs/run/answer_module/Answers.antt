@@ -1,8 +1,8 @@
 use Rattle.std.proofs.Common.{ℕ, List, Ok, Err}
 use Rattle.std.proofs.lemmas.Result.{IfOk-weaker}
-use Rattle.pf_fault.specs.Codes.{code_text}
+use Rattle.pf_errors.specs.Codes.{code_text}
 use Rattle.pf_sched.specs.Views.{code_of}
-use Rattle.pf_command.specs.Answers.{Answers, AsksOf, IsModuleOf, Refuses, Tells, run_args}
+use Rattle.pf_command.specs.Answers.{AnswersRun, AsksOf, IsModuleOf, Refuses, ReportsJob, run_args}
 use Rattle.pf_command.proofs.Asking.{asks_in}
 use Rattle.pf_command.proofs.Rows.{row_told, row_job_refused}
 use Rattle.pf_command.proofs.run.answer_module.Goals as goal
@@ -13,9 +13,9 @@ returns-in-Ok g c =
     let m = c.args.module in
     let job = c.in-Ok.job in
     let asks : AsksOf asked m (Ok job) = asks_in m c.number.result asked.edition asked.request (Ok job) c.number.ensures.number c.in-Ok.ensures in
-    IfOk-weaker c.answer_job.result (λ a. Tells job a.text.items a.status)
-    (λ a. (bytes : List ℕ) → IsModuleOf bytes m → Answers asked bytes a.text.items a.status)
-    (λ a tells bytes is. row_told (AsksOf asked) Tells m bytes job a is asks tells) c.answer_job.ensures
+    IfOk-weaker c.answer_job.result (λ a. ReportsJob job a.text.items a.status)
+    (λ a. (bytes : List ℕ) → IsModuleOf bytes m → AnswersRun asked bytes a.text.items a.status)
+    (λ a tells bytes is. row_told (AsksOf asked) ReportsJob m bytes job a is asks tells) c.answer_job.ensures
 
 pub returns-in-Err-Fault : goal.returns-in-Err-Fault
 returns-in-Err-Fault g c =
@@ -25,5 +25,5 @@ returns-in-Err-Fault g c =
     let refused = rw c.in-Err-Fault.field-0-is at c.in-Err-Fault.ensures in
     let asks : AsksOf asked m (Err code) = asks_in m c.number.result asked.edition asked.request (Err code) c.number.ensures.number refused in
     IfOk-weaker c.refused_by_code.result (λ a. Refuses a (code_text code))
-    (λ a. (bytes : List ℕ) → IsModuleOf bytes m → Answers asked bytes a.text.items a.status)
-    (λ a told bytes is. row_job_refused (AsksOf asked) Tells m bytes a code is asks told) (rw c.code.ensures at c.refused_by_code.ensures)
+    (λ a. (bytes : List ℕ) → IsModuleOf bytes m → AnswersRun asked bytes a.text.items a.status)
+    (λ a told bytes is. row_job_refused (AsksOf asked) ReportsJob m bytes a code is asks told) (rw c.code.ensures at c.refused_by_code.ensures)

@@ -1,6 +1,6 @@
 use Rattle.std.proofs.lemmas.Result.{IfOk-weaker}
-use Rattle.pf_fault.specs.Codes.{refusal_text}
-use Rattle.pf_command.specs.Answers.{Answers, AsksOf, Refuses, Tells, run_args}
+use Rattle.pf_errors.specs.Codes.{refusal_text}
+use Rattle.pf_command.specs.Answers.{AnswersRun, AsksOf, Refuses, ReportsJob, run_args}
 use Rattle.pf_command.proofs.Rows.{row_refused}
 use Rattle.pf_command.proofs.run.answer_source.Goals as goal
 
@@ -10,5 +10,5 @@ returns-in-Err-Fault g c =
     let asked = run_args c.args.request.now c.args.edition in
     let bytes = c.args.bytes.items in
     let reads = rw c.in-Err-Fault.field-0-is at c.in-Err-Fault.ensures.fault in
-    IfOk-weaker c.refused_at.result (λ a. Refuses a (refusal_text refusal.code refusal.offset)) (λ a. Answers asked bytes a.text.items a.status)
-    (λ a is. row_refused (AsksOf asked) Tells bytes a refusal.code refusal.offset reads is) (rw c.in-Err-Fault.field-0-is at c.refused_at.ensures)
+    IfOk-weaker c.refused_at.result (λ a. Refuses a (refusal_text refusal.code refusal.offset)) (λ a. AnswersRun asked bytes a.text.items a.status)
+    (λ a is. row_refused (AsksOf asked) ReportsJob bytes a refusal.code refusal.offset reads is) (rw c.in-Err-Fault.field-0-is at c.refused_at.ensures)

@@ -6,7 +6,7 @@ use Rattle.pf_model.specs.Module.{Module}
 use Rattle.pf_model.specs.Shrinking.{report}
 use Rattle.pf_request.specs.Job.{Job, memory_report}
 use Rattle.pf_sched.specs.Views.{IsWritten, result_of}
-use Rattle.pf_command.specs.Answers.{Tells, TellsResult}
+use Rattle.pf_command.specs.Answers.{ReportsJob, TellsResult}
 use Rattle.pf_command.proofs.Rows.{tells_result, tells_no_memory}
 use Rattle.pf_command.proofs.run.write_finished.Goals as goal
 
@@ -26,7 +26,7 @@ returns-in-Some c =
     let atoms : table ≡ j.asked.code.atoms = c.atoms-atoms.ensures ∙ ap (λ (m : Checked). m.atoms) c.deref-2.ensures
     ∙ ap (λ (k : Module). k.atoms) c.module.ensures ∙ ap (λ (k : Job). k.asked.code.atoms) job in
     let came = result_of c.in-Some.result.now in
-    IfOk-weaker c.write_result.result (TellsResult table came) (λ a. Tells j a.text.items a.status)
+    IfOk-weaker c.write_result.result (TellsResult table came) (λ a. ReportsJob j a.text.items a.status)
     (λ a tells. tells_result j table came f.result a c.in-Some.ensures.1 c.in-Some.ensures.0 atoms tells) c.write_result.ensures
 
 pub returns-in-None : goal.returns-in-None
@@ -36,5 +36,5 @@ returns-in-None c =
     let asked = c.deref-in-None.result.now in
     let same : asked ≡ j = c.deref-in-None.ensures ∙ c.job-job.ensures in
     IfOk-weaker c.write_no_memory.result (λ a. (asked.asked.runs ≡ zero) × TellsResult table (report memory_report) a)
-    (λ a. Tells j a.text.items a.status)
+    (λ a. ReportsJob j a.text.items a.status)
     (λ a is. tells_no_memory j table a (subst (λ (k : Job). k.asked.runs ≡ zero) same is.0) is.1) c.write_no_memory.ensures

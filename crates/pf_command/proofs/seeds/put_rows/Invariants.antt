@@ -1,7 +1,7 @@
 use Rattle.std.proofs.Common.{◌≡◌, ◌++◌, take}
 use Rattle.std.specs.Prelude.{flat_map}
 use Rattle.pf_terms.specs.Atoms.{name_of}
-use Rattle.pf_seeds.specs.Views.{row_of}
+use Rattle.pf_hunt.specs.Views.{row_of}
 use Rattle.pf_command.specs.Hunts.{row_text}
 use Rattle.pf_command.proofs.seeds.put_rows.Given as goal
 

@@ -1,7 +1,7 @@
 use Rattle.std.proofs.Common.{IfOk, ap, subst, sym}
-use Rattle.pf_seeds.specs.Notices.{HearsSome}
+use Rattle.pf_hunt.specs.Notices.{HearsSome}
 use Rattle.pf_cli.specs.Args.{view_of_hunt_args, sought_by}
-use Rattle.pf_command.specs.Hunts.{EndsAs, OfEach, SoughtAnswers}
+use Rattle.pf_command.specs.Hunts.{HuntEndsAs, OfEach, SoughtAnswers}
 use Rattle.pf_command.proofs.seek.hunt_module.Goals as goal
 
 pub returns-in-Failure : goal.returns-in-Failure
@@ -10,7 +10,7 @@ returns-in-Failure g c =
     subst
     (λ s.
     IfOk c.hunt_failure.result
-    (λ x. HearsSome g.S.HuntObserver.Heard c.args.seeds.now (OfEach c.args.module (λ bytes. EndsAs h s bytes x)) c.hunt_failure.new.seeds))
+    (λ x. HearsSome g.S.HuntObserver.Heard c.args.seeds.now (OfEach c.args.module (λ bytes. HuntEndsAs h s bytes x)) c.hunt_failure.new.seeds))
     (sym (ap sought_by c.in-Failure.is)) c.hunt_failure.ensures
 
 pub returns-in_ok-answer-in-Outcomes : goal.returns-in_ok-answer-in-Outcomes

@@ -1,12 +1,12 @@
 use Rattle.std.proofs.Common.{ℕ, List, [], Ok, Err}
 use Rattle.std.proofs.lemmas.Result.{IfOk-weaker}
-use Rattle.pf_fault.specs.Codes.{code_text}
+use Rattle.pf_errors.specs.Codes.{code_text}
 use Rattle.pf_sched.specs.Views.{code_of}
-use Rattle.pf_seeds.specs.Notices.{HearsSome}
-use Rattle.pf_seeds.proofs.Hearing.{hears_none, hears_weaker}
+use Rattle.pf_hunt.specs.Notices.{HearsSome}
+use Rattle.pf_hunt.proofs.Hearing.{hears_none, hears_weaker}
 use Rattle.pf_cli.specs.Args.{outcomes, view_of_hunt_args}
 use Rattle.pf_command.specs.Answers.{Refuses}
-use Rattle.pf_command.specs.Hunts.{AsksFor, OfEach, SoughtAnswers, TellsSought, hunted, refused, run_asked}
+use Rattle.pf_command.specs.Hunts.{HuntAsksFor, OfEach, SoughtAnswers, TellsSought, hunted, refused, run_asked}
 use Rattle.pf_command.proofs.Asking.{asks_in}
 use Rattle.pf_command.proofs.Rows.{row_job_refused}
 use Rattle.pf_command.proofs.seek.hunt_outcomes.Goals as goal
@@ -42,7 +42,7 @@ returns-in-Err-Fault g c =
     (λ a is. (
       [],
       (λ bytes of.
-          refused _ _ (row_job_refused (AsksFor h outcomes) (λ j t s. ⊥) m bytes a code of (run_asked outcomes m (Err code) (tt {0}) asks) is)),
+          refused _ _ (row_job_refused (HuntAsksFor h outcomes) (λ j t s. ⊥) m bytes a code of (run_asked outcomes m (Err code) (tt {0}) asks) is)),
       hears_none heard old,
     ))
     (rw c.code.ensures at c.refused_by_code.ensures)

@@ -1,7 +1,7 @@
 use Rattle.std.proofs.Common.{[], Some}
 use Rattle.pf_cli.specs.Args.{failure, view_of_hunt_args}
 use Rattle.pf_command.specs.Answers.{AsksOf}
-use Rattle.pf_command.specs.Hunts.{AsksFor, shrinking_of, shrinking_refused}
+use Rattle.pf_command.specs.Hunts.{HuntAsksFor, shrinking_of, shrinking_refused}
 use Rattle.pf_command.proofs.Asking.{refusal_weaker}
 use Rattle.pf_command.proofs.seek.may_shrink.Goals as goal
 
@@ -10,5 +10,5 @@ returns-in-Err c =
     let h = view_of_hunt_args c.args.args.now in
     let m = c.args.module.now in
     let runs = c.args.runs in
-    refusal_weaker (AsksOf (shrinking_of h [] runs) m) (AsksFor h (failure (Some runs)) m) (λ code is. shrinking_refused runs m code is)
+    refusal_weaker (AsksOf (shrinking_of h [] runs) m) (HuntAsksFor h (failure (Some runs)) m) (λ code is. shrinking_refused runs m code is)
     c.in-Err.refusal c.in-Err.ensures

@@ -1,8 +1,8 @@
 use Rattle.std.proofs.Common.{◌∙◌, subst}
 use Rattle.std.specs.Prelude.{option_map}
-use Rattle.pf_seeds.specs.Hunts.{FirstFailing, SearchedTo}
-use Rattle.pf_seeds.specs.Notices.{SearchNotices}
-use Rattle.pf_seeds.specs.Views.{failure_of}
+use Rattle.pf_hunt.specs.Hunts.{FirstFailing, SearchedTo}
+use Rattle.pf_hunt.specs.Notices.{SearchNotices}
+use Rattle.pf_hunt.specs.Views.{failure_of}
 use Rattle.pf_cli.specs.Args.{view_of_hunt_args}
 use Rattle.pf_command.specs.Hunts.{none_fails}
 use Rattle.pf_command.proofs.Found.{least_of_all, none_so_far}

@@ -3,12 +3,12 @@ use Rattle.std.specs.Prelude.{if◌then◌else◌}
 use Rattle.std.specs.List.{list_any}
 use Rattle.std.proofs.lemmas.Result.{IfOk-weaker}
 use Rattle.pf_model.specs.Shrinking.{is_failure}
-use Rattle.pf_seeds.specs.Hunts.{SearchedTo}
-use Rattle.pf_seeds.specs.Notices.{HearsSome, TallyNotices}
-use Rattle.pf_seeds.specs.Views.{row_of, rows_in}
-use Rattle.pf_seeds.proofs.Hearing.{hears_weaker}
+use Rattle.pf_hunt.specs.Hunts.{SearchedTo}
+use Rattle.pf_hunt.specs.Notices.{HearsSome, TallyNotices}
+use Rattle.pf_hunt.specs.Views.{row_of, rows_in}
+use Rattle.pf_hunt.proofs.Hearing.{hears_weaker}
 use Rattle.pf_cli.specs.Args.{outcomes, view_of_hunt_args}
-use Rattle.pf_command.specs.Answers.{names_of}
+use Rattle.pf_command.specs.Answers.{atom_names_of}
 use Rattle.pf_command.specs.Hunts.{TellsSought, front_text, row_text, strategy_text}
 use Rattle.pf_command.proofs.Found.{fails_are, tells_rows, texts_are}
 use Rattle.pf_command.proofs.seek.seek_outcomes.Goals as goal
@@ -25,7 +25,7 @@ returns g c =
     let new = c.tally_all.new.observer in
     let reach = subst (λ b. SearchedTo b h.seeds.0 h.seeds.1 end) may.ensures c.in_ok-tallied.ensures.reach in
     IfOk-weaker c.write_rows.result
-    (λ a. (a.text.items ≡ front_text h end ++ strategy_text h.strategy ++ flat_map (λ x. row_text (names_of j) (row_of x)) rows)
+    (λ a. (a.text.items ≡ front_text h end ++ strategy_text h.strategy ++ flat_map (λ x. row_text (atom_names_of j) (row_of x)) rows)
     × (a.status ≡ (if list_any (λ x. is_failure x.verdict) rows then 1 else 0)))
     (λ a. HearsSome heard old (λ ns. (bytes : List ℕ) → TellsSought h bytes j ns outcomes a.text.items a.status) new)
     (λ a is.
@@ -34,6 +34,6 @@ returns g c =
     (λ ns told bytes.
     tells_rows h bytes j ns end (rows_in rows) a reach c.in_ok-tallied.ensures.known.rows
     (subst (λ b. TallyNotices h.strategy j.asked b h.seeds.0 h.seeds.1 end ns) may.ensures told)
-    (is.0 ∙ ap (λ t. front_text h end ++ strategy_text h.strategy ++ t) (texts_are (names_of j) rows), is.1 ∙ ap (λ b. if b then 1 else 0) (fails_are rows)))
+    (is.0 ∙ ap (λ t. front_text h end ++ strategy_text h.strategy ++ t) (texts_are (atom_names_of j) rows), is.1 ∙ ap (λ b. if b then 1 else 0) (fails_are rows)))
     c.in_ok-tallied.ensures.heard)
     c.write_rows.ensures

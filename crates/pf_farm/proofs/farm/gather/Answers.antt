@@ -1,7 +1,7 @@
 use Rattle.std.proofs.Common.{◌≡◌, ◌+◌, List, [], ◌∷◌, ◌++◌, length, vec_len, Option, sym, ap, ◌∙◌, subst, arith, append_assoc}
 use Rattle.pf_deques.specs.Views.{OwnerView, ThiefView, IsThiefOf, stolen_by}
 use Rattle.pf_deques.proofs.Steps.{dealt_length}
-use Rattle.pf_farm.specs.Seats.{SeatView, IsRing, AllIdle}
+use Rattle.pf_farm.specs.Seats.{WorkSeatView, IsRing, AllIdle}
 use Rattle.pf_farm.proofs.Rings.{IsOpen, idle_last, opens, opens_more, steals_from, spends}
 use Rattle.pf_farm.proofs.farm.gather.Goals as goal
 
@@ -55,8 +55,8 @@ seats-preserved g c =
     let idle = idle_last ws s (subst AllIdle items v.idle) in
     let next : c.take_in-own.result.1 ≡ s.next = ap (λ x. x.1) ends in
     let dealt = c.close.ensures in
-    let t : SeatView = v.spent.0 in
-    let done : List SeatView = v.spent.1 in
+    let t : WorkSeatView = v.spent.0 in
+    let done : List WorkSeatView = v.spent.1 in
     record {
       ring = subst (λ o. IsOpen ws o c.take_in-owner.result.1) (sym (ap (λ x. x.0) ends)) (opens_more ws s c.seats.owner c.take_in-owner.result.1 (subst (λ l. IsOpen l c.seats.owner c.take_in-owner.result.1) items v.ring));
       idle = idle.0;

@@ -2,7 +2,7 @@ use Rattle.std.proofs.Common.{◌≡◌, vec_len}
 use Rattle.std.specs.List.{All}
 use Rattle.pf_syntax.specs.Over.{part_over}
 use Rattle.pf_syntax.specs.Within.{OperandRepresents}
-use Rattle.pf_lower.specs.Bodies.{binds, ElementRepresents}
+use Rattle.pf_lower.specs.Bodies.{bound_elements, ElementRepresents}
 use Rattle.pf_lower.specs.Grown.{Grown}
 use Rattle.pf_lower.proofs.bodies.put_binds.Given as goal
 
@@ -14,6 +14,6 @@ invariant-loop-element l = record {
   grown : Grown l.initial.module l.module;
   all : All (ElementRepresents l.initial.module.tables) l.front.items;
   stands : OperandRepresents l.module.tables l.body;
-  is : binds l.initial.module.tables l.front.items (part_over l.module.tables l.body)
-      ≡ binds l.initial.module.tables l.initial.front.items (part_over l.initial.module.tables l.initial.body);
+  is : bound_elements l.initial.module.tables l.front.items (part_over l.module.tables l.body)
+      ≡ bound_elements l.initial.module.tables l.initial.front.items (part_over l.initial.module.tables l.initial.body);
 }

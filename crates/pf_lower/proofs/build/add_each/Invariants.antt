@@ -1,5 +1,5 @@
 use Rattle.std.proofs.Common.{◌≡◌, take, []}
-use Rattle.pf_rules.specs.Static.{names_of}
+use Rattle.pf_rules.specs.Static.{names_of_module}
 use Rattle.pf_lower.proofs.Heads_mean.{EachFunction}
 use Rattle.pf_lower.proofs.build.add_each.Given as goal
 
@@ -8,5 +8,5 @@ invariant-loop-read l = record {
   name : l.module.name ≡ l.initial.module.name;
   atoms : l.module.atoms ≡ l.initial.module.atoms;
   unbound : l.slots ≡ [];
-  functions : EachFunction (names_of l.initial.module.atoms l.syntax.functions) l.syntax.exports (take l.read-index l.syntax.functions) l.module.functions;
+  functions : EachFunction (names_of_module l.initial.module.atoms l.syntax.functions) l.syntax.exports (take l.read-index l.syntax.functions) l.module.functions;
 }

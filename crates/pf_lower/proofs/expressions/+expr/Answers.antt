@@ -11,7 +11,7 @@ use Rattle.pf_syntax.specs.SyntaxTreeOver.{expr_over, exprs_at, condition_over, 
 use Rattle.pf_syntax.specs.Naming as w
 use Rattle.pf_syntax.specs.Naming.{ExprIs}
 use Rattle.pf_syntax.specs.declared.node.Operand.TheVariants as part
-use Rattle.pf_rules.specs.Static.{names_of}
+use Rattle.pf_rules.specs.Static.{names_of_module}
 use Rattle.pf_lower.specs.Bound.{bound_after, all_bound_after}
 use Rattle.pf_lower.specs.Built.{Lowers, ElementMeans, ExprsMean, BodyMeans}
 use Rattle.pf_lower.specs.Bodies.{ElementRepresents}
@@ -29,7 +29,7 @@ pub expression-returns-in-Integer : goal.expression-returns-in-Integer
 expression-returns-in-Integer t c =
     let same : to_z w64 (of_z w64 c.in-Integer.n) ≡ c.in-Integer.n = search rules in
     expr_here c.args.syntax.now.functions c.args.module.now c.args.slots.now _ _ (part.Int _) (ap (expr_over c.args.syntax.now.node_table) (sym c.in-Integer.is) ∙ c.in-Some.ensures.found) tt
-    (λ g h f k. subst (λ z. ExprIs (names_of c.args.module.now.atoms c.args.syntax.now.functions) g (p.integer c.in-Integer.n) (lit (int z))) (sym same) (w.integer g c.in-Integer.n))
+    (λ g h f k. subst (λ z. ExprIs (names_of_module c.args.module.now.atoms c.args.syntax.now.functions) g (p.integer c.in-Integer.n) (lit (int z))) (sym same) (w.integer g c.in-Integer.n))
 
 pub expression-returns-in-Atom : goal.expression-returns-in-Atom
 expression-returns-in-Atom t c =

@@ -1,13 +1,13 @@
 use Rattle.std.proofs.Common.{◌≡◌, ℕ, List, length, Some, None, refl, sym, ap, ◌∙◌}
 use Rattle.pf_terms.specs.Atoms.{name_of}
-use Rattle.pf_builtins.specs.Forms.{builtin_named}
+use Rattle.pf_syntax.specs.Forms.{builtin_named}
 use Rattle.pf_syntax.specs.Operators.{builtin_of}
 use Rattle.pf_syntax.specs.Naming.{arity_of}
 use Rattle.pf_syntax.specs.Naming as w
 use Rattle.pf_syntax.specs.Expr as p
 use Rattle.pf_syntax.specs.SyntaxTreeOver.{exprs_at}
 use Rattle.pf_syntax.specs.declared.node.Operand.TheVariants as part
-use Rattle.pf_rules.specs.Static.{own_in, names_of}
+use Rattle.pf_rules.specs.Static.{own_in, names_of_module}
 use Rattle.pf_lower.proofs.Growing.{by_ok, expr_put, grown_itself}
 use Rattle.pf_rules.proofs.Counts.{arity_length}
 use Rattle.pf_lower.proofs.Exprs_mean.{expr_here, call_defined, call_clean}
@@ -17,7 +17,7 @@ pub returns-in-Some : goal.returns-in-Some
 returns-in-Some c =
     let m = c.args.module.now in
     let fs = c.args.syntax.now.functions in
-    let n = names_of m.atoms fs in
+    let n = names_of_module m.atoms fs in
     let es = exprs_at c.args.syntax.now.node_table c.args.ids.now in
     let f = c.args.ident.name.0 in
     let at = c.args.ident.offset in
@@ -34,7 +34,7 @@ pub returns-in-Some-builtin_named : goal.returns-in-Some-builtin_named
 returns-in-Some-builtin_named c =
     let m = c.args.module.now in
     let fs = c.args.syntax.now.functions in
-    let n = names_of m.atoms fs in
+    let n = names_of_module m.atoms fs in
     let es = exprs_at c.args.syntax.now.node_table c.args.ids.now in
     let f = c.args.ident.name.0 in
     let at = c.args.ident.offset in
@@ -48,7 +48,7 @@ pub returns-in-None : goal.returns-in-None
 returns-in-None c =
     let m = c.args.module.now in
     let fs = c.args.syntax.now.functions in
-    let n = names_of m.atoms fs in
+    let n = names_of_module m.atoms fs in
     let es = exprs_at c.args.syntax.now.node_table c.args.ids.now in
     let f = c.args.ident.name.0 in
     let at = c.args.ident.offset in

@@ -7,7 +7,7 @@ use Rattle.pf_syntax.specs.ExprPattern as s
 use Rattle.pf_syntax.specs.SyntaxTree.{expr_pattern_at}
 use Rattle.pf_syntax.specs.SyntaxTreeOver.{expr_pattern_over, expr_patterns_at}
 use Rattle.pf_syntax.specs.Naming.{ExprPatternIs}
-use Rattle.pf_rules.specs.Static.{names_of}
+use Rattle.pf_rules.specs.Static.{names_of_module}
 use Rattle.pf_syntax.specs.Naming as w
 use Rattle.pf_lower.proofs.Growing.{by_ok, expr_pattern_put, grown_itself}
 use Rattle.pf_lower.proofs.ExprPatterns_mean.{next_expr_pattern, EachExprPattern, each_expr_pattern_on, expr_patterns_done, expr_pattern_shallow, tuple_expr_pattern, list_expr_pattern, list_on_expr_pattern}
@@ -27,7 +27,7 @@ pattern-returns-in-Integer t c =
     by_ok _ _ _ c.put_pattern-in-Integer.ensures
     (λ p h. expr_pattern_put c.args.syntax.now.functions m m _ _ c.args.slots.now _ _ _ p (ap (expr_pattern_over c.args.syntax.now.node_table) (sym c.in-Integer.is) ∙ c.in-Some.ensures.found)
     refl (grown_itself m)
-    (λ g e f k. subst (λ z. ExprPatternIs (names_of m.atoms c.args.syntax.now.functions) g (s.integer c.in-Integer.n) (known (int z))) (sym same) (w.integer g c.in-Integer.n)) h)
+    (λ g e f k. subst (λ z. ExprPatternIs (names_of_module m.atoms c.args.syntax.now.functions) g (s.integer c.in-Integer.n) (known (int z))) (sym same) (w.integer g c.in-Integer.n)) h)
 
 pub pattern-returns-in-Atom : goal.pattern-returns-in-Atom
 pattern-returns-in-Atom t c =

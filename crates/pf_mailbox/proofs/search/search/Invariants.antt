@@ -1,6 +1,6 @@
 use Rattle.std.proofs.Common.{◌≡◌, ◌-◌, ◌^◌, ◌≤◌, length}
-use Rattle.pf_mailbox.specs.Searches.{Passes}
-use Rattle.pf_mailbox.specs.Tests.{awaited}
+use Rattle.pf_mailbox.specs.Searches.{PassesOver}
+use Rattle.pf_mailbox.specs.Tests.{awaited_clauses}
 use Rattle.pf_mailbox.proofs.search.search.Given as goal
 
 abbrev pub invariant-loop-alloc : goal.invariant-loop-alloc
@@ -8,7 +8,7 @@ invariant-loop-alloc l =
     record {
       items : l.list.items ≡ l.fn.list.items;
       slots : l.env.items ≡ l.fn.env.items;
-      passed : Passes l.code l.own (awaited l.code l.base l.fn.env.items l.clauses) l.fn.list l.list.mark;
+      passed : PassesOver l.code l.own (awaited_clauses l.code l.base l.fn.env.items l.clauses) l.fn.list l.list.mark;
       counted : l.made ≡ l.list.mark - l.fn.list.mark;
       room : length l.list.items ≤ 2 ^ 64 - 1;
     }

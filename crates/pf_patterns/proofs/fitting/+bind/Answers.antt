@@ -1,7 +1,7 @@
 use Rattle.std.proofs.Common.{◌≡◌, ◌≤◌, List, [], ◌∷◌, ◌++◌, length, drop, refl, ap, None, arith}
 use Rattle.pf_terms.specs.Term.{values_of}
 use Rattle.pf_terms.specs.declared.term.Term.{Term}
-use Rattle.pf_patterns.specs.Fit.{Scope, fit_all}
+use Rattle.pf_patterns.specs.Fit.{ValueScope, fit_all}
 use Rattle.pf_patterns.specs.Scopes.{scope_of}
 use Rattle.pf_syntax.specs.declared.node.PatternId.{PatternId}
 use Rattle.pf_syntax.specs.Module.{Tables}
@@ -9,7 +9,7 @@ use Rattle.pf_syntax.specs.Over.{patterns_at}
 use Rattle.pf_patterns.proofs.fitting.+bind.Goals as goal
 
 -- no pattern fits some values
-too_many : (t : Tables) (ps : List PatternId) (ts : List Term) (e : Scope) → length ps ≡ 0 → 1 ≤ length ts → fit_all (patterns_at t ps) (values_of ts) e ≡ None
+too_many : (t : Tables) (ps : List PatternId) (ts : List Term) (e : ValueScope) → length ps ≡ 0 → 1 ≤ length ts → fit_all (patterns_at t ps) (values_of ts) e ≡ None
 too_many t (p ∷ ps) ts e n h = absurd (omega arith)
 too_many t [] [] e n h = absurd (omega arith)
 too_many t [] (v ∷ ts) e n h = refl

@@ -2,10 +2,10 @@ use Rattle.std.proofs.Common.{◌≡◌, suc, ◌+◌, ◌-◌, [], ◌∷◌, �
 use Rattle.std.proofs.lemmas.Result.{err_from_is_err_and}
 use Rattle.std.proofs.lemmas.List.{length-map}
 use Rattle.pf_syntax.specs.SyntaxTreeOver.{export_of}
-use Rattle.pf_tokens.specs.declared.marks.Mark.TheVariants.{Comma}
-use Rattle.pf_intern.specs.NumberedTokens.{mark}
-use Rattle.pf_grammar.specs.Parse.{after, entry}
-use Rattle.pf_intern.specs.View.{numbered_token_of}
+use Rattle.pf_tokens.specs.declared.marks.TokenMark.TheVariants.{Comma}
+use Rattle.pf_tokens.specs.NumberedTokens.{mark}
+use Rattle.pf_grammar.specs.Parse.{after_kind, entry}
+use Rattle.pf_tokens.specs.View.{numbered_token_of}
 use Rattle.pf_reader.specs.View.{names_of, tokens_in}
 use Rattle.pf_reader.proofs.Items.{fails_as, loop_ends, loop_goes, loop_fails, loop_out}
 use Rattle.pf_reader.proofs.export.read_entries.Goals as goal
@@ -21,7 +21,7 @@ pub returns-in_default : goal.returns-in_default
 returns-in_default c =
     let n = length (tokens_in c.args.tokens) in
     let turn : n - c.loop.counter ≡ suc (n - (c.loop.counter + 1)) = omega (arith, length-map c.args.tokens.list.now numbered_token_of) in
-    let none : after (mark Comma) (tokens_in c.in_ok-entry.behind_it) ≡ None = search rules in
+    let none : after_kind (mark Comma) (tokens_in c.in_ok-entry.behind_it) ≡ None = search rules in
     let pushed : c.push.new.self.items ≡ c.loop.found.items ++ c.in_ok-entry.entry ∷ [] = search rules in
     loop_ends (mark Comma) (entry (names_of c.args.context)) export_of export_of c.loop.found.items c.push.new.self.items c.in_ok-entry.entry _ _ _ _ _ refl pushed turn c.loop.invariant c.in_ok-entry.ensures none
 
@@ -29,7 +29,7 @@ pub loop-preserved : goal.loop-preserved
 loop-preserved c =
     let n = length (tokens_in c.args.tokens) in
     let turn : n - c.loop.counter ≡ suc (n - (c.loop.counter + 1)) = omega (arith, length-map c.args.tokens.list.now numbered_token_of) in
-    let next : after (mark Comma) (tokens_in c.in_ok-entry.behind_it) ≡ Some (tokens_in c.in-Some.after) = search rules in
+    let next : after_kind (mark Comma) (tokens_in c.in_ok-entry.behind_it) ≡ Some (tokens_in c.in-Some.after) = search rules in
     let pushed : c.push.new.self.items ≡ c.loop.found.items ++ c.in_ok-entry.entry ∷ [] = search rules in
     loop_goes (mark Comma) (entry (names_of c.args.context)) export_of export_of c.loop.found.items c.push.new.self.items c.in_ok-entry.entry _ _ _ _ _ _ refl pushed turn c.loop.invariant c.in_ok-entry.ensures next
 

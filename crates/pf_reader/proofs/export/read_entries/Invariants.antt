@@ -1,8 +1,8 @@
 use Rattle.std.proofs.Common.{◌≡◌, ◌-◌, length}
 use Rattle.std.specs.Prelude.{map}
 use Rattle.pf_syntax.specs.SyntaxTreeOver.{export_of}
-use Rattle.pf_tokens.specs.declared.marks.Mark.TheVariants.{Comma}
-use Rattle.pf_intern.specs.NumberedTokens.{mark}
+use Rattle.pf_tokens.specs.declared.marks.TokenMark.TheVariants.{Comma}
+use Rattle.pf_tokens.specs.NumberedTokens.{mark}
 use Rattle.pf_grammar.specs.Parse.{entry, items}
 use Rattle.pf_reader.specs.View.{names_of, tokens_in}
 use Rattle.pf_reader.specs.Given.{with_front}

@@ -4,11 +4,11 @@ use Rattle.std.proofs.lemmas.List.{length-map}
 use Rattle.pf_syntax.specs.SyntaxTree.{expr_at}
 use Rattle.pf_syntax.specs.SyntaxTreeOver.{BranchRepresents, ExprRepresents, ExprPatternRepresents}
 use Rattle.pf_syntax.proofs.NodeTableExtends.{all_exprs_stand, branches_stand, condition_stands, exprs_kept, expr_pattern_stands}
-use Rattle.pf_tokens.specs.declared.marks.Mark.TheVariants.{Bar, CloseBracket, Comma, OpenParenthesis, Semicolon}
-use Rattle.pf_intern.specs.NumberedTokens.{mark}
-use Rattle.pf_intern.specs.View.{numbered_token_of}
+use Rattle.pf_tokens.specs.declared.marks.TokenMark.TheVariants.{Bar, CloseBracket, Comma, OpenParenthesis, Semicolon}
+use Rattle.pf_tokens.specs.NumberedTokens.{mark}
+use Rattle.pf_tokens.specs.View.{numbered_token_of}
 use Rattle.pf_grammar.specs.Grammar.{call_stands, top}
-use Rattle.pf_grammar.specs.Parse.{after, clause, parse_expr, infix_ahead, match_ahead, pattern, readers, tests_of}
+use Rattle.pf_grammar.specs.Parse.{after_kind, clause, parse_expr, infix_ahead, match_ahead, pattern, readers, guard_tests}
 use Rattle.pf_grammar.specs.View.{view_of_infix}
 use Rattle.pf_reader.specs.ListItems.{item_at}
 use Rattle.pf_reader.specs.View.{names_of, tokens_in}
@@ -36,7 +36,7 @@ read_items-returns-in_default-clause-given t c =
     let d = c.read_item.new.syntax.node_table in
     let on = c.in_ok-part.ensures.grown.node_table in
     let turn : n - c.loop.counter ≡ suc (n - (c.loop.counter + 1)) = omega (arith, length-map c.args.tokens.list.now numbered_token_of) in
-    let none : after (mark Comma) (tokens_in c.in_ok-part.part.rest) ≡ None = search rules in
+    let none : after_kind (mark Comma) (tokens_in c.in_ok-part.part.rest) ≡ None = search rules in
     let pushed : c.push.new.self.items ≡ c.loop.found.items ++ c.in_ok-part.part.expr ∷ [] = search rules in
     let same = exprs_alike b d on c.loop.found.items c.loop.invariant.stands in
     loop_ends (mark Comma) (item_at (names_of c.args.context) c.args.item c.args.limit) (expr_of d) (expr_of b) c.loop.found.items c.push.new.self.items (c.in_ok-part.part.expr) _ _ _ _ _ same pushed turn c.loop.invariant.given c.in_ok-part.ensures.given none
@@ -57,7 +57,7 @@ read_items-loop-preserved t c =
     let d = c.read_item.new.syntax.node_table in
     let on = c.in_ok-part.ensures.grown.node_table in
     let turn : n - c.loop.counter ≡ suc (n - (c.loop.counter + 1)) = omega (arith, length-map c.args.tokens.list.now numbered_token_of) in
-    let next : after (mark Comma) (tokens_in c.in_ok-part.part.rest) ≡ Some (tokens_in c.in-Some.after) = search rules in
+    let next : after_kind (mark Comma) (tokens_in c.in_ok-part.part.rest) ≡ Some (tokens_in c.in-Some.after) = search rules in
     let pushed : c.push.new.self.items ≡ c.loop.found.items ++ c.in_ok-part.part.expr ∷ [] = search rules in
     let same = exprs_alike b d on c.loop.found.items c.loop.invariant.stands in
     let kept = all_exprs_stand b d on c.loop.found.items c.loop.invariant.stands in
@@ -89,11 +89,11 @@ read_guard-returns-in_default-clause-given t c =
     let d = c.read_items.new.syntax.node_table in
     let on = c.in_ok-tests.ensures.grown.node_table in
     let turn : n - c.loop.counter ≡ suc (n - (c.loop.counter + 1)) = omega (arith, length-map c.args.tokens.list.now numbered_token_of) in
-    let none : after (mark Semicolon) (tokens_in c.in_ok-tests.behind_it) ≡ None = search rules in
+    let none : after_kind (mark Semicolon) (tokens_in c.in_ok-tests.behind_it) ≡ None = search rules in
     let pushed : c.push.new.self.items ≡ c.loop.alternatives.items ++ record { tests = c.in_ok-tests.tests } ∷ [] = search rules in
     let same = tests_alike b d on c.loop.alternatives.items c.loop.invariant.stands in
     guard_is _ _ _ _ _ (alternatives_in_row d c.push.new.self.items) (
-    loop_ends (mark Semicolon) (tests_of (parse_expr (names_of c.args.context) true c.args.limit top)) (view_of_tests d) (view_of_tests b) c.loop.alternatives.items c.push.new.self.items (record { tests = c.in_ok-tests.tests }) _ _ _ _ _ same pushed turn c.loop.invariant.given c.in_ok-tests.ensures.given none)
+    loop_ends (mark Semicolon) (guard_tests (parse_expr (names_of c.args.context) true c.args.limit top)) (view_of_tests d) (view_of_tests b) c.loop.alternatives.items c.push.new.self.items (record { tests = c.in_ok-tests.tests }) _ _ _ _ _ same pushed turn c.loop.invariant.given c.in_ok-tests.ensures.given none)
 
 pub read_guard-returns-in_default-clause-stands : goal.read_guard-returns-in_default-clause-stands
 read_guard-returns-in_default-clause-stands t c =
@@ -111,14 +111,14 @@ read_guard-loop-preserved t c =
     let d = c.read_items.new.syntax.node_table in
     let on = c.in_ok-tests.ensures.grown.node_table in
     let turn : n - c.loop.counter ≡ suc (n - (c.loop.counter + 1)) = omega (arith, length-map c.args.tokens.list.now numbered_token_of) in
-    let next : after (mark Semicolon) (tokens_in c.in_ok-tests.behind_it) ≡ Some (tokens_in c.in-Some.after) = search rules in
+    let next : after_kind (mark Semicolon) (tokens_in c.in_ok-tests.behind_it) ≡ Some (tokens_in c.in-Some.after) = search rules in
     let pushed : c.push.new.self.items ≡ c.loop.alternatives.items ++ record { tests = c.in_ok-tests.tests } ∷ [] = search rules in
     let same = tests_alike b d on c.loop.alternatives.items c.loop.invariant.stands in
     let kept = all_tests_stand b d on c.loop.alternatives.items c.loop.invariant.stands in
     record {
       grown = again _ _ _ c.loop.invariant.grown c.in_ok-tests.ensures.grown;
       stands = pushed_stands (TestsStand d) c.loop.alternatives.items c.push.new.self.items (record { tests = c.in_ok-tests.tests }) pushed kept c.in_ok-tests.ensures.stands;
-      given = loop_goes (mark Semicolon) (tests_of (parse_expr (names_of c.args.context) true c.args.limit top)) (view_of_tests d) (view_of_tests b) c.loop.alternatives.items c.push.new.self.items (record { tests = c.in_ok-tests.tests }) _ _ _ _ _ _ same pushed turn c.loop.invariant.given c.in_ok-tests.ensures.given next;
+      given = loop_goes (mark Semicolon) (guard_tests (parse_expr (names_of c.args.context) true c.args.limit top)) (view_of_tests d) (view_of_tests b) c.loop.alternatives.items c.push.new.self.items (record { tests = c.in_ok-tests.tests }) _ _ _ _ _ _ same pushed turn c.loop.invariant.given c.in_ok-tests.ensures.given next;
     }
 
 pub read_guard-returns-clause-given : goal.read_guard-returns-clause-given
@@ -143,7 +143,7 @@ read_clauses-returns-in_default-clause-given t c =
     let d = c.read_clause.new.syntax.node_table in
     let on = c.in_ok-branch.ensures.grown.node_table in
     let turn : n - c.loop.counter ≡ suc (n - (c.loop.counter + 1)) = omega (arith, length-map c.args.tokens.list.now numbered_token_of) in
-    let none : after (mark Semicolon) (tokens_in c.in_ok-branch.behind_it) ≡ None = search rules in
+    let none : after_kind (mark Semicolon) (tokens_in c.in_ok-branch.behind_it) ≡ None = search rules in
     let pushed : c.push.new.self.items ≡ c.loop.found.items ++ c.in_ok-branch.branch ∷ [] = search rules in
     let same = clauses_alike b d on c.loop.found.items c.loop.invariant.stands in
     loop_ends (mark Semicolon) (clause (readers (names_of c.args.context) c.args.limit) c.args.choice) (clause_of d) (clause_of b) c.loop.found.items c.push.new.self.items (c.in_ok-branch.branch) _ _ _ _ _ same pushed turn c.loop.invariant.given c.in_ok-branch.ensures.given none
@@ -164,7 +164,7 @@ read_clauses-loop-preserved t c =
     let d = c.read_clause.new.syntax.node_table in
     let on = c.in_ok-branch.ensures.grown.node_table in
     let turn : n - c.loop.counter ≡ suc (n - (c.loop.counter + 1)) = omega (arith, length-map c.args.tokens.list.now numbered_token_of) in
-    let next : after (mark Semicolon) (tokens_in c.in_ok-branch.behind_it) ≡ Some (tokens_in c.in-Some.after) = search rules in
+    let next : after_kind (mark Semicolon) (tokens_in c.in_ok-branch.behind_it) ≡ Some (tokens_in c.in-Some.after) = search rules in
     let pushed : c.push.new.self.items ≡ c.loop.found.items ++ c.in_ok-branch.branch ∷ [] = search rules in
     let same = clauses_alike b d on c.loop.found.items c.loop.invariant.stands in
     let kept = branches_stand b d on c.loop.found.items c.loop.invariant.stands in
@@ -278,8 +278,8 @@ pub read_list-returns-in_ok-rest-in-None-clause-given : goal.read_list-returns-i
 read_list-returns-in_ok-rest-in-None-clause-given t c =
     let ts = tokens_in c.args.tokens in
     let row = exprs_in_row c.read_items.new.syntax.node_table c.in_ok-parts.parts.items in
-    let none : after (mark CloseBracket) ts ≡ None = search rules in
-    let bar : after (mark Bar) (tokens_in c.in_ok-parts.rest) ≡ None = search rules in
+    let none : after_kind (mark CloseBracket) ts ≡ None = search rules in
+    let bar : after_kind (mark Bar) (tokens_in c.in_ok-parts.rest) ≡ None = search rules in
     rw (list_plain (parse_expr (names_of c.args.context) c.args.guard c.args.limit top) ts _ _ _ _ row none c.in_ok-parts.ensures.given bar c.in_ok-rest-in-None.ensures) c.put-in-None.ensures.given
 
 pub read_list-returns-in_ok-rest-in-Some-skip-clause-given : goal.read_list-returns-in_ok-rest-in-Some-skip-clause-given
@@ -289,8 +289,8 @@ read_list-returns-in_ok-rest-in-Some-skip-clause-given t c =
     let d = c.read_level.new.syntax.node_table in
     let es = c.in_ok-parts.parts.items in
     let row = exprs_kept b d c.in_ok-tail-in-Some-skip.ensures.grown.node_table es c.in_ok-parts.ensures.stands ∙ exprs_in_row b es in
-    let none : after (mark CloseBracket) ts ≡ None = search rules in
-    let bar : after (mark Bar) (tokens_in c.in_ok-parts.rest) ≡ Some (tokens_in c.in-Some-skip.rest) = search rules in
+    let none : after_kind (mark CloseBracket) ts ≡ None = search rules in
+    let bar : after_kind (mark Bar) (tokens_in c.in_ok-parts.rest) ≡ Some (tokens_in c.in-Some-skip.rest) = search rules in
     rw (list_on (parse_expr (names_of c.args.context) c.args.guard c.args.limit top) ts _ _ _ _ row none c.in_ok-parts.ensures.given _ _ _ bar c.in_ok-tail-in-Some-skip.ensures.given c.in_ok-rest-in-Some-skip.ensures)
     c.put-in-Some-skip.ensures.given
 
@@ -300,7 +300,7 @@ pub read_named-returns-clause-given : goal.read_named-returns-clause-given
 read_named-returns-clause-given t c =
     let es = c.in_ok-arguments.arguments.items in
     let d = c.read_until.new.syntax.node_table in
-    let opens : after (mark OpenParenthesis) (tokens_in c.args.tokens) ≡ Some (tokens_in c.in-Some.rest) = search rules in
+    let opens : after_kind (mark OpenParenthesis) (tokens_in c.args.tokens) ≡ Some (tokens_in c.in-Some.rest) = search rules in
     let stands : call_stands (names_of c.args.context) c.args.guard c.args.ident.name.0 (length es) ≡ true = search rules in
     rw (call_is (names_of c.args.context) c.args.guard (parse_expr (names_of c.args.context) c.args.guard c.args.limit top) c.args.ident.name.0 c.args.ident.offset (length es) (tokens_in c.args.tokens) _ _ _ opens c.in_ok-arguments.ensures.given (length-map es (expr_of d)) _ (exprs_in_row d es) stands)
     c.put-2.ensures.given

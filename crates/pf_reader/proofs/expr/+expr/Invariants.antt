@@ -3,11 +3,11 @@ use Rattle.std.specs.Prelude.{map}
 use Rattle.std.specs.List.{All}
 use Rattle.pf_syntax.specs.SyntaxTree.{expr_at}
 use Rattle.pf_syntax.specs.SyntaxTreeOver.{BranchRepresents, ExprRepresents}
-use Rattle.pf_tokens.specs.declared.marks.Mark.TheVariants.{Comma, Semicolon}
-use Rattle.pf_intern.specs.NumberedTokens.{mark}
+use Rattle.pf_tokens.specs.declared.marks.TokenMark.TheVariants.{Comma, Semicolon}
+use Rattle.pf_tokens.specs.NumberedTokens.{mark}
 use Rattle.pf_grammar.specs.Grammar.{top}
 use Rattle.pf_reader.specs.ListItems.{item_at}
-use Rattle.pf_grammar.specs.Parse.{clause, parse_expr, items, more, readers, tests_of}
+use Rattle.pf_grammar.specs.Parse.{clause, parse_expr, items, more, readers, guard_tests}
 use Rattle.pf_reader.specs.View.{names_of, tokens_in}
 use Rattle.pf_reader.specs.Given.{clause_of, view_of_tests, expr_of, with_front, Grown, TestsStand}
 use Rattle.pf_reader.proofs.expr.+expr.Given as goal
@@ -89,8 +89,8 @@ abbrev pub invariant-read_guard-loop : goal.invariant-read_guard-loop
 invariant-read_guard-loop l = record {
   grown : Grown l.fn.syntax l.syntax;
   stands : All (TestsStand l.syntax.node_table) l.alternatives.items;
-  given : items (mark Semicolon) (tests_of (parse_expr (names_of l.fn.context) true l.limit top)) (length (tokens_in l.tokens)) (tokens_in l.tokens)
-      ≡ with_front (map (view_of_tests l.syntax.node_table) l.alternatives.items) (items (mark Semicolon) (tests_of (parse_expr (names_of l.fn.context) true l.limit top)) (length (tokens_in l.tokens) - l.counter) (tokens_in l.rest));
+  given : items (mark Semicolon) (guard_tests (parse_expr (names_of l.fn.context) true l.limit top)) (length (tokens_in l.tokens)) (tokens_in l.tokens)
+      ≡ with_front (map (view_of_tests l.syntax.node_table) l.alternatives.items) (items (mark Semicolon) (guard_tests (parse_expr (names_of l.fn.context) true l.limit top)) (length (tokens_in l.tokens) - l.counter) (tokens_in l.rest));
 }
 
 -- the clauses so far, and what is left, give what the whole gives

@@ -3,10 +3,10 @@ use Rattle.std.proofs.lemmas.Result.{err_from_is_err_and}
 use Rattle.std.proofs.lemmas.List.{length-map}
 use Rattle.pf_syntax.specs.SyntaxTreeOver.{ExprPatternRepresents}
 use Rattle.pf_syntax.proofs.NodeTableExtends.{all_expr_patterns_stand, expr_patterns_kept}
-use Rattle.pf_tokens.specs.declared.marks.Mark.TheVariants.{Bar, CloseBracket, Comma}
-use Rattle.pf_intern.specs.NumberedTokens.{mark}
-use Rattle.pf_grammar.specs.Parse.{pattern, after}
-use Rattle.pf_intern.specs.View.{numbered_token_of}
+use Rattle.pf_tokens.specs.declared.marks.TokenMark.TheVariants.{Bar, CloseBracket, Comma}
+use Rattle.pf_tokens.specs.NumberedTokens.{mark}
+use Rattle.pf_grammar.specs.Parse.{pattern, after_kind}
+use Rattle.pf_tokens.specs.View.{numbered_token_of}
 use Rattle.pf_reader.specs.View.{names_of, tokens_in}
 use Rattle.pf_reader.specs.Given.{expr_pattern_of}
 use Rattle.pf_reader.proofs.Growth.{again}
@@ -28,7 +28,7 @@ read_expr_pattern_items-returns-in_default-clause-given t c =
     let b = c.loop.syntax.node_table in
     let d = c.read_expr_pattern.new.syntax.node_table in
     let turn : n - c.loop.counter ≡ suc (n - (c.loop.counter + 1)) = omega (arith, length-map c.args.tokens.list.now numbered_token_of) in
-    let none : after (mark Comma) (tokens_in c.in_ok-part.part.rest) ≡ None = search rules in
+    let none : after_kind (mark Comma) (tokens_in c.in_ok-part.part.rest) ≡ None = search rules in
     let pushed : c.push.new.self.items ≡ c.loop.found.items ++ c.in_ok-part.part.expr_pattern ∷ [] = search rules in
     let same = expr_patterns_alike b d c.in_ok-part.ensures.grown.node_table c.loop.found.items c.loop.invariant.stands in
     loop_ends (mark Comma) (pattern (names_of c.args.context) c.args.limit) (expr_pattern_of d) (expr_pattern_of b) c.loop.found.items c.push.new.self.items c.in_ok-part.part.expr_pattern _ _ _ _ _ same pushed turn c.loop.invariant.given c.in_ok-part.ensures.given none
@@ -40,7 +40,7 @@ read_expr_pattern_items-loop-preserved t c =
     let d = c.read_expr_pattern.new.syntax.node_table in
     let on = c.in_ok-part.ensures.grown.node_table in
     let turn : n - c.loop.counter ≡ suc (n - (c.loop.counter + 1)) = omega (arith, length-map c.args.tokens.list.now numbered_token_of) in
-    let next : after (mark Comma) (tokens_in c.in_ok-part.part.rest) ≡ Some (tokens_in c.in-Some.after) = search rules in
+    let next : after_kind (mark Comma) (tokens_in c.in_ok-part.part.rest) ≡ Some (tokens_in c.in-Some.after) = search rules in
     let pushed : c.push.new.self.items ≡ c.loop.found.items ++ c.in_ok-part.part.expr_pattern ∷ [] = search rules in
     let same = expr_patterns_alike b d on c.loop.found.items c.loop.invariant.stands in
     let kept = all_expr_patterns_stand b d on c.loop.found.items c.loop.invariant.stands in
@@ -70,8 +70,8 @@ pub read_list-returns-in_ok-rest-in-None-clause-given : goal.read_list-returns-i
 read_list-returns-in_ok-rest-in-None-clause-given t c =
     let ts = tokens_in c.args.tokens in
     let row = expr_patterns_in_row c.read_expr_pattern_items.new.syntax.node_table c.in_ok-parts.parts.items in
-    let none : after (mark CloseBracket) ts ≡ None = search rules in
-    let bar : after (mark Bar) (tokens_in c.in_ok-parts.rest) ≡ None = search rules in
+    let none : after_kind (mark CloseBracket) ts ≡ None = search rules in
+    let bar : after_kind (mark Bar) (tokens_in c.in_ok-parts.rest) ≡ None = search rules in
     rw (pattern_list (pattern (names_of c.args.context) c.args.limit) ts _ _ _ _ row none c.in_ok-parts.ensures.given bar c.in_ok-rest-in-None.ensures) c.put_expr_pattern-in-None.ensures.given
 
 pub read_list-returns-in_ok-rest-in-Some-skip-clause-given : goal.read_list-returns-in_ok-rest-in-Some-skip-clause-given
@@ -81,8 +81,8 @@ read_list-returns-in_ok-rest-in-Some-skip-clause-given t c =
     let d = c.read_expr_pattern.new.syntax.node_table in
     let qs = c.in_ok-parts.parts.items in
     let row = expr_patterns_kept b d c.in_ok-tail-in-Some-skip.ensures.grown.node_table qs c.in_ok-parts.ensures.stands ∙ expr_patterns_in_row b qs in
-    let none : after (mark CloseBracket) ts ≡ None = search rules in
-    let bar : after (mark Bar) (tokens_in c.in_ok-parts.rest) ≡ Some (tokens_in c.in-Some-skip.rest) = search rules in
+    let none : after_kind (mark CloseBracket) ts ≡ None = search rules in
+    let bar : after_kind (mark Bar) (tokens_in c.in_ok-parts.rest) ≡ Some (tokens_in c.in-Some-skip.rest) = search rules in
     rw (pattern_list_on (pattern (names_of c.args.context) c.args.limit) ts _ _ _ _ row none c.in_ok-parts.ensures.given _ _ _ bar c.in_ok-tail-in-Some-skip.ensures.given c.in_ok-rest-in-Some-skip.ensures)
     c.put_expr_pattern-in-Some-skip.ensures.given
 

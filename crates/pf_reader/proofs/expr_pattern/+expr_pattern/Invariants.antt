@@ -2,8 +2,8 @@ use Rattle.std.proofs.Common.{◌≡◌, ◌-◌, ◌*◌, ◌+◌, length}
 use Rattle.std.specs.Prelude.{map}
 use Rattle.std.specs.List.{All}
 use Rattle.pf_syntax.specs.SyntaxTreeOver.{ExprPatternRepresents}
-use Rattle.pf_tokens.specs.declared.marks.Mark.TheVariants.{Comma}
-use Rattle.pf_intern.specs.NumberedTokens.{mark}
+use Rattle.pf_tokens.specs.declared.marks.TokenMark.TheVariants.{Comma}
+use Rattle.pf_tokens.specs.NumberedTokens.{mark}
 use Rattle.pf_grammar.specs.Parse.{items, pattern}
 use Rattle.pf_reader.specs.View.{names_of, tokens_in}
 use Rattle.pf_reader.specs.Given.{expr_pattern_of, with_front, Grown}

@@ -3,7 +3,7 @@ use Rattle.std.proofs.lemmas.Result.{err_from_is_err_and}
 use Rattle.std.proofs.lemmas.List.{length-map}
 use Rattle.pf_syntax.specs.SyntaxTreeOver.{heads_over}
 use Rattle.pf_grammar.specs.Parse.{functions}
-use Rattle.pf_intern.specs.View.{numbered_token_of}
+use Rattle.pf_tokens.specs.View.{numbered_token_of}
 use Rattle.pf_reader.specs.View.{names_of, tokens_in}
 use Rattle.pf_reader.specs.Given.{with_first}
 use Rattle.pf_reader.proofs.Items.{fails_as}

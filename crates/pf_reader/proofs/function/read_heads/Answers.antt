@@ -2,10 +2,10 @@ use Rattle.std.proofs.Common.{◌≡◌, suc, ◌+◌, ◌-◌, [], ◌∷◌, �
 use Rattle.std.proofs.lemmas.Result.{err_from_is_err_and}
 use Rattle.std.proofs.lemmas.List.{length-map}
 use Rattle.pf_syntax.specs.SyntaxTreeOver.{head_over, HeadRepresents}
-use Rattle.pf_tokens.specs.declared.marks.Mark.TheVariants.{Semicolon}
-use Rattle.pf_intern.specs.NumberedTokens.{mark}
-use Rattle.pf_intern.specs.View.{numbered_token_of}
-use Rattle.pf_grammar.specs.Parse.{after, head}
+use Rattle.pf_tokens.specs.declared.marks.TokenMark.TheVariants.{Semicolon}
+use Rattle.pf_tokens.specs.NumberedTokens.{mark}
+use Rattle.pf_tokens.specs.View.{numbered_token_of}
+use Rattle.pf_grammar.specs.Parse.{after_kind, head_parse}
 use Rattle.pf_reader.specs.View.{names_of, tokens_in}
 use Rattle.pf_reader.proofs.Growth.{again}
 use Rattle.pf_reader.proofs.Items.{fails_as, loop_ends, loop_goes, loop_fails, loop_out}
@@ -26,10 +26,10 @@ returns-in_default-clause-given c =
     let d = c.read_head.new.syntax.node_table in
     let on = c.in_ok-head.ensures.grown.node_table in
     let turn : n - c.loop.counter ≡ suc (n - (c.loop.counter + 1)) = omega (arith, length-map c.args.tokens.list.now numbered_token_of) in
-    let none : after (mark Semicolon) (tokens_in c.in_ok-head.behind_it) ≡ None = search rules in
+    let none : after_kind (mark Semicolon) (tokens_in c.in_ok-head.behind_it) ≡ None = search rules in
     let pushed : c.push.new.self.items ≡ c.loop.found.items ++ c.in_ok-head.head ∷ [] = search rules in
     let same = heads_alike b d on c.loop.found.items c.loop.invariant.stands in
-    loop_ends (mark Semicolon) (head (names_of c.args.context)) (head_over d) (head_over b) c.loop.found.items c.push.new.self.items c.in_ok-head.head _ _ _ _ _ same pushed turn c.loop.invariant.given c.in_ok-head.ensures.given none
+    loop_ends (mark Semicolon) (head_parse (names_of c.args.context)) (head_over d) (head_over b) c.loop.found.items c.push.new.self.items c.in_ok-head.head _ _ _ _ _ same pushed turn c.loop.invariant.given c.in_ok-head.ensures.given none
 
 pub returns-in_default-clause-stands : goal.returns-in_default-clause-stands
 returns-in_default-clause-stands c =
@@ -47,14 +47,14 @@ loop-preserved c =
     let d = c.read_head.new.syntax.node_table in
     let on = c.in_ok-head.ensures.grown.node_table in
     let turn : n - c.loop.counter ≡ suc (n - (c.loop.counter + 1)) = omega (arith, length-map c.args.tokens.list.now numbered_token_of) in
-    let next : after (mark Semicolon) (tokens_in c.in_ok-head.behind_it) ≡ Some (tokens_in c.in-Some.after) = search rules in
+    let next : after_kind (mark Semicolon) (tokens_in c.in_ok-head.behind_it) ≡ Some (tokens_in c.in-Some.after) = search rules in
     let pushed : c.push.new.self.items ≡ c.loop.found.items ++ c.in_ok-head.head ∷ [] = search rules in
     let same = heads_alike b d on c.loop.found.items c.loop.invariant.stands in
     let kept = all_heads_stand b d on c.loop.found.items c.loop.invariant.stands in
     record {
       grown = again _ _ _ c.loop.invariant.grown c.in_ok-head.ensures.grown;
       stands = pushed_stands (HeadRepresents d) c.loop.found.items c.push.new.self.items c.in_ok-head.head pushed kept c.in_ok-head.ensures.stands;
-      given = loop_goes (mark Semicolon) (head (names_of c.args.context)) (head_over d) (head_over b) c.loop.found.items c.push.new.self.items c.in_ok-head.head _ _ _ _ _ _ same pushed turn c.loop.invariant.given c.in_ok-head.ensures.given next;
+      given = loop_goes (mark Semicolon) (head_parse (names_of c.args.context)) (head_over d) (head_over b) c.loop.found.items c.push.new.self.items c.in_ok-head.head _ _ _ _ _ _ same pushed turn c.loop.invariant.given c.in_ok-head.ensures.given next;
     }
 
 pub returns-clause-given : goal.returns-clause-given

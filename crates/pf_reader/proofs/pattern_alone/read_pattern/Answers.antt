@@ -1,8 +1,8 @@
 use Rattle.std.proofs.Common.{◌≡◌, None, refl, rules}
 use Rattle.std.specs.Prelude.{map}
 use Rattle.pf_tokens.specs.TokenKinds.{placed_of}
-use Rattle.pf_intern.specs.NumberedTokens.{numbered_after}
-use Rattle.pf_intern.specs.View.{token_list}
+use Rattle.pf_tokens.specs.NumberedTokens.{numbered_after}
+use Rattle.pf_tokens.specs.View.{token_list}
 use Rattle.pf_reader.specs.PatternAlone.{pattern_of, LacksModule}
 use Rattle.pf_reader.proofs.Alone.{alone_complete, alone_sound, read_as, read_by}
 use Rattle.pf_reader.proofs.pattern_alone.read_pattern.Goals as goal

@@ -1,13 +1,13 @@
 use Rattle.std.proofs.Common.{◌≡◌, None, refl, rules}
-use Rattle.pf_grammar.specs.Parse.{begins}
-use Rattle.pf_intern.specs.View.{token_list}
+use Rattle.pf_grammar.specs.Parse.{first_form}
+use Rattle.pf_tokens.specs.View.{token_list}
 use Rattle.pf_grammar.proofs.Whole.{tree_complete, begins_complete}
 use Rattle.pf_reader.proofs.Head.{has_head}
 use Rattle.pf_reader.proofs.read.tree_fault.Goals as goal
 
 pub returns-in_default : goal.returns-in_default
 returns-in_default c =
-    let none : begins c.args.atoms.now (token_list c.args.tokens.now) ≡ None = search rules in
+    let none : first_form c.args.atoms.now (token_list c.args.tokens.now) ≡ None = search rules in
     rw c.refusal.ensures
     (λ h. let some = begins_complete c.args.atoms.now (token_list c.args.tokens.now) h.0 h.1 h.2 in absurd (cc), refl)
 

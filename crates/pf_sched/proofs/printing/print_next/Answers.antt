@@ -1,8 +1,8 @@
 use Rattle.std.proofs.Common.{◌≡◌, ◌-◌, ◌∷◌, ◌++◌, [], Some, inl, refl, sym, subst}
-use Rattle.pf_fault.specs.declared.fault.OrNoMemory.TheVariants.{NoMemory}
+use Rattle.pf_errors.specs.declared.fault.OrNoMemory.TheVariants.{NoMemory}
 use Rattle.pf_model.specs.Reports.{actor_of, label_of}
 use Rattle.pf_trace.proofs.Fronts.{handed_on}
-use Rattle.pf_sched.specs.Printing.{IsPrinted, names_in}
+use Rattle.pf_sched.specs.Printing.{IsPrinted, atom_names_of}
 use Rattle.pf_sched.specs.Told.{event}
 use Rattle.pf_sched.specs.Traces.{MayHavePassed}
 use Rattle.pf_sched.proofs.Printed.{cut, printed_out, told_next, waiting_written}
@@ -45,7 +45,7 @@ returns-in_err-print_full-clause-fault g c =
     told_next j cs es e old c.pass_next.new.self c.args.printer.now c.tell.new.self w0 _ c.args.limit same c.requires printed went
     (c.in_ok-tell.ensures.told j.asked es) c.in_ok-tell.ensures.gone in
     cut f j cs (es ++ e ∷ []) c.pass_next.new.self c.tell.new.self w0 _ _ _ _ more
-    (c.in_err-print_full.ensures.fault (names_in j) (waiting_written j cs (es ++ e ∷ []) c.pass_next.new.self c.tell.new.self w0 _ more)))
+    (c.in_err-print_full.ensures.fault (atom_names_of j) (waiting_written j cs (es ++ e ∷ []) c.pass_next.new.self c.tell.new.self w0 _ more)))
 
 pub returns-clause-printed : goal.returns-clause-printed
 returns-clause-printed g c j cs es w0 same printed =
@@ -61,5 +61,5 @@ returns-clause-printed g c j cs es w0 same printed =
     (c.in_ok-tell.ensures.told j.asked es) c.in_ok-tell.ensures.gone in (
       e,
       printed_out j cs (es ++ e ∷ []) c.pass_next.new.self c.tell.new.self c.print_full.new.self w0 _ _ more
-          (c.in_ok-print_full.ensures.out (names_in j) (waiting_written j cs (es ++ e ∷ []) c.pass_next.new.self c.tell.new.self w0 _ more)),
+          (c.in_ok-print_full.ensures.out (atom_names_of j) (waiting_written j cs (es ++ e ∷ []) c.pass_next.new.self c.tell.new.self w0 _ more)),
     )

@@ -1,7 +1,7 @@
 use Rattle.std.proofs.Common.{refl, sym, ap, ◌∙◌, subst}
-use Rattle.pf_fault.specs.declared.fault.OrNoMemory.TheVariants.{NoMemory}
+use Rattle.pf_errors.specs.declared.fault.OrNoMemory.TheVariants.{NoMemory}
 use Rattle.pf_terms.specs.Atoms.{name_of}
-use Rattle.pf_model.specs.Reports.{outcome_of}
+use Rattle.pf_model.specs.Reports.{view_of_outcome}
 use Rattle.pf_trace.specs.Written.{AreWrittenSoFar}
 use Rattle.pf_trace.proofs.Fronts.{handed_on}
 use Rattle.pf_sched.specs.Evidence.{Shows}
@@ -31,7 +31,7 @@ returns-in_err-print_end-clause-fault g c =
     let told = c.in_ok-outcome.ensures es (few_so_far j j.asked.choices es c.args.execution.now printed.run) known in
     ends_short j es c.args.execution.now p c.args.pieces w0 _ _ c.atoms-atoms.result.now told.0 same_pieces printed over told.1
     (c.atoms-atoms.ensures ∙ ap (λ m. m.atoms) c.deref.ensures ∙ ap (λ m. m.atoms) c.module.ensures)
-    (outcome_of c.in_ok-outcome.field-0.outcome) c.steps.result c.in_ok-outcome.field-0.verdict told.2.0 (told.1.steps ∙ sym c.steps.ensures) told.2.1
+    (view_of_outcome c.in_ok-outcome.field-0.outcome) c.steps.result c.in_ok-outcome.field-0.verdict told.2.0 (told.1.steps ∙ sym c.steps.ensures) told.2.1
     f _ _ c.in_err-print_end.ensures.fault)
 
 pub returns-clause-printed : goal.returns-clause-printed
@@ -41,5 +41,5 @@ returns-clause-printed g c es p w0 same_pieces same_evidence printed over =
     let told = c.in_ok-outcome.ensures es (few_so_far j j.asked.choices es c.args.execution.now printed.run) known in
     ends_whole j es c.args.execution.now p c.args.pieces w0 _ _ c.atoms-atoms.result.now told.0 same_pieces printed over told.1
     (c.atoms-atoms.ensures ∙ ap (λ m. m.atoms) c.deref.ensures ∙ ap (λ m. m.atoms) c.module.ensures)
-    (outcome_of c.in_ok-outcome.field-0.outcome) c.steps.result c.in_ok-outcome.field-0.verdict told.2.0 (told.1.steps ∙ sym c.steps.ensures) told.2.1
+    (view_of_outcome c.in_ok-outcome.field-0.outcome) c.steps.result c.in_ok-outcome.field-0.verdict told.2.0 (told.1.steps ∙ sym c.steps.ensures) told.2.1
     c.in_ok-outcome.field-0.waiting told.2.2 c.in_ok-print_end.ensures.written

@@ -1,4 +1,4 @@
-use Rattle.pf_fault.specs.declared.fault.OrNoMemory.TheVariants.{NoMemory}
+use Rattle.pf_errors.specs.declared.fault.OrNoMemory.TheVariants.{NoMemory}
 use Rattle.pf_trace.proofs.Fronts.{handed_on}
 use Rattle.pf_sched.proofs.Printed.{stopped_first}
 use Rattle.pf_sched.proofs.printing.print_run.Goals as goal

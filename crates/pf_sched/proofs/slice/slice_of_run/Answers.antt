@@ -2,7 +2,7 @@ use Rattle.std.proofs.Common.{◌+◌, ◌≡◌, length, refl, sym, ap, subst}
 use Rattle.std.specs.Prelude.{◌⊎◌}
 use Rattle.pf_sched.specs.Asked.{IsValid}
 use Rattle.pf_sched.specs.Parts.{IsRunOf, events_in}
-use Rattle.pf_sched.specs.Slices.{EndsBy, IsOver, RunAdvances}
+use Rattle.pf_sched.specs.Slices.{EndsBy, IsRunOver, RunAdvances}
 use Rattle.pf_sched.specs.declared.run.Run.{Run}
 use Rattle.pf_sched.specs.Views.{view_of_parked, without_memory}
 use Rattle.pf_sched.proofs.Sliced.{ends_sooner, goes_on, is_over}
@@ -35,7 +35,7 @@ finish-requires-clause-over c =
     let made = c.go_on.new.self in
     let advanced = subst (λ k. RunAdvances k c.deref_mut.result.now made c.args.turns c.in-Ok-true.field-0) c.deref.ensures c.in-Ok-true.ensures.run in
     let went = (subst (λ k. RunAdvances j k made c.args.turns c.in-Ok-true.field-0) c.deref_mut.ensures.value advanced) j.asked.choices c.requires.1 in
-    subst (λ (k : Run). IsOver j.asked.limit k.execution) (sym c.into_inner.ensures)
+    subst (λ (k : Run). IsRunOver j.asked.limit k.execution) (sym c.into_inner.ensures)
     (is_over j (length (events_in old)) (length (events_in made)) c.args.turns j.asked.limit made.execution refl c.in-Ok-true.field-0 c.in-Ok-true.field-0-test went.1).0
 
 pub returns-in-Ok-true : goal.returns-in-Ok-true

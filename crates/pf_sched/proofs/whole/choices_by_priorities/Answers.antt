@@ -2,7 +2,7 @@ use Rattle.std.proofs.Common.{refl, ap}
 use Rattle.pf_model.specs.Meaning.{Report, outcome_of}
 use Rattle.pf_model.specs.Properties.{verdict}
 use Rattle.pf_property.specs.Views.{labels_in}
-use Rattle.pf_sched.specs.Closing.{Closes}
+use Rattle.pf_sched.specs.Closing.{ClosesRun}
 use Rattle.pf_sched.proofs.GuidedRuns.{means}
 use Rattle.pf_sched.proofs.Reported.{one_stands}
 use Rattle.pf_sched.proofs.whole.choices_by_priorities.Goals as goal
@@ -14,6 +14,6 @@ returns c =
     let all = c.in_ok-complete.ensures c.args.seed c.in_ok-guided.ensures c.new-numbers.ensures.items in
     let o = outcome_of all.1.last in
     let r : Report = record { events = all.0; outcome = o; steps = x.system.steps; verdict = verdict j.asked.property (labels_in all.0) o } in
-    let closes : Closes j all.0 x.system r =
+    let closes : ClosesRun j all.0 x.system r =
     record { events = refl; outcome = λ d stands. ap outcome_of (one_stands x.system.standing all.1.last d all.1.stands stands); steps = refl; verdict = refl } in
     (r, means j c.args.seed all.0 x all.1 all.3 r closes, all.2)

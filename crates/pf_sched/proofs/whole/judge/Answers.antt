@@ -1,7 +1,7 @@
 use Rattle.std.proofs.Common.{◌≡◌, refl, sym, ap, ◌∙◌, subst}
 use Rattle.pf_model.specs.Meaning.{Report}
 use Rattle.pf_model.specs.Properties.{some_label, verdict}
-use Rattle.pf_model.specs.Reports.{outcome_of}
+use Rattle.pf_model.specs.Reports.{view_of_outcome}
 use Rattle.pf_property.specs.Judging.{rules_out}
 use Rattle.pf_property.specs.Views.{labels_in}
 use Rattle.pf_sched.specs.Asked.{IsValid}
@@ -12,7 +12,7 @@ pub returns : goal.returns
 returns c es within known =
     let j = c.args.job.now in
     let s = c.args.system.now in
-    let o = outcome_of c.in_ok-outcome.outcome in
+    let o = view_of_outcome c.in_ok-outcome.outcome in
     let ls = labels_in es in
     let same = ap (λ k. k.asked.property) c.job.view_is in
     let told : c.judge-verdict.result ≡ verdict j.asked.property ls o =

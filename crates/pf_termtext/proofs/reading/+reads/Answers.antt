@@ -4,7 +4,7 @@ use Rattle.std.proofs.lemmas.List.{map-append}
 use Rattle.pf_terms.specs.Term.{value_of}
 use Rattle.pf_terms.specs.Value.{tuple, list}
 use Rattle.pf_terms.specs.declared.limits.TheConstants.{MOST_NODES}
-use Rattle.pf_termtext.specs.Reading.{before, bounded, value_at, elements_at}
+use Rattle.pf_termtext.specs.Reading.{with_value_before, bounded, value_at, elements_at}
 use Rattle.pf_termtext.proofs.Items.{items_more, items_end, items_fail, items_full}
 use Rattle.pf_termtext.proofs.Values.{fails_as, elements-map, value_nowhere, value_of_nothing, at_brace, at_bracket, at_quote, at_minus, at_digit, at_other, tuple_by, list_by}
 use Rattle.pf_termtext.proofs.reading.+reads.Goals as goal
@@ -42,23 +42,23 @@ pub read_tuple-returns-in_err-bounded_tuple : goal.read_tuple-returns-in_err-bou
 read_tuple-returns-in_err-bounded_tuple t c =
     let p = err_from_is_err_and c.from_residual-in_err-bounded_tuple.result c.from_residual-in_err-bounded_tuple.ensures.1 in
     let at = tuple_by (elements_at (value_at c.args.atoms.now c.args.room)) c.args.text.now _ c.in_ok-items.ensures in
-    rw (p.1, p.2) (fails_as _ _ _ (λ f. at ∙ ap (λ vs. before c.in_ok-items.rest.now (λ v. v) (bounded (tuple vs))) (elements-map c.in_ok-items.items.items) ∙ ap (before c.in_ok-items.rest.now (λ v. v)) f) c.in_err-bounded_tuple.ensures)
+    rw (p.1, p.2) (fails_as _ _ _ (λ f. at ∙ ap (λ vs. with_value_before c.in_ok-items.rest.now (λ v. v) (bounded (tuple vs))) (elements-map c.in_ok-items.items.items) ∙ ap (with_value_before c.in_ok-items.rest.now (λ v. v)) f) c.in_err-bounded_tuple.ensures)
 
 pub read_tuple-returns : goal.read_tuple-returns
 read_tuple-returns t c =
     let at = tuple_by (elements_at (value_at c.args.atoms.now c.args.room)) c.args.text.now _ c.in_ok-items.ensures in
-    at ∙ ap (λ vs. before c.in_ok-items.rest.now (λ v. v) (bounded (tuple vs))) (elements-map c.in_ok-items.items.items) ∙ ap (before c.in_ok-items.rest.now (λ v. v)) c.in_ok-bounded_tuple.ensures
+    at ∙ ap (λ vs. with_value_before c.in_ok-items.rest.now (λ v. v) (bounded (tuple vs))) (elements-map c.in_ok-items.items.items) ∙ ap (with_value_before c.in_ok-items.rest.now (λ v. v)) c.in_ok-bounded_tuple.ensures
 
 pub read_list-returns-in_err-bounded_list : goal.read_list-returns-in_err-bounded_list
 read_list-returns-in_err-bounded_list t c =
     let p = err_from_is_err_and c.from_residual-in_err-bounded_list.result c.from_residual-in_err-bounded_list.ensures.1 in
     let at = list_by (elements_at (value_at c.args.atoms.now c.args.room)) c.args.text.now _ c.in_ok-items.ensures in
-    rw (p.1, p.2) (fails_as _ _ _ (λ f. at ∙ ap (λ vs. before c.in_ok-items.rest.now (λ v. v) (bounded (list vs))) (elements-map c.in_ok-items.items.items) ∙ ap (before c.in_ok-items.rest.now (λ v. v)) f) c.in_err-bounded_list.ensures)
+    rw (p.1, p.2) (fails_as _ _ _ (λ f. at ∙ ap (λ vs. with_value_before c.in_ok-items.rest.now (λ v. v) (bounded (list vs))) (elements-map c.in_ok-items.items.items) ∙ ap (with_value_before c.in_ok-items.rest.now (λ v. v)) f) c.in_err-bounded_list.ensures)
 
 pub read_list-returns : goal.read_list-returns
 read_list-returns t c =
     let at = list_by (elements_at (value_at c.args.atoms.now c.args.room)) c.args.text.now _ c.in_ok-items.ensures in
-    at ∙ ap (λ vs. before c.in_ok-items.rest.now (λ v. v) (bounded (list vs))) (elements-map c.in_ok-items.items.items) ∙ ap (before c.in_ok-items.rest.now (λ v. v)) c.in_ok-bounded_list.ensures
+    at ∙ ap (λ vs. with_value_before c.in_ok-items.rest.now (λ v. v) (bounded (list vs))) (elements-map c.in_ok-items.items.items) ∙ ap (with_value_before c.in_ok-items.rest.now (λ v. v)) c.in_ok-bounded_list.ensures
 
 -- ---- read_value
 

@@ -1,23 +1,23 @@
 use Rattle.std.proofs.Common.{◌≡◌, ◌⊎◌, inl, inr, ℕ, List, Ok, Err, sym, ap, ◌∙◌}
-use Rattle.pf_fault.specs.declared.code.Code.{Code}
-use Rattle.pf_tokens.specs.TokenKinds.{Placed}
+use Rattle.pf_errors.specs.declared.code.Code.{Code}
+use Rattle.pf_tokens.specs.TokenKinds.{PlacedToken}
 use Rattle.pf_tokens.specs.Rules.{HasSomeTokens, HasSomeFault}
 use Rattle.pf_tokens.specs.Scan.{Read, tokens}
 use Rattle.pf_tokens.proofs.Texts.{Tells, tokens_tell, tokens_again, tokens_fail}
 use Rattle.pf_tokens.proofs.scan.one_reading.Goals as goal
 
 -- what is read is tokens or a fault
-some : (text : List ℕ) (read : Read (List Placed)) → Tells text read → HasSomeTokens text ⊎ HasSomeFault text
+some : (text : List ℕ) (read : Read (List PlacedToken)) → Tells text read → HasSomeTokens text ⊎ HasSomeFault text
 some text (Ok ts) tells = inl (ts, tells)
 some text (Err e) tells = inr (e.0, e.1, tells)
 
-abbrev found : List Placed → Read (List Placed)
+abbrev found : List PlacedToken → Read (List PlacedToken)
 found ts = Ok ts
 
-one_list : (ts us : List Placed) → found ts ≡ found us → ts ≡ us
+one_list : (ts us : List PlacedToken) → found ts ≡ found us → ts ≡ us
 one_list ts us e = cc
 
-abbrev failed : Code → ℕ → Read (List Placed)
+abbrev failed : Code → ℕ → Read (List PlacedToken)
 failed fault offset = Err (fault, offset)
 
 one_fault : (f g : Code) (m n : ℕ) → failed f m ≡ failed g n → (f ≡ g) × (m ≡ n)

@@ -3,7 +3,7 @@ use Rattle.std.specs.Prelude.{map}
 use Rattle.std.proofs.lemmas.Result.{err_from_is_err_and}
 use Rattle.std.proofs.lemmas.List.{length-drop}
 use Rattle.pf_tokens.specs.TokenKinds.{placed_of}
-use Rattle.pf_tokens.specs.Scan.{shown}
+use Rattle.pf_tokens.specs.Scan.{shown_piece}
 use Rattle.pf_tokens.proofs.Turns.{scan_goes, scan_fails, scan_ends, scan_out}
 use Rattle.pf_tokens.proofs.scan.scan.Goals as goal
 
@@ -24,7 +24,7 @@ loop-preserved c =
     let next = c.in_ok-next.next in
     let turn : n - c.loop.counter ≡ suc (n - (c.loop.counter + 1)) = omega arith in
     let some : 0 < length c.loop.rest.now = search rules in
-    let goes = scan_goes (map placed_of c.loop.found.items) _ _ c.loop.offset c.loop.rest.now (shown next) _ turn some c.in_ok-next.ensures.given c.loop.invariant.given in
+    let goes = scan_goes (map placed_of c.loop.found.items) _ _ c.loop.offset c.loop.rest.now (shown_piece next) _ turn some c.in_ok-next.ensures.given c.loop.invariant.given in
     let rest = c.split_at.ensures.back in
     record {
       given = rw (rest, c.in_ok-put.ensures) goes;

@@ -1,17 +1,17 @@
 use Rattle.std.proofs.Common.{◌≡◌, ℕ, List, Result, Ok, Err, Vec, Global, length, IfOk, IfErr, subst}
 use Rattle.std.specs.Prelude.{map}
 use Rattle.pf_tokens.specs.declared.token.Token.{Token}
-use Rattle.pf_fault.specs.declared.fault.OrNoMemory.{OrNoMemory}
-use Rattle.pf_fault.specs.declared.refusal.Refusal.{Refusal}
-use Rattle.pf_fault.specs.declared.fault.OrNoMemory.TheVariants.{NoMemory, Fault}
-use Rattle.pf_tokens.specs.TokenKinds.{Placed, placed_of}
+use Rattle.pf_errors.specs.declared.fault.OrNoMemory.{OrNoMemory}
+use Rattle.pf_errors.specs.declared.refusal.SourceRefusal.{SourceRefusal}
+use Rattle.pf_errors.specs.declared.fault.OrNoMemory.TheVariants.{NoMemory, Fault}
+use Rattle.pf_tokens.specs.TokenKinds.{PlacedToken, placed_of}
 use Rattle.pf_tokens.specs.Rules.{HasTokens, IsOrdered, IsFaultOf}
 use Rattle.pf_tokens.specs.Scan.{Read, Gives, tokens}
 use Rattle.pf_tokens.proofs.Texts.{Tells, tokens_tell, tokens_again, tokens_fail, ordered}
 use Rattle.pf_tokens.proofs.scan.tokens.Goals as goal
 
 abbrev Outcome : Type 0
-Outcome = Result (Vec Token Global) (OrNoMemory Refusal)
+Outcome = Result (Vec Token Global) (OrNoMemory SourceRefusal)
 
 abbrev IsRead : List ℕ → Outcome → Type 0
 IsRead text r = Gives (λ found. map placed_of found.items) r (tokens text)
@@ -29,7 +29,7 @@ has_fault text (Ok v) is = tt
 has_fault text (Err NoMemory) is = tt
 has_fault text (Err (Fault r)) is = subst (Tells text) is (tokens_tell text)
 
-gives : (text : List ℕ) (r : Outcome) (read : Read (List Placed)) → tokens text ≡ read → IsRead text r → Gives (λ found. map placed_of found.items) r read
+gives : (text : List ℕ) (r : Outcome) (read : Read (List PlacedToken)) → tokens text ≡ read → IsRead text r → Gives (λ found. map placed_of found.items) r read
 gives text r read same is = subst (Gives (λ found. map placed_of found.items) r) same is
 
 pub returns-clause-only : goal.returns-clause-only

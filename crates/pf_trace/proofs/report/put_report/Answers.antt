@@ -4,7 +4,7 @@ use Rattle.std.proofs.lemmas.Result.{on_ok_weaker}
 use Rattle.std.proofs.lemmas.List.Folds.{flat_map-map}
 use Rattle.pf_terms.specs.Atoms.{name_of}
 use Rattle.pf_model.specs.Meaning.{Event}
-use Rattle.pf_model.specs.Reports.{event_of}
+use Rattle.pf_model.specs.Reports.{view_of_event}
 use Rattle.pf_model.specs.Text.{event_text}
 use Rattle.pf_model.specs.TermText.{line}
 use Rattle.pf_model.specs.declared.report.Event as code
@@ -20,6 +20,6 @@ joined b0 b1 b2 e f o s v h1 he h2 =
 pub returns : goal.returns
 returns c =
     let name = name_of c.args.atoms.now in
-    let events = flat_map-map (λ (e : Event). line (event_text name e)) event_of c.args.report.now.events.items in
-    on_ok_weaker c.put_last_lines.result (λ last. joined _ _ _ _ _ _ _ _ c.in_ok-put_events.ensures (ap (λ es. flat_map (λ (e : code.Event). line (event_text name (event_of e))) es) c.deref.ensures.value ∙ sym events) last)
+    let events = flat_map-map (λ (e : Event). line (event_text name e)) view_of_event c.args.report.now.events.items in
+    on_ok_weaker c.put_last_lines.result (λ last. joined _ _ _ _ _ _ _ _ c.in_ok-put_events.ensures (ap (λ es. flat_map (λ (e : code.Event). line (event_text name (view_of_event e))) es) c.deref.ensures.value ∙ sym events) last)
     c.put_last_lines.ensures

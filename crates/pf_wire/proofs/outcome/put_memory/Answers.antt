@@ -1,20 +1,20 @@
 use Rattle.std.proofs.Common.{◌≡◌, ◌++◌, ℕ, List, sym, ap, ◌∙◌}
 use Rattle.std.specs.Prelude.{codes}
 use Rattle.std.proofs.lemmas.Result.{on_ok_weaker}
-use Rattle.pf_fault.specs.Codes.{no_memory_text}
+use Rattle.pf_errors.specs.Codes.{no_memory_text}
 use Rattle.pf_desks.specs.Told.{to_project}
-use Rattle.pf_worlds.specs.Steps.{WorkshopStep, client_calls, worker_does}
-use Rattle.pf_worlds.specs.Told.{memory_text, to_worker}
+use Rattle.pf_world.specs.Steps.{WorldStep, client_calls, worker_does}
+use Rattle.pf_world.specs.Told.{memory_text, to_worker}
 use Rattle.pf_wire.specs.Outcomes.{requester_of}
 use Rattle.pf_wire.specs.declared.outcome.Requester.TheVariants.{Client, Worker}
 use Rattle.pf_wire.proofs.outcome.put_memory.Goals as goal
 
 -- a client's step is refused as out of memory, and a worker has none
-to_client : (q : ℕ) (s : WorkshopStep) → Client q ≡ requester_of s → to_project q (codes "refused " ++ no_memory_text) ≡ memory_text s
+to_client : (q : ℕ) (s : WorldStep) → Client q ≡ requester_of s → to_project q (codes "refused " ++ no_memory_text) ≡ memory_text s
 to_client q (client_calls r c) e = let same : q ≡ r = cc in ap (λ (n : ℕ). to_project n (codes "refused " ++ no_memory_text)) same
 to_client q (worker_does w r t k) e = absurd cc
 
-to_its_worker : (w q : ℕ) (s : WorkshopStep) → Worker w q ≡ requester_of s → to_worker w (codes "no memory") ≡ memory_text s
+to_its_worker : (w q : ℕ) (s : WorldStep) → Worker w q ≡ requester_of s → to_worker w (codes "no memory") ≡ memory_text s
 to_its_worker w q (client_calls r c) e = absurd cc
 to_its_worker w q (worker_does v r t k) e = let same : w ≡ v = cc in ap (λ (n : ℕ). to_worker n (codes "no memory")) same
 

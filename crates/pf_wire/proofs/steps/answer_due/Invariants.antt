@@ -1,5 +1,5 @@
 use Rattle.std.proofs.Common.{◌≡◌, ◌≤◌, ◌+◌, length}
-use Rattle.pf_workshop.specs.Profile.{ForRight}
+use Rattle.pf_pool.specs.Profile.{ForRight}
 use Rattle.pf_wire.specs.Endings.{LeadsTo}
 use Rattle.pf_wire.proofs.Leaving.{AtHand}
 use Rattle.pf_wire.proofs.steps.answer_due.Given as goal

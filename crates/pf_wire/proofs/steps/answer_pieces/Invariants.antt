@@ -1,5 +1,5 @@
 use Rattle.std.proofs.Common.{◌≡◌, ◌≤◌, ◌<◌, ◌+◌, ◌-◌, false, length, if◌then◌else◌}
-use Rattle.pf_lines.specs.Complete.{is_due}
+use Rattle.pf_protocol.specs.Complete.{is_due}
 use Rattle.pf_wire.specs.declared.steps.TheConstants.{MOST_BYTES}
 use Rattle.pf_wire.specs.Endings.{ReadsUpTo}
 use Rattle.pf_wire.proofs.Leaving.{Stands}

@@ -1,5 +1,5 @@
 use Rattle.std.proofs.Common.{refl}
-use Rattle.pf_fault.specs.declared.fault.OrNoMemory.TheVariants.{NoMemory}
+use Rattle.pf_errors.specs.declared.fault.OrNoMemory.TheVariants.{NoMemory}
 use Rattle.pf_trace.proofs.Fronts.{handed_on}
 use Rattle.pf_wire.proofs.Leaving.{stands_before}
 use Rattle.pf_wire.proofs.steps.run_steps.Goals as goal

@@ -1,11 +1,11 @@
 use Rattle.std.proofs.Common.{◌∙◌, refl, map, sym, ap}
-use Rattle.pf_cli.specs.Args.{named_file, view_of_asked, view_of_reading}
+use Rattle.pf_cli.specs.Args.{named_file, view_of_command, view_of_reading}
 use Rattle.pf_words.proofs.Told.{asked_obeys, file_obeys, text_obeys}
 use Rattle.pf_words.proofs.words.obey.Goals as goal
 
 pub returns-in-Asked : goal.returns-in-Asked
 returns-in-Asked g c =
-    asked_obeys (map (λ w. w.now) c.args.words.now) _ _ (view_of_asked c.in-Asked.asked) (named_file c.in-Asked.asked.args) c.obey_asked.result
+    asked_obeys (map (λ w. w.now) c.args.words.now) _ _ (view_of_command c.in-Asked.asked) (named_file c.in-Asked.asked.args) c.obey_asked.result
     (sym (ap view_of_reading c.in-Asked.is) ∙ c.in_ok-asked.ensures) c.obey_asked.ensures
 
 pub returns-in-Text : goal.returns-in-Text

@@ -1,11 +1,11 @@
 use Rattle.std.proofs.Common.{◌∙◌, Some, refl, map, sym, ap}
-use Rattle.pf_cli.specs.Args.{file_of, named_file, view_of_asked, view_of_reading, wanted_by, words_status}
+use Rattle.pf_cli.specs.Args.{file_of, named_file, view_of_command, view_of_reading, wanted_by, words_status}
 use Rattle.pf_words.proofs.Told.{asked_obeys_by, never_reads, text_obeys_by}
 use Rattle.pf_words.proofs.words.obey_by.Goals as goal
 
 pub returns-in-Asked : goal.returns-in-Asked
 returns-in-Asked g c =
-    asked_obeys_by (map (λ w. w.now) c.args.words.now) c.args.schedule.now _ _ (view_of_asked c.in-Asked.asked) (named_file c.in-Asked.asked.args)
+    asked_obeys_by (map (λ w. w.now) c.args.words.now) c.args.schedule.now _ _ (view_of_command c.in-Asked.asked) (named_file c.in-Asked.asked.args)
     c.obey_asked_by.result (sym (ap view_of_reading c.in-Asked.is) ∙ c.in_ok-asked.ensures) c.obey_asked_by.ensures
 
 pub returns-in-Text : goal.returns-in-Text

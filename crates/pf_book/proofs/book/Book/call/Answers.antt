@@ -4,7 +4,7 @@ use Rattle.std.proofs.lemmas.Result.{err_from_is_err_and}
 use Rattle.indexmap.specs.IndexMap.{insert_entry}
 use Rattle.pf_request.specs.View.{view_of_call}
 use Rattle.pf_desks.specs.Desk.{Desk, no_desk}
-use Rattle.pf_desks.specs.World.{World, desk_at, put_desk}
+use Rattle.pf_desks.specs.Desks.{Desks, desk_at, put_desk}
 use Rattle.pf_book.specs.Answers.{DeskAnswers}
 use Rattle.pf_book.specs.Kept.{modules_of, CountsAll}
 use Rattle.pf_book.specs.Queues.{QueuesAll}
@@ -129,12 +129,12 @@ invariant_of-self-2 c =
     let d' = c.call-2.new.self in
     let put =
     c.in_ok-insert.ensures.entries
-    ∙ ap (λ (w : World). insert_entry nat_eq w q d') (c.reserve.ensures.entries)
+    ∙ ap (λ (w : Desks). insert_entry nat_eq w q d') (c.reserve.ensures.entries)
     ∙ put_insert q es d' in
     let here : desk_at q es ≡ c.new-desk.result = no_desk_at q es es none refl ∙ sym c.new-desk.ensures in (
-      subst (λ (w : World). CountsAll c.call-2.new.store w) (sym put)
+      subst (λ (w : Desks). CountsAll c.call-2.new.store w) (sym put)
           (counts_put c.self.inside.store c.call-2.new.store q es c.new-desk.result d' here c.self.invariant.0 c.call-2.ensures.store),
-      subst (λ (w : World). QueuesAll c.call-2.new.queue w) (sym put)
+      subst (λ (w : Desks). QueuesAll c.call-2.new.queue w) (sym put)
           (queues_put q c.self.inside.queue c.call-2.new.queue es c.new-desk.result d' here c.self.invariant.1 c.call-2.ensures.queue),
     )
 
@@ -149,7 +149,7 @@ returns-clause-answer c =
     let here : desk_at q c.args.self.now ≡ no_desk = no_desk_at q es c.args.self.now none c.self.view_is in
     let put =
     c.in_ok-insert.ensures.entries
-    ∙ ap (λ (w : World). insert_entry nat_eq w q d') (c.reserve.ensures.entries)
+    ∙ ap (λ (w : Desks). insert_entry nat_eq w q d') (c.reserve.ensures.entries)
     ∙ put_insert q es d'
     ∙ ap (put_desk q d') seen in
     let made : DeskAnswers no_desk (view_of_call c.args.call) (Ok reply) d' =
@@ -168,8 +168,8 @@ invariant_of-self-in_err-reply c =
     let stays : d' ≡ d = c.in_err-reply.ensures.answer.1 in
     let counts : CountsAll c.call-2.new.store es =
     λ source. omega (arith, c.self.invariant.0 source, c.call-2.ensures.store source, ap (modules_of source) stays) in (
-      subst (λ (w : World). CountsAll c.call-2.new.store w) (sym entries) counts,
-      subst (λ (w : World). QueuesAll c.call-2.new.queue w) (sym entries)
+      subst (λ (w : Desks). CountsAll c.call-2.new.store w) (sym entries) counts,
+      subst (λ (w : Desks). QueuesAll c.call-2.new.queue w) (sym entries)
           (queues_kept q c.self.inside.queue c.call-2.new.queue es d d' here stays c.self.invariant.1 c.call-2.ensures.queue),
     )
 
@@ -181,7 +181,7 @@ returns-clause-tickets c =
     let d' = c.call-2.new.self in
     let put =
     c.in_ok-insert.ensures.entries
-    ∙ ap (λ (w : World). insert_entry nat_eq w q d') (c.reserve.ensures.entries)
+    ∙ ap (λ (w : Desks). insert_entry nat_eq w q d') (c.reserve.ensures.entries)
     ∙ put_insert q es d'
     ∙ ap (put_desk q d') c.self.view_is in
     let here : desk_at q c.args.self.now ≡ c.new-desk.result = no_desk_at q es c.args.self.now none c.self.view_is ∙ sym c.new-desk.ensures in

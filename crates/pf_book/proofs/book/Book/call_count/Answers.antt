@@ -1,7 +1,7 @@
 use Rattle.std.proofs.Common.{◌≡◌, refl, sym, ap, ◌∙◌}
 use Rattle.pf_desks.specs.Calls.{calls_in}
 use Rattle.pf_desks.specs.Desk.{Desk, no_desk}
-use Rattle.pf_desks.specs.World.{desk_at}
+use Rattle.pf_desks.specs.Desks.{desk_at}
 use Rattle.pf_book.proofs.Placed.{desk_at_index, no_desk_at}
 use Rattle.pf_book.proofs.book.Book.call_count.Goals as goal
 

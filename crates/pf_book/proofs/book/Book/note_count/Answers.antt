@@ -2,7 +2,7 @@ use Rattle.std.proofs.Common.{◌≡◌, nat_eq, length, Some, None, sym, ap, �
 use Rattle.std.specs.Map.{lookup}
 use Rattle.pf_desks.specs.Desk.{Desk, no_desk}
 use Rattle.pf_desks.specs.History.{IsLegalDesk}
-use Rattle.pf_desks.specs.World.{desk_at}
+use Rattle.pf_desks.specs.Desks.{desk_at}
 use Rattle.pf_book.proofs.Placed.{at_some, at_none, empty_legal}
 use Rattle.pf_book.proofs.book.Book.note_count.Goals as goal
 

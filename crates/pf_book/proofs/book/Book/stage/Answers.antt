@@ -1,12 +1,12 @@
 use Rattle.std.proofs.Common.{◌≡◌, ℕ, zero, suc, Option, None, refl, sym, ap, ◌∙◌}
 use Rattle.std.specs.Prelude.{option_map}
 use Rattle.pf_desks.specs.Calls.{stage_of}
-use Rattle.pf_desks.specs.Desk.{Desk, Stage, Trial, no_desk, held_at}
-use Rattle.pf_desks.specs.World.{desk_at}
+use Rattle.pf_desks.specs.Desk.{Desk, TrialStage, Trial, no_desk, held_at}
+use Rattle.pf_desks.specs.Desks.{desk_at}
 use Rattle.pf_book.proofs.Placed.{desk_at_index, no_desk_at}
 use Rattle.pf_book.proofs.book.Book.stage.Goals as goal
 
-abbrev stage_at : (ticket : ℕ) → Desk → Option Stage
+abbrev stage_at : (ticket : ℕ) → Desk → Option TrialStage
 stage_at t d = option_map (λ (x : Trial). stage_of x.state) (held_at d.trials t)
 
 no_stage : (ticket : ℕ) → stage_at ticket no_desk ≡ None

@@ -10,7 +10,7 @@ use Rattle.pf_desks.specs.Jobs.{KeepsTickets}
 use Rattle.pf_book.specs.Answers.{DeskAnswers}
 use Rattle.pf_book.specs.Kept.{desk_in}
 use Rattle.pf_book.specs.Plans.{with_change, IsPlan}
-use Rattle.pf_book.specs.Queues.{ended_by, lined_up, FollowsQueue}
+use Rattle.pf_book.specs.Queues.{trials_dropped_by, lined_up, FollowsQueue}
 use Rattle.pf_book.specs.Running.{running_in}
 use Rattle.pf_book.specs.Users.{holding}
 use Rattle.pf_book.specs.View.{view_of_reply, view_of_entry}
@@ -24,8 +24,8 @@ pub follow-requires-clause-ended : goal.follow-requires-clause-ended
 follow-requires-clause-ended c =
     let d = desk_in c.self.inside in
     let plan = c.in_ok-change.field-0 in
-    let ends : c.ended_by-ended.result ≡ ended_by d.trials plan.change =
-    c.ended_by-ended.ensures ∙ ap (λ (l : List (Option Trial)). ended_by l plan.change) (c.deref.ensures.value ∙ c.make_call_room.ensures.trials) in
+    let ends : c.ended_by-ended.result ≡ trials_dropped_by d.trials plan.change =
+    c.ended_by-ended.ensures ∙ ap (λ (l : List (Option Trial)). trials_dropped_by l plan.change) (c.deref.ensures.value ∙ c.make_call_room.ensures.trials) in
     omega (arith, ends, ended_within d plan.change, c.requires.running, ap running_in c.self.view_is, c.make_room.ensures.running)
 
 pub overflow_sub-self : goal.overflow_sub-self
@@ -34,8 +34,8 @@ overflow_sub-self c =
     let d = desk_in b in
     let plan = c.in_ok-change.field-0 in
     let ran : b.running ≡ running_in d = c.self.invariant.running in
-    let ends : c.ended_by-ended.result ≡ ended_by d.trials plan.change =
-    c.ended_by-ended.ensures ∙ ap (λ (l : List (Option Trial)). ended_by l plan.change) (c.deref.ensures.value ∙ c.make_call_room.ensures.trials) in
+    let ends : c.ended_by-ended.result ≡ trials_dropped_by d.trials plan.change =
+    c.ended_by-ended.ensures ∙ ap (λ (l : List (Option Trial)). trials_dropped_by l plan.change) (c.deref.ensures.value ∙ c.make_call_room.ensures.trials) in
     omega (arith, ran, ends, ended_within d plan.change)
 
 pub returns-clause-queue : goal.returns-clause-queue
@@ -61,14 +61,14 @@ returns-clause-queue c =
     let is = changed_desk d plan.change e c.carry_out.new.edition c.carry_out.new.modules.items c.carry_out.new.trials.items _ made noted in
     let d' : Desk =
     desk_in (record { edition = c.carry_out.new.edition; modules = c.carry_out.new.modules; trials = c.carry_out.new.trials; history = c.push_reserved.new.self; users = c.carry_out.new.users; usage = plan.usage; running = b.running - c.ended_by-ended.result }) in
-    let ends : c.ended_by-ended.result ≡ ended_by d.trials plan.change =
-    c.ended_by-ended.ensures ∙ ap (λ (l : List (Option Trial)). ended_by l plan.change) (c.deref.ensures.value ∙ c.make_call_room.ensures.trials) in
+    let ends : c.ended_by-ended.result ≡ trials_dropped_by d.trials plan.change =
+    c.ended_by-ended.ensures ∙ ap (λ (l : List (Option Trial)). trials_dropped_by l plan.change) (c.deref.ensures.value ∙ c.make_call_room.ensures.trials) in
     let counted : c.len.result ≡ length room.new.trials.items = search rules in
     let many : c.len.result ≡ length d.trials = counted ∙ ap length room.ensures.trials in
     let trials : d'.trials ≡ (with_change d plan.change).trials = ap (λ (k : Desk). k.trials) is in
     let waiting : c.follow.new.self.waiting.items ≡ c.args.queue.now.waiting.items ++ lined_up c.args.project (length d.trials + 1) plan.change =
     c.follow.ensures.waiting ∙ (λ i. c.make_room.ensures.waiting i ++ lined_up c.args.project (many i + 1) plan.change) in
-    let running : c.follow.new.self.running + ended_by d.trials plan.change ≡ c.args.queue.now.running =
+    let running : c.follow.new.self.running + trials_dropped_by d.trials plan.change ≡ c.args.queue.now.running =
     omega (arith, c.follow.ensures.running, ends, c.make_room.ensures.running) in
     let follows = change_followed c.args.project c.args.queue.now c.follow.new.self d d' plan.change trials waiting running c.follow.ensures.room in
     subst (λ (k : Desk). FollowsQueue c.args.project c.args.queue.now k c.follow.new.self d') c.self.view_is follows
@@ -121,8 +121,8 @@ invariant_of-self-3 c =
     ∙ ap (λ (x : desk.Entry). d.history ++ x ∷ []) planned.notes in
     let is = changed_desk d plan.change e c.carry_out.new.edition c.carry_out.new.modules.items c.carry_out.new.trials.items _ made noted in
     let ran : b.running ≡ running_in d = c.self.invariant.running in
-    let ends : c.ended_by-ended.result ≡ ended_by d.trials plan.change = c.ended_by-ended.ensures ∙ ap (λ (l : List (Option Trial)). ended_by l plan.change) (c.deref.ensures.value ∙ room.ensures.trials) in
-    let within : ended_by d.trials plan.change ≤ running_in d = ended_within d plan.change in
+    let ends : c.ended_by-ended.result ≡ trials_dropped_by d.trials plan.change = c.ended_by-ended.ensures ∙ ap (λ (l : List (Option Trial)). trials_dropped_by l plan.change) (c.deref.ensures.value ∙ room.ensures.trials) in
+    let within : trials_dropped_by d.trials plan.change ≤ running_in d = ended_within d plan.change in
     called_valid d call plan planned has _ is _ refl refl c.carry_out.ensures.edition c.carry_out.ensures.counts
     (omega (arith, ran, ends, within))
     (omega (arith, c.in_ok-make_call_room.ensures.room.0, c.push_reserved.ensures.len, c.push_reserved.ensures.capacity))

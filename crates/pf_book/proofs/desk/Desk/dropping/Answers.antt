@@ -1,7 +1,7 @@
 use Rattle.std.proofs.Common.{rules, ◌≡◌, Some, refl, sym, subst, ap, ◌∙◌}
 use Rattle.pf_quota.specs.declared.usage.Usage.{Usage}
-use Rattle.pf_quota.specs.declared.charges.Held.{Held}
-use Rattle.pf_quota.specs.declared.charges.Held.TheVariants as held
+use Rattle.pf_quota.specs.declared.charges.Holding.{Holding}
+use Rattle.pf_quota.specs.declared.charges.Holding.TheVariants as held
 use Rattle.pf_quota.specs.declared.charges.Charge.TheVariants as charge
 use Rattle.pf_quota.specs.Charges.{steps_of_trial}
 use Rattle.pf_quota.specs.Usage.{Covers, charged, refunded}
@@ -19,12 +19,12 @@ refund-requires c =
     let covers : Covers (charged (usage_in d) charge.Call) (held.Trial (steps_of_trial t.job.asked.limit t.job.asked.runs)) = trial_covers d c.args.ticket t found in
     let here : Covers c.args.usage (held.Trial (steps_of_trial t.job.asked.limit t.job.asked.runs)) =
     subst (λ (u : Usage). Covers u (held.Trial (steps_of_trial t.job.asked.limit t.job.asked.runs))) (sym c.requires.charged) covers in
-    subst (λ (h : Held). Covers c.args.usage h) (sym c.held.ensures) here
+    subst (λ (h : Holding). Covers c.args.usage h) (sym c.held.ensures) here
 
 pub returns-clause-plan : goal.returns-clause-plan
 returns-clause-plan c =
     let d = c.args.self.now in
     let t = c.in-Some.trial.now in
     let found : held_at d.trials c.args.ticket ≡ Some t = search rules in
-    let uses = c.refund.ensures ∙ ap (λ (h : Held). refunded c.args.usage h) c.held.ensures in
+    let uses = c.refund.ensures ∙ ap (λ (h : Holding). refunded c.args.usage h) c.held.ensures in
     drop_planned d c.args.usage c.requires.charged _ c.args.ticket t found refl refl refl uses

@@ -2,7 +2,7 @@ use Rattle.std.proofs.Common.{rules, arith, ◌≡◌, ◌≤◌, ◌<◌, ◌-�
 use Rattle.std.specs.Prelude.{slice_index, is_some, IsSome}
 use Rattle.std.proofs.lemmas.List.{get_or_read}
 use Rattle.pf_quota.specs.declared.usage.Usage.{Usage}
-use Rattle.pf_quota.specs.declared.charges.Held.TheVariants as held
+use Rattle.pf_quota.specs.declared.charges.Holding.TheVariants as held
 use Rattle.pf_quota.specs.declared.charges.Charge.TheVariants as charge
 use Rattle.pf_quota.specs.Usage.{Covers, charged, refunded}
 use Rattle.pf_request.specs.Module.{ReadModule}

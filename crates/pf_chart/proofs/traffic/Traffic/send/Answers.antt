@@ -1,6 +1,6 @@
 use Rattle.std.proofs.Common.{◌≡◌, ℕ, ◌++◌, ◌∷◌, [], length, subst, arith, rules}
 use Rattle.std.specs.Prelude.{OnOk}
-use Rattle.pf_chart.specs.Traffic.{KeepsOthers, waiting, way_of}
+use Rattle.pf_chart.specs.Traffic.{KeepsOthers, waiting_signals, way_of}
 use Rattle.pf_chart.proofs.Sending.{all_ok_then, sends_one}
 use Rattle.pf_chart.proofs.traffic.Traffic.send.Goals as goal
 
@@ -12,8 +12,8 @@ returns-clause-last c =
     let b = c.args.to in
     let w = way_of a b c.args.kind in
     let index : c.len-index.result ≡ length c.args.self.now.arrows.items = omega (arith, c.len-index.ensures, c.args.self.now.arrows.ok.0) in
-    subst (λ (i : ℕ). OnOk c.put.result (waiting p w ≡ waiting o w ++ i ∷ [])) index
-    (subst (λ (n : ℕ). OnOk c.put.result (waiting p (a, b, n) ≡ waiting o (a, b, n) ++ c.len-index.result ∷ [])) c.number.ensures c.put.ensures.last)
+    subst (λ (i : ℕ). OnOk c.put.result (waiting_signals p w ≡ waiting_signals o w ++ i ∷ [])) index
+    (subst (λ (n : ℕ). OnOk c.put.result (waiting_signals p (a, b, n) ≡ waiting_signals o (a, b, n) ++ c.len-index.result ∷ [])) c.number.ensures c.put.ensures.last)
 
 pub returns-clause-others : goal.returns-clause-others
 returns-clause-others c =

@@ -1,6 +1,6 @@
 use Rattle.std.proofs.Common.{sym, ap, ◌∙◌}
-use Rattle.pf_lines.specs.Clients.{client_line_at}
-use Rattle.pf_lines.specs.View.{view_of_client_line}
+use Rattle.pf_protocol.specs.Clients.{client_line_at}
+use Rattle.pf_protocol.specs.View.{view_of_client_line}
 use Rattle.pf_wire.proofs.Adding.{at_err}
 use Rattle.pf_clients.specs.Texts.{told_text}
 use Rattle.pf_clients.proofs.Lines.{front_answered, front_cut}

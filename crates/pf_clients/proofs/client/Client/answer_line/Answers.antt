@@ -1,5 +1,5 @@
 use Rattle.std.proofs.Common.{refl, sym, ap, append-nil}
-use Rattle.pf_lines.specs.View.{view_of_client_line}
+use Rattle.pf_protocol.specs.View.{view_of_client_line}
 use Rattle.pf_clients.specs.Lines.{waited}
 use Rattle.pf_clients.specs.Texts.{told_text}
 use Rattle.pf_clients.proofs.client.Client.answer_line.Goals as goal

@@ -11,7 +11,7 @@ use denote.Struct.Lending.{of_Lends}
 use Rattle.std.specs.contracts.marker.PhantomData as marker
 use Rattle.pf_nodes.specs.contracts.raw.Nodes as nodes
 use Rattle.pf_nodes.proofs.Sharing.{nodes_lent_laws, Lends-nodes}
-use Rattle.pf_nodes.proofs.raw.Node.TheLaws as node_laws
+use Rattle.pf_nodes.proofs.raw.ListNode.TheLaws as node_laws
 use Rattle.pf_nodes.proofs.raw.Nodes.TheLaw.Statement.{statement}
 
 pub shares : (T : RattleType) (L : Laws T) → statement T L

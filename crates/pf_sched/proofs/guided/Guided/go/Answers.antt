@@ -3,10 +3,10 @@ use Rattle.std.specs.Prelude.{slice_get}
 use Rattle.rand_pcg.specs.Pcg.{pcg32}
 use Rattle.pf_model.specs.Reports.{actor_of, label_of}
 use Rattle.pf_model.specs.Channels.{heads}
-use Rattle.pf_priorities.specs.Keys.{keys_among}
-use Rattle.pf_priorities.specs.Priorities.{choice}
-use Rattle.pf_strategy.specs.Keys.{keys_of}
-use Rattle.pf_system.specs.Steps.{noted}
+use Rattle.pf_strategy.specs.Keys.{keys_among}
+use Rattle.pf_strategy.specs.Priorities.{choice}
+use Rattle.pf_strategy.specs.ActorKeys.{keys_of}
+use Rattle.pf_system.specs.Steps.{noted_actors}
 use Rattle.pf_sched.specs.Guided.{priorities_in}
 use Rattle.pf_sched.specs.Told.{event}
 use Rattle.pf_system.proofs.WhoMayGo.{may_go}
@@ -15,14 +15,14 @@ use Rattle.pf_sched.proofs.guided.Guided.go.Goals as goal
 
 pub pass-requires-clause-enabled : goal.pass-requires-clause-enabled
 pass-requires-clause-enabled g c =
-    may_go c.args.self.now.system.standing (noted c.enabled-enabled.result) c.enabled-enabled.ensures.actors c.in_ok-index.index (actor_of c.actor-actor.result)
+    may_go c.args.self.now.system.standing (noted_actors c.enabled-enabled.result) c.enabled-enabled.ensures.actors c.in_ok-index.index (actor_of c.actor-actor.result)
     c.actor-actor.ensures
 
 pub returns : goal.returns
 returns g c d stands =
     let ps = c.enabled-enabled.result.ready.now in
     let hs = heads c.enabled-enabled.result.channels.now in
-    let keys : keys_among c.pids.result.now c.as_slice.result.now ≡ keys_of (noted c.enabled-enabled.result) =
+    let keys : keys_among c.pids.result.now c.as_slice.result.now ≡ keys_of (noted_actors c.enabled-enabled.result) =
     ap (λ xs. keys_among xs c.as_slice.result.now) c.pids.ensures ∙ ap (keys_among ps) (c.as_slice.ensures.value ∙ c.in_ok-put_channels.ensures) ∙ noted_keys ps hs in (
       event c.in_ok-index.index c.len-among.result (actor_of c.actor-actor.result) (label_of c.pass.new.shown),
       record {

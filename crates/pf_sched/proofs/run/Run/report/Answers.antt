@@ -1,7 +1,7 @@
 use Rattle.std.proofs.Common.{◌≡◌, sym, ap, ◌∙◌, subst}
 use Rattle.pf_terms.specs.Atoms.{name_of}
 use Rattle.pf_model.specs.Properties.{some_label, verdict}
-use Rattle.pf_model.specs.Reports.{outcome_of}
+use Rattle.pf_model.specs.Reports.{view_of_outcome}
 use Rattle.pf_property.specs.Judging.{rules_out}
 use Rattle.pf_property.specs.Views.{labels_in}
 use Rattle.pf_trace.specs.Written.{report_in}
@@ -15,7 +15,7 @@ returns c cs run over =
     let j = c.args.job.now in
     let es = events_in c.args.self in
     let ls = labels_in es in
-    let o = outcome_of c.in_ok-outcome.outcome in
+    let o = view_of_outcome c.in_ok-outcome.outcome in
     let same = ap (λ k. k.asked.property) c.job.view_is in
     let told : c.judge-verdict.result ≡ verdict j.asked.property ls o =
     c.judge-verdict.ensures ls (subst (λ p. c.args.self.written.ruled_out ≡ some_label (rules_out p) ls) (sym same) run.ruled_out) ∙ ap (λ p. verdict p ls o) same in

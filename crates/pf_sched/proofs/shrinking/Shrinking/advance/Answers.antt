@@ -1,6 +1,6 @@
 use Rattle.std.proofs.Common.{◌-◌, ◌∙◌, subst, arith}
 use Rattle.pf_sched.specs.Parts.{events_so_far}
-use Rattle.pf_sched.specs.Slices.{Follows, GoesPast, runs_left}
+use Rattle.pf_sched.specs.Slices.{NextRunFollows, GoesPast, runs_left}
 use Rattle.pf_sched.proofs.Shrunk.{at_edge, goes_further}
 use Rattle.pf_sched.proofs.shrinking.Shrinking.advance.Goals as goal
 
@@ -52,7 +52,7 @@ loop-shrinking-preserved c =
     let inv = c.loop-shrinking.invariant in
     let edge =
     at_edge j s t inv.0 c.loop-shrinking.left c.in_ok-go.ensures.rest c.in_ok-go.field-0 c.if-not-branch.false c.in_ok-go.ensures.run in
-    let f = subst (Follows j (events_so_far t) (runs_left t.hunt - 1)) c.in-More.is c.in_ok-next.ensures in
+    let f = subst (NextRunFollows j (events_so_far t) (runs_left t.hunt - 1)) c.in-More.is c.in_ok-next.ensures in
     (f.0, omega (arith, f.1, inv.1, edge.before, edge.from, edge.within, c.len-had.ensures, c.len.ensures))
 
 pub returns-in-Over : goal.returns-in-Over
@@ -63,5 +63,5 @@ returns-in-Over c =
     let inv = c.loop-shrinking.invariant in
     let edge =
     at_edge j s t inv.0 c.loop-shrinking.left c.in_ok-go.ensures.rest c.in_ok-go.field-0 c.if-not-branch.false c.in_ok-go.ensures.run in
-    let f = subst (Follows j (events_so_far t) (runs_left t.hunt - 1)) c.in-Over.is c.in_ok-next.ensures in
+    let f = subst (NextRunFollows j (events_so_far t) (runs_left t.hunt - 1)) c.in-Over.is c.in_ok-next.ensures in
     ((f.0.0, (f.0.1.0, f.0.1.1, omega (arith, f.0.1.2, inv.1, edge.before, edge.within))), f.1)

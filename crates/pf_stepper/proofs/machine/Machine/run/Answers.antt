@@ -2,8 +2,8 @@ use Rattle.std.proofs.Common.{ap, ◌∙◌, ◌≡◌, subst, sym}
 use Rattle.pf_stepper.specs.MachineView.{MachineView}
 use Rattle.pf_stepper.specs.Readiness.{IsReadyAhead}
 use Rattle.pf_stepper.specs.Inner.{standing_in}
-use Rattle.pf_stepper.specs.declared.machine.Standing.{Standing}
-use Rattle.pf_stepper.specs.declared.machine.Standing.TheVariants as stood
+use Rattle.pf_stepper.specs.declared.machine.MachineStatus.{MachineStatus}
+use Rattle.pf_stepper.specs.declared.machine.MachineStatus.TheVariants as stood
 use Rattle.pf_stepper.proofs.Outer.{ran_so}
 use Rattle.pf_stepper.proofs.Ready.{ready_to_settle}
 use Rattle.pf_stepper.proofs.machine.Machine.run.Goals as goal
@@ -11,7 +11,7 @@ use Rattle.pf_stepper.proofs.machine.Machine.run.Goals as goal
 pub returns-clause-ran : goal.returns-clause-ran
 returns-clause-ran g c =
     let i = c.self.inside in
-    let before : Standing → MachineView = λ x. record { own = i.own; checked = i.module.value; standing = standing_in i.module.value i.stack x } in
+    let before : MachineStatus → MachineView = λ x. record { own = i.own; checked = i.module.value; standing = standing_in i.module.value i.stack x } in
     let stood_so : before (stood.Goes c.in-Goes.focus) ≡ c.args.self.now = ap before c.in-Goes.ensures.value ∙ c.self.view_is in
     let ran = rw c.deref.ensures at c.in_ok-used.ensures in
     let settled = rw c.deref-2.ensures at c.in_ok-settle.ensures.settled in
@@ -21,7 +21,7 @@ pub settle-requires-clause-ready : goal.settle-requires-clause-ready
 settle-requires-clause-ready g c =
     let i = c.self.inside in
     let ready = g.I.Inbox.IsReady c.args.inbox.now in
-    let before : Standing → MachineView = λ x. record { own = i.own; checked = i.module.value; standing = standing_in i.module.value i.stack x } in
+    let before : MachineStatus → MachineView = λ x. record { own = i.own; checked = i.module.value; standing = standing_in i.module.value i.stack x } in
     let stood_so : before (stood.Goes c.in-Goes.focus) ≡ c.args.self.now = ap before c.in-Goes.ensures.value ∙ c.self.view_is in
     let ahead = subst (IsReadyAhead ready) (sym stood_so) c.requires.ready in
     let ran = rw c.deref.ensures at c.in_ok-used.ensures in

@@ -1,5 +1,5 @@
 use Rattle.std.proofs.Common.{◌≡◌, ◌+◌}
-use Rattle.pf_stepper.specs.MicroSteps.{weight_of, focus_weight}
+use Rattle.pf_stepper.specs.MicroSteps.{frames_weight, focus_weight}
 use Rattle.pf_stepper.specs.Advanced.{stack_process, IsSound}
 use Rattle.pf_stepper.proofs.stack.Stack.advance.Given as goal
 
@@ -10,4 +10,4 @@ invariant-loop-next l = record {
 }
 
 abbrev pub decreases-loop-next : goal.decreases-loop-next
-decreases-loop-next l = weight_of l.code.tables l.self.frames.items + focus_weight l.code.tables l.focus
+decreases-loop-next l = frames_weight l.code.tables l.self.frames.items + focus_weight l.code.tables l.focus

@@ -1,6 +1,6 @@
 use Rattle.std.proofs.Common.{refl}
 use Rattle.std.specs.Prelude.{Ok}
-use Rattle.pf_stepper.specs.declared.frame.Kind.TheVariants as k
+use Rattle.pf_stepper.specs.declared.frame.FrameKind.TheVariants as k
 use Rattle.pf_stepper.specs.declared.frame.MicroStep.TheVariants as t
 use Rattle.pf_stepper.proofs.Focused.{can_wait}
 use Rattle.pf_stepper.proofs.Follows.{descends_at_once}

@@ -1,6 +1,6 @@
 use Rattle.std.proofs.Common.{refl}
 use Rattle.pf_stepper.proofs.Given.{goes_right, pairs_at_once, paired_up_ok, holes_cut, under_cut}
-use Rattle.pf_stepper.specs.declared.frame.Kind.TheVariants as k
+use Rattle.pf_stepper.specs.declared.frame.FrameKind.TheVariants as k
 use Rattle.pf_stepper.proofs.stack.Stack.left_done.Goals as goal
 
 pub returns-in-Some : goal.returns-in-Some

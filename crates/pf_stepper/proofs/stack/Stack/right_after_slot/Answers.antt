@@ -1,6 +1,6 @@
 use Rattle.std.proofs.Common.{refl}
 use Rattle.pf_stepper.proofs.Given.{pairs_after_slot, paired_up_ok, holes_cut, under_cut}
-use Rattle.pf_stepper.specs.declared.frame.Kind.TheVariants as k
+use Rattle.pf_stepper.specs.declared.frame.FrameKind.TheVariants as k
 use Rattle.pf_stepper.proofs.stack.Stack.right_after_slot.Goals as goal
 
 pub returns : goal.returns

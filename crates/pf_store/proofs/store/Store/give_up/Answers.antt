@@ -1,7 +1,7 @@
 use Rattle.std.proofs.Common.{◌-◌, sym, subst, ap, ◌∙◌, refl, arith}
 use Rattle.std.proofs.lemmas.Option.{same_Some}
 use Rattle.indexmap.specs.IndexMap.{with_value_at}
-use Rattle.pf_store.specs.declared.store.Held.{Held}
+use Rattle.pf_store.specs.declared.store.StoredModule.{StoredModule}
 use Rattle.pf_store.specs.Held.{kept_in}
 use Rattle.pf_store.specs.Sources.{HeldOnceLess, holders}
 use Rattle.pf_store.proofs.Holding.{nobody_holds, known, written_kept, written_less, gone_kept, gone_less}
@@ -30,7 +30,7 @@ pub returns-then-holders-gt1 : goal.returns-then-holders-gt1
 returns-then-holders-gt1 c =
     let h = c.index_mut.result.now in
     let same = ap (λ x. x.holders) (same_Some h c.index.result.now (sym c.index_mut.ensures.value ∙ c.index.ensures)) in
-    let w : Held = record { «module» = h.module; holders = c.index.result.now.holders - 1 } in
+    let w : StoredModule = record { «module» = h.module; holders = c.index.result.now.holders - 1 } in
     subst (λ k. HeldOnceLess c.args.source.now k (kept_in (with_value_at c.self.inside.modules c.in-Some.index w).entries)) c.self.view_is
     (written_less c.self.inside.modules c.args.source.now c.in-Some.index h w c.self.invariant
     c.get_index_of.ensures.unique (sym c.in-Some.ensures.index) c.index_mut.ensures.value (sym c.in-Some.ensures.value ∙ c.index_mut.ensures.value) (omega arith))

@@ -1,8 +1,8 @@
 use Rattle.std.proofs.Common.{◌≡◌, sym, subst, ap, ◌∙◌, refl, arith}
 use Rattle.std.proofs.lemmas.Option.{same_Some}
 use Rattle.indexmap.specs.IndexMap.{with_value_at}
-use Rattle.pf_module.specs.Reading.{IsReadAs}
-use Rattle.pf_store.specs.declared.store.Held.{Held}
+use Rattle.pf_check.specs.Reading.{IsReadAs}
+use Rattle.pf_store.specs.declared.store.StoredModule.{StoredModule}
 use Rattle.pf_store.specs.Held.{kept_in}
 use Rattle.pf_store.specs.Sources.{HeldOnceMore, holders}
 use Rattle.pf_store.proofs.Holding.{nobody_holds, written_kept, written_more, known}
@@ -27,7 +27,7 @@ returns-clause-held c =
     let found = sym c.in-Some.ensures.value ∙ c.index_mut.ensures.value in
     let of = (known m c.args.source.now c.in-Some.index h h c.self.invariant c.get_index_of.ensures.unique (sym c.in-Some.ensures.index) c.index_mut.ensures.value found).0 in
     let same_module = c.in_ok-module.ensures ∙ ap (λ x. x.module) (sym same) in
-    let w : Held = record { «module» = h.module; holders = c.in-Some-checked_add.holders } in (
+    let w : StoredModule = record { «module» = h.module; holders = c.in-Some-checked_add.holders } in (
       ap (λ s. s.source) same_module ∙ of.0,
       subst (IsReadAs c.args.source.now) (sym same_module) of.1,
       subst (λ k. HeldOnceMore c.args.source.now k (kept_in (with_value_at m c.in-Some.index w).entries)) c.self.view_is

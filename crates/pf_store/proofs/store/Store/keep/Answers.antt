@@ -1,5 +1,5 @@
 use Rattle.std.proofs.Common.{◌≡◌, ◌+◌, sym, subst, ap, ◌∙◌, Some, arith}
-use Rattle.pf_module.specs.Reading.{IsReadAs}
+use Rattle.pf_check.specs.Reading.{IsReadAs}
 use Rattle.pf_store.specs.Held.{kept_in}
 use Rattle.pf_store.specs.Sources.{HeldOnceMore, holders}
 use Rattle.pf_store.proofs.Holding.{kept_after, more_after}

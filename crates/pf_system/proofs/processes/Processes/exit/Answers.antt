@@ -5,7 +5,7 @@ use Rattle.pf_model.specs.declared.report.Suffix.TheVariants as suffix
 use Rattle.pf_ties.specs.Ties as ties
 use Rattle.pf_ties.specs.Fates.{fate_at}
 use Rattle.pf_ties.specs.Laws.{without_link}
-use Rattle.pf_system.specs.Placed.{Places}
+use Rattle.pf_system.specs.Placed.{PlacesOf}
 use Rattle.pf_system.specs.declared.processes.Processes.{Processes}
 use Rattle.pf_system.proofs.Placing.{stands_but}
 use Rattle.pf_system.proofs.Delivering.{unlinked_stands, exit_dropped, exit_placed, exit_ends}
@@ -29,7 +29,7 @@ returns-in_ok-index-in-Message c k h alive =
     exit_placed w w1 w2 k c.args.from c.args.to c.args.by_link r suffix.AsMessage h c.requires.there refl refl refl
     c.in-Message.ensures.placed refl alive refl
     (c.in-Message.ensures.fate ∙ ap (fate_at (ties.of w.shared.ties c.args.to) c.args.from c.args.to c.args.by_link) c.in_ok-given.ensures)
-    (subst (λ v. Places c.args.to v w1 w2) c.in_ok-message-in-Message.ensures c.in_ok-index-in-Message.ensures)
+    (subst (λ v. PlacesOf c.args.to v w1 w2) c.in_ok-message-in-Message.ensures c.in_ok-index-in-Message.ensures)
 
 pub returns-in_ok-end-in-End : goal.returns-in_ok-end-in-End
 returns-in_ok-end-in-End c k h alive =

@@ -2,7 +2,7 @@ use Rattle.std.proofs.Common.{◌≡◌, ◌∙◌, subst, length}
 use Rattle.std.proofs.lemmas.Result.{IfOk-weaker}
 use Rattle.pf_model.specs.Contraction.{watching}
 use Rattle.pf_ties.specs.Ties.{opened_watched}
-use Rattle.pf_system.specs.Acts.{Tells, answer}
+use Rattle.pf_system.specs.Acts.{ReportsSpawn, answer}
 use Rattle.pf_system.proofs.Spawning.{opens_tied}
 use Rattle.pf_system.proofs.processes.Processes.open_watched.Goals as goal
 
@@ -14,6 +14,6 @@ returns c =
     IfOk-weaker c.told_watched.result _ _
     (λ v h. let r = answer v c.told_watched.new.shown in record {
       opens = opens_tied w c.enter.new.self c.args.life (opened_watched w.shared.ties c.args.watcher) c.open_watched.new.self k.opened c.in_ok-enter.ensures;
-      tells = subst (λ z. Tells watching z w.shared.ties.next_reference r) n (subst (λ z. Tells watching c.in_ok-pid.pid z r) k.reference h);
+      tells = subst (λ z. ReportsSpawn watching z w.shared.ties.next_reference r) n (subst (λ z. ReportsSpawn watching c.in_ok-pid.pid z r) k.reference h);
     })
     c.told_watched.ensures

@@ -1,6 +1,6 @@
 use Rattle.std.proofs.Common.{◌≡◌, Bool, true, false, not, refl, sym, ap, ◌∙◌}
-use Rattle.pf_lines.specs.Commands.{Line}
-use Rattle.pf_lines.proofs.Completed.{open_stays}
+use Rattle.pf_protocol.specs.Commands.{Line}
+use Rattle.pf_protocol.proofs.Completed.{open_stays}
 use Rattle.pf_wire.proofs.stream.Input.take_piece.Goals as goal
 use Rattle.pf_wire.proofs.stream.Input.take_piece.Goals.{then-self, else-self}
 

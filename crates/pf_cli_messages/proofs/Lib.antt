@@ -1,0 +1,4 @@
+pub mod Absent
+pub mod Telling
+pub mod Notices
+pub mod Texts

@@ -1,6 +1,0 @@
-use Rattle.pf_cures.specs.Mended.{IsMended}
-use Rattle.pf_cures.proofs.mending.blank.Given as goal
-
--- what is blank so far
-abbrev pub invariant-loop-at : goal.invariant-loop-at
-invariant-loop-at l = IsMended l.fn.source.items l.source.items

@@ -1,6 +1,0 @@
-use Rattle.pf_cures.specs.Mended.{IsMended}
-use Rattle.pf_cures.proofs.mending.put_head.Given as goal
-
--- what is written so far
-abbrev pub invariant-loop-piece : goal.invariant-loop-piece
-invariant-loop-piece l = IsMended l.fn.source.items l.source.items

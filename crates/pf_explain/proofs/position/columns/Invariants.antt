@@ -1,7 +1,0 @@
-use Rattle.std.proofs.Common.{◌≡◌, take, count_by}
-use Rattle.pf_explain.specs.Positions.{begins}
-use Rattle.pf_explain.proofs.position.columns.Given as goal
-
--- the columns so far are counted
-abbrev pub invariant-loop-byte : goal.invariant-loop-byte
-invariant-loop-byte l = l.count ≡ count_by begins (take l.byte-index l.bytes)

@@ -1,8 +1,0 @@
-use Rattle.std.proofs.Common.{ℕ, List, ◌++◌, drop}
-use Rattle.pf_explained.specs.Explained.{AreLines}
-use Rattle.pf_explained.proofs.explained.lines_of.Given as goal
-
--- with the lines of the others after it the text has all lines
-abbrev pub invariant-loop-standing : goal.invariant-loop-standing
-invariant-loop-standing l =
-    (rest : List ℕ) → AreLines l.run l.places (drop l.standing-index l.standings) rest → AreLines l.run l.places l.standings (l.text.items ++ rest)

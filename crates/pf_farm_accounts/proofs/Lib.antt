@@ -1,0 +1,5 @@
+pub mod Moves
+pub mod Ends
+pub mod Standing
+pub mod Numbers
+pub mod Seats

@@ -1,0 +1,5 @@
+pub mod Places
+pub mod Knowing
+pub mod Passes
+pub mod Rows
+pub mod Receipts

@@ -1,0 +1,10 @@
+pub mod Lists
+pub mod Trials
+pub mod Drops
+pub mod Tells
+pub mod Points
+pub mod Alike
+pub mod Meant
+pub mod Settled
+pub mod Asked
+pub mod Orders

@@ -1,0 +1,9 @@
+pub mod Tally
+pub mod ClaimNotes
+pub mod Claims
+pub mod Gone
+pub mod Told
+pub mod Points
+pub mod Notes
+pub mod Laws
+pub mod Orders

@@ -1,0 +1,2 @@
+pub mod Fillers
+mod Parts

@@ -1,0 +1,11 @@
+use Rattle.std.proofs.Common.{ℕ, length, min, take, drop, ap, ◌∙◌}
+use Rattle.pf_hints.proofs.Parts.{cut_out}
+use Rattle.pf_hints.proofs.alone.part_of.Goals as goal
+
+pub returns : goal.returns
+returns c =
+    let source = c.args.source.now in
+    let behind = c.split_at.result.1.now in
+    cut_out source c.args.start c.args.end behind c.split_at-2.result.0.now
+    (c.split_at.ensures.back ∙ ap (λ (n : ℕ). drop n source) c.min.ensures)
+    (c.split_at-2.ensures.front ∙ ap (λ (n : ℕ). take n behind) (c.min-2.ensures ∙ ap (λ (m : ℕ). min m (length behind)) c.saturating_sub.ensures))

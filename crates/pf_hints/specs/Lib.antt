@@ -1,0 +1,3 @@
+pub mod Advised
+pub mod Mended
+pub mod Faults

@@ -1,0 +1,27 @@
+//! Which hint a refused source needs: the construct of Erlang that is there and that the language lacks, with how it is
+//! written here.
+//! What is reported of a source that is refused: its first refusal, and those of its other forms, in the order of the
+//! text.
+#![tactic(auto)]
+
+mod advice;
+mod around;
+mod bytes;
+mod cure;
+mod forms;
+mod guards;
+mod mending;
+mod modules;
+mod pieces;
+mod place;
+mod tokens;
+mod undefined;
+mod words;
+
+pub use advice::advise;
+pub use mending::{form_ends, mend};
+
+mod alone;
+mod telling;
+
+pub use telling::{MOST_TOLD, faults};

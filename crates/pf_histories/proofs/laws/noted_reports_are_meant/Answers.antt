@@ -1,5 +1,0 @@
-use Rattle.pf_histories.proofs.Meant as proved
-use Rattle.pf_histories.proofs.laws.noted_reports_are_meant.Goals as goal
-
-pub returns : goal.returns
-returns c = proved.noted_reports_are_meant

@@ -1,0 +1,105 @@
+//! The run of a job by a seed.
+
+ghost use Rattle.std.specs.Prelude.{◌≡◌, All, IfOk};
+ghost use Rattle.pf_model.specs.Meaning.{Means};
+ghost use Rattle.pf_model.specs.Reports.{view_of_report};
+ghost use Rattle.pf_request.specs.Job.{asked_by_seed};
+ghost use Rattle.pf_sched.specs.Judging.{Judges};
+ghost use Rattle.pf_strategy.specs.Strategies.{MeansBySeed};
+ghost use Rattle.pf_hunt.specs.Judging.{JudgesBySeed};
+
+use pf_model::report::Report;
+use pf_sched::{
+    Job, Judged, Scratch, judged_by_priorities, judged_run, report_by_priorities, report_of_run,
+};
+use pf_strategy::Strategy;
+use pf_terms::NoMemory;
+use std::alloc::Global;
+
+/// What is the same for all seeds of a hunt: the job in whose place their runs go, of whose own choices the weights
+/// alone play a part; how a seed chooses; and whether one fails too whose root returned while processes still waited.
+#[derive(Drop)]
+pub struct Hunt {
+    pub job: Job,
+    /// The same job over modules of their own: one for each worker after the first, so that no two workers count the
+    /// holders of one module. Where there are fewer, the others share that of the first.
+    pub others: Vec<Job>,
+    pub strategy: Strategy,
+    pub leaks: bool,
+    ghost alike: { All (λ j. j ≡ job) others.items },
+}
+
+impl Hunt {
+    ghost use Rattle.std.specs.Prelude.{◌≡◌};
+
+    /// The job of a worker, counted from 0.
+    fn job_of(&self, worker: u64) -> &Job
+        ensures { result.now ≡ self.now.job }
+    {
+        match usize::try_from(worker) {
+            Ok(number) if number > 0 => match self.others.get(number - 1) {
+                Some(job) => job,
+                None => &self.job,
+            },
+            _ => &self.job,
+        }
+    }
+}
+
+/// The report of the run by a seed in place of the job's own choices and by their weights.
+fn run_by_words(
+    alloc: Global,
+    job: &Job,
+    scratch: &mut Scratch,
+    seed: u64,
+) -> Result<Report, NoMemory>
+    ensures { IfOk result (λ r. Means (asked_by_seed job.now.asked seed) (view_of_report r)) }
+{
+    report_of_run(alloc, &job.by_seed(seed)?, scratch)
+}
+
+/// What that report says but for its events.
+fn judged_by_words(
+    alloc: Global,
+    job: &Job,
+    scratch: &mut Scratch,
+    seed: u64,
+) -> Result<Judged, NoMemory>
+    ensures { IfOk result (λ v. Judges (asked_by_seed job.now.asked seed) v) }
+{
+    judged_run(alloc, &job.by_seed(seed)?, scratch)
+}
+
+/// The report that the job of a hunt means by a seed, in place of the job's own choices. What is in the scratch makes
+/// no difference.
+pub fn run_by_seed(
+    alloc: Global,
+    hunt: &Hunt,
+    scratch: &mut Scratch,
+    seed: u64,
+) -> Result<Report, NoMemory>
+    ensures { IfOk result (λ r. MeansBySeed hunt.now.strategy hunt.now.job.asked seed (view_of_report r)) }
+{
+    match hunt.strategy {
+        Strategy::Uniform => run_by_words(alloc, &hunt.job, scratch, seed),
+        Strategy::Priorities => report_by_priorities(alloc, &hunt.job, seed, scratch),
+    }
+}
+
+/// The outcome and the verdict of that report, and how many processes still wait though its root returned. No event is
+/// kept. The run is that of this worker, counted from 0.
+pub(crate) fn judged_by_seed(
+    alloc: Global,
+    hunt: &Hunt,
+    worker: u64,
+    scratch: &mut Scratch,
+    seed: u64,
+) -> Result<Judged, NoMemory>
+    ensures { IfOk result (λ v. JudgesBySeed hunt.now.strategy hunt.now.job.asked seed v) }
+{
+    let job = hunt.job_of(worker);
+    match hunt.strategy {
+        Strategy::Uniform => judged_by_words(alloc, job, scratch, seed),
+        Strategy::Priorities => judged_by_priorities(alloc, job, seed, scratch),
+    }
+}

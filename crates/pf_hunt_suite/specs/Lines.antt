@@ -1,0 +1,62 @@
+-- What is reported of hunts over several sources and roots: a line for each, and a summary.
+use Rattle.std.specs.Prelude.{ℕ, ◌==◌, nat_lt, Bool, true, false, if◌then◌else◌, List, [], ◌++◌, codes}
+use Rattle.std.specs.List.{count_by}
+use Rattle.std.specs.Fmt.{decimal}
+use Rattle.pf_errors.specs.Codes.{code_text}
+use Rattle.pf_model.specs.TermText.{atom_text, line}
+use Rattle.pf_hunt_suite.specs.declared.end.RootEnd.{RootEnd}
+use Rattle.pf_hunt_suite.specs.declared.end.RootEnd.TheVariants.{Fails, NoFailure, Stopped, Refused}
+use Rattle.pf_hunt_suite.specs.declared.end.SuiteCounts.{SuiteCounts}
+use Rattle.pf_hunt_suite.specs.declared.end.SuiteCounts.TheVariants.{Lost, Root}
+
+-- ---- the line of a root, or of a source without one
+
+abbrev pub root_end_text : RootEnd → List ℕ
+root_end_text (Fails s) = codes "seed " ++ decimal s ++ codes " fails"
+root_end_text (NoFailure n) = codes "no failure in " ++ decimal n ++ codes " seeds"
+root_end_text (Stopped n) = codes "stopped behind " ++ decimal n ++ codes " seeds, no failure"
+root_end_text (Refused code) = code_text code
+
+-- a root is named after its file
+abbrev pub root_name : (file root : List ℕ) → List ℕ
+root_name file root = file ++ codes " " ++ atom_text root
+
+-- what is reported comes after a name
+abbrev pub told_line : (name told : List ℕ) → List ℕ
+told_line name told = name ++ codes ": " ++ line told
+
+abbrev pub root_line : (file root : List ℕ) → RootEnd → List ℕ
+root_line file root e = told_line (root_name file root) (root_end_text e)
+
+abbrev pub rootless_text : List ℕ
+rootless_text = codes "no exported function without arguments"
+
+-- ---- the summary
+
+-- a root that was hunted
+abbrev pub is_root : SuiteCounts → Bool
+is_root Lost = false
+is_root (Root e) = true
+
+abbrev pub some_root_fails : SuiteCounts → Bool
+some_root_fails (Root (Fails s)) = true
+some_root_fails _ = false
+
+-- what is refused, or can't be read
+abbrev pub is_refused : SuiteCounts → Bool
+is_refused Lost = true
+is_refused (Root (Refused code)) = true
+is_refused _ = false
+
+-- a number, with the word for one or for several
+abbrev pub number_with_word : ℕ → (one several : List ℕ) → List ℕ
+number_with_word n one several = decimal n ++ codes " " ++ (if n == 1 then one else several)
+
+abbrev pub summary_text : (files : ℕ) → List SuiteCounts → List ℕ
+summary_text files ends =
+    number_with_word files (codes "file") (codes "files") ++ codes ", " ++ number_with_word (count_by is_root ends) (codes "root") (codes "roots") ++ codes ": "
+    ++ number_with_word (count_by some_root_fails ends) (codes "fails") (codes "fail") ++ codes ", " ++ line (decimal (count_by is_refused ends) ++ codes " refused")
+
+-- 2 if something is refused or can't be read, else 1 if a root fails, else 0
+abbrev pub suite_status : List SuiteCounts → ℕ
+suite_status ends = if nat_lt 0 (count_by is_refused ends) then 2 else (if nat_lt 0 (count_by some_root_fails ends) then 1 else 0)

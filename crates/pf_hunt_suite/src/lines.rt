@@ -1,0 +1,70 @@
+//! The lines of hunts over several sources and roots.
+
+ghost use Rattle.std.specs.Prelude.{◌≡◌, IfOk};
+ghost use Rattle.pf_errors.specs.Codes.{refusal_text};
+ghost use Rattle.pf_hunt_suite.specs.Lines.{root_line, root_name, rootless_text, told_line};
+
+use crate::end::RootEnd;
+use pf_errors::{NoMemory, SourceRefusal};
+use pf_text::{put, put_atom, put_byte};
+use std::alloc::Global;
+
+/// The name of a root, after that of its file.
+pub fn root_name(alloc: Global, file: &str, root: &[u8]) -> Result<Vec<u8>, NoMemory>
+    ensures { IfOk result (λ v. v.items ≡ root_name file.now root.now) }
+{
+    let mut name = Vec::new(alloc);
+    put(&mut name, file.as_bytes())?;
+    put_byte(&mut name, b' ')?;
+    put_atom(&mut name, root)?;
+    Ok(name)
+}
+
+/// A line: what is reported comes after a name.
+fn told_line(mut name: Vec<u8>, told: &str) -> Result<Vec<u8>, NoMemory>
+    ensures { IfOk result (λ v. v.items ≡ told_line name.items told.now) }
+{
+    put(&mut name, b": ")?;
+    put(&mut name, told.as_bytes())?;
+    put_byte(&mut name, b'\n')?;
+    Ok(name)
+}
+
+/// The same of a file.
+fn file_line(alloc: Global, file: &str, told: &str) -> Result<Vec<u8>, NoMemory>
+    ensures { IfOk result (λ v. v.items ≡ told_line file.now told.now) }
+{
+    told_line(Vec::from_slice(alloc, file.as_bytes())?, told)
+}
+
+/// The line of a root that was hunted.
+pub fn line_of_root(
+    alloc: Global,
+    file: &str,
+    root: &[u8],
+    end: RootEnd,
+) -> Result<Vec<u8>, NoMemory>
+    ensures { IfOk result (λ v. v.items ≡ root_line file.now root.now end) }
+{
+    let told = format!(in alloc; "{end}")?;
+    told_line(root_name(alloc, file, root)?, &told)
+}
+
+/// The line of a source that is refused.
+pub fn line_of_refusal(
+    alloc: Global,
+    file: &str,
+    refusal: SourceRefusal,
+) -> Result<Vec<u8>, NoMemory>
+    ensures { IfOk result (λ v. v.items ≡ told_line file.now (refusal_text refusal.code refusal.offset)) }
+{
+    let told = format!(in alloc; "{refusal}")?;
+    file_line(alloc, file, &told)
+}
+
+/// The line of a source that has no root.
+pub fn line_of_rootless(alloc: Global, file: &str) -> Result<Vec<u8>, NoMemory>
+    ensures { IfOk result (λ v. v.items ≡ told_line file.now rootless_text) }
+{
+    file_line(alloc, file, "no exported function without arguments")
+}

@@ -1,0 +1,137 @@
+//! The results of hunts over several sources together.
+
+ghost use Rattle.std.specs.Prelude.{◌≡◌, ◌++◌, OnOk};
+ghost use Rattle.std.specs.List.{count_by};
+ghost use Rattle.pf_hunt_suite.specs.Lines as lines;
+ghost use Rattle.pf_hunt_suite.specs.Lines.{number_with_word};
+
+use crate::end::{RootEnd, SuiteCounts};
+use pf_errors::NoMemory;
+use pf_text::{put, put_number};
+use std::alloc::Global;
+
+/// Whether a root was hunted.
+fn is_root(ending: &SuiteCounts) -> bool
+    ensures { result ≡ lines.is_root ending.now }
+{
+    matches!(ending, SuiteCounts::Root(_))
+}
+
+/// Whether a root fails.
+fn fails(ending: &SuiteCounts) -> bool
+    ensures { result ≡ lines.some_root_fails ending.now }
+{
+    matches!(ending, SuiteCounts::Root(RootEnd::Fails { .. }))
+}
+
+/// Whether something is refused, or can't be read.
+fn is_refused(ending: &SuiteCounts) -> bool
+    ensures { result ≡ lines.is_refused ending.now }
+{
+    matches!(
+        ending,
+        SuiteCounts::Lost | SuiteCounts::Root(RootEnd::Refused(_))
+    )
+}
+
+/// How many roots were hunted.
+fn roots_in(ends: &[SuiteCounts]) -> u64
+    ensures { result ≡ count_by lines.is_root ends.now }
+{
+    let mut count = 0;
+    for ending in ends {
+        if is_root(ending) {
+            count += 1;
+        }
+    }
+    count
+}
+
+/// How many roots fail.
+fn failures_in(ends: &[SuiteCounts]) -> u64
+    ensures { result ≡ count_by lines.some_root_fails ends.now }
+{
+    let mut count = 0;
+    for ending in ends {
+        if fails(ending) {
+            count += 1;
+        }
+    }
+    count
+}
+
+/// How much is refused, or can't be read.
+fn refusals_in(ends: &[SuiteCounts]) -> u64
+    ensures { result ≡ count_by lines.is_refused ends.now }
+{
+    let mut count = 0;
+    for ending in ends {
+        if is_refused(ending) {
+            count += 1;
+        }
+    }
+    count
+}
+
+/// Puts a number with the word for one or for several.
+fn put_counted(out: &mut Vec<u8>, number: u64, one: &str, several: &str) -> Result<(), NoMemory>
+    ensures { OnOk result (out.new.items ≡ out.old.items ++ number_with_word number one.now several.now) }
+{
+    put_number(out, number)?;
+    put(out, b" ")?;
+    let word = if number == 1 { one } else { several };
+    put(out, word.as_bytes())
+}
+
+/// The results of hunts over several sources: how many files there were, and what is counted.
+#[derive(Drop)]
+pub struct Suite {
+    pub files: u64,
+    pub ends: Vec<SuiteCounts>,
+}
+
+impl Suite {
+    ghost use Rattle.std.specs.Prelude.{◌≡◌, [], IfOk};
+    ghost use Rattle.pf_hunt_suite.specs.Lines.{suite_status, summary_text};
+
+    /// Those of no file yet.
+    pub fn new(alloc: Global) -> Suite
+        ensures files { result.files ≡ 0 }
+        ensures ends { result.ends.items ≡ [] }
+    {
+        Suite {
+            files: 0,
+            ends: Vec::new(alloc),
+        }
+    }
+
+    /// The summary.
+    pub fn summary(&self, alloc: Global) -> Result<Vec<u8>, NoMemory>
+        ensures { IfOk result (λ v. v.items ≡ summary_text self.now.files self.now.ends.items) }
+    {
+        let ends = self.ends.as_slice();
+        let mut out = Vec::new(alloc);
+        put_counted(&mut out, self.files, "file", "files")?;
+        put(&mut out, b", ")?;
+        put_counted(&mut out, roots_in(ends), "root", "roots")?;
+        put(&mut out, b": ")?;
+        put_counted(&mut out, failures_in(ends), "fails", "fail")?;
+        put(&mut out, b", ")?;
+        put_number(&mut out, refusals_in(ends))?;
+        put(&mut out, b" refused\n")?;
+        Ok(out)
+    }
+
+    /// The status: 2 if something is refused or can't be read, else 1 if a root fails, else 0.
+    pub fn status(&self) -> u8
+        ensures { result ≡ suite_status self.now.ends.items }
+    {
+        if refusals_in(&self.ends) > 0 {
+            2
+        } else if failures_in(&self.ends) > 0 {
+            1
+        } else {
+            0
+        }
+    }
+}

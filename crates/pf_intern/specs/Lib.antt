@@ -1,4 +1,0 @@
-pub mod NumberedTokens
-pub mod View
-pub mod Numbering
-pub mod Offsets

@@ -1,5 +1,0 @@
-use Rattle.pf_lines.proofs.Splitting.{parts_cut}
-use Rattle.pf_lines.proofs.split.first_part.Goals as goal
-
-pub returns : goal.returns
-returns c = parts_cut c.args.at c.args.text.now c.split.result c.split.ensures

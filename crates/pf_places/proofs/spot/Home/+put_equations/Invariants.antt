@@ -1,5 +1,0 @@
-use Rattle.std.proofs.Common.{length}
-use Rattle.pf_places.proofs.spot.Home.+put_equations.Given as goal
-
-abbrev pub decreases-put_equations : goal.decreases-put_equations
-decreases-put_equations l = length l.ids.now

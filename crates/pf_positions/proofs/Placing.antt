@@ -1,0 +1,162 @@
+-- Places that are set, sign by sign and spot by spot.
+use Rattle.std.proofs.Common.{◌≡◌, ◌<◌, ◌≤◌, ◌+◌, ℕ, Bool, true, false, List, [], Option, Some, None, refl, sym, ap, ◌∙◌, subst, length, take, inl, inr, arith}
+use Rattle.std.specs.Prelude.{IsSome, slice_get, ◌==◌, if◌then◌else◌}
+use Rattle.std.proofs.lemmas.Bool.{cases_lt, cases_eq}
+use Rattle.std.proofs.lemmas.Bool.Decides.{nat_tests}
+use Rattle.std.proofs.lemmas.Option.{none-some, same_Some, slice_get_within}
+use Rattle.pf_positions.specs.declared.sign.Sign.{Sign}
+use Rattle.pf_positions.specs.declared.sign.Sign.TheVariants.{Receive, Case, If, AndAlso, OrElse, Send, Match, Name, Brace, Plus, Minus, Times, Quotient, Remainder, Append, Equal, Unequal, Less, AtMost, Greater, AtLeast, Unwritten}
+use Rattle.pf_positions.specs.declared.spot.Spot.{Spot}
+use Rattle.pf_positions.specs.declared.written.WrittenSign.{WrittenSign}
+use Rattle.pf_positions.specs.declared.places.Position.{Position}
+use Rattle.pf_positions.specs.Signs.{sign_number}
+use Rattle.pf_positions.specs.Placed.{AreAmong, AreAmongBelow, IsPlaceAt, spots_with_sign, has_number, line_behind, spot_node, place_in, told_lines}
+
+-- the places of the signs below a number, and of the spots before an index that have the sign of this number
+pub record SoFar (number : ℕ) (spots : List Spot) (ws : List WrittenSign) (index : ℕ) (places : List (Option Position)) : Type 0 where
+  pub each : (n : ℕ) (p : Position) → place_in places n ≡ Some p → (i : ℕ) × IsPlaceAt spots ws i n p
+  pub below : (i n : ℕ) (s : Spot) → slice_get spots i ≡ Some s → sign_number s.sign < number → spot_node s ≡ Some n → IsSome (place_in places n)
+  pub here : (i n : ℕ) (s : Spot) → i < index → slice_get spots i ≡ Some s → sign_number s.sign ≡ number → spot_node s ≡ Some n → IsSome (place_in places n)
+
+-- ---- the whole
+
+no_place : (n : ℕ) (p : Position) → place_in [] n ≡ Some p → ⊥
+no_place n p e = cc
+
+pub none_yet : (spots : List Spot) (ws : List WrittenSign) (places : List (Option Position)) → places ≡ [] → AreAmongBelow 0 spots ws places
+none_yet spots ws places e = record {
+  each = λ n p h. absurd (no_place n p (ap (λ ps. place_in ps n) (sym e) ∙ h));
+  all = λ i n s h lt k. absurd (omega arith);
+}
+
+below_all : (s : Sign) → sign_number s < 22
+below_all Receive = omega arith
+below_all Case = omega arith
+below_all If = omega arith
+below_all AndAlso = omega arith
+below_all OrElse = omega arith
+below_all Send = omega arith
+below_all Match = omega arith
+below_all Name = omega arith
+below_all Brace = omega arith
+below_all Plus = omega arith
+below_all Minus = omega arith
+below_all Times = omega arith
+below_all Quotient = omega arith
+below_all Remainder = omega arith
+below_all Append = omega arith
+below_all Equal = omega arith
+below_all Unequal = omega arith
+below_all Less = omega arith
+below_all AtMost = omega arith
+below_all Greater = omega arith
+below_all AtLeast = omega arith
+below_all Unwritten = omega arith
+
+pub all_signs : (number : ℕ) (spots : List Spot) (ws : List WrittenSign) (places : List (Option Position)) → 22 ≤ number → AreAmongBelow number spots ws places
+    → AreAmong spots ws places
+all_signs number spots ws places le a = record {
+  each = a.each;
+  all = λ i n s h k. let b = below_all s.sign in a.all i n s h (omega arith) k;
+}
+
+-- ---- one sign
+
+pub begun : (number : ℕ) (spots : List Spot) (ws : List WrittenSign) (places : List (Option Position)) → AreAmongBelow number spots ws places
+    → SoFar number spots ws 0 places
+begun number spots ws places a = record { each = a.each; below = a.all; here = λ i n s lt h e k. absurd (omega arith) }
+
+pub ended : (number : ℕ) (spots : List Spot) (ws : List WrittenSign) (index : ℕ) (places : List (Option Position)) → length spots ≤ index
+    → SoFar number spots ws index places → AreAmongBelow (number + 1) spots ws places
+ended number spots ws index places le a = record {
+  each = a.each;
+  all = λ i n s h lt k. elim (cases_lt (sign_number s.sign) number) [
+    | inl below ↦ a.below i n s h below k
+    | inr above ↦ (let within = slice_get_within spots i s h in a.here i n s (omega arith) h (omega arith) k)
+  ];
+}
+
+-- ---- one spot
+
+-- it has another sign
+pub other_sign : (number : ℕ) (spots : List Spot) (ws : List WrittenSign) (index : ℕ) (places : List (Option Position)) (s : Spot)
+    → slice_get spots index ≡ Some s → has_number number s.sign ≡ false → SoFar number spots ws index places
+    → SoFar number spots ws (index + 1) places
+other_sign number spots ws index places s at other a = record {
+  each = a.each;
+  below = a.below;
+  here = λ i n u lt h e k. elim (cases_lt i index) [
+    | inl before ↦ a.here i n u before h e k
+    | inr behind ↦ (let same : i ≡ index = omega arith in
+        let is : u ≡ s = same_Some u s (sym h ∙ ap (slice_get spots) same ∙ at) in
+        let num : sign_number s.sign ≡ number = ap (λ (x : Spot). sign_number x.sign) (sym is) ∙ e in
+        absurd (grind (arith, nat_tests, other, num)))
+  ];
+}
+
+-- it is the sign of no node
+pub no_node : (number : ℕ) (spots : List Spot) (ws : List WrittenSign) (index : ℕ) (places : List (Option Position)) (s : Spot)
+    → slice_get spots index ≡ Some s → spot_node s ≡ None → SoFar number spots ws index places
+    → SoFar number spots ws (index + 1) places
+no_node number spots ws index places s at none a = record {
+  each = a.each;
+  below = a.below;
+  here = λ i n u lt h e k. elim (cases_lt i index) [
+    | inl before ↦ a.here i n u before h e k
+    | inr behind ↦ (let same : i ≡ index = omega arith in
+        let is : u ≡ s = same_Some u s (sym h ∙ ap (slice_get spots) same ∙ at) in
+        absurd (none-some n (sym none ∙ ap spot_node (sym is) ∙ k)))
+  ];
+}
+
+-- a place was set, and the others are as they were
+abbrev IsPut : (before after : List (Option Position)) (node : ℕ) → Position → Type 0
+IsPut before after node place = (n : ℕ) → place_in after n ≡ if n == node then Some place else place_in before n
+
+some_kept : (before after : List (Option Position)) (node : ℕ) (place : Position) → IsPut before after node place → (n : ℕ) → IsSome (place_in before n)
+    → IsSome (place_in after n)
+some_kept before after node place put n some = kept (n == node) (place_in before n) (place_in after n) (put n) some
+  where
+    kept : (b : Bool) (x y : Option Position) → y ≡ (if b then Some place else x) → IsSome x → IsSome y
+    kept true x y e h = subst IsSome (sym e) refl
+    kept false x y e h = subst IsSome (sym e) h
+
+pub put_here : (number : ℕ) (spots : List Spot) (ws : List WrittenSign) (index : ℕ) (before after : List (Option Position)) (s : Spot) (node : ℕ) (place : Position)
+    → slice_get spots index ≡ Some s → spot_node s ≡ Some node
+    → place ≡ record { function = s.function; line = line_behind spots ws (take index spots) s.sign }
+    → IsPut before after node place → SoFar number spots ws index before → SoFar number spots ws (index + 1) after
+put_here number spots ws index before after s node place at is_node is_place put a = record {
+  each = λ n p h. elim (cases_eq n node) [
+    | inl same ↦ (let here : place_in after n ≡ Some place = put n ∙ grind (arith, nat_tests, same) in
+        let is : p ≡ place = same_Some p place (sym h ∙ here) in
+        (index, record { spot = s; stands = at; node = is_node ∙ ap Some (sym same); place = is ∙ is_place }))
+    | inr other ↦ (let there : place_in after n ≡ place_in before n = put n ∙ grind (arith, nat_tests, other) in
+        a.each n p (sym there ∙ h))
+  ];
+  below = λ i n u h lt k. some_kept before after node place put n (a.below i n u h lt k);
+  here = λ i n u lt h e k. elim (cases_lt i index) [
+    | inl earlier ↦ some_kept before after node place put n (a.here i n u earlier h e k)
+    | inr behind ↦ (let same : i ≡ index = omega arith in
+        let is : u ≡ s = same_Some u s (sym h ∙ ap (slice_get spots) same ∙ at) in
+        let there : n ≡ node = same_Some n node (sym k ∙ ap spot_node is ∙ is_node) in
+        let here : place_in after n ≡ Some place = put n ∙ grind (arith, nat_tests, there) in
+        subst IsSome (sym here) refl)
+  ];
+}
+
+-- ---- lines
+
+-- a spot that is nowhere
+abbrev pub no_spot : Spot
+no_spot = record { sign = Receive; function = record { 0 = 0 }; node = None }
+
+-- the line of this rank is that of the spot
+pub line_is : (number : ℕ) (spots : List Spot) (ws : List WrittenSign) (i : ℕ) (s : Sign) (shown lines : List ℕ) (rank : ℕ) (line : Option ℕ)
+    → has_number number s ≡ true → shown ≡ lines → lines ≡ told_lines number spots ws → rank ≡ spots_with_sign number (take i spots) → line ≡ slice_get shown rank
+    → line ≡ line_behind spots ws (take i spots) s
+line_is number spots ws i s shown lines rank line has same are ranked read =
+    let is : number ≡ sign_number s = grind (arith, nat_tests, has) in
+    read
+    ∙ ap (λ (ls : List ℕ). slice_get ls rank) (same ∙ are)
+    ∙ ap (slice_get (told_lines number spots ws)) ranked
+    ∙ ap (λ (n : ℕ). slice_get (told_lines n spots ws) (spots_with_sign n (take i spots))) is

@@ -1,0 +1,45 @@
+-- The signs of nodes.
+use Rattle.std.specs.Prelude.{ℕ}
+use Rattle.pf_syntax.specs.Tree as t
+use Rattle.pf_positions.specs.declared.sign.Sign.{Sign}
+use Rattle.pf_positions.specs.declared.sign.Sign.TheVariants.{Receive, Case, If, AndAlso, OrElse, Send, Match, Name, Brace, Plus, Minus, Times, Quotient, Remainder, Append, Equal, Unequal, Less, AtMost, Greater, AtLeast, Unwritten}
+
+-- the number of a sign
+abbrev pub sign_number : Sign → ℕ
+sign_number Receive = 0
+sign_number Case = 1
+sign_number If = 2
+sign_number AndAlso = 3
+sign_number OrElse = 4
+sign_number Send = 5
+sign_number Match = 6
+sign_number Name = 7
+sign_number Brace = 8
+sign_number Plus = 9
+sign_number Minus = 10
+sign_number Times = 11
+sign_number Quotient = 12
+sign_number Remainder = 13
+sign_number Append = 14
+sign_number Equal = 15
+sign_number Unequal = 16
+sign_number Less = 17
+sign_number AtMost = 18
+sign_number Greater = 19
+sign_number AtLeast = 20
+sign_number Unwritten = 21
+
+-- the sign of an operator
+abbrev pub operator_sign : t.Operator → Sign
+operator_sign t.plus = Plus
+operator_sign t.minus = Minus
+operator_sign t.times = Times
+operator_sign t.quotient = Quotient
+operator_sign t.remainder = Remainder
+operator_sign t.append = Append
+operator_sign t.equal = Equal
+operator_sign t.unequal = Unequal
+operator_sign t.less = Less
+operator_sign t.at_most = AtMost
+operator_sign t.greater = Greater
+operator_sign t.at_least = AtLeast

@@ -1,5 +1,0 @@
-use Rattle.pf_profile.proofs.Orders as proved
-use Rattle.pf_profile.proofs.laws.reports_are_of_the_language.Goals as goal
-
-pub returns : goal.returns
-returns c = proved.reports_are_of_the_language

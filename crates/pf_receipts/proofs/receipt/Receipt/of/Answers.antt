@@ -1,6 +1,0 @@
-use Rattle.std.proofs.Common.{ap}
-use Rattle.pf_receipts.specs.Receipts.{receipt_of}
-use Rattle.pf_receipts.proofs.receipt.Receipt.of.Goals as goal
-
-pub returns : goal.returns
-returns g c = ap (λ reply. receipt_of c.args.project c.args.number c.args.call.value reply) c.of.ensures

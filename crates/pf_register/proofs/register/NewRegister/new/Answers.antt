@@ -1,5 +1,0 @@
-use Rattle.pf_register.proofs.Moves.{begins}
-use Rattle.pf_register.proofs.register.NewRegister.new.Goals as goal
-
-pub fifo_as-requires : goal.fifo_as-requires
-fifo_as-requires g c = begins

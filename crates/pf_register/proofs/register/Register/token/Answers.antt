@@ -1,5 +1,0 @@
-use Rattle.pf_register.proofs.Moves.{blanks}
-use Rattle.pf_register.proofs.register.Register.token.Goals as goal
-
-pub another-requires : goal.another-requires
-another-requires g c = blanks _ _

@@ -1,5 +1,0 @@
-use Rattle.pf_seeds.proofs.Counting.{each_is_counted}
-use Rattle.pf_seeds.proofs.laws.each_is_counted.Goals as goal
-
-pub returns : goal.returns
-returns c = each_is_counted

@@ -1,5 +1,0 @@
-use Rattle.pf_seeds.proofs.Leaking.{one_leak}
-use Rattle.pf_seeds.proofs.laws.one_leak.Goals as goal
-
-pub returns : goal.returns
-returns c = one_leak

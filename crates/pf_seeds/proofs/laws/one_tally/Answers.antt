@@ -1,5 +1,0 @@
-use Rattle.pf_seeds.proofs.Counting.{one_tally}
-use Rattle.pf_seeds.proofs.laws.one_tally.Goals as goal
-
-pub returns : goal.returns
-returns c = one_tally

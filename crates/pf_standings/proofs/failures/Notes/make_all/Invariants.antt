@@ -1,7 +1,0 @@
-use Rattle.pf_standings.specs.Known.{events_of}
-use Rattle.pf_standings.specs.Noted.{AreMade}
-use Rattle.pf_standings.proofs.failures.Notes.make_all.Given as goal
-
--- the events so far were made
-abbrev pub invariant-loop-event : goal.invariant-loop-event
-invariant-loop-event l = AreMade (events_of l.run) l.event l.self

@@ -1,7 +1,0 @@
-use Rattle.pf_standings.specs.Known.{events_of}
-use Rattle.pf_standings.specs.Put.{TellEnds}
-use Rattle.pf_standings.proofs.processes.put_ends.Given as goal
-
--- a process that an event so far ended has its fate
-abbrev pub invariant-loop-event : goal.invariant-loop-event
-invariant-loop-event l = TellEnds (events_of l.run) l.event l.fn.standings.items l.standings.items

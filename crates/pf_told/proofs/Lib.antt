@@ -1,5 +1,0 @@
-pub mod Lists
-pub mod Trials
-pub mod Drops
-pub mod Tells
-pub mod Points

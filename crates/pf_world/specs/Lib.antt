@@ -1,0 +1,12 @@
+pub mod World
+pub mod Chores
+pub mod Steps
+pub mod Memory
+pub mod Alone
+pub mod Laws
+pub mod Jobs
+pub mod Encoding
+pub mod Worked
+pub mod View
+pub mod Told
+pub mod Noted

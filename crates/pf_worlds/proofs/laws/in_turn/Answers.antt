@@ -1,5 +1,0 @@
-use Rattle.pf_worlds.proofs.InTurn.{in_turn}
-use Rattle.pf_worlds.proofs.laws.in_turn.Goals as goal
-
-pub returns : goal.returns
-returns c = in_turn
