@@ -82,7 +82,7 @@ fn contents<R: Read + Drop, L: Ledger>(
     reader.take_front(alloc, MOST_BYTES)
 }
 
-/// What came of a call, as what a workshop responds.
+/// What came of a call, as what a world responds.
 fn response_of(outcome: Result<Reply, NoMemory>) -> Result<Response, NoMemory>
     ensures { response_in result ≡ answer_in outcome }
 {

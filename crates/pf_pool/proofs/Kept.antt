@@ -1,4 +1,4 @@
--- Workshops stay sound.
+-- Worlds stay sound.
 use Rattle.std.proofs.Common.{◌≡◌, ℕ, Bool, true, false, List, [], ◌∷◌, length, Option, Some, None, refl, sym, ◌∙◌, ap, subst, arith}
 use Rattle.std.specs.Prelude.{Ok, if◌then◌else◌, All, IfSome, slice_get, slice_set, replicate}
 use Rattle.std.specs.declared.alloc.Global.{Global}
@@ -40,7 +40,7 @@ any_profile = record {
 pub nothing_lost : (w : Desks) → KeepsAllTickets w w
 nothing_lost w = λ q t j h. h
 
--- what a worker of a sound workshop holds or has parked is of the jobs of trials
+-- what a worker of a sound world holds or has parked is of the jobs of trials
 pub hand_of : (s : World) (w : ℕ) (h : Hand) → IsSound s → slice_get s.hands w ≡ Some h → IsHandOf s.desks h
 hand_of s w h sound i = all_at (IsHandOf s.desks) s.hands w h i sound.jobs.0
 
@@ -70,7 +70,7 @@ module _ (s : World) (w' : Desks) (keeps : KeepsAllTickets s.desks w') (sound : 
     );
   }
 
--- ---- a new workshop
+-- ---- a new world
 
 pub new_sound : (n : ℕ) → IsSound (new_world n)
 new_sound n = record {

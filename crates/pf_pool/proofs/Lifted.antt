@@ -1,4 +1,4 @@
--- What happens at one hand and one deque happens in the workshop.
+-- What happens at one hand and one deque happens in the world.
 use Rattle.std.proofs.Common.{◌≡◌, ◌<◌, ℕ, Bool, true, false, List, [], length, get_or, Option, Some, None, refl, ap, ◌∙◌, arith}
 use Rattle.std.specs.Prelude.{if◌then◌else◌, slice_get}
 use Rattle.std.proofs.lemmas.Option.{slice_get_within, slice_get-get_or}
@@ -15,7 +15,7 @@ deque_there s w h same i =
     (get_or s.deques w [], slice_get-get_or s.deques w [] within)
 
 module _ (p : RunProfile) (s : World) (w q t : ℕ) (k : Chore) where
-  -- what a chore leaves at a hand and a deque it leaves in the workshop
+  -- what a chore leaves at a hand and a deque it leaves in the world
   pub at_hand : (h : Hand) (rs : Deque) (o : Option Effect) → is_theft_of_own w k ≡ false → slice_get s.hands w ≡ Some h
       → slice_get s.deques (deque_owner w k) ≡ Some rs → chore_effect p q t k (desk_at q s.desks) h rs ≡ o → effect_of p s w q t k ≡ o
   at_hand h rs o own i j is =

@@ -1,4 +1,4 @@
--- A workshop answers a chore as what happens at its hand, its deque and its desk says.
+-- A world answers a chore as what happens at its hand, its deque and its desk says.
 use Rattle.std.proofs.Common.{◌≡◌, ◌<◌, ◌==◌, ℕ, Bool, true, false, List, [], ◌∷◌, ◌++◌, length, get_or, Option, Some, None, refl, sym, ap, ◌∙◌, subst, arith, inl, inr}
 use Rattle.std.specs.Prelude.{◌⊎◌, Result, Ok, Err, IsSome, if◌then◌else◌, nat_lt, slice_get, slice_set}
 use Rattle.std.specs.Option.{option_flatten, option_map}
@@ -57,7 +57,7 @@ same_both s w h h' rs rs' i j a b =
     let deques : slice_set s.deques w rs' ≡ s.deques = ap (slice_set s.deques w) b ∙ set_got s.deques w rs j in
     (λ z. record { desks = s.desks; hands = hands z; deques = deques z })
 
--- a workshop that is the same as another answers as it does
+-- a world that is the same as another answers as it does
 pub seen : (s s0 s' : World) (x : WorldStep) (r : Result Response NoMemory) → s ≡ s0 → Responds s x r s' → Responds s0 x r s'
 seen s s0 s' x r is h = subst (λ (k : World). Responds k x r s') is h
 

@@ -1,4 +1,4 @@
--- How a workshop of the code answers steps.
+-- How a world of the code answers steps.
 use Rattle.std.specs.Prelude.{Bool, true, false, Option, Some, None, Result, Ok, Err}
 use Rattle.pf_errors.specs.declared.memory.NoMemory.{NoMemory}
 use Rattle.pf_desks.specs.Desks.{replied, work_done, not_now}
@@ -32,6 +32,6 @@ work_response false = stray
 
 -- ---- steps
 
--- Responds s x r s': in a workshop a step is answered so, and leads to a workshop, for each profile that is right
+-- Responds s x r s': in a world a step is answered so, and leads to a world, for each profile that is right
 abbrev pub Responds : World → WorldStep → Result Response NoMemory → World → Type 0
 Responds s x r s' = ForRight (λ p. RespondsTo p s x (response_in r) s')

@@ -1,10 +1,10 @@
--- What the fields of a workshop stand for, and what is true of them.
+-- What the fields of a world stand for, and what is true of them.
 use Rattle.std.specs.Prelude.{◌≡◌, length}
 use Rattle.pf_world.specs.World.{World}
 use Rattle.pf_world.specs.Jobs.{RunsAreOfTrials}
-use Rattle.pf_pool.specs.declared.world.World.TheInside as workshop
+use Rattle.pf_pool.specs.declared.world.World.TheInside as world
 
-abbrev pub world_in : workshop.Inside → World
+abbrev pub world_in : world.Inside → World
 world_in s = record { desks = s.book; hands = s.hands.items; deques = s.deques.items }
 
 -- each worker has a hand and a deque, and each run is of the job of its trial

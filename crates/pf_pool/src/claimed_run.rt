@@ -28,11 +28,11 @@ pub(crate) struct ClaimedRun {
 }
 
 impl Model for ClaimedRun {
-    ghost use Rattle.pf_world.specs.World as workshop;
+    ghost use Rattle.pf_world.specs.World as world;
     ghost use Rattle.pf_world.specs.Encoding.{coded_claimed_run};
     ghost use Rattle.pf_pool.specs.Runs.{run_in};
 
-    ghost Value = { workshop.ClaimedRun };
+    ghost Value = { world.ClaimedRun };
 
     ghost coded = { coded_claimed_run };
 

@@ -20,10 +20,10 @@ pub(crate) struct Deque {
 }
 
 impl Model for Deque {
-    ghost use Rattle.pf_world.specs.World as workshop;
+    ghost use Rattle.pf_world.specs.World as world;
     ghost use Rattle.pf_world.specs.Encoding.{coded_deque};
 
-    ghost Value = { workshop.Deque };
+    ghost Value = { world.Deque };
 
     ghost coded = { coded_deque };
 

@@ -1,4 +1,4 @@
-//! What is answered to the steps of a workshop.
+//! What is answered to the steps of a world.
 
 use pf_book::Reply;
 

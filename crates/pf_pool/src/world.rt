@@ -1,4 +1,4 @@
-//! The workshop: the desks of all projects, and workers beside them.
+//! The world: the desks of all projects, and workers beside them.
 
 ghost use Rattle.std.specs.Prelude.{◌≡◌, ◌<◌, ◌≤◌, true, slice_get, IfOk, IfSome, Ok};
 ghost use Rattle.pf_request.specs.View.{view_of_call};
@@ -22,7 +22,7 @@ use std::hash::RandomState;
 use std::marker::Model;
 use std::sync::Arc;
 
-/// How many workers a workshop may have.
+/// How many workers a world may have.
 pub const MOST_WORKERS: u32 = 64;
 
 /// The desks of all projects, and by worker what it holds and what it parked. The workers share one scratch, since only
@@ -36,11 +36,11 @@ pub struct World {
 }
 
 impl Model for World {
-    ghost use Rattle.pf_world.specs.World as workshop;
+    ghost use Rattle.pf_world.specs.World as world;
     ghost use Rattle.pf_world.specs.Encoding.{coded_world};
     ghost use Rattle.pf_pool.specs.Sound.{IsSound, world_in};
 
-    ghost Value = { workshop.World };
+    ghost Value = { world.World };
 
     ghost coded = { coded_world };
 
@@ -51,7 +51,7 @@ impl Model for World {
 }
 
 impl World {
-    /// A workshop of 1 to 64 workers, in which no desk is open and no worker has a run. Its book hashes with these
+    /// A world of 1 to 64 workers, in which no desk is open and no worker has a run. Its book hashes with these
     /// keys.
     pub fn new(alloc: Global, keys: RandomState, workers: u32) -> Result<World, NoMemory>
         requires some { 1 ≤ workers }

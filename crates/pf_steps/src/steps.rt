@@ -15,7 +15,7 @@ use std::io::{Read, Write};
 use std::sync::ledger::Ledger;
 
 /// Reads at most 64 MiB, piece by piece, answers each command before it waits for more, and gives the status: 2 if a
-/// line is no command, after which nothing is done, and else 0. The workshop of four workers hashes with these keys,
+/// line is no command, after which nothing is done, and else 0. The world of four workers hashes with these keys,
 /// which no answer depends on. The ending has the line that is no command, by its number, for who says why reading
 /// ended.
 pub fn run_steps<R: Read, W: Write, L: Ledger, M: Ledger>(

@@ -1,5 +1,5 @@
 //! Tests of jobs and of what hands them out: the scheduler, hunts over seeds by several workers, the book, the store,
-//! and workshops.
+//! and worlds.
 #![tactic(auto)]
 
 #[cfg(test)]

@@ -26,9 +26,9 @@ const CHORES: [(u32, Chore); 11] = [
 ];
 
 /// Project 7 submits the module and orders its run.
-fn order(alloc: Global, workshop: &mut World) -> Result<(), Fail> {
+fn order(alloc: Global, world: &mut World) -> Result<(), Fail> {
     let source = Source::new(alloc, Vec::from_slice(alloc, ECHO)?)?;
-    drop(workshop.call(alloc, 7, Call::Submit(source))?);
+    drop(world.call(alloc, 7, Call::Submit(source))?);
     let request = Request {
         root: ShortBytes::from_slice(alloc, b"main")?,
         property: ShortBytes::from_slice(alloc, b"returns")?,
@@ -36,7 +36,7 @@ fn order(alloc: Global, workshop: &mut World) -> Result<(), Fail> {
         limit: 1000,
     };
     let call = Call::Order(Order { module: 1, request });
-    drop(workshop.step(alloc, Step::Call { project: 7, call })?);
+    drop(world.step(alloc, Step::Call { project: 7, call })?);
     Ok(())
 }
 
@@ -45,7 +45,7 @@ fn is_done(response: Response) -> bool {
 }
 
 /// The index of the first chore that isn't done.
-fn first_undone(alloc: Global, workshop: &mut World) -> Result<Option<usize>, Fail> {
+fn first_undone(alloc: Global, world: &mut World) -> Result<Option<usize>, Fail> {
     for (index, &(worker, chore)) in CHORES.iter().enumerate() {
         let step = Step::Chore {
             worker,
@@ -53,18 +53,18 @@ fn first_undone(alloc: Global, workshop: &mut World) -> Result<Option<usize>, Fa
             ticket: 1,
             chore,
         };
-        if !is_done(workshop.step(alloc, step)?) {
+        if !is_done(world.step(alloc, step)?) {
             return Ok(Some(index));
         }
     }
     Ok(None)
 }
 
-/// The same in a workshop of 64 workers in which the run is ordered.
+/// The same in a world of 64 workers in which the run is ordered.
 fn undone(alloc: Global, keys: RandomState) -> Result<Option<usize>, Fail> {
-    let mut workshop = World::new(alloc, keys, 64)?;
-    order(alloc, &mut workshop)?;
-    first_undone(alloc, &mut workshop)
+    let mut world = World::new(alloc, keys, 64)?;
+    order(alloc, &mut world)?;
+    first_undone(alloc, &mut world)
 }
 
 #[test]

@@ -19,7 +19,7 @@ use Rattle.pf_protocol.specs.Complete.{is_due, is_complete, CompleteCommands, co
 use Rattle.pf_protocol.proofs.Shorter.{command_shorter}
 use Rattle.pf_protocol.proofs.Completed.{with_more, command_stays, complete_stays}
 
--- ---- workshops
+-- ---- worlds
 
 -- all steps are answered in turn where no allocation fails
 all_answered : (p : RunProfile) (w : World) (ss : List WorldStep) → (last : World) × RespondsInTurn p w ss (map Some (responses p w ss)) last

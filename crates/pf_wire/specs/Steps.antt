@@ -28,8 +28,8 @@ last_text good k = if good then [] else line (codes "command " ++ decimal k ++ c
 abbrev pub steps_status : Bool → ℕ
 steps_status good = if good then 0 else 2
 
--- the text that the first command, number k, is answered with in a workshop, where these bytes follow it and that
--- workshop; nothing follows if it is no command
+-- the text that the first command, number k, is answered with in a world, where these bytes follow it and that
+-- world; nothing follows if it is no command
 abbrev pub AnswersOne : List ℕ → ℕ → World → List ℕ → Option (List ℕ) → World → Type 0
 AnswersOne bytes k w text (Some rest) w' =
     (s : WorldStep) × (a : Option Response) × (command_at bytes ≡ Some (s, rest)) × (text ≡ step_text s a) × ForRight (λ p. RespondsTo p w s a w')

@@ -21,7 +21,7 @@ abbrev pub MayFollow : Bool → List ℕ → Type 0
 MayFollow over more = over ≡ true → more ≡ []
 
 -- Turns p over bytes v j text rest w k: whatever follows, the bytes are some commands and then the rest, which are
--- complete commands unless the input is over; their steps lead from the workshop v to w, the text is their answers, and
+-- complete commands unless the input is over; their steps lead from the world v to w, the text is their answers, and
 -- they are numbered from j up to k
 pub record Turns (p : RunProfile) (over : Bool) (bytes : List ℕ) (v : World) (j : ℕ) (text rest : List ℕ) (w : World) (k : ℕ) : Type 0 where
   pub steps : List WorldStep

@@ -34,7 +34,7 @@ use std::sync::ledger::Ledger;
 /// The most bytes that are read: 64 MiB.
 pub const MOST_BYTES: usize = 67_108_864;
 
-/// How many workers the workshop of `steps` has.
+/// How many workers the world of `steps` has.
 pub const WORKERS: u32 = 4;
 
 /// Empties a text, and frees its block where it is larger than the gathered text may be.
@@ -52,17 +52,17 @@ fn empty(alloc: Global, text: &mut Vec<u8>)
 /// Does a step, and puts the text of its answer.
 fn answer(
     alloc: Global,
-    workshop: &mut World,
+    world: &mut World,
     step: Step,
     told: &mut WrittenAnswer,
 ) -> Result<(), NoMemory>
     requires { told.old.report ≡ None }
     ensures { OnOk result ((a : Option chores.Response)
         × (whole_text told.new ≡ told.old.text.items ++ step_text (view_of_step step) a)
-        × ForRight (λ p. RespondsTo p workshop.old (view_of_step step) a workshop.new)) }
+        × ForRight (λ p. RespondsTo p world.old (view_of_step step) a world.new)) }
 {
     let requester = Requester::of(&step);
-    let outcome = workshop.step(alloc, step);
+    let outcome = world.step(alloc, step);
     put_outcome(alloc, told, requester, outcome)?;
     Ok(())
 }
@@ -82,19 +82,19 @@ pub fn put_no_command(alloc: Global, out: &mut Vec<u8>, number: u64) -> Result<(
 /// What follows the command; nothing does if the line is none.
 fn answer_front<'a>(
     alloc: Global,
-    workshop: &mut World,
+    world: &mut World,
     bytes: &'a [u8],
     number: u64,
     told: &mut WrittenAnswer,
 ) -> Result<Option<&'a [u8]>, NoMemory>
     ensures { IfOk result (λ rest.
-        AnswersOne bytes.now number workshop.old (whole_text told.new) (option_copied rest) workshop.new) }
+        AnswersOne bytes.now number world.old (whole_text told.new) (option_copied rest) world.new) }
 {
     told.report = None;
     empty(alloc, &mut told.text);
     match read_command(alloc, bytes) {
         Ok((step, rest)) => {
-            answer(alloc, workshop, step, told)?;
+            answer(alloc, world, step, told)?;
             Ok(Some(rest))
         }
         Err(OrNoMemory::Fault(NoCommand)) => {
@@ -116,7 +116,7 @@ struct LeftInput<'a> {
 /// there is nothing left, and the ending has that line.
 fn answer_due<'a, W: Write, M: Ledger>(
     alloc: Global,
-    workshop: &mut World,
+    world: &mut World,
     first: u64,
     input: &'a [u8],
     is_over: bool,
@@ -125,15 +125,15 @@ fn answer_due<'a, W: Write, M: Ledger>(
 ) -> Result<Option<LeftInput<'a>>, OrNoMemory<StreamFault>>
     requires { first + length input.now < 2 ^ 63 }
     ensures answered { IfOk result (λ left. MatchOption left
-        (ForRight (λ p. TellsAll p is_over input.now workshop.old first
+        (ForRight (λ p. TellsAll p is_over input.now world.old first
         (W.contents writer.old.inner) (W.contents writer.new.inner)))
-        (λ l. ForRight (λ p. TellsUpTo p is_over input.now workshop.old first l.rest.now workshop.new l.number
+        (λ l. ForRight (λ p. TellsUpTo p is_over input.now world.old first l.rest.now world.new l.number
         (W.contents writer.old.inner) (W.contents writer.new.inner))
         × (is_due is_over l.rest.now ≡ false) × (l.number + length l.rest.now ≤ first + length input.now))) }
     ensures ending { IfOk result (λ left. MatchOption left (LeadsToNone is_over input.now first ending.new)
         (λ l. LeadsTo is_over input.now l.rest.now first l.number × (ending.new ≡ ending.old))) }
     ensures kept { OnOk result (writer.new.failures.total ≡ writer.old.failures.total) }
-    ensures fault { IfErr result (λ e. ForRight (λ p. TurnsLeave p e is_over input.now workshop.old first
+    ensures fault { IfErr result (λ e. ForRight (λ p. TurnsLeave p e is_over input.now world.old first
         (W.contents writer.old.inner) (W.contents writer.new.inner)
         writer.old.failures.total writer.new.failures.total)) }
 {
@@ -147,7 +147,7 @@ fn answer_due<'a, W: Write, M: Ledger>(
     let mut rest = input;
     let mut number = first;
     while is_due(rest, is_over) {
-        let follows = match answer_front(alloc, workshop, rest, number, &mut told) {
+        let follows = match answer_front(alloc, world, rest, number, &mut told) {
             Ok(follows) => follows,
             Err(NoMemory) => {
                 gathered.send(writer)?;
@@ -167,16 +167,16 @@ fn answer_due<'a, W: Write, M: Ledger>(
     Ok(Some(LeftInput { rest, number }))
 }
 
-/// Reads and answers by a new workshop, a piece at a time.
+/// Reads and answers by a new world, a piece at a time.
 fn answer_pieces<R: Read, W: Write, L: Ledger, M: Ledger>(
     alloc: Global,
-    workshop: &mut World,
+    world: &mut World,
     piece: &mut [u8],
     reader: &mut Counted<R, L>,
     writer: &mut Counted<W, M>,
     ending: &mut InputEnd,
 ) -> Result<u8, OrNoMemory<StreamFault>>
-    requires is_new { workshop.old ≡ new_world WORKERS }
+    requires is_new { world.old ≡ new_world WORKERS }
     requires room { 0 < length piece.old }
     ensures answered { IfOk result (λ status. ForRight (λ p. StepsAnswered p (R.remaining reader.old.inner)
         (W.contents writer.old.inner) (W.contents writer.new.inner) status)) }
@@ -200,7 +200,7 @@ fn answer_pieces<R: Read, W: Write, L: Ledger, M: Ledger>(
         if input.is_due(is_over) {
             let Some(left) = answer_due(
                 alloc,
-                workshop,
+                world,
                 number,
                 &input.bytes,
                 is_over,
@@ -219,7 +219,7 @@ fn answer_pieces<R: Read, W: Write, L: Ledger, M: Ledger>(
 }
 
 /// Reads at most 64 MiB, piece by piece, answers each command before it waits for more, and gives the status: 2 if a
-/// line is no command, after which nothing is done, and else 0. The workshop of four workers hashes with these keys,
+/// line is no command, after which nothing is done, and else 0. The world of four workers hashes with these keys,
 /// which no answer depends on. The ending has the line that is no command, by its number, for who says why reading
 /// ended.
 pub fn run_steps<R: Read, W: Write, L: Ledger, M: Ledger>(
@@ -244,6 +244,6 @@ pub fn run_steps<R: Read, W: Write, L: Ledger, M: Ledger>(
 {
     let mut room = vec![in alloc; 0u8; ROOM]?;
     let piece = room.as_mut_slice();
-    let mut workshop = World::new(alloc, keys, WORKERS)?;
-    answer_pieces(alloc, &mut workshop, piece, reader, writer, ending)
+    let mut world = World::new(alloc, keys, WORKERS)?;
+    answer_pieces(alloc, &mut world, piece, reader, writer, ending)
 }

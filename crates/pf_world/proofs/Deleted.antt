@@ -29,7 +29,7 @@ map_replicate f zero x = refl
 map_replicate f (suc n) x = ap (λ xs. f x ∷ xs) (map_replicate f n x)
 
 module _ (p : RunProfile) (q : ℕ) where
-  -- in a workshop a project has the desk, the hands and the deques that it sees of another
+  -- in a world a project has the desk, the hands and the deques that it sees of another
   abbrev IsAlike : World → World → Type 0
   IsAlike s k = (desk_at q k.desks ≡ desk_at q s.desks) × (k.hands ≡ map (keep q) s.hands) × (k.deques ≡ map (keep_runs q) s.deques)
 
@@ -76,7 +76,7 @@ module _ (p : RunProfile) (q : ℕ) where
           ∙ (λ i. effect_among p k.desks q t x (slice_get-map (keep q) s.hands w i) (slice_get-map (keep_runs q) s.deques (deque_owner w x) i))
           ∙ seen (slice_get s.hands w) (slice_get s.deques (deque_owner w x)) h
 
-  -- what becomes of the workshop in which only the project's steps are left: a step that belongs to it is answered
+  -- what becomes of the world in which only the project's steps are left: a step that belongs to it is answered
   -- there as here, and any other is left out
   abbrev Next : World → WorldStep → World × Response → Bool → Type 0
   Next k x y true = ((take_step p k x).1 ≡ y.1) × IsAlike y.0 (take_step p k x).0

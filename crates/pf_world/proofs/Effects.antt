@@ -28,7 +28,7 @@ module _ (P : Effect → Type 0) where
   where_from_deque q t [] e h f = absurd (cc)
   where_from_deque q t (r ∷ ks) e h f = where_so (is_run_of q t r) _ e h (f r ks refl)
 
-  -- what holds of each effect of a chore holds of that in a workshop
+  -- what holds of each effect of a chore holds of that in a world
   pub where_done : (p : RunProfile) (s : World) (w q t : ℕ) (k : Chore) (e : Effect) → effect_of p s w q t k ≡ Some e
       → ((hand : Hand) (rs : Deque) → slice_get s.hands w ≡ Some hand → slice_get s.deques (deque_owner w k) ≡ Some rs
       → chore_effect p q t k (desk_at q s.desks) hand rs ≡ Some e → P e)

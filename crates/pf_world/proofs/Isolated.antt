@@ -135,7 +135,7 @@ none_either_way false rs h = refl
 
 -- ---- steps
 
--- what a step with this workshop and response does to one project
+-- what a step with this world and response does to one project
 abbrev IsLocal : RunProfile → ℕ → World → WorldStep → World × Response → Type 0
 IsLocal p q s x r =
     ((if project_of x == q then replies_of r.1 else []) ≡ (if is_own q x r.1 then replies_done p.profile (at_desk x) (desk_at q s.desks) else []))

@@ -1,4 +1,4 @@
--- Whatever workers do and wherever allocations fail, the desks of a workshop are those of a world after some steps.
+-- Whatever workers do and wherever allocations fail, the desks of a world are those of a world after some steps.
 use Rattle.std.proofs.Common.{◌≡◌, ℕ, Bool, true, false, ◌&&◌, List, [], ◌∷◌, ◌++◌, Option, Some, None, refl, sym, ap, ◌∙◌, subst}
 use Rattle.std.specs.Prelude.{if◌then◌else◌, nat_lt, length}
 use Rattle.pf_desks.specs.Desk.{Desk, held_at}

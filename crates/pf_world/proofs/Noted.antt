@@ -114,7 +114,7 @@ module _ (p : Profile) where
           → (calls_in (moved x t f e).history ≡ calls_in d.history) × (calls_noted (moved x t f e).history ≡ calls_noted d.history)
       by_move x t f e of same = (calls_worked x.history e of ∙ same.0, noted_worked x.history e of ∙ same.1)
 
--- ---- a desk in a workshop
+-- ---- a desk in a world
 
 module _ (p : RunProfile) (q : ℕ) where
   notes_same : (d : Desk) → NotesOn d d []

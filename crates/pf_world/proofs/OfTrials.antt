@@ -1,4 +1,4 @@
--- The runs of a workshop stay those of the jobs of their trials.
+-- The runs of a world stay those of the jobs of their trials.
 use Rattle.std.proofs.Common.{◌≡◌, ℕ, zero, suc, Bool, true, false, ◌&&◌, List, [], ◌∷◌, length, Option, Some, None, refl, sym, subst, arith}
 use Rattle.std.specs.Prelude.{if◌then◌else◌, nat_lt, All, IfSome, slice_get, replicate}
 use Rattle.std.specs.Option.{option_flatten, option_map}
@@ -161,7 +161,7 @@ module _ (p : RunProfile) where
   of_from s s' (x ∷ xs) [] to all = absurd to
   of_from s s' (x ∷ xs) (a ∷ ans) to all = of_from to.0 s' xs ans to.2 (of_answer s to.0 x a to.1 all)
 
--- ---- a new workshop
+-- ---- a new world
 
 all_same : {X : Type 0} (P : X → Type 0) (n : ℕ) (x : X) → P x → All P (replicate n x)
 all_same P zero x h = λ k d within. absurd (omega arith)

@@ -1,4 +1,4 @@
--- The laws of workshops.
+-- The laws of worlds.
 use Rattle.std.specs.Prelude.{◌≡◌, ◌≢◌, ◌↔◌, ℕ, ◌==◌, if◌then◌else◌, List, [], ◌∷◌, map, Option, Some}
 use Rattle.pf_errors.specs.declared.code.Code.TheVariants as code
 use Rattle.pf_request.specs.Calls.{Call, status, fetch}

@@ -1,4 +1,4 @@
--- Where allocations fail in a workshop.
+-- Where allocations fail in a world.
 use Rattle.std.specs.Prelude.{◌≡◌, IsSome, List, [], ◌∷◌, Option, Some, None, slice_get, slice_set}
 use Rattle.std.specs.Option.{option_flatten, option_map}
 use Rattle.pf_desks.specs.Desk.{marked_memory}
@@ -24,19 +24,19 @@ MayBeRefused p s (worker_does w q t k) = MayTakeMemory k × IsSome (effect_of p 
 abbrev pub out_of_memory : ClaimedRun → ClaimedRun
 out_of_memory r = record r { progress = over marked_memory }
 
--- the workshop after a step in which an allocation failed: a run that was sliced is over, and all else is as it was
+-- the world after a step in which an allocation failed: a run that was sliced is over, and all else is as it was
 abbrev pub refused_in : World → WorldStep → World
 refused_in s (worker_does w q t (slicing n)) =
     record s { hands = slice_set s.hands w (option_map out_of_memory (option_flatten (slice_get s.hands w))) }
 refused_in s x = s
 
--- RespondsTo p s x a s': in a workshop a step is answered so, and leads to a workshop; if an allocation failed, nothing
+-- RespondsTo p s x a s': in a world a step is answered so, and leads to a world; if an allocation failed, nothing
 -- is answered
 abbrev pub RespondsTo : RunProfile → World → WorldStep → Option Response → World → Type 0
 RespondsTo p s x (Some a) s' = ◌≡◌ {A = World × Response} (take_step p s x) (s', a)
 RespondsTo p s x None s' = MayBeRefused p s x × (s' ≡ refused_in s x)
 
--- RespondsInTurn p s xs ans s': in a workshop some steps are answered in turn, and lead to a workshop
+-- RespondsInTurn p s xs ans s': in a world some steps are answered in turn, and lead to a world
 abbrev pub RespondsInTurn : RunProfile → World → List WorldStep → List (Option Response) → World → Type 0
 RespondsInTurn p s [] [] s' = s' ≡ s
 RespondsInTurn p s [] (a ∷ ans) s' = ⊥

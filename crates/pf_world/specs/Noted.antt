@@ -1,4 +1,4 @@
--- What the histories of a workshop's desks note of the calls of clients.
+-- What the histories of a world's desks note of the calls of clients.
 use Rattle.std.specs.Prelude.{◌≡◌, ℕ, ◌==◌, if◌then◌else◌, List, [], ◌∷◌, ◌++◌, take, Option, Some}
 use Rattle.pf_quota.specs.declared.refusals.TheConstants.{MOST_CALLS}
 use Rattle.pf_desks.specs.Desk.{Entry, called}

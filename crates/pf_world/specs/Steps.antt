@@ -1,4 +1,4 @@
--- The steps of a workshop: what clients and workers do, one after the other, and what is answered.
+-- The steps of a world: what clients and workers do, one after the other, and what is answered.
 use Rattle.std.specs.Prelude.{ℕ, Bool, false, ◌==◌, if◌then◌else◌, List, [], ◌∷◌, Option, Some, None, slice_get, slice_set}
 use Rattle.pf_request.specs.Calls.{Call}
 use Rattle.pf_desks.specs.Desks.{Desks, Answer, not_now, client, desk_at, worked, step}
@@ -10,7 +10,7 @@ pub data WorldStep : Type 0 where
   client_calls : (project : ℕ) → Call → WorldStep
   worker_does : (worker project ticket : ℕ) → Chore → WorldStep
 
--- ---- chores in a workshop
+-- ---- chores in a world
 
 -- whose deque a worker looks at: another's if it steals, else its own
 abbrev pub deque_owner : (worker : ℕ) → Chore → ℕ
@@ -27,7 +27,7 @@ abbrev pub effect_among : RunProfile → Desks → (project ticket : ℕ) → Ch
 effect_among p ds q t k (Some h) (Some rs) = chore_effect p q t k (desk_at q ds) h rs
 effect_among p ds q t k h rs = None
 
--- what a worker's chore leaves, if it can be done in a workshop
+-- what a worker's chore leaves, if it can be done in a world
 abbrev pub effect_of : RunProfile → World → (worker project ticket : ℕ) → Chore → Option Effect
 effect_of p s w q t k =
     if is_theft_of_own w k
@@ -39,7 +39,7 @@ abbrev pub with_deque : (owner : ℕ) → Option Deque → List Deque → List D
 with_deque v (Some rs) ks = slice_set ks v rs
 with_deque v None ks = ks
 
--- the workshop after a worker's chore; a chore that can't be done leaves all as it was
+-- the world after a worker's chore; a chore that can't be done leaves all as it was
 abbrev pub with_effect : World → (worker owner project : ℕ) → Option Effect → World × Response
 with_effect s w v q (Some e) =
     (record { desks = (worked q s.desks e.desk).0; hands = slice_set s.hands w e.hand; deques = with_deque v e.deque s.deques }, e.response)
@@ -47,7 +47,7 @@ with_effect s w v q None = (s, answer not_now)
 
 -- ---- steps
 
--- the result by desks alone, in a workshop whose workers do nothing
+-- the result by desks alone, in a world whose workers do nothing
 abbrev pub by_desks : World → Desks × Answer → World × Response
 by_desks s x = (record s { desks = x.0 }, answer x.1)
 
@@ -61,6 +61,6 @@ abbrev pub responses : RunProfile → World → List WorldStep → List Response
 responses p s [] = []
 responses p s (x ∷ xs) = (take_step p s x).1 ∷ responses p (take_step p s x).0 xs
 
--- what is answered to all steps, in a new workshop of n workers
+-- what is answered to all steps, in a new world of n workers
 abbrev pub all_responses : RunProfile → (workers : ℕ) → List WorldStep → List Response
 all_responses p n xs = responses p (new_world n) xs

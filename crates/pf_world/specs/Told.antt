@@ -1,4 +1,4 @@
--- The text of what is answered in a workshop.
+-- The text of what is answered in a world.
 use Rattle.std.specs.Prelude.{ℕ, zero, List, [], ◌∷◌, ◌++◌, Option, Some, None, codes}
 use Rattle.std.specs.Fmt.{decimal}
 use Rattle.pf_errors.specs.Codes.{code_text, no_memory_text}

@@ -1,17 +1,17 @@
--- Workshops: the desks of projects, and workers beside them who run trials, each with what it holds and what it parked.
+-- Worlds: the desks of projects, and workers beside them who run trials, each with what it holds and what it parked.
 use Rattle.std.specs.Prelude.{ℕ, List, [], Option, None, replicate}
 use Rattle.pf_model.specs.Meaning as model
 use Rattle.pf_request.specs.Job.{Job}
 use Rattle.pf_desks.specs.Desk.{Profile, FileMark}
 use Rattle.pf_desks.specs.Desks.{Desks}
 
--- the profile of the language, or what workshops ask of it: what desks ask; and how many events the run of a job has,
+-- the profile of the language, or what worlds ask of it: what desks ask; and how many events the run of a job has,
 -- or of a job with runs its whole shrinking
 pub record RunProfile : Type 0 where
   pub profile : Profile
   pub events : model.Job → ℕ
 
--- ---- what a workshop holds
+-- ---- what a world holds
 
 -- how far a run is: it made n events and isn't over; or it is over, and a file of it bears a mark: it is whole, or an
 -- allocation failed in it
@@ -41,6 +41,6 @@ pub record World : Type 0 where
   pub hands : List Hand
   pub deques : List Deque
 
--- the workshop of n workers in which no desk is open, and no worker holds a run or has parked one
+-- the world of n workers in which no desk is open, and no worker holds a run or has parked one
 abbrev pub new_world : (workers : ℕ) → World
 new_world n = record { desks = []; hands = replicate n None; deques = replicate n [] }

@@ -11,7 +11,7 @@ use Rattle.pf_wire.proofs.steps.answer_due.Goals as goal
 
 pub loop-alloc-init : goal.loop-alloc-init
 loop-alloc-init g c = record {
-  so_far = λ p right. at_hand_first p c.args.is_over c.args.input.now c.new.result.items c.args.workshop.now c.args.first _ c.new.ensures.items;
+  so_far = λ p right. at_hand_first p c.args.is_over c.args.input.now c.new.result.items c.args.world.now c.args.first _ c.new.ensures.items;
   leads = leads_first c.args.is_over c.args.input.now c.args.first;
   untold = refl;
   same = refl;
@@ -23,8 +23,8 @@ returns-in_err-send-in-Err-clause-fault g c =
     let l = c.loop-alloc in
     handed_on c.from_residual.result (Fault c.in_err-send-in-Err.field-0.0) _ c.from_residual.ensures
     (λ p right.
-    leaves_at p c.args.is_over c.args.input.now c.args.workshop.now c.args.first _ _ c.in_err-send-in-Err.field-0.0 _ _ _ l.invariant.same c.in_err-send-in-Err.ensures.counted
-    (at_hand_in_part p c.args.is_over c.args.input.now l.gathered.text.items l.rest.now c.args.workshop.now l.workshop c.args.first l.number _ _ _ (l.invariant.so_far p right)
+    leaves_at p c.args.is_over c.args.input.now c.args.world.now c.args.first _ _ c.in_err-send-in-Err.field-0.0 _ _ _ l.invariant.same c.in_err-send-in-Err.ensures.counted
+    (at_hand_in_part p c.args.is_over c.args.input.now l.gathered.text.items l.rest.now c.args.world.now l.world c.args.first l.number _ _ _ (l.invariant.so_far p right)
     c.in_err-send-in-Err.ensures.front))
 
 pub returns-in-Err-clause-fault : goal.returns-in-Err-clause-fault
@@ -32,8 +32,8 @@ returns-in-Err-clause-fault g c =
     let l = c.loop-alloc in
     λ p right. (
       c.in_ok-send-in-Err.ensures.kept ∙ l.invariant.same,
-      in_part p c.args.is_over c.args.input.now l.rest.now c.args.workshop.now l.workshop c.args.first l.number _ _
-          (at_hand_sent p c.args.is_over c.args.input.now l.gathered.text.items l.rest.now c.args.workshop.now l.workshop c.args.first l.number _ _ _ (l.invariant.so_far p right)
+      in_part p c.args.is_over c.args.input.now l.rest.now c.args.world.now l.world c.args.first l.number _ _
+          (at_hand_sent p c.args.is_over c.args.input.now l.gathered.text.items l.rest.now c.args.world.now l.world c.args.first l.number _ _ _ (l.invariant.so_far p right)
           c.in_ok-send-in-Err.ensures.sent.0),
     )
 
@@ -43,8 +43,8 @@ returns-in_err-add_told-clause-fault g c =
     let due = sym c.is_due.ensures ∙ c.loop-alloc-test.true in
     handed_on c.from_residual-in_err-add_told.result (Fault c.in_err-add_told.field-0.0) _ c.from_residual-in_err-add_told.ensures
     (λ p right.
-    leaves_at p c.args.is_over c.args.input.now c.args.workshop.now c.args.first _ _ c.in_err-add_told.field-0.0 _ _ _ l.invariant.same c.in_err-add_told.ensures.counted
-    (more_in_part p right c.args.is_over c.args.input.now l.gathered.text.items l.rest.now c.args.workshop.now l.workshop c.answer_front.new.workshop c.args.first l.number _ _ _
+    leaves_at p c.args.is_over c.args.input.now c.args.world.now c.args.first _ _ c.in_err-add_told.field-0.0 _ _ _ l.invariant.same c.in_err-add_told.ensures.counted
+    (more_in_part p right c.args.is_over c.args.input.now l.gathered.text.items l.rest.now c.args.world.now l.world c.answer_front.new.world c.args.first l.number _ _ _
     (whole_text c.answer_front.new.told) _ (l.invariant.so_far p right) due c.in-Ok.ensures c.in_err-add_told.ensures.front))
 
 pub returns-in_err-send-clause-fault : goal.returns-in_err-send-clause-fault
@@ -53,8 +53,8 @@ returns-in_err-send-clause-fault g c =
     let due = sym c.is_due.ensures ∙ c.loop-alloc-test.true in
     handed_on c.from_residual-in_err-send.result (Fault c.in_err-send.field-0.0) _ c.from_residual-in_err-send.ensures
     (λ p right.
-    leaves_at p c.args.is_over c.args.input.now c.args.workshop.now c.args.first _ _ c.in_err-send.field-0.0 _ _ _ (c.in_ok-add_told.ensures.kept ∙ l.invariant.same) c.in_err-send.ensures.counted
-    (ends_ill_in_part p right c.args.is_over c.args.input.now l.gathered.text.items c.add_told.new.self.text.items l.rest.now c.args.workshop.now l.workshop c.answer_front.new.workshop
+    leaves_at p c.args.is_over c.args.input.now c.args.world.now c.args.first _ _ c.in_err-send.field-0.0 _ _ _ (c.in_ok-add_told.ensures.kept ∙ l.invariant.same) c.in_err-send.ensures.counted
+    (ends_ill_in_part p right c.args.is_over c.args.input.now l.gathered.text.items c.add_told.new.self.text.items l.rest.now c.args.world.now l.world c.answer_front.new.world
     c.args.first l.number _ _ _ _ (whole_text c.answer_front.new.told) (l.invariant.so_far p right) due (rw c.in_default.is at c.in-Ok.ensures)
     c.in_ok-add_told.ensures.added c.in_err-send.ensures.front))
 
@@ -63,7 +63,7 @@ returns-in_default-clause-answered g c =
     let l = c.loop-alloc in
     let due = sym c.is_due.ensures ∙ c.loop-alloc-test.true in
     λ p right.
-    ends_ill p right c.args.is_over c.args.input.now l.gathered.text.items c.add_told.new.self.text.items l.rest.now c.args.workshop.now l.workshop c.answer_front.new.workshop c.args.first l.number _ _ _ _
+    ends_ill p right c.args.is_over c.args.input.now l.gathered.text.items c.add_told.new.self.text.items l.rest.now c.args.world.now l.world c.answer_front.new.world c.args.first l.number _ _ _ _
     (whole_text c.answer_front.new.told) (l.invariant.so_far p right) due (rw c.in_default.is at c.in-Ok.ensures) c.in_ok-add_told.ensures.added
     c.in_ok-send.ensures.sent.0
 
@@ -71,22 +71,22 @@ pub loop-alloc-smaller : goal.loop-alloc-smaller
 loop-alloc-smaller g c =
     let l = c.loop-alloc in
     let due = sym c.is_due.ensures ∙ c.loop-alloc-test.true in
-    shorter_after c.args.is_over l.rest.now c.in-Some.after.now l.number l.workshop c.answer_front.new.workshop (whole_text c.answer_front.new.told) due (rw c.in-Some.is at c.in-Ok.ensures)
+    shorter_after c.args.is_over l.rest.now c.in-Some.after.now l.number l.world c.answer_front.new.world (whole_text c.answer_front.new.told) due (rw c.in-Some.is at c.in-Ok.ensures)
 
 pub loop-alloc-preserved : goal.loop-alloc-preserved
 loop-alloc-preserved g c =
     let l = c.loop-alloc in
     let due = sym c.is_due.ensures ∙ c.loop-alloc-test.true in
     let one = rw c.in-Some.is at c.in-Ok.ensures in
-    let less = shorter_after c.args.is_over l.rest.now c.in-Some.after.now l.number l.workshop c.answer_front.new.workshop (whole_text c.answer_front.new.told) due one in
+    let less = shorter_after c.args.is_over l.rest.now c.in-Some.after.now l.number l.world c.answer_front.new.world (whole_text c.answer_front.new.told) due one in
     record {
       so_far = λ p right.
-          at_hand_more p right c.args.is_over c.args.input.now l.gathered.text.items c.add_told.new.self.text.items l.rest.now c.in-Some.after.now c.args.workshop.now l.workshop
-          c.answer_front.new.workshop c.args.first l.number _ _ _ (whole_text c.answer_front.new.told) (l.invariant.so_far p right) due one
+          at_hand_more p right c.args.is_over c.args.input.now l.gathered.text.items c.add_told.new.self.text.items l.rest.now c.in-Some.after.now c.args.world.now l.world
+          c.answer_front.new.world c.args.first l.number _ _ _ (whole_text c.answer_front.new.told) (l.invariant.so_far p right) due one
           c.in_ok-add_told.ensures.added;
       leads =
           leads_both c.args.is_over c.args.input.now l.rest.now c.in-Some.after.now c.args.first l.number (l.number + 1) l.invariant.leads
-          (leads_one c.args.is_over l.rest.now c.in-Some.after.now (whole_text c.answer_front.new.told) l.workshop c.answer_front.new.workshop l.number due one);
+          (leads_one c.args.is_over l.rest.now c.in-Some.after.now (whole_text c.answer_front.new.told) l.world c.answer_front.new.world l.number due one);
       untold = l.invariant.untold;
       same = c.in_ok-add_told.ensures.kept ∙ l.invariant.same;
       within = omega (arith, less, l.invariant.within);
@@ -97,15 +97,15 @@ returns-in_err-send-2-clause-fault g c =
     let l = c.loop-alloc in
     handed_on c.from_residual-in_err-send-2.result (Fault c.in_err-send-2.field-0.0) _ c.from_residual-in_err-send-2.ensures
     (λ p right.
-    leaves_at p c.args.is_over c.args.input.now c.args.workshop.now c.args.first _ _ c.in_err-send-2.field-0.0 _ _ _ l.invariant.same c.in_err-send-2.ensures.counted
-    (at_hand_in_part p c.args.is_over c.args.input.now l.gathered.text.items l.rest.now c.args.workshop.now l.workshop c.args.first l.number _ _ _ (l.invariant.so_far p right)
+    leaves_at p c.args.is_over c.args.input.now c.args.world.now c.args.first _ _ c.in_err-send-2.field-0.0 _ _ _ l.invariant.same c.in_err-send-2.ensures.counted
+    (at_hand_in_part p c.args.is_over c.args.input.now l.gathered.text.items l.rest.now c.args.world.now l.world c.args.first l.number _ _ _ (l.invariant.so_far p right)
     c.in_err-send-2.ensures.front))
 
 pub returns-clause-answered : goal.returns-clause-answered
 returns-clause-answered g c =
     let l = c.loop-alloc in (
       λ p right.
-          at_hand_sent p c.args.is_over c.args.input.now l.gathered.text.items l.rest.now c.args.workshop.now l.workshop c.args.first l.number _ _ _ (l.invariant.so_far p right)
+          at_hand_sent p c.args.is_over c.args.input.now l.gathered.text.items l.rest.now c.args.world.now l.world c.args.first l.number _ _ _ (l.invariant.so_far p right)
           c.in_ok-send-2.ensures.sent.0,
       sym c.is_due.ensures ∙ c.loop-alloc-test.false,
       l.invariant.within,

@@ -26,7 +26,7 @@ pub returns-in_err-is_over-clause-taken : goal.returns-in_err-is_over-clause-tak
 returns-in_err-is_over-clause-taken g c =
     let l = c.loop-is_over in
     let t = c.take_piece.ensures.taken in
-    stands_taken_more l.is_over l.input.bytes.items l.workshop l.number l.input.taken _ _ _ _ _ t.0 l.invariant.stands t.1 t.2
+    stands_taken_more l.is_over l.input.bytes.items l.world l.number l.input.taken _ _ _ _ _ t.0 l.invariant.stands t.1 t.2
 
 pub returns-in_err-is_over-clause-fault : goal.returns-in_err-is_over-clause-fault
 returns-in_err-is_over-clause-fault g c =
@@ -34,7 +34,7 @@ returns-in_err-is_over-clause-fault g c =
     let going = c.loop-is_over-test.true in
     handed_on c.from_residual.result c.in_err-is_over.field-0.0 _ c.from_residual.ensures
     (λ p right.
-    stands_unread p right c.in_err-is_over.field-0.0 l.input.bytes.items l.workshop l.number l.input.taken _ _ _ _ _ _ _ _ _ _ (rw going at l.invariant.stands) l.invariant.most
+    stands_unread p right c.in_err-is_over.field-0.0 l.input.bytes.items l.world l.number l.input.taken _ _ _ _ _ _ _ _ _ _ (rw going at l.invariant.stands) l.invariant.most
     (rw going at l.invariant.unfinished) l.invariant.reads l.invariant.writes c.in_err-is_over.ensures.fault)
 
 pub answer_due-requires : goal.answer_due-requires
@@ -53,7 +53,7 @@ returns-in_err-left-clause-taken g c =
     let l = c.loop-is_over in
     let t = c.in_ok-is_over.ensures.piece in
     let s = stands_later _ _ _ _ _ c.loop-is_over-test.true l.invariant.stands t in
-    stands_taken c.in_ok-is_over.is_over c.take_piece.new.self.bytes.items l.workshop l.number c.take_piece.new.self.taken _ _ _ _ s t.6
+    stands_taken c.in_ok-is_over.is_over c.take_piece.new.self.bytes.items l.world l.number c.take_piece.new.self.taken _ _ _ _ s t.6
 
 pub returns-in_err-left-clause-fault : goal.returns-in_err-left-clause-fault
 returns-in_err-left-clause-fault g c =
@@ -62,7 +62,7 @@ returns-in_err-left-clause-fault g c =
     let s = stands_later _ _ _ _ _ c.loop-is_over-test.true l.invariant.stands t in
     handed_on c.from_residual-in_err-left.result c.in_err-left.field-0.0 _ c.from_residual-in_err-left.ensures
     (λ p right.
-    stands_stopped p right c.in_ok-is_over.is_over c.take_piece.new.self.bytes.items l.workshop l.number c.take_piece.new.self.taken _ _ _ _ _ c.in_err-left.field-0.0 _ _ _ _ _ s t.6
+    stands_stopped p right c.in_ok-is_over.is_over c.take_piece.new.self.bytes.items l.world l.number c.take_piece.new.self.taken _ _ _ _ _ c.in_err-left.field-0.0 _ _ _ _ _ s t.6
     (c.in_ok-is_over.ensures.kept ∙ l.invariant.reads) l.invariant.writes ((rw c.deref.ensures.value at c.in_err-left.ensures.fault) p right))
 
 pub returns-in_default-clause-answered : goal.returns-in_default-clause-answered
@@ -71,7 +71,7 @@ returns-in_default-clause-answered g c =
     let t = c.in_ok-is_over.ensures.piece in
     let s = stands_later _ _ _ _ _ c.loop-is_over-test.true l.invariant.stands t in
     λ p right.
-    stands_ended_ill p right c.in_ok-is_over.is_over c.take_piece.new.self.bytes.items l.workshop l.number c.take_piece.new.self.taken _ _ _ _ _ s t.6
+    stands_ended_ill p right c.in_ok-is_over.is_over c.take_piece.new.self.bytes.items l.world l.number c.take_piece.new.self.taken _ _ _ _ _ s t.6
     ((rw (c.in_default.is, c.deref.ensures.value) at c.in_ok-left.ensures.answered) p right)
 
 pub returns-in_default-clause-taken : goal.returns-in_default-clause-taken
@@ -79,14 +79,14 @@ returns-in_default-clause-taken g c =
     let l = c.loop-is_over in
     let t = c.in_ok-is_over.ensures.piece in
     let s = stands_later _ _ _ _ _ c.loop-is_over-test.true l.invariant.stands t in
-    stands_taken c.in_ok-is_over.is_over c.take_piece.new.self.bytes.items l.workshop l.number c.take_piece.new.self.taken _ _ _ _ s t.6
+    stands_taken c.in_ok-is_over.is_over c.take_piece.new.self.bytes.items l.world l.number c.take_piece.new.self.taken _ _ _ _ s t.6
 
 pub returns-in_err-rest-clause-taken : goal.returns-in_err-rest-clause-taken
 returns-in_err-rest-clause-taken g c =
     let l = c.loop-is_over in
     let t = c.in_ok-is_over.ensures.piece in
     let s = stands_later _ _ _ _ _ c.loop-is_over-test.true l.invariant.stands t in
-    stands_taken c.in_ok-is_over.is_over c.take_piece.new.self.bytes.items l.workshop l.number c.take_piece.new.self.taken _ _ _ _ s t.6
+    stands_taken c.in_ok-is_over.is_over c.take_piece.new.self.bytes.items l.world l.number c.take_piece.new.self.taken _ _ _ _ s t.6
 
 pub returns-in_err-rest-clause-fault : goal.returns-in_err-rest-clause-fault
 returns-in_err-rest-clause-fault g c =
@@ -95,11 +95,11 @@ returns-in_err-rest-clause-fault g c =
     let s = stands_later _ _ _ _ _ c.loop-is_over-test.true l.invariant.stands t in
     let a = rw (c.in-Some.is, c.deref.ensures.value) at c.in_ok-left.ensures.answered in
     let s' =
-    stands_further c.in_ok-is_over.is_over c.take_piece.new.self.bytes.items c.in-Some.left.rest.now l.workshop c.answer_due.new.workshop l.number c.in-Some.left.number
+    stands_further c.in_ok-is_over.is_over c.take_piece.new.self.bytes.items c.in-Some.left.rest.now l.world c.answer_due.new.world l.number c.in-Some.left.number
     c.take_piece.new.self.taken _ _ _ _ _ s a.0 in
     handed_on c.from_residual-in_err-rest.result NoMemory _ c.from_residual-in_err-rest.ensures
     (λ p right.
-    stands_without_memory p right c.in_ok-is_over.is_over c.in-Some.left.rest.now c.answer_due.new.workshop c.in-Some.left.number c.take_piece.new.self.taken _ _
+    stands_without_memory p right c.in_ok-is_over.is_over c.in-Some.left.rest.now c.answer_due.new.world c.in-Some.left.number c.take_piece.new.self.taken _ _
     (g.R.Read.remaining c.take_piece.new.reader.inner) _ _ _ _ _ _ s' t.6
     (c.in_ok-is_over.ensures.kept ∙ l.invariant.reads) (c.in_ok-left.ensures.kept ∙ l.invariant.writes))
 
@@ -117,7 +117,7 @@ loop-is_over-preserved-then-is_due g c =
     let s = stands_later _ _ _ _ _ c.loop-is_over-test.true l.invariant.stands t in
     let a = rw (c.in-Some.is, c.deref.ensures.value) at c.in_ok-left.ensures.answered in
     let s' =
-    stands_further c.in_ok-is_over.is_over c.take_piece.new.self.bytes.items c.in-Some.left.rest.now l.workshop c.answer_due.new.workshop l.number c.in-Some.left.number
+    stands_further c.in_ok-is_over.is_over c.take_piece.new.self.bytes.items c.in-Some.left.rest.now l.world c.answer_due.new.world l.number c.in-Some.left.number
     c.take_piece.new.self.taken _ _ _ _ _ s a.0 in
     let e = rw (c.in-Some.is, c.deref.ensures.value) at c.in_ok-left.ensures.ending in
     let within = within_later l.input.bytes.items c.take_piece.new.self.bytes.items t.0 l.number l.input.taken c.take_piece.new.self.taken t.2 t.3 l.invariant.within in
@@ -165,12 +165,12 @@ returns-clause-answered g c =
     let l = c.loop-is_over in
     let ended = c.loop-is_over-test.false in
     λ p right.
-    stands_ended p right l.input.bytes.items l.workshop l.number l.input.taken _ _ _ _ (rw ended at l.invariant.stands) l.invariant.most (rw ended at l.invariant.unfinished)
+    stands_ended p right l.input.bytes.items l.world l.number l.input.taken _ _ _ _ (rw ended at l.invariant.stands) l.invariant.most (rw ended at l.invariant.unfinished)
 
 pub returns-clause-taken : goal.returns-clause-taken
 returns-clause-taken g c =
     let l = c.loop-is_over in
-    stands_taken l.is_over l.input.bytes.items l.workshop l.number l.input.taken _ _ _ _ l.invariant.stands l.invariant.most
+    stands_taken l.is_over l.input.bytes.items l.world l.number l.input.taken _ _ _ _ l.invariant.stands l.invariant.most
 
 pub returns-in_default-clause-ending : goal.returns-in_default-clause-ending
 returns-in_default-clause-ending g c =

@@ -11,7 +11,7 @@ invariant-loop-is_over g l =
     let contents = g.W.Write.contents in
     let remaining = g.R.Read.remaining in
     record {
-      stands : Stands l.is_over l.input.bytes.items l.workshop l.number l.input.taken (remaining l.fn.reader.inner) (remaining l.reader.inner)
+      stands : Stands l.is_over l.input.bytes.items l.world l.number l.input.taken (remaining l.fn.reader.inner) (remaining l.reader.inner)
           (contents l.fn.writer.inner) (contents l.writer.inner);
       leads : ReadsUpTo l.is_over l.input.bytes.items l.number l.input.taken (remaining l.fn.reader.inner) (remaining l.reader.inner);
       untold : l.ending.refused ≡ l.fn.ending.refused;
