@@ -11,7 +11,7 @@ use Rattle.pf_quota.specs.Refusals as quota
 use Rattle.pf_quota.specs.Usage.{usage_of}
 use Rattle.pf_model.specs.Limits.{IsEdition}
 use Rattle.pf_request.specs.Calls.{Call}
-use Rattle.pf_request.specs.Module.{ReadModule}
+use Rattle.pf_check.specs.Module.{ReadModule}
 use Rattle.pf_desks.specs.Desk as desk
 use Rattle.pf_desks.specs.Desk.{Profile, Desk, Trial, called}
 use Rattle.pf_desks.specs.Calls.{answer_of_call, within_limits, noted, passed_by, HasRoom, after_call, reply_to, with_entry, usage_in, held_by}

@@ -5,7 +5,7 @@ use Rattle.std.specs.Str.{bytes_eq}
 use Rattle.std.proofs.lemmas.Bool.Decides.{same_from_decides}
 use Rattle.std.proofs.lemmas.List.Sums.{sum_by-append, sum_by-cons}
 use Rattle.std.proofs.lemmas.Slice.Eq.{bytes_eq-Decides}
-use Rattle.pf_request.specs.Module.{ReadModule}
+use Rattle.pf_check.specs.Module.{ReadModule}
 use Rattle.pf_store.specs.Sources.{Kept, holders, HeldOnceMore, HeldOnceLess}
 use Rattle.pf_desks.specs.Desk.{Desk, held_at, with_held}
 use Rattle.pf_book.specs.Kept.{modules_of, Counts, FollowsDesk}

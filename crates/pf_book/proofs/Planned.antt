@@ -18,7 +18,7 @@ use Rattle.pf_model.specs.Limits.{IsEdition}
 use Rattle.pf_request.specs.Calls as calls
 use Rattle.pf_request.specs.Calls.{Call}
 use Rattle.pf_request.specs.Job.{Job}
-use Rattle.pf_request.specs.Module.{ReadModule}
+use Rattle.pf_check.specs.Module.{ReadModule}
 use Rattle.pf_request.specs.View.{view_of_order}
 use Rattle.pf_check.specs.Reading.{IsReadAs}
 use Rattle.pf_desks.specs.Desk as desk

@@ -4,7 +4,7 @@ use Rattle.pf_errors.specs.declared.code.Code.{Code}
 use Rattle.pf_check.specs.Reads.{accepted, refused, Reads}
 use Rattle.pf_model.specs.Properties.{Property}
 use Rattle.pf_request.specs.Job.{Job, job_of}
-use Rattle.pf_request.specs.Module.{ReadModule}
+use Rattle.pf_check.specs.Module.{ReadModule}
 use Rattle.pf_request.specs.Request.{Request}
 use Rattle.pf_request.specs.View.{view_of_request}
 use Rattle.pf_request.specs.declared.call.Order.{Order}

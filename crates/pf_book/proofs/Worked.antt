@@ -7,7 +7,7 @@ use Rattle.pf_quota.specs.Usage.{usage_of}
 use Rattle.pf_model.specs.Limits.{IsEdition}
 use Rattle.pf_model.specs.Shrinking.{Result}
 use Rattle.pf_request.specs.Job.{Job}
-use Rattle.pf_request.specs.Module.{ReadModule}
+use Rattle.pf_check.specs.Module.{ReadModule}
 use Rattle.pf_desks.specs.Desk as desk
 use Rattle.pf_desks.specs.Desk.{Profile, TrialState, queued, running, done, Trial, Desk, FileMark, claimed, filed, handed_back, held_at, with_held, all_held}
 use Rattle.pf_desks.specs.Calls.{calls_in, usage_in, with_entry}

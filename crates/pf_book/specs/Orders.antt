@@ -4,7 +4,7 @@ use Rattle.pf_errors.specs.declared.code.Code.{Code}
 use Rattle.pf_errors.specs.declared.fault.OrNoMemory.{OrNoMemory}
 use Rattle.pf_errors.specs.declared.fault.OrNoMemory.TheVariants.{NoMemory, Fault}
 use Rattle.pf_request.specs.Job.{Job}
-use Rattle.pf_request.specs.Module.{ReadModule}
+use Rattle.pf_check.specs.Module.{ReadModule}
 use Rattle.pf_request.specs.View.{view_of_request}
 use Rattle.pf_request.specs.declared.call.Order.{Order}
 use Rattle.pf_desks.specs.Desk.{job_ordered, held_at}

@@ -1,6 +1,6 @@
 -- How many held trials use each module.
 use Rattle.std.specs.Prelude.{◌≡◌, ◌==◌, ℕ, suc, List, [], length, Option, IfSome, IsSome, All, slice_get, count_by}
-use Rattle.pf_request.specs.Module.{ReadModule}
+use Rattle.pf_check.specs.Module.{ReadModule}
 use Rattle.pf_desks.specs.Desk.{Trial, Desk, held_at, all_held}
 
 -- a desk of an edition that holds these and noted nothing

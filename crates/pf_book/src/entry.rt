@@ -9,8 +9,9 @@ ghost use Rattle.pf_book.specs.View.{mark_of, view_of_entry, view_of_mark};
 
 use crate::refusal::CallRefusal;
 use crate::reply::TrialStage;
+use pf_check::Source;
 use pf_quota::Usage;
-use pf_request::{Order, Source};
+use pf_request::Order;
 use pf_sched::{Finished, Job, JobEnd, Whole};
 use std::sync::Arc;
 

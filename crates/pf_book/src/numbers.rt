@@ -5,7 +5,7 @@ ghost use Rattle.std.specs.Option.{option_copied};
 ghost use Rattle.std.specs.Vec.{vec_len, vec_capacity};
 ghost use Rattle.pf_desks.specs.Desk.{held_at, with_held};
 
-use pf_terms::NoMemory;
+use pf_errors::NoMemory;
 
 /// What is held under a number, which counts from 1.
 pub(crate) fn numbered<T>(things: &[Option<T>], number: u64) -> Option<&T>

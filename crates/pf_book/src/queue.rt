@@ -5,7 +5,7 @@ ghost use Rattle.std.specs.VecDeque.{deque_len};
 ghost use Rattle.pf_book.specs.Queues.{lined_up, HoldsRoom};
 
 use crate::plan::DeskChange;
-use pf_terms::NoMemory;
+use pf_errors::NoMemory;
 use std::alloc::Global;
 use std::collections::VecDeque;
 

@@ -1,7 +1,7 @@
 -- All rows: what the definitions say of one row that is at its index, and of a change of it.
 use Rattle.std.proofs.Common.{◌≡◌, ℕ, zero, suc, ◌+◌, ◌<◌, ◌≤◌, [], ◌∷◌, ◌++◌, Option, Some, None, IfSome, IfNone, refl, sym, ap, ◌∙◌, arith, add-one, length, slice_index_or, slice_set}
 use Rattle.pf_model.specs.Channels.{Signal, Queue, SenderRow, Channels, row_of, with_row, with_last, sent, row_with_left, taken_from, taken, with_senders}
-use Rattle.pf_model.specs.Maps.{got, put}
+use Rattle.pf_sorted.specs.Maps.{got, put}
 use Rattle.pf_model.specs.Signals.{signal_of}
 use Rattle.pf_model.specs.declared.signal.Signal.{Signal as Program}
 use Rattle.pf_channels.specs.Rows.{taken_in}

@@ -2,7 +2,7 @@
 use Rattle.std.proofs.Common.{◌≡◌, ℕ, zero, suc, ◌+◌, ◌<◌, ◌≤◌, ◌^◌, ◌==◌, Bool, true, false, nat_lt, if◌then◌else◌, [], ◌∷◌, Option, Some, None}
 use Rattle.std.proofs.Common.{Result, Ok, Err, OnOk, OnErr, refl, sym, ap, ◌∙◌, arith, length, map, slice_get, slice_index_or}
 use Rattle.pf_model.specs.Channels.{Signal, Queue, SenderRow, with_last, row_with_left}
-use Rattle.pf_model.specs.Maps.{got, put, without}
+use Rattle.pf_sorted.specs.Maps.{got, put, without}
 use Rattle.pf_sorted.specs.Sorted.{IsThere, IsGap}
 use Rattle.pf_sorted.specs.Values.{IsValueAt, with_value}
 use Rattle.pf_sorted.proofs.Maps.{Rises, got_gap, got_value, put_value, without_value}

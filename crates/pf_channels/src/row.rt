@@ -2,7 +2,7 @@
 
 ghost use Rattle.std.specs.Prelude.{◌≡◌, ◌+◌, ◌<◌, ◌≤◌, ◌++◌, length, map, [], Some, None, slice_get, IfSome, IfNone, OnOk, OnErr};
 ghost use Rattle.pf_model.specs.Channels.{heads_of, with_last};
-ghost use Rattle.pf_model.specs.Maps.{got, put};
+ghost use Rattle.pf_sorted.specs.Maps.{got, put};
 ghost use Rattle.pf_model.specs.Signals.{signal_of};
 ghost use Rattle.pf_channels.specs.Rows.{taken_in};
 

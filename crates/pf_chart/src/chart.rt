@@ -22,8 +22,9 @@ use crate::style::{
     DEFINITIONS, LEGEND, LEGEND_OF_CHOICES, LEGEND_OF_RECEIPTS, LEGEND_OF_SPAWNS, STYLE,
 };
 use crate::words::ChartSvg;
+use pf_errors::NoMemory;
 use pf_svg::DocumentPart::{Attribute, Class, Label, Markup, Number, Phrase, Short};
-use pf_terms::{AtomTable, NoMemory};
+use pf_terms::AtomTable;
 use pf_text::put;
 use pf_trace::{Report, put_outcome};
 use std::alloc::Global;

@@ -22,8 +22,8 @@ ghost use Rattle.pf_model.specs.Runs.{process};
 ghost use Rattle.pf_chart.specs.Processes.{child_in, processes_of, spawned_by};
 ghost use Rattle.pf_chart.specs.Origins.{AreAlike, SameProcesses, process_of};
 
+use pf_errors::NoMemory;
 use pf_model::report::{Actor, Event, Label, Outcome, Report};
-use pf_terms::NoMemory;
 use std::alloc::Global;
 
 /// A process: who spawned it and in which row, where it ended, and where it began to wait at last.

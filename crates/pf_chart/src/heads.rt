@@ -11,8 +11,8 @@ use crate::columns::{Column, column_of};
 use crate::origin::{Origin, ProcessNames};
 use crate::sheet::{HEAD_HEIGHT, PageSide, Sheet, event_number};
 use crate::words::ChartSvg;
+use pf_errors::NoMemory;
 use pf_svg::DocumentPart::{Attribute, Label, Number, Phrase, Pid, Short};
-use pf_terms::NoMemory;
 
 /// How much of a name goes into the narrowest head.
 const LEAST_OF_NAME: usize = 6;

@@ -15,9 +15,9 @@ use crate::arrows::{Arrow, ArrowEnd, SignalKind};
 use crate::columns::{Column, column_of, columns_of, end_in, wait_in};
 use crate::receipts::receipts_of;
 use crate::traffic::Traffic;
+use pf_errors::NoMemory;
 use pf_model::Signal;
 use pf_model::report::{Actor, Event, Label, Report, Suffix};
-use pf_terms::NoMemory;
 use std::alloc::Global;
 
 /// What is drawn of the events that were read so far.

@@ -3,7 +3,7 @@
 ghost use Rattle.std.specs.Prelude.{◌≡◌, ◌++◌, ◌∷◌, [], ℕ, OnOk, option_to_list};
 ghost use Rattle.pf_chart.specs.Traffic.{KeepsOthers, waiting_signals};
 
-use pf_terms::NoMemory;
+use pf_errors::NoMemory;
 use std::alloc::Global;
 use std::collections::{BTreeMap, VecDeque};
 

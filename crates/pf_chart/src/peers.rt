@@ -1,8 +1,8 @@
 //! What the system keeps of processes for the signals that it sends by itself: links and monitors.
 
+use pf_errors::NoMemory;
 use pf_model::Signal;
 use pf_model::report::Suffix;
-use pf_terms::NoMemory;
 use std::alloc::Global;
 use std::collections::{BTreeMap, BTreeSet};
 use std::mem;

@@ -1,9 +1,10 @@
 //! Which message each `receive` took: the oldest in the mailbox of its process that is this value.
 
 use crate::columns::{Column, column_of};
+use pf_errors::NoMemory;
 use pf_model::Signal;
 use pf_model::report::{Actor, Event, Label, Suffix};
-use pf_terms::{NoMemory, Term, equal};
+use pf_terms::{Term, equal};
 use std::alloc::Global;
 
 /// The messages in the mailboxes, and which were taken. A message goes by the event that delivered it, a mailbox by the

@@ -5,9 +5,9 @@ ghost use Rattle.std.specs.List.{filter};
 ghost use Rattle.pf_model.specs.Reports.{view_of_event, label_of};
 ghost use Rattle.pf_chart.specs.Chart.{first_row, has_row, is_quiet, page_of, rows_from};
 
+use pf_errors::NoMemory;
 use pf_model::Signal;
 use pf_model::report::{Event, Label, Suffix};
-use pf_terms::NoMemory;
 use std::alloc::Global;
 
 /// How many rows a page has.

@@ -18,8 +18,8 @@ use crate::arrows::{Arrow, ArrowEnd, ArrowStart};
 use crate::columns::Column;
 use crate::sheet::{HALF_ROW, PageSide, Sheet, event_number};
 use crate::words::ChartSvg;
+use pf_errors::NoMemory;
 use pf_svg::DocumentPart::{Attribute, Phrase, Pid};
-use pf_terms::NoMemory;
 
 /// How far a signal to oneself swings out, and how far one goes down that is never delivered.
 const SWING: u64 = 22;

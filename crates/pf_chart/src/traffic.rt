@@ -27,9 +27,9 @@ ghost use Rattle.pf_chart.specs.declared.traffic.Traffic.{Traffic};
 use crate::arrows::{Arrow, ArrowEnd, ArrowStart, SignalKind};
 use crate::on_way::OnWay;
 use crate::peers::Peers;
+use pf_errors::NoMemory;
 use pf_model::Signal;
 use pf_model::report::{Label, Suffix};
-use pf_terms::NoMemory;
 use std::alloc::Global;
 use std::collections::BTreeSet;
 

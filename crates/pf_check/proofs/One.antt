@@ -3,7 +3,7 @@ use Rattle.std.proofs.Common.{◌≡◌, ℕ, List, subst, sym}
 use Rattle.pf_check.specs.Reads.{Reads, accepted_as}
 use Rattle.pf_check.proofs.Same.{same_outcome}
 use Rattle.pf_model.specs.Module.{module_of}
-use Rattle.pf_request.specs.Module.{ReadModule}
+use Rattle.pf_check.specs.Module.{ReadModule}
 use Rattle.pf_syntax.specs.Module.{Checked}
 
 abbrev read_module : List ℕ → Checked → ReadModule

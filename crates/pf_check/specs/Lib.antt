@@ -1,2 +1,4 @@
+pub mod Module
+pub mod Encoding
 pub mod Reads
 pub mod Reading

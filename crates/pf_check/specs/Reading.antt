@@ -1,7 +1,7 @@
 -- What sources are read as.
 use Rattle.std.specs.Prelude.{ℕ, List}
 use Rattle.pf_check.specs.Reads.{accepted, Reads}
-use Rattle.pf_request.specs.Module.{ReadModule}
+use Rattle.pf_check.specs.Module.{ReadModule}
 
 -- a source is read as a module
 abbrev pub IsReadAs : List ℕ → ReadModule → Type 0

@@ -4,6 +4,7 @@
 
 mod laws;
 mod reading;
+mod source;
 
 pub use laws::{offsets_are_within, one_outcome, some_outcome};
 pub use reading::read;
@@ -11,3 +12,4 @@ pub use reading::read;
 mod read_module;
 
 pub use read_module::ReadModule;
+pub use source::Source;

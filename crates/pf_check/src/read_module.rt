@@ -5,11 +5,9 @@ ghost use Rattle.pf_check.specs.Reads.{IsRefusalOf, Reads, accepted_as};
 ghost use Rattle.pf_model.specs.Module.{module_of};
 ghost use Rattle.pf_check.specs.Reading.{IsReadAs};
 
-use crate::read;
-use pf_errors::{OrNoMemory, SourceRefusal};
-use pf_request::Source;
+use crate::{Source, read};
+use pf_errors::{NoMemory, OrNoMemory, SourceRefusal};
 use pf_syntax::Module;
-use pf_terms::NoMemory;
 use std::alloc::Global;
 use std::marker::Model;
 use std::sync::Arc;
@@ -25,8 +23,8 @@ impl Model for ReadModule {
     ghost use Rattle.std.specs.Arc.{arc_value};
     ghost use Rattle.pf_check.specs.Reads.{Reads, accepted_as};
     ghost use Rattle.pf_model.specs.Module.{module_of};
-    ghost use Rattle.pf_request.specs.Module as request;
-    ghost use Rattle.pf_request.specs.Encoding.{coded_read_module};
+    ghost use Rattle.pf_check.specs.Module as request;
+    ghost use Rattle.pf_check.specs.Encoding.{coded_read_module};
 
     ghost Value = { request.ReadModule };
 

@@ -7,7 +7,7 @@ ghost use Rattle.pf_cli.specs.Faults.{text_in};
 use crate::args::CliCommand;
 use crate::parse::{read_by, status_of_kind};
 use clap::error::ErrorKind;
-use pf_terms::NoMemory;
+use pf_errors::NoMemory;
 use std::alloc::Global;
 use std::fmt::Display;
 

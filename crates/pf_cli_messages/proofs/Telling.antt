@@ -9,7 +9,7 @@ use Rattle.pf_model.specs.Properties.{Property}
 use Rattle.pf_model.specs.Runs.{Goes, Picks, Transition, start}
 use Rattle.pf_positions.specs.declared.places.Position.{Position}
 use Rattle.pf_request.specs.Job.{Job, job_from, job_of, root_in, with_property, with_root}
-use Rattle.pf_request.specs.Module.{ReadModule}
+use Rattle.pf_check.specs.Module.{ReadModule}
 use Rattle.pf_request.specs.Request.{Request, choices_in, is_within, may_weigh}
 use Rattle.pf_strategy.proofs.Replayed.{by_numbers, choices, replayed}
 use Rattle.pf_cli_messages.specs.Explained.{AreStatusLines, IsKnownRunOf, MeansBy, ReportsProcesses, TellsRun}

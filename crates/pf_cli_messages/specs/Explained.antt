@@ -10,7 +10,7 @@ use Rattle.pf_check.specs.Reading.{IsReadAs}
 use Rattle.pf_positions.specs.Placed.{ArePlaces}
 use Rattle.pf_positions.specs.declared.places.Position.{Position}
 use Rattle.pf_request.specs.Job.{Job}
-use Rattle.pf_request.specs.Module.{ReadModule}
+use Rattle.pf_check.specs.Module.{ReadModule}
 use Rattle.pf_sched.specs.Asked.{Asks}
 use Rattle.pf_strategy.specs.Runs.{MeansByPriorities}
 use Rattle.pf_process_status.specs.Fates.{AreStandings}

@@ -2,7 +2,7 @@
 use Rattle.std.specs.Prelude.{◌≡◌, ◌⊎◌, ◌+◌, ℕ, Bool, true, false, List, Option, Result, Ok, Err}
 use Rattle.std.specs.Io.KnownBytes.{Appends}
 use Rattle.pf_errors.specs.declared.fault.OrNoMemory.{OrNoMemory}
-use Rattle.pf_terms.specs.declared.stream.StreamFault.{StreamFault}
+use Rattle.pf_streams.specs.declared.stream.StreamFault.{StreamFault}
 
 -- the status of what fails: 2, or 141 where nobody reads the output any more
 abbrev pub IsFailure : ℕ → Type 0

@@ -4,7 +4,7 @@ ghost use Rattle.std.specs.Prelude.{◌≡◌, zero, IfOk, Ok};
 ghost use Rattle.pf_cli.specs.Args.{view_of_run_args};
 ghost use Rattle.pf_model.specs.Limits.{IsEdition};
 ghost use Rattle.pf_model.specs.Reports.{view_of_report};
-ghost use Rattle.pf_request.specs.Module.{ReadModule};
+ghost use Rattle.pf_check.specs.Module.{ReadModule};
 ghost use Rattle.pf_cli_messages.specs.Explained.{
   AreStatusLines,
   AsksOf,
@@ -16,13 +16,12 @@ ghost use Rattle.pf_cli_messages.specs.Explained.{
   TellsRun,
 };
 
-use pf_check::ReadModule;
+use pf_check::{ReadModule, Source};
 use pf_cli::RunArgs;
 use pf_errors::{NoMemory, OrNoMemory};
 use pf_model::report::Report;
 use pf_positions::Positions;
 use pf_process_status::{KnownRun, ProcessStatus, put_standing, standings};
-use pf_request::Source;
 use pf_sched::{Job, Scratch, report_by_priorities, report_of_run};
 use std::alloc::Global;
 

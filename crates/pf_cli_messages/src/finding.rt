@@ -3,9 +3,9 @@
 ghost use Rattle.std.specs.Prelude.{ℕ, List, IfOk};
 ghost use Rattle.pf_cli_messages.specs.Reasons.{IsReason};
 
-use pf_check::ReadModule;
+use pf_check::{ReadModule, Source};
 use pf_errors::{NoMemory, OrNoMemory, SourceRefusal};
-use pf_request::{Request, Source};
+use pf_request::Request;
 use pf_sched::{Job, JobRefusal};
 use std::alloc::Global;
 

@@ -6,9 +6,8 @@ ghost use Rattle.pf_tokens.specs.TokenKinds.{PlacedToken, kind_of, placed_of};
 ghost use Rattle.pf_cli_messages.specs.Lacked.{lacked, lacked_name};
 
 use crate::wording::quoted;
-use pf_check::ReadModule;
+use pf_check::{ReadModule, Source};
 use pf_errors::{NoMemory, OrNoMemory, SourceRefusal};
-use pf_request::Source;
 use pf_terms::AtomTable;
 use pf_tokens::{Token, TokenForm, tokens};
 use std::alloc::Global;

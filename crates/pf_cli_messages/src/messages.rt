@@ -6,7 +6,7 @@ ghost use Rattle.pf_cli_messages.specs.Texts.{HasStatus, IsFailure, TellsText};
 use crate::escape::{ShownText, without_tip};
 use pf_cli::Format;
 use pf_errors::{NoMemory, OrNoMemory};
-use pf_terms::{Counted, StreamFault};
+use pf_streams::{Counted, StreamFault};
 use std::io::{self, Write};
 use std::sync::ledger::Ledger;
 

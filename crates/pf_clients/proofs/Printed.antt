@@ -7,10 +7,10 @@ use Rattle.std.proofs.KnownBytes.{Appends-nil}
 use Rattle.std.proofs.lemmas.List.{take_more, take_all, take-append-drop}
 use Rattle.pf_errors.specs.declared.fault.OrNoMemory.{OrNoMemory}
 use Rattle.pf_errors.specs.declared.fault.OrNoMemory.TheVariants.{Fault, NoMemory}
-use Rattle.pf_terms.specs.declared.stream.StreamFault.{StreamFault}
-use Rattle.pf_terms.specs.declared.stream.StreamFault.TheVariants.{Read, Write}
-use Rattle.pf_terms.specs.Streams.{AppendsFront, CountsWrite}
-use Rattle.pf_terms.proofs.Writes.{appends_both}
+use Rattle.pf_streams.specs.declared.stream.StreamFault.{StreamFault}
+use Rattle.pf_streams.specs.declared.stream.StreamFault.TheVariants.{Read, Write}
+use Rattle.pf_streams.specs.Streams.{AppendsFront, CountsWrite}
+use Rattle.pf_streams.proofs.Writes.{appends_both}
 use Rattle.pf_trace.proofs.Fronts.{front_of_both, front_of_more}
 use Rattle.pf_wire.proofs.Adding.{added_both, front_of_second}
 use Rattle.pf_wire.proofs.Leaving.{IsAdded}

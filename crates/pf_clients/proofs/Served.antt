@@ -4,7 +4,7 @@ use Rattle.std.specs.Prelude.{All}
 use Rattle.std.specs.Global.{Vec}
 use Rattle.std.proofs.lemmas.List.Elements.{All-nil, All-cons}
 use Rattle.pf_errors.specs.declared.fault.OrNoMemory.{OrNoMemory}
-use Rattle.pf_terms.specs.declared.stream.StreamFault.{StreamFault}
+use Rattle.pf_streams.specs.declared.stream.StreamFault.{StreamFault}
 use Rattle.pf_farm_accounts.specs.Rows.{HaveEnded}
 use Rattle.pf_book.specs.Profile.{ForRight}
 use Rattle.pf_farm_laws.specs.Told.{AgreesWithHistories}

@@ -5,9 +5,9 @@ use Rattle.std.specs.Global.{Vec}
 use Rattle.pf_wire.specs.declared.told.WrittenAnswer as wire
 use Rattle.pf_errors.specs.declared.fault.OrNoMemory.{OrNoMemory}
 use Rattle.pf_errors.specs.declared.fault.OrNoMemory.TheVariants.{Fault, NoMemory}
-use Rattle.pf_terms.specs.declared.stream.StreamFault.{StreamFault}
-use Rattle.pf_terms.specs.declared.stream.StreamFault.TheVariants.{Read, Write}
-use Rattle.pf_terms.specs.Streams.{AppendsFront}
+use Rattle.pf_streams.specs.declared.stream.StreamFault.{StreamFault}
+use Rattle.pf_streams.specs.declared.stream.StreamFault.TheVariants.{Read, Write}
+use Rattle.pf_streams.specs.Streams.{AppendsFront}
 use Rattle.pf_desks.specs.History.{IsLegalDesk}
 use Rattle.pf_desks.specs.Desks.{desk_at}
 use Rattle.pf_farm_accounts.specs.Rows.{HaveEnded}

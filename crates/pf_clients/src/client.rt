@@ -15,13 +15,13 @@ ghost use Rattle.pf_clients.specs.Texts.{told_text, EndsInText};
 
 use crate::watch::Watch;
 use pf_book::Reply;
-use pf_errors::OrNoMemory;
+use pf_errors::{NoMemory, OrNoMemory};
 use pf_farm::{ClientSeat, Floor};
 use pf_farm_accounts::FarmNames;
 use pf_pool::Response;
 use pf_protocol::{ClientLine, NoCommand, is_due, read_client_line};
 use pf_request::Call;
-use pf_terms::{Counted, NoMemory, StreamFault};
+use pf_streams::{Counted, StreamFault};
 use pf_wire::{MOST_BYTES, Requester, WrittenAnswer, put_no_command, put_outcome};
 use std::alloc::Global;
 use std::io::{Error, Read};

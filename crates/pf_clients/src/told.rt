@@ -2,14 +2,14 @@
 
 ghost use Rattle.std.specs.Prelude.{◌≡◌, map, None, Some, IfErr, IfOk, OnErr, OnOk};
 ghost use Rattle.std.specs.Io.KnownBytes.{Appends};
-ghost use Rattle.pf_terms.specs.Streams.{AppendsFront, CountsWrite};
+ghost use Rattle.pf_streams.specs.Streams.{AppendsFront, CountsWrite};
 ghost use Rattle.pf_clients.specs.Farms.{client_text, status_at, stop_at, Prints, PrintsInPart};
 ghost use Rattle.pf_clients.specs.Faults.{CountsFault};
 ghost use Rattle.pf_clients.specs.Texts.{told_text};
 
 use crate::client::FileEnd;
 use pf_errors::OrNoMemory;
-use pf_terms::{Counted, StreamFault};
+use pf_streams::{Counted, StreamFault};
 use pf_wire::{Gathered, WrittenAnswer};
 use std::alloc::Global;
 use std::io::Write;

@@ -5,9 +5,9 @@ use Rattle.std.specs.Fmt.{decimal}
 use Rattle.std.specs.Io.KnownBytes.{Appends}
 use Rattle.std.proofs.lemmas.List.{append-nil, map-append, map_more, take-append-drop}
 use Rattle.std.proofs.lemmas.Grind.{flat_map-append}
-use Rattle.pf_terms.specs.Streams.{AppendsFront}
-use Rattle.pf_terms.proofs.Writes.{appends_both}
-use Rattle.pf_model.specs.Text.{schedule_text}
+use Rattle.pf_streams.specs.Streams.{AppendsFront}
+use Rattle.pf_streams.proofs.Writes.{appends_both}
+use Rattle.pf_text.specs.Schedules.{schedule_text}
 use Rattle.pf_model.specs.declared.report.Event.{Event}
 use Rattle.pf_text.proofs.Schedules.{by_commas}
 use Rattle.pf_trace.proofs.Fronts.{front_of_both, front_of_more}

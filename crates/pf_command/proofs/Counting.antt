@@ -5,11 +5,11 @@ use Rattle.std.specs.Io.KnownBytes.{Appends}
 use Rattle.pf_errors.specs.declared.code.Code.{Code}
 use Rattle.pf_errors.specs.declared.fault.OrNoMemory.{OrNoMemory}
 use Rattle.pf_errors.specs.declared.fault.OrNoMemory.TheVariants.{NoMemory, Fault}
-use Rattle.pf_terms.specs.declared.stream.StreamFault.{StreamFault}
-use Rattle.pf_terms.proofs.Writes.{appends_both}
+use Rattle.pf_streams.specs.declared.stream.StreamFault.{StreamFault}
+use Rattle.pf_streams.proofs.Writes.{appends_both}
 use Rattle.pf_model.specs.Meaning.{Report}
 use Rattle.pf_model.specs.Text.{report_text}
-use Rattle.pf_request.specs.Module.{ReadModule}
+use Rattle.pf_check.specs.Module.{ReadModule}
 use Rattle.pf_request.specs.Request.{Request}
 use Rattle.pf_request.specs.Job.{Job}
 use Rattle.pf_trace.specs.Written.{lines_text}

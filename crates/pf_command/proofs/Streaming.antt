@@ -4,10 +4,10 @@ use Rattle.std.specs.Prelude.{IfErr, IfOk, IfSome, IsErr, IsErrAnd, OnOk, take}
 use Rattle.std.specs.Io.KnownBytes.{Appends}
 use Rattle.pf_errors.specs.declared.fault.OrNoMemory.{OrNoMemory}
 use Rattle.pf_errors.specs.declared.fault.OrNoMemory.TheVariants.{NoMemory, Fault}
-use Rattle.pf_terms.specs.Streams.{CountsWrite}
-use Rattle.pf_terms.specs.declared.stream.StreamFault.{StreamFault}
-use Rattle.pf_terms.specs.declared.stream.StreamFault.TheVariants.{Read, Write}
-use Rattle.pf_terms.proofs.Writes.{appends_both}
+use Rattle.pf_streams.specs.Streams.{CountsWrite}
+use Rattle.pf_streams.specs.declared.stream.StreamFault.{StreamFault}
+use Rattle.pf_streams.specs.declared.stream.StreamFault.TheVariants.{Read, Write}
+use Rattle.pf_streams.proofs.Writes.{appends_both}
 use Rattle.pf_model.specs.Meaning.{Event, Means, Report}
 use Rattle.pf_model.specs.Meaning as meaning
 use Rattle.pf_model.specs.Shrinking as shrinking

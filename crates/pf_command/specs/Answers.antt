@@ -11,7 +11,7 @@ use Rattle.pf_model.specs.Shrinking.{IsResult}
 use Rattle.pf_model.specs.TermText.{line}
 use Rattle.pf_model.specs.Text.{report_text, result_text}
 use Rattle.pf_trace.specs.Written.{lines_text}
-use Rattle.pf_request.specs.Module.{ReadModule}
+use Rattle.pf_check.specs.Module.{ReadModule}
 use Rattle.pf_request.specs.Job.{Job}
 use Rattle.pf_request.specs.View.{view_of_request}
 use Rattle.pf_request.specs.declared.request.Request.{Request}

@@ -6,8 +6,9 @@ use Rattle.pf_errors.specs.declared.code.Code.{Code}
 use Rattle.pf_model.specs.Meaning.{Event, Report}
 use Rattle.pf_model.specs.Shrinking.{is_failure}
 use Rattle.pf_model.specs.TermText.{line}
-use Rattle.pf_model.specs.Text.{outcome_text, report_text, schedule_text}
-use Rattle.pf_request.specs.Module.{ReadModule}
+use Rattle.pf_model.specs.Text.{outcome_text, report_text}
+use Rattle.pf_text.specs.Schedules.{schedule_text}
+use Rattle.pf_check.specs.Module.{ReadModule}
 use Rattle.pf_request.specs.Request.{shrink}
 use Rattle.pf_request.specs.Job.{Job}
 use Rattle.pf_sched.specs.Asked.{Asks}

@@ -3,9 +3,9 @@ use Rattle.std.specs.Prelude.{◌≡◌, ◌≤◌, ◌+◌, ℕ, List, length, 
 use Rattle.std.specs.Io.KnownBytes.{Appends, Consumes}
 use Rattle.pf_errors.specs.declared.fault.OrNoMemory.{OrNoMemory}
 use Rattle.pf_errors.specs.declared.fault.OrNoMemory.TheVariants.{NoMemory, Fault}
-use Rattle.pf_terms.specs.Streams.{AppendsFront, CountsWrite}
-use Rattle.pf_terms.specs.declared.stream.StreamFault.{StreamFault}
-use Rattle.pf_terms.specs.declared.stream.StreamFault.TheVariants.{Read, Write}
+use Rattle.pf_streams.specs.Streams.{AppendsFront, CountsWrite}
+use Rattle.pf_streams.specs.declared.stream.StreamFault.{StreamFault}
+use Rattle.pf_streams.specs.declared.stream.StreamFault.TheVariants.{Read, Write}
 use Rattle.pf_model.specs.TermText.{line}
 use Rattle.pf_command.specs.declared.answer.Output.{Output}
 use Rattle.pf_command.specs.declared.serving.TheConstants.{MOST_BYTES}

@@ -5,9 +5,8 @@ ghost use Rattle.pf_errors.specs.Codes.{code_text, refusal_text};
 ghost use Rattle.pf_check.specs.Reads.{IsRefusalOf};
 ghost use Rattle.pf_command.specs.Answers.{IsModuleOf, Refuses, run_status};
 
-use pf_check::ReadModule;
+use pf_check::{ReadModule, Source};
 use pf_errors::{Code, NoMemory, OrNoMemory, SourceRefusal};
-use pf_request::Source;
 use pf_text::{put, put_byte};
 use std::alloc::Global;
 

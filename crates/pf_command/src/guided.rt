@@ -7,9 +7,9 @@ ghost use Rattle.pf_request.specs.View.{view_of_request};
 ghost use Rattle.pf_command.specs.Guided.{with_schedule};
 ghost use Rattle.pf_command.specs.Hunts.{choices_of};
 
+use pf_errors::NoMemory;
 use pf_request::{Request, RequestKind, RunChoices, ShortBytes};
 use pf_sched::{Job, Scratch, choices_by_priorities};
-use pf_terms::NoMemory;
 use std::alloc::Global;
 
 /// A request with these choices as its schedule.

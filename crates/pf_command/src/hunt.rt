@@ -14,7 +14,7 @@ use pf_cli::HuntArgs;
 use pf_errors::{NoMemory, OrNoMemory};
 use pf_hunt::HuntObserver;
 use pf_sched::Observer;
-use pf_terms::{Counted, StreamFault};
+use pf_streams::{Counted, StreamFault};
 use std::alloc::Global;
 use std::io::{Read, Write};
 use std::sync::ledger::Ledger;

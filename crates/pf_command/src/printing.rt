@@ -17,7 +17,7 @@ use pf_cli::{Edition, RunArgs};
 use pf_errors::{Code, OrNoMemory, SourceRefusal};
 use pf_request::Request;
 use pf_sched::{Job, Scratch, Silent, print_run};
-use pf_terms::{Counted, StreamFault};
+use pf_streams::{Counted, StreamFault};
 use std::alloc::Global;
 use std::io::{Read, Write};
 use std::sync::ledger::Ledger;

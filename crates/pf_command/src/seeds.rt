@@ -11,10 +11,11 @@ ghost use Rattle.pf_hunt.specs.Views.{row_of};
 ghost use Rattle.pf_command.specs.Hunts.{choices_of, none_text, row_text, strategy_text, verdict_text};
 
 use crate::answer::FAILED;
+use pf_errors::NoMemory;
 use pf_hunt::{HashedOutcome, OutcomeRow};
 use pf_model::report::Report;
 use pf_strategy::Strategy;
-use pf_terms::{AtomTable, NoMemory};
+use pf_terms::AtomTable;
 use pf_text::{put, put_number};
 use pf_trace::put_outcome;
 use std::alloc::Global;

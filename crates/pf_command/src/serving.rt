@@ -4,8 +4,8 @@ ghost use Rattle.std.specs.Prelude.{IfErr, IfOk, OnOk};
 ghost use Rattle.pf_command.specs.Streams.{IsAnsweredSo, Leaves, NoneFailed, TakesBytes, streams};
 
 use crate::answer::Output;
-use pf_errors::OrNoMemory;
-use pf_terms::{Counted, NoMemory, StreamFault};
+use pf_errors::{NoMemory, OrNoMemory};
+use pf_streams::{Counted, StreamFault};
 use pf_tokens::MOST_SOURCE_BYTES;
 use std::alloc::Global;
 use std::io::{Read, Write};

@@ -5,7 +5,7 @@ ghost use Rattle.pf_cli.specs.Args.{view_of_hunt_args};
 ghost use Rattle.pf_command.specs.Hunts.{front_text, may_stop, stopped_text};
 
 use pf_cli::HuntArgs;
-use pf_terms::NoMemory;
+use pf_errors::NoMemory;
 use pf_text::{put, put_number};
 
 /// Whether a hunt may stop before its end: one for a time does.

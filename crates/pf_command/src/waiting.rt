@@ -2,12 +2,12 @@
 
 ghost use Rattle.std.specs.Prelude.{◌≡◌, ◌++◌, List, ℕ, IfErr, OnErr, OnOk};
 ghost use Rattle.std.specs.Fmt.{decimal};
-ghost use Rattle.pf_terms.specs.Streams.{AppendsFront, CountsWrite};
+ghost use Rattle.pf_streams.specs.Streams.{AppendsFront, CountsWrite};
 ghost use Rattle.pf_command.specs.Waiting.{Adds};
 
 use arrayvec::ArrayVec;
 use itoa::Buffer;
-use pf_terms::{Counted, StreamFault};
+use pf_streams::{Counted, StreamFault};
 use std::io::Write;
 use std::sync::ledger::Ledger;
 

@@ -9,7 +9,7 @@ use Rattle.pf_errors.specs.declared.code.Code.TheVariants as code
 use Rattle.pf_quota.specs.declared.charges.Charge.TheVariants as charge
 use Rattle.pf_request.specs.Calls.{Call, submit, order, fetch, status, drop_trial, withdraw, usage, log, edition}
 use Rattle.pf_request.specs.Job.{Job}
-use Rattle.pf_request.specs.Module.{ReadModule}
+use Rattle.pf_check.specs.Module.{ReadModule}
 use Rattle.pf_desks.specs.Desk.{Profile, Desk, no_desk, Entry, called, claimed, filed, handed_back, TrialState, queued, running, done, Trial, SourceReading, readable, faulty, Reply, ticket, has_edition, refused, job_ordered, held_at, with_held}
 use Rattle.pf_desks.specs.Calls.{within_limits, passed_by, submitted, with_job, ordered, fetched, stage_told, dropped, users_of, withdrawn, in_edition, answer_of_call, noted, after_call, reply_to}
 use Rattle.pf_desks.specs.Work.{DeskWork, claim, file, hand_back, worker_step}

@@ -8,7 +8,7 @@ use Rattle.pf_errors.specs.declared.code.Code.TheVariants as code
 use Rattle.pf_quota.specs.declared.charges.Charge.TheVariants as charge
 use Rattle.pf_request.specs.Calls.{Call, submit, order, fetch, status, drop_trial, withdraw, usage, log, edition}
 use Rattle.pf_request.specs.Job.{Job}
-use Rattle.pf_request.specs.Module.{ReadModule}
+use Rattle.pf_check.specs.Module.{ReadModule}
 use Rattle.pf_desks.specs.Desk.{Profile, Desk, TrialState, queued, Trial, SourceReading, readable, faulty, Reply, has_edition, refused, job_ordered, held_at, with_held}
 use Rattle.pf_desks.specs.Calls.{within_limits, passed_by, submitted, with_job, ordered, dropped, users_of, withdrawn, in_edition, answer_of_call, noted, after_call}
 use Rattle.pf_desks.specs.Work.{in_state, with_state}

@@ -20,7 +20,7 @@ use Rattle.pf_quota.specs.declared.refusals.TheConstants.{MOST_CALLS, MOST_MODUL
 use Rattle.pf_quota.specs.declared.usage.Usage.{Usage}
 use Rattle.pf_request.specs.Calls.{Call, submit, order, fetch, status, drop_trial, withdraw, usage, log, edition}
 use Rattle.pf_request.specs.Job.{Job}
-use Rattle.pf_request.specs.Module.{ReadModule}
+use Rattle.pf_check.specs.Module.{ReadModule}
 use Rattle.pf_desks.specs.Desk.{Profile, Desk, no_desk, Entry, called, TrialState, queued, Trial, SourceReading, readable, faulty, Reply, has_edition, refused, job_ordered, held_at, with_held, all_held}
 use Rattle.pf_desks.specs.Calls.{calls_in, usage_in, within_limits, passed_by, submitted, with_job, ordered, dropped, users_of, withdrawn, is_edition, in_edition, answer_of_call, noted, after_call}
 use Rattle.pf_desks.specs.Work.{in_state, with_state}

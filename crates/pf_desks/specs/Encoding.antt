@@ -7,7 +7,8 @@ use Rattle.pf_errors.specs.Codes.{rank_of, code_at, code_at-rank_of}
 use Rattle.pf_quota.specs.declared.usage.Usage.{Usage}
 use Rattle.pf_model.specs.Shrinking.{Result}
 use Rattle.pf_request.specs.Calls.{Call}
-use Rattle.pf_request.specs.Encoding.{coded_call, coded_job, coded_names, coded_read_module}
+use Rattle.pf_request.specs.Encoding.{coded_call, coded_job}
+use Rattle.pf_check.specs.Encoding.{coded_names, coded_read_module}
 use Rattle.pf_request.specs.ReportEncoding.{coded_result}
 use Rattle.pf_desks.specs.Desk.{TrialState, queued, running, done, Trial, Desk, Entry, called, claimed, filed, handed_back, marked_whole, marked_memory}
 use Rattle.pf_desks.specs.Desk.{TrialStage, at_queue, at_work, at_end, Reply, number, ticket, result, stage, given_up, uses, logged, has_edition, refused}

@@ -15,14 +15,13 @@ use crate::seat::WorkSeat;
 use crate::tally::WorkTally;
 use pf_book::Reply;
 use pf_deques::{Owner, Thief};
-use pf_errors::OrNoMemory;
+use pf_errors::{NoMemory, OrNoMemory};
 use pf_farm_accounts::{
     CallLedger, Claim, EndedLedger, FarmNames, NewRegister, OpenedLedger, Receipt,
 };
 use pf_farm_state::{ClientSeat, ClosedSeat, Closing, Hall};
 use pf_request::Call;
 use pf_sched::Job;
-use pf_terms::NoMemory;
 use std::alloc::Global;
 use std::hash::RandomState;
 use std::marker::Model;

@@ -8,10 +8,10 @@ ghost use Rattle.pf_farm.specs.Seats.{ClaimEndsAs, HasFiled, IsAsBefore, SameEnd
 use crate::held::HeldRun;
 use crate::tally::WorkTally;
 use pf_deques::{Owner, Thief};
+use pf_errors::NoMemory;
 use pf_farm_accounts::{EndedLedger, FarmNames, OpenClaim, OpenedLedger};
 use pf_farm_state::{ClaimedTrial, Hall};
 use pf_sched::{Finished, Job};
-use pf_terms::NoMemory;
 use std::marker::Model;
 use std::sync::ledger::Share;
 

@@ -8,7 +8,7 @@ use Rattle.pf_quota.specs.Charges.{steps_of_trial}
 use Rattle.pf_model.specs.Shrinking as shrinking
 use Rattle.pf_request.specs.Calls.{order, fetch}
 use Rattle.pf_request.specs.Job.{Job, job_of}
-use Rattle.pf_request.specs.Module.{ReadModule}
+use Rattle.pf_check.specs.Module.{ReadModule}
 use Rattle.pf_request.specs.Request.{Request}
 use Rattle.pf_desks.specs.Desk.{Profile, Desk, no_desk, queued, running, done, Trial, Entry, called, claimed, filed, handed_back, marked_whole, marked_memory, Reply, ticket, result, job_ordered, held_at}
 use Rattle.pf_desks.specs.Calls.{within_limits, passed_by, with_job, ordered, noted, after_call, reply_to}

@@ -21,6 +21,7 @@ use crate::claimed::ClaimedTrial;
 use crate::client::{ClientSeat, ClosedSeat};
 use crate::closing::{Closing, close};
 use pf_book::{Book, Claimed, Reply, TrialStage};
+use pf_errors::NoMemory;
 use pf_farm_accounts::{
     CallLedger, CallLog, Claim, ClaimEnd, EndedLedger, FarmNames, Ledger, NewRegister, OpenClaim,
     OpenedLedger, Receipt,
@@ -28,7 +29,6 @@ use pf_farm_accounts::{
 use pf_quota::MOST_CALLS;
 use pf_request::Call;
 use pf_sched::{Finished, Job};
-use pf_terms::NoMemory;
 use std::alloc::Global;
 use std::hash::RandomState;
 use std::marker::Model;

@@ -6,7 +6,7 @@ ghost use Rattle.pf_files.specs.Suites.{IsPathOf};
 
 use crate::names::read_word;
 use pf_errors::{NoMemory, OrNoMemory};
-use pf_terms::StreamFault;
+use pf_streams::StreamFault;
 use std::alloc::{AllocGlobal, Global};
 use std::fs::{self, Files};
 use std::io::{self, Read};

@@ -20,7 +20,7 @@ use pf_hunt_suite::{
     line_of_rootless, read_hunted, request_for, root_name,
 };
 use pf_request::Request;
-use pf_terms::{Counted, StreamFault};
+use pf_streams::{Counted, StreamFault};
 use std::alloc::{AllocGlobal, Global};
 use std::fs::Files;
 use std::io::{self, Read, Write};

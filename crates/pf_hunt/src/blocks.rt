@@ -15,7 +15,7 @@ use crate::seeded::Hunt;
 use crate::tallied::Tallied;
 use crate::tally::Tally;
 use crate::workers::{Team, first_of_block, tally_of_block};
-use pf_terms::NoMemory;
+use pf_errors::NoMemory;
 use std::alloc::Global;
 use std::thread::Threads;
 

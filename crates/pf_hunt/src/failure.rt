@@ -8,9 +8,9 @@ ghost use Rattle.pf_hunt.specs.Known.{FindsFailure};
 
 use crate::leak::{Leak, earlier, leak_at};
 use crate::seeded::{Hunt, judged_by_seed, run_by_seed};
+use pf_errors::NoMemory;
 use pf_model::report::Report;
 use pf_sched::{Judged, Scratch};
-use pf_terms::NoMemory;
 use std::alloc::Global;
 
 /// A seed whose run fails, and the report of that run.

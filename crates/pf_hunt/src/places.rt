@@ -3,7 +3,7 @@
 ghost use Rattle.std.specs.Prelude.{◌≡◌, ◌<◌, ◌++◌, ◌∷◌, [], ℕ, Some, length, slice_get, OnErr, OnOk};
 ghost use Rattle.pf_hunt.specs.Places.{IsLastBefore};
 
-use pf_terms::NoMemory;
+use pf_errors::NoMemory;
 use std::alloc::Global;
 use std::collections::HashMap;
 use std::marker::Model;

@@ -8,12 +8,12 @@ ghost use Rattle.pf_sched.specs.Judging.{Judges};
 ghost use Rattle.pf_strategy.specs.Strategies.{MeansBySeed};
 ghost use Rattle.pf_hunt.specs.Judging.{JudgesBySeed};
 
+use pf_errors::NoMemory;
 use pf_model::report::Report;
 use pf_sched::{
     Job, Judged, Scratch, judged_by_priorities, judged_run, report_by_priorities, report_of_run,
 };
 use pf_strategy::Strategy;
-use pf_terms::NoMemory;
 use std::alloc::Global;
 
 /// What is the same for all seeds of a hunt: the job in whose place their runs go, of whose own choices the weights

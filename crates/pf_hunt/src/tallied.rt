@@ -7,8 +7,8 @@ use crate::leak::{Leak, earlier, leak_at};
 use crate::row::OutcomeRow;
 use crate::seeded::{Hunt, judged_by_seed};
 use crate::tally::Tally;
+use pf_errors::NoMemory;
 use pf_sched::Scratch;
-use pf_terms::NoMemory;
 use std::alloc::Global;
 
 /// The rows of the runs by the seeds before an end, and the least of these whose root returned while processes still

@@ -5,7 +5,7 @@ ghost use Rattle.pf_hunt.specs.RowHashes.{hashes_in};
 
 use crate::places::NumberPlaces;
 use crate::row::OutcomeRow;
-use pf_terms::NoMemory;
+use pf_errors::NoMemory;
 use std::alloc::Global;
 
 /// A row for each outcome that was met, in the order of the least seeds, with where the rows of each hash are.

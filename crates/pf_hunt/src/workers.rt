@@ -9,7 +9,7 @@ use crate::failure::{Searched, first_in};
 use crate::leak::earlier;
 use crate::seeded::Hunt;
 use crate::tallied::{Tallied, tally_in};
-use pf_terms::NoMemory;
+use pf_errors::NoMemory;
 use std::alloc::Global;
 use std::thread::{Threads, join};
 

@@ -6,7 +6,8 @@ ghost use Rattle.pf_hunt_suite.specs.Lines.{root_line, root_name, rootless_text,
 
 use crate::end::RootEnd;
 use pf_errors::{NoMemory, SourceRefusal};
-use pf_text::{put, put_atom, put_byte};
+use pf_termtext::put_atom;
+use pf_text::{put, put_byte};
 use std::alloc::Global;
 
 /// The name of a root, after that of its file.

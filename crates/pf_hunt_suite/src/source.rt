@@ -6,10 +6,9 @@ ghost use Rattle.pf_check.specs.Reading.{IsReadAs};
 ghost use Rattle.pf_hunt_suite.specs.Roots.{AreHunted};
 
 use crate::roots::roots;
-use pf_check::ReadModule;
+use pf_check::{ReadModule, Source};
 use pf_cli::{HuntArgs, Roots};
 use pf_errors::{NoMemory, OrNoMemory, SourceRefusal};
-use pf_request::Source;
 use std::alloc::Global;
 
 /// A source whose roots are hunted: its module, and the names of the roots.

@@ -2,7 +2,7 @@
 
 ghost use Rattle.std.specs.Prelude.{◌≡◌, IfOk, OnErr, OnOk};
 ghost use Rattle.std.specs.Io.KnownBytes.{Appends};
-ghost use Rattle.pf_terms.specs.Streams.{AppendsFront};
+ghost use Rattle.pf_streams.specs.Streams.{AppendsFront};
 ghost use Rattle.pf_json.specs.Lines.{held_behind, objects_from};
 ghost use Rattle.pf_json.specs.Writers.{view_of_held};
 
@@ -91,7 +91,7 @@ impl<W: Write> Write for JsonLines<W> {
     ghost use Rattle.std.specs.Prelude.{◌≡◌, IfOk, OnErr, OnOk, None, length};
     ghost use Rattle.std.specs.Io.{WritesAtMost};
     ghost use Rattle.std.specs.Io.KnownBytes.{Appends, Keeps, WriteAppends};
-    ghost use Rattle.pf_terms.specs.Streams.{AppendsFront};
+    ghost use Rattle.pf_streams.specs.Streams.{AppendsFront};
     ghost use Rattle.pf_json.specs.Lines.{held_behind, objects_from};
     ghost use Rattle.pf_json.specs.Writers.{held_text_of};
 

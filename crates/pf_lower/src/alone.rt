@@ -7,8 +7,8 @@ ghost use Rattle.pf_lower.specs.Alone.{BecomesAlone};
 
 use crate::patterns::pattern;
 use crate::slots::Slots;
+use pf_errors::NoMemory;
 use pf_syntax::{ExprPatternId, Module, PatternId, SyntaxTree};
-use pf_terms::NoMemory;
 use std::alloc::Global;
 
 /// Adds a pattern by itself to a module. No variable is bound before it, and its atoms keep their numbers, whether or

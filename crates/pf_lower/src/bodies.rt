@@ -9,8 +9,8 @@ ghost use Rattle.pf_lower.specs.Bodies.{bound_elements, ElementRepresents};
 ghost use Rattle.pf_lower.specs.Grown.{PartPut};
 
 use crate::put::put_node;
+use pf_errors::NoMemory;
 use pf_syntax::{Module, Node, Operand, PatternId};
-use pf_terms::NoMemory;
 
 /// An element of a body: the patterns of its matches, the innermost first, and what they match.
 #[derive(Drop)]

@@ -15,9 +15,10 @@ use crate::expressions::{body, guard};
 use crate::function_table::{FunctionTable, exports_of};
 use crate::patterns::patterns;
 use crate::slots::Slots;
+use pf_errors::NoMemory;
 use pf_rules::Signatures;
 use pf_syntax::{ExprFunction, Function, FunctionClause, Head, Module, SyntaxTree};
-use pf_terms::{AtomId, AtomTable, NoMemory};
+use pf_terms::{AtomId, AtomTable};
 use std::alloc::Global;
 
 /// A clause of a function, which begins with no variable.

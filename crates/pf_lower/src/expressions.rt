@@ -17,11 +17,11 @@ use crate::patterns::pattern;
 use crate::put::{put_list, put_literal, put_node};
 use crate::slots::Slots;
 use crate::strings::string;
+use pf_errors::NoMemory;
 use pf_syntax::{
     Alternative, Branch, Clause, Condition, ExprId, ExprNode, ExprPatternId, Guard, Ident, Module,
     Node, Operand, SyntaxTree, builtin_named,
 };
-use pf_terms::NoMemory;
 use std::alloc::Global;
 
 /// A variable: its slot. An unbound one is `[]`, which no module without faults has.

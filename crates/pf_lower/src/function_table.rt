@@ -9,9 +9,10 @@ ghost use Rattle.pf_lower.specs.Knows.{key_order, same_key, Knows};
 ghost use Rattle.pf_lower.specs.Heads.{first_of};
 ghost use Rattle.pf_rules.specs.Listing.{Exports};
 
+use pf_errors::NoMemory;
 use pf_rules::Signatures;
 use pf_syntax::{ExprFunction, FunctionId, SyntaxTree};
-use pf_terms::{AtomId, NoMemory};
+use pf_terms::AtomId;
 use std::alloc::Global;
 use std::collections::BTreeMap;
 

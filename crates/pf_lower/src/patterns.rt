@@ -10,10 +10,10 @@ ghost use Rattle.pf_lower.specs.Built.{Lowers, ExprPatternMeans, ExprPatternsMea
 use crate::put::{put_known, put_list_pattern, put_pattern};
 use crate::slots::Slots;
 use crate::strings::string;
+use pf_errors::NoMemory;
 use pf_syntax::{
     ExprPatternId, ExprPatternNode, Ident, Module, PatternId, PatternNode, SyntaxTree,
 };
-use pf_terms::NoMemory;
 use std::alloc::Global;
 
 /// A variable: its slot where it is bound, and else it is bound here.

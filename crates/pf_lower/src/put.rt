@@ -11,8 +11,9 @@ ghost use Rattle.pf_syntax.specs.Naming.{conses, conses_of};
 ghost use Rattle.pf_syntax.specs.Within.{OperandRepresents, PartsStand, PatternPartsStand, PatternRepresents};
 ghost use Rattle.pf_lower.specs.Grown.{PartPut, PatternPut};
 
+use pf_errors::NoMemory;
 use pf_syntax::{Module, Node, Operand, PatternId, PatternNode};
-use pf_terms::{NoMemory, Term};
+use pf_terms::Term;
 
 /// Adds a pattern after its parts.
 pub(crate) fn put_pattern(module: &mut Module, node: PatternNode) -> Result<PatternId, NoMemory>

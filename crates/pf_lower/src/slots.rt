@@ -4,7 +4,8 @@ ghost use Rattle.std.specs.Prelude.{◌≡◌, ℕ, ◌-◌, ◌<◌, [], false,
 ghost use Rattle.pf_syntax.specs.Scope.{has};
 ghost use Rattle.pf_lower.specs.Bound.{with_bound};
 
-use pf_terms::{AtomId, NoMemory};
+use pf_errors::NoMemory;
+use pf_terms::AtomId;
 use std::alloc::Global;
 use std::marker::Model;
 

@@ -6,8 +6,8 @@ ghost use Rattle.pf_terms.specs.Term.{value_of, values_of};
 ghost use Rattle.pf_syntax.specs.Naming as spec;
 ghost use Rattle.pf_syntax.specs.Naming.{characters};
 
-use pf_errors::OrNoMemory;
-use pf_terms::{NoMemory, Term, TooLarge, list_of};
+use pf_errors::{NoMemory, OrNoMemory};
+use pf_terms::{Term, TooLarge, list_of};
 use std::alloc::Global;
 
 /// A code, as an integer.

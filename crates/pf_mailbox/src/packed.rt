@@ -3,8 +3,9 @@
 ghost use Rattle.std.specs.Prelude.{◌≡◌, IfOk};
 
 use crate::mailbox::Mailbox;
+use pf_errors::NoMemory;
 use pf_nodes::{MailList, Pool};
-use pf_terms::{NoMemory, Term};
+use pf_terms::Term;
 use std::alloc::Global;
 use std::marker::Model;
 

@@ -5,9 +5,10 @@ ghost use Rattle.pf_mailbox.specs.Searches.{PassesOver, SearchedMail, test_count
 ghost use Rattle.pf_mailbox.specs.Tests.{awaited_clauses};
 
 use crate::testing::test_marked;
+use pf_errors::NoMemory;
 use pf_nodes::MailList;
 use pf_syntax::{Clause, Module, Operand};
-use pf_terms::{NoMemory, Term};
+use pf_terms::Term;
 use std::alloc::Global;
 
 /// Moves the mark to the first message that some clause picks, and answers the body of that clause, whose bindings come

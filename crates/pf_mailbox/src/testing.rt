@@ -3,10 +3,11 @@
 ghost use Rattle.std.specs.Prelude.{◌≡◌, ◌+◌, ◌-◌, ◌^◌, ◌<◌, ◌≤◌, None, length, IfOk, OnErr, OnOk};
 ghost use Rattle.pf_mailbox.specs.Searches.{TestsMarked, mark_after};
 
+use pf_errors::NoMemory;
 use pf_nodes::MailList;
 use pf_stepper::choose;
 use pf_syntax::{Clause, Module, Operand};
-use pf_terms::{NoMemory, Term};
+use pf_terms::Term;
 use std::alloc::Global;
 
 /// Tests the message at the mark against the clauses, and counts the test. Where a clause picks the message the mark

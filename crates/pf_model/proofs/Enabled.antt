@@ -5,7 +5,7 @@ use Rattle.std.proofs.Math.Nat.{zero-add}
 use Rattle.std.proofs.lemmas.Bool.{eq-eqb}
 use Rattle.std.proofs.lemmas.List.Elements.{All-nil, All-cons, All-append, All-map, All-get_or}
 use Rattle.std.proofs.lemmas.Option.{slice_get_within, get_or_from_slice_get}
-use Rattle.pf_model.specs.Maps.{got}
+use Rattle.pf_sorted.specs.Maps.{got}
 use Rattle.pf_model.specs.Context.{ProcessState}
 use Rattle.pf_model.specs.Channels.{Queue, SenderRow, Channels, row_of, heads_of, heads_from, heads}
 use Rattle.pf_model.specs.Configuration.{Process, Configuration, process_at}

@@ -1,7 +1,7 @@
 -- What a map gives after a change.
 use Rattle.std.proofs.Common.{◌≡◌, ℕ, Bool, true, false, List, [], ◌∷◌, Some, None, ◌==◌, nat_lt, if◌then◌else◌, refl, ap}
 use Rattle.std.proofs.lemmas.Bool.{eq-eqb, eqb-true}
-use Rattle.pf_model.specs.Maps.{got, put, without}
+use Rattle.pf_sorted.specs.Maps.{got, put, without}
 
 eq_self : (k : ℕ) → (k == k) ≡ true
 eq_self k = eq-eqb k k refl

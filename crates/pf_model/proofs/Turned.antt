@@ -5,7 +5,7 @@ use Rattle.pf_model.specs.Module.{Module}
 use Rattle.pf_model.specs.Contraction.{Change, Becomes, Raises, Exits, Asks, Awaits}
 use Rattle.pf_model.specs.Context.{Frame, ProcessState, running, waiting, ending, ended, returned, Move, goes_on, asks, awaits, returns, moved, Moves}
 use Rattle.pf_model.specs.Channels.{Queue, row_of, with_row, row_with_left, taken, taken_from}
-use Rattle.pf_model.specs.Maps.{got}
+use Rattle.pf_sorted.specs.Maps.{got}
 use Rattle.pf_model.specs.Configuration.{Core, Configuration, of}
 use Rattle.pf_model.specs.Actions.{acted}
 use Rattle.pf_model.specs.Receive.{selected}

@@ -1,7 +1,7 @@
 -- Signals, and the channels in which they are on their way, each from one process to another.
 use Rattle.std.specs.Prelude.{ℕ, zero, suc, Bool, List, [], ◌∷◌, ◌++◌, Option, Some, None, map}
 use Rattle.pf_terms.specs.Value.{Value}
-use Rattle.pf_model.specs.Maps.{got, put, without}
+use Rattle.pf_sorted.specs.Maps.{got, put, without}
 
 pub data Signal : Type 0 where
   message : Value → Signal

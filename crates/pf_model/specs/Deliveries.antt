@@ -3,7 +3,7 @@ use Rattle.std.specs.Prelude.{ℕ, Bool, true, false, not, ◌&&◌, ◌==◌, i
 use Rattle.pf_terms.specs.Value.{Value, none, more, pid, ref, tuple, same}
 use Rattle.pf_terms.specs.Fixed.{normal, kill, killed, noproc, process, exit_atom, down_atom}
 use Rattle.pf_ops.specs.Reasons.{built}
-use Rattle.pf_model.specs.Maps.{got, put, without, has, with_number, without_number}
+use Rattle.pf_sorted.specs.Maps.{got, put, without, has, with_number, without_number}
 use Rattle.pf_model.specs.Context.{ProcessState, running, waiting, ending, ended, failed}
 use Rattle.pf_model.specs.Channels.{Signal, message, link, unlink, monitor, demonitor, down, exit}
 use Rattle.pf_model.specs.Configuration.{Process, Core, Left, leaving, of, with_process, is_alive}

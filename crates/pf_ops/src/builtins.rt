@@ -8,9 +8,10 @@ ghost use Rattle.pf_ops.specs.Operations as spec;
 ghost use Rattle.pf_ops.specs.Results.{answer_of};
 
 use crate::answer::{Computed, truth};
+use pf_errors::NoMemory;
 use pf_patterns::copied;
 use pf_syntax::Builtin;
-use pf_terms::{AtomId, List, NoMemory, Term, nodes};
+use pf_terms::{AtomId, List, Term, nodes};
 
 /// `hd`.
 fn head(value: &Term) -> Result<Computed, NoMemory>

@@ -19,9 +19,10 @@ use crate::arithmetic::negated;
 use crate::build::{cons, tuple};
 use crate::builtins::compute;
 use crate::operators::apply;
+use pf_errors::NoMemory;
 use pf_patterns::operand;
 use pf_syntax::{Builtin, Guard, Module, Node, Operand, Operator};
-use pf_terms::{AtomId, List, NoMemory, Term};
+use pf_terms::{AtomId, List, Term};
 use std::alloc::Global;
 
 /// Where a test is: in which module, over which values of variables, and in the process of which pid.

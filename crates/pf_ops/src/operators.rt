@@ -11,8 +11,9 @@ ghost use Rattle.pf_ops.specs.Results.{answer_of};
 use crate::answer::{Computed, truth};
 use crate::arithmetic::on_integers;
 use crate::build::append;
+use pf_errors::NoMemory;
 use pf_syntax::Operator;
-use pf_terms::{AtomId, AtomTable, NoMemory, Term, equal, order};
+use pf_terms::{AtomId, AtomTable, Term, equal, order};
 use std::alloc::Global;
 use std::cmp::Ordering;
 

@@ -10,8 +10,9 @@ ghost use Rattle.pf_patterns.specs.Fit as spec;
 ghost use Rattle.pf_patterns.specs.Fitted.{Fitted};
 
 use crate::slots::{copied, fits_literal, fits_slot};
+use pf_errors::NoMemory;
 use pf_syntax::{Module, PatternId, PatternNode};
-use pf_terms::{List, NoMemory, Term};
+use pf_terms::{List, Term};
 
 /// Whether a value fits, in the activation that begins at `base`. What was bound stays where it does not.
 #[cycle(bind)]

@@ -10,8 +10,9 @@ ghost use Rattle.pf_patterns.specs.Scopes.{scope_if};
 ghost use Rattle.pf_patterns.specs.Slots.{activation};
 ghost use Rattle.pf_patterns.specs.Operands.{IsOperand};
 
+use pf_errors::NoMemory;
 use pf_syntax::{LiteralId, Module, Operand};
-use pf_terms::{List, NoMemory, Term, copy, equal};
+use pf_terms::{List, Term, copy, equal};
 
 /// The same value. Most are integers, and these need no call.
 #[inline(always)]

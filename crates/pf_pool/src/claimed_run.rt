@@ -4,8 +4,8 @@ ghost use Rattle.std.specs.Prelude.{◌≡◌, ◌<◌, IfOk};
 ghost use Rattle.pf_world.specs.Chores.{is_going, is_run_of, new_run};
 ghost use Rattle.pf_pool.specs.Runs.{IsOfSameTrial, Slices, is_out_of_memory};
 
+use pf_errors::NoMemory;
 use pf_sched::{Finished, Job, Parked, Scratch, Slice, run_slice, start};
-use pf_terms::NoMemory;
 use std::alloc::Global;
 use std::marker::Model;
 use std::sync::Arc;

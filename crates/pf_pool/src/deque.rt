@@ -5,7 +5,7 @@ ghost use Rattle.pf_world.specs.Chores.{MOST_PARKED};
 ghost use Rattle.pf_pool.specs.Deques.{Parks, TakesOldest};
 
 use crate::claimed_run::ClaimedRun;
-use pf_terms::NoMemory;
+use pf_errors::NoMemory;
 use std::alloc::Global;
 use std::collections::VecDeque;
 use std::marker::Model;

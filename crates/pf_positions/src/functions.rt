@@ -7,8 +7,8 @@ ghost use Rattle.pf_positions.specs.Spots.{function_spots, head_spots, spots_of}
 
 use crate::sign::Sign;
 use crate::spot::{Home, Spot};
+use pf_errors::NoMemory;
 use pf_syntax::{Function, FunctionClause, FunctionId, Module};
-use pf_terms::NoMemory;
 use std::alloc::Global;
 
 impl<'m> Home<'m> {

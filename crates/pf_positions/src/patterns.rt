@@ -9,8 +9,9 @@ ghost use Rattle.pf_positions.specs.Spots.{before_value, equations, is_negative,
 
 use crate::sign::Sign;
 use crate::spot::{Home, Spot};
+use pf_errors::NoMemory;
 use pf_syntax::{LiteralId, NodeId, PatternId, PatternNode};
-use pf_terms::{NoMemory, Term};
+use pf_terms::Term;
 
 /// Whether a value is a negative integer.
 fn is_negative(value: &Term) -> bool

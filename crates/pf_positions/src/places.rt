@@ -10,8 +10,8 @@ use crate::innermost::innermost;
 use crate::sign::{SIGNS, Sign};
 use crate::spot::Spot;
 use crate::written::{WrittenSign, written_in};
+use pf_errors::NoMemory;
 use pf_syntax::{FunctionId, Module, NodeId};
-use pf_terms::NoMemory;
 use std::alloc::Global;
 use std::marker::Model;
 

@@ -5,8 +5,8 @@ ghost use Rattle.pf_syntax.specs.Module.{tree_at};
 ghost use Rattle.pf_positions.specs.Added.{AreAdded};
 
 use crate::sign::Sign;
+use pf_errors::NoMemory;
 use pf_syntax::{FunctionId, Module, NodeId};
-use pf_terms::NoMemory;
 
 /// A sign, the function in which it is, and the node that it is the sign of, if it is one's.
 #[derive(Clone, Copy)]

@@ -9,8 +9,8 @@ ghost use Rattle.pf_positions.specs.Spots.{clauses_spots, guard_spots, of_node, 
 
 use crate::sign::Sign;
 use crate::spot::{Home, Spot};
+use pf_errors::NoMemory;
 use pf_syntax::{Clause, Guard, Node, NodeId, Operand};
-use pf_terms::NoMemory;
 
 impl<'m> Home<'m> {
     /// Puts the spots of an operand, part by part where the last one goes on: along a list, or along a body.

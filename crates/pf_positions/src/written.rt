@@ -6,8 +6,7 @@ ghost use Rattle.pf_tokens.specs.TokenKinds.{kind_of, placed_of};
 ghost use Rattle.pf_positions.specs.Written.{AreSignsOf, functions_in, is_dot, is_minus, line_at, mark_sign, name_sign, signs_of, token_sign, word_sign};
 
 use crate::sign::Sign;
-use pf_errors::OrNoMemory;
-use pf_terms::NoMemory;
+use pf_errors::{NoMemory, OrNoMemory};
 use pf_tokens::{Reserved, Token, TokenForm, TokenMark, tokens};
 use std::alloc::Global;
 

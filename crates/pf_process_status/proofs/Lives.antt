@@ -17,7 +17,7 @@ use Rattle.pf_model.specs.Deliveries.{Deed, at_ended, at_living, changes, delive
 use Rattle.pf_model.specs.Ends.{ended_by}
 use Rattle.pf_model.specs.Flush.{flushes}
 use Rattle.pf_model.specs.Labels.{Label, as_message}
-use Rattle.pf_model.specs.Maps.{got, has, without_number}
+use Rattle.pf_sorted.specs.Maps.{got, has, without_number}
 use Rattle.pf_model.specs.Receive.{Taken, selected}
 use Rattle.pf_model.specs.Runs.{Actor, process, channel, Passed, Passes, turn, delivery}
 use Rattle.pf_model.specs.Turns.{Turn, cut_running, cut_ending, end, contraction, act, after_act, with_answer, ended_so, last_of_turn, received}

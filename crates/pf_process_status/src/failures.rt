@@ -9,10 +9,10 @@ ghost use Rattle.pf_process_status.specs.Noted.{AreMade, IsMade, IsNoted, failed
 use crate::ends::{failed_in, raised_in};
 use crate::follow::{chosen, go, point_of};
 use crate::known::KnownRun;
+use pf_errors::NoMemory;
 use pf_model::report::{Actor, Event, Label};
 use pf_stepper::Point;
 use pf_system::System;
-use pf_terms::NoMemory;
 use std::alloc::Global;
 
 /// A point, or the one before it where this is nowhere: a call whose last argument was just worked out has no node of

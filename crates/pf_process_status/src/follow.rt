@@ -12,11 +12,11 @@ ghost use Rattle.pf_process_status.specs.Followed.{HasGone, IsFollowed};
 ghost use Rattle.pf_process_status.specs.Known.{RunLeadsTo, checked_of};
 
 use crate::known::KnownRun;
+use pf_errors::NoMemory;
 use pf_model::report::{Actor, Label};
 use pf_stepper::Point;
 use pf_syntax::FunctionId;
 use pf_system::System;
-use pf_terms::NoMemory;
 use std::alloc::Global;
 
 /// The actor at the index of a choice among those who may go.

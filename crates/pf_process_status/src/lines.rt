@@ -20,12 +20,13 @@ ghost use Rattle.pf_process_status.specs.Lines.{
 
 use crate::known::KnownRun;
 use crate::standing::{ProcessFate, ProcessStatus};
+use pf_errors::NoMemory;
 use pf_model::report::Label;
 use pf_positions::{Position, Positions};
 use pf_stepper::Point;
 use pf_syntax::{FunctionId, Module, Node, NodeId};
-use pf_terms::NoMemory;
-use pf_text::{put, put_atom, put_number, put_pid, put_term};
+use pf_termtext::{put_atom, put_pid, put_term};
+use pf_text::{put, put_number};
 
 /// Puts the name of a function with its arity, as `counter/1`; nothing where the module has no such function.
 pub fn put_function(

@@ -18,10 +18,10 @@ use crate::follow::{Begun, Followed, follow, point_of};
 use crate::known::KnownRun;
 use crate::lines::put_function;
 use crate::standing::{ProcessFate, ProcessStatus};
+use pf_errors::NoMemory;
 use pf_stepper::Point;
 use pf_syntax::{FunctionId, Module};
 use pf_system::System;
-use pf_terms::NoMemory;
 use std::alloc::Global;
 
 /// The status of a process that hasn't ended.

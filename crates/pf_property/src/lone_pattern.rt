@@ -9,12 +9,12 @@ ghost use Rattle.pf_lower.specs.Alone.{BecomesAlone};
 ghost use Rattle.pf_reader.specs.PatternAlone.{pattern_of};
 ghost use Rattle.pf_property.specs.Texts.{HasNoTokens, IsNoPatternText, ReadsPattern};
 
-use pf_errors::{Code, OrNoMemory};
+use pf_errors::{Code, NoMemory, OrNoMemory};
 use pf_lower::pattern_alone;
 use pf_patterns::{fits, same_patterns};
 use pf_reader::{ReadPattern, read_pattern};
 use pf_syntax::{Module, PatternId};
-use pf_terms::{AtomId, AtomTable, NoMemory, Term};
+use pf_terms::{AtomId, AtomTable, Term};
 use pf_tokens::{Token, tokens};
 use std::alloc::Global;
 use std::marker::Model;

@@ -5,8 +5,8 @@ ghost use Rattle.pf_property.specs.Texts.{IsNoPropertyText, ReadsProperty};
 ghost use Rattle.pf_property.specs.Views.{property_of};
 
 use crate::lone_pattern::LonePattern;
-use pf_errors::{Code, OrNoMemory};
-use pf_terms::{AtomTable, NoMemory};
+use pf_errors::{Code, NoMemory, OrNoMemory};
+use pf_terms::AtomTable;
 use std::alloc::Global;
 use std::sync::Arc;
 

@@ -10,8 +10,9 @@ ghost use Rattle.pf_protocol.specs.Faults.{no_command};
 
 use crate::line::{LineContent, read_line};
 use crate::split::first_line;
+use pf_check::Source;
 use pf_errors::{Code, OrNoMemory};
-use pf_request::{Call, Source, Step};
+use pf_request::{Call, Step};
 use std::alloc::Global;
 use std::error::Error;
 use std::fmt;

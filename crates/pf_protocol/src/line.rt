@@ -13,8 +13,8 @@ ghost use Rattle.pf_protocol.specs.View.{view_of_content};
 use crate::order::{read_order, read_shrink};
 use crate::split::{first_word, only_word};
 use crate::work::read_work;
+use pf_errors::NoMemory;
 use pf_request::{Call, Step};
-use pf_terms::NoMemory;
 use pf_text::number_of;
 use std::alloc::Global;
 

@@ -10,8 +10,8 @@ ghost use Rattle.pf_protocol.specs.View.{view_of_content};
 
 use crate::line::{LineContent, is_word};
 use crate::split::{first_part, first_word, only_part, only_word};
+use pf_errors::NoMemory;
 use pf_request::{Call, Order, Request, RequestKind, RunChoices, ShortBytes};
-use pf_terms::NoMemory;
 use pf_text::{long_number_of, number_of, schedule_of};
 use std::alloc::Global;
 use std::sync::Arc;

@@ -10,9 +10,8 @@ ghost use Rattle.pf_reader.specs.Given.{with_front, Gives};
 
 use crate::fault::{ReadFault, Syntax};
 use crate::token::{ReadingContext, Tokens, behind, read_name, read_number, skip, skip_word};
-use pf_errors::OrNoMemory;
+use pf_errors::{NoMemory, OrNoMemory};
 use pf_syntax::{Export, SyntaxTree};
-use pf_terms::NoMemory;
 use pf_tokens::{NumberedKind, TokenMark};
 use std::alloc::Global;
 

@@ -1,11 +1,12 @@
 //! A mailbox that messages are placed in and taken from, and that is packed and unpacked.
 
 use crate::{Stop, pair};
+use pf_errors::NoMemory;
 use pf_mailbox::Mailbox;
 use pf_nodes::Pool;
 use pf_stepper::Inbox;
 use pf_syntax::{Clause, Guard, Module, Operand, PatternNode};
-use pf_terms::{AtomId, AtomTable, NoMemory, Term};
+use pf_terms::{AtomId, AtomTable, Term};
 use std::alloc::Global;
 
 /// `receive {exit, X} -> X end`, in a module of its own.

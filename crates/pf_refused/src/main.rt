@@ -6,8 +6,8 @@
 mod mail;
 mod mailbox;
 
-use pf_errors::OrNoMemory;
-use pf_terms::{AtomId, AtomTable, List, NoMemory, Term, TooLarge, copy, list_of, nodes, tuple_of};
+use pf_errors::{NoMemory, OrNoMemory};
+use pf_terms::{AtomId, AtomTable, List, Term, TooLarge, copy, list_of, nodes, tuple_of};
 use std::alloc::Global;
 use std::io;
 use std::process::ExitCode;

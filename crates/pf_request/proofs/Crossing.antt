@@ -1,8 +1,8 @@
--- Sources, requests and calls may go to another thread, and be shared by threads: a lemma a type, each from those of
+-- Requests and calls may go to another thread, and be shared by threads: a lemma a type, each from those of
 -- its parts.
 use denote.Param.Send.{IsSend, IsSync, sendable}
 use Rattle.std.proofs.Crossing as heap
-use Rattle.pf_request.specs.contracts.source.Source as Source
+use Rattle.pf_check.proofs.Crossing as check
 use Rattle.pf_request.specs.contracts.choices.RunChoices as RunChoices
 use Rattle.pf_request.specs.contracts.request.RequestKind as Kind
 use Rattle.pf_request.specs.contracts.request.Request as Request
@@ -10,9 +10,6 @@ use Rattle.pf_request.specs.contracts.call.Order as Order
 use Rattle.pf_request.specs.contracts.call.Call as Call
 
 -- ---- to another thread
-
-pub source_send : IsSend Source.the_row
-source_send = search (heap.crosses, sendable) depth 30
 
 pub choices_field_send : IsSend (RunChoices.the_field).row
 choices_field_send = search (heap.crosses, sendable) depth 30
@@ -27,12 +24,9 @@ pub order_field_send : IsSend (Order.the_field).row
 order_field_send = search (request_field_send, sendable) depth 30
 
 pub call_field_send : IsSend (Call.the_field).row
-call_field_send = search (source_send, order_field_send, sendable) depth 30
+call_field_send = search (check.source_send, order_field_send, sendable) depth 30
 
 -- ---- shared by threads
-
-pub source_sync : IsSync Source.the_row
-source_sync = search (heap.crosses, sendable) depth 30
 
 pub choices_field_sync : IsSync (RunChoices.the_field).row
 choices_field_sync = search (heap.crosses, sendable) depth 30
@@ -47,12 +41,12 @@ pub order_field_sync : IsSync (Order.the_field).row
 order_field_sync = search (request_field_sync, sendable) depth 30
 
 pub call_field_sync : IsSync (Call.the_field).row
-call_field_sync = search (source_sync, order_field_sync, sendable) depth 30
+call_field_sync = search (check.source_sync, order_field_sync, sendable) depth 30
 
 -- ---- all together
 
-pub ruleset sends = (source_send, choices_field_send, kind_field_send, request_field_send, order_field_send, call_field_send)
+pub ruleset sends = (check.source_send, choices_field_send, kind_field_send, request_field_send, order_field_send, call_field_send)
 
-pub ruleset shares = (source_sync, choices_field_sync, kind_field_sync, request_field_sync, order_field_sync, call_field_sync)
+pub ruleset shares = (check.source_sync, choices_field_sync, kind_field_sync, request_field_sync, order_field_sync, call_field_sync)
 
 pub ruleset crosses = (sends, shares)

@@ -1,29 +1,16 @@
--- How the logic stores modules, requests, jobs and calls.
+-- How the logic stores requests, jobs and calls.
 use Rattle.std.specs.Prelude.{◌≡◌, ◌⊎◌, ℕ, ◌==◌, if◌then◌else◌, List, refl}
 use Rattle.std.proofs.Common.{inl, inr}
 use Rattle.std.specs.Coded.{Coded, code_by, coded×, coded⊎, coded_ℕ, coded_list}
 use Rattle.pf_syntax.specs.Pattern.{Pattern}
 use Rattle.pf_syntax.specs.Encoding.{coded_pattern}
-use Rattle.pf_syntax.specs.Module.{coded_function}
-use Rattle.pf_model.specs.Module.{Module}
 use Rattle.pf_model.specs.Meaning as model
 use Rattle.pf_model.specs.Meaning.{Choices, seed, schedule, weighted_seed}
 use Rattle.pf_model.specs.Properties.{Property, returns, returns_true, no_crash, no_deadlock, within_limit, never}
-use Rattle.pf_request.specs.Module.{ReadModule}
+use Rattle.pf_check.specs.Encoding.{coded_module}
 use Rattle.pf_request.specs.Request.{RequestKind, run, shrink, Request}
 use Rattle.pf_request.specs.Job.{Job}
 use Rattle.pf_request.specs.Calls.{Call, submit, order, fetch, status, drop_trial, withdraw, usage, log, edition}
-
-abbrev pub coded_names : Coded (List (List ℕ))
-coded_names = coded_list (coded_list coded_ℕ)
-
-abbrev pub coded_module : Coded Module
-coded_module =
-    code_by _ (coded× coded_ℕ (coded× coded_names (coded_list coded_function)))
-    (λ m. (m.name, (m.atoms, m.functions))) (λ p. record { name = p.0; atoms = p.1.0; functions = p.1.1 }) (λ _. refl)
-
-abbrev pub coded_read_module : Coded ReadModule
-coded_read_module = code_by _ (coded× (coded_list coded_ℕ) coded_module) (λ m. (m.source, m.code)) (λ p. record { source = p.0; code = p.1 }) (λ _. refl)
 
 abbrev pub ChoicesParts : Type 0
 ChoicesParts = ℕ ⊎ (List ℕ ⊎ (ℕ × (ℕ × ℕ)))

@@ -7,7 +7,7 @@ use Rattle.pf_model.specs.Meaning as model
 use Rattle.pf_model.specs.Meaning.{Choices, Report, seed, schedule, weighted_seed}
 use Rattle.pf_model.specs.Properties as properties
 use Rattle.pf_model.specs.Properties.{Property}
-use Rattle.pf_request.specs.Module.{ReadModule}
+use Rattle.pf_check.specs.Module.{ReadModule}
 use Rattle.pf_request.specs.Request.{Request, choices_in, runs_in, is_within, may_weigh}
 
 -- what is asked for of a module, with the source that the module was read from

@@ -1,4 +1,3 @@
-pub mod Module
 pub mod Request
 pub mod Job
 pub mod Calls

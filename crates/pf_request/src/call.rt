@@ -1,7 +1,7 @@
 //! What a client asks for.
 
 use crate::request::Request;
-use crate::source::Source;
+use pf_check::Source;
 
 /// What is requested of the module of a number.
 #[derive(Drop)]

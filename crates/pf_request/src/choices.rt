@@ -6,7 +6,7 @@ ghost use Rattle.pf_request.specs.Job.{reseeded};
 ghost use Rattle.pf_request.specs.Request.{count_of, may_weigh};
 ghost use Rattle.pf_request.specs.View.{view_of_choices};
 
-use pf_terms::NoMemory;
+use pf_errors::NoMemory;
 use std::alloc::Global;
 use std::sync::Arc;
 

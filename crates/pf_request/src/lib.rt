@@ -4,11 +4,9 @@
 mod call;
 mod choices;
 mod request;
-mod source;
 mod step;
 
 pub use call::{Call, Order};
 pub use choices::RunChoices;
 pub use request::{Request, RequestKind, ShortBytes};
-pub use source::Source;
 pub use step::{Chore, Step};

@@ -6,9 +6,9 @@ ghost use Rattle.pf_request.specs.Request.{choices_in, count_of, is_within, may_
 ghost use Rattle.pf_request.specs.View.{view_of_choices, view_of_kind, view_of_request};
 
 use crate::choices::RunChoices;
+use pf_errors::NoMemory;
 use pf_model::limits::is_in_range;
 use pf_shrink::MOST_RUNS;
-use pf_terms::NoMemory;
 use smallvec::SmallVec;
 use std::sync::Arc;
 

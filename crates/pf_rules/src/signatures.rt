@@ -3,7 +3,8 @@
 ghost use Rattle.std.specs.Prelude.{◌≡◌, ℕ, false, ◌||◌, ◌==◌, ◌&&◌, not, IfOk, OnOk};
 ghost use Rattle.pf_rules.specs.Listing.{lists};
 
-use pf_terms::{AtomId, NoMemory};
+use pf_errors::NoMemory;
+use pf_terms::AtomId;
 use std::alloc::Global;
 use std::collections::BTreeSet;
 

@@ -12,7 +12,7 @@ use Rattle.pf_model.specs.Configuration.{Core, Process, fresh, is_alive, of, pro
 use Rattle.pf_model.specs.Actions.{Acted, acted, and_flushed, as_atom, as_elements, as_pid, as_reference, begun, demonitored, demonitored_so, flag_set, given, linked_to, may_register, monitored, only_if, raising, receiver, registered, spawned, start_of, unlinked_from, unregistered}
 use Rattle.pf_model.specs.Flush.{flushes}
 use Rattle.pf_ops.specs.Guards.{truth_of}
-use Rattle.pf_model.specs.Maps.{got}
+use Rattle.pf_sorted.specs.Maps.{got}
 use Rattle.pf_sched.specs.Waiting.{is_begin, is_end}
 
 abbrev pub lives : Process → Bool

@@ -13,7 +13,7 @@ use Rattle.pf_model.specs.Properties.{Property}
 use Rattle.pf_check.specs.Reading.{IsReadAs}
 use Rattle.pf_property.specs.Texts.{IsPropertyOf, ReadsProperty}
 use Rattle.pf_property.proofs.AnyProperty.{any_property}
-use Rattle.pf_request.specs.Module.{ReadModule}
+use Rattle.pf_check.specs.Module.{ReadModule}
 use Rattle.pf_request.specs.Request.{RequestKind, run, shrink, Request, choices_in, count_of, is_within, may_shrink, may_weigh, runs_in}
 use Rattle.pf_request.specs.Job.{Job, job_from, reseeded, root_in, with_root, within_bounds as bounded}
 use Rattle.pf_sched.specs.declared.refusal.JobRefusal.{JobRefusal}

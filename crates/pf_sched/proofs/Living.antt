@@ -14,7 +14,7 @@ use Rattle.pf_model.specs.Actions.{Acted, acted}
 use Rattle.pf_model.specs.Deliveries.{Deed, at_ended, at_living, changes, delivered, down_at, drops, ends_with, exit_at, exit_by_link_at, exit_message, with_message, woken}
 use Rattle.pf_model.specs.Ends.{ended_by}
 use Rattle.pf_model.specs.Labels.{Label, as_message}
-use Rattle.pf_model.specs.Maps.{got, has, without_number}
+use Rattle.pf_sorted.specs.Maps.{got, has, without_number}
 use Rattle.pf_model.specs.Meaning.{Job, Means, Report, outcome_of, outcome_with, picks_of}
 use Rattle.pf_model.specs.Properties.{is_finished}
 use Rattle.pf_model.specs.Receive.{Taken, selected}

@@ -8,7 +8,7 @@ use Rattle.pf_model.specs.Meaning.{schedule}
 use Rattle.pf_model.specs.Limits.{IsEdition, is_in_range}
 use Rattle.pf_model.specs.Properties.{Property}
 use Rattle.pf_property.specs.Texts.{IsPropertyOf, ReadsProperty}
-use Rattle.pf_request.specs.Module.{ReadModule}
+use Rattle.pf_check.specs.Module.{ReadModule}
 use Rattle.pf_request.specs.Request.{Request, count_of, may_weigh}
 use Rattle.pf_request.specs.Job.{Job, job_of, root_in}
 use Rattle.pf_shrink.specs.declared.hunt.TheConstants.{MOST_RUNS}

@@ -7,8 +7,8 @@ ghost use Rattle.pf_request.specs.View.{view_of_choices};
 ghost use Rattle.pf_sched.specs.Traces.{Makes};
 
 use pf_choice::Choices;
+use pf_errors::NoMemory;
 use pf_request::RunChoices;
-use pf_terms::NoMemory;
 use std::alloc::Global;
 
 /// The choices from the first on.

@@ -16,9 +16,9 @@ use crate::job::Job;
 use crate::scratch::Scratch;
 use crate::trace::Trace;
 use pf_choice::Choices;
+use pf_errors::NoMemory;
 use pf_model::report::{Actor, Label};
 use pf_system::{Enabled, Spare, System};
-use pf_terms::NoMemory;
 use std::alloc::Global;
 
 /// A run so far: its processes and signals, and its next choices. Its events go to a trace.

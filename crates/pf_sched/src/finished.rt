@@ -8,7 +8,7 @@ ghost use Rattle.pf_sched.specs.Views.{IsWritten, view_of_finished, result_of, w
 use crate::job::{Job, needs_send};
 use crate::result::JobResult;
 use crate::result_block::Whole;
-use pf_terms::NoMemory;
+use pf_errors::NoMemory;
 use std::alloc::Global;
 use std::marker::Model;
 use std::sync::Arc;

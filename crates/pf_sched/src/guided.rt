@@ -6,10 +6,10 @@ ghost use Rattle.pf_sched.specs.Guided.{GoingBy, IsCompleteBy, MayHaveGoneBy};
 
 use crate::job::Job;
 use crate::trace::Trace;
+use pf_errors::NoMemory;
 use pf_model::report::Label;
 use pf_strategy::Priorities;
 use pf_system::{Spare, System};
-use pf_terms::NoMemory;
 use std::alloc::Global;
 
 /// A run so far: its processes and signals, and the priorities by which its next actor is chosen. Its events go to a

@@ -13,11 +13,10 @@ ghost use Rattle.pf_sched.specs.Asked.{Asks, IsRefusal, IsValid, NoSuch};
 
 use crate::refusal::JobRefusal;
 use pf_check::ReadModule;
-use pf_errors::OrNoMemory;
+use pf_errors::{NoMemory, OrNoMemory};
 use pf_property::Property;
 use pf_request::{Request, RequestKind};
 use pf_syntax::{FunctionId, Module};
-use pf_terms::NoMemory;
 use std::alloc::Global;
 use std::marker::Model;
 use std::sync::Arc;

@@ -7,7 +7,7 @@ ghost use Rattle.pf_sched.specs.Views.{IsWritten, view_of_finished, result_of};
 
 use crate::job::Job;
 use crate::result::JobResult;
-use pf_terms::NoMemory;
+use pf_errors::NoMemory;
 use std::alloc::Global;
 use std::marker::Model;
 use std::sync::Arc;

@@ -17,8 +17,8 @@ use crate::result::JobResult;
 use crate::run::Run;
 use crate::scratch::Scratch;
 use pf_choice::Choices;
+use pf_errors::NoMemory;
 use pf_shrink::ShrinkingSearch;
-use pf_terms::NoMemory;
 use pf_trace::WrittenReport;
 use std::alloc::Global;
 

@@ -13,7 +13,7 @@ use crate::result::JobResult;
 use crate::run::Run;
 use crate::scratch::Scratch;
 use crate::shrinking::{Shrinking, ShrinkingAdvance};
-use pf_terms::NoMemory;
+use pf_errors::NoMemory;
 use std::alloc::Global;
 use std::sync::Arc;
 

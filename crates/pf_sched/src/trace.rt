@@ -11,9 +11,10 @@ ghost use Rattle.pf_sched.specs.Told.{Hears, ListsEvents, WritesEvents, event};
 
 use crate::evidence::Evidence;
 use crate::job::Job;
+use pf_errors::NoMemory;
 use pf_model::report::{Actor, Event, Label};
 use pf_property::Property;
-use pf_terms::{AtomTable, NoMemory};
+use pf_terms::AtomTable;
 use pf_trace::LinesSoFar;
 use std::alloc::Global;
 use std::mem;

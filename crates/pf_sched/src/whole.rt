@@ -19,10 +19,10 @@ use crate::guided::Guided;
 use crate::job::Job;
 use crate::scratch::Scratch;
 use crate::trace::SeenEvents;
+use pf_errors::NoMemory;
 use pf_model::report::{Event, Outcome, Report};
 use pf_request::RequestKind;
 use pf_system::{Spare, System};
-use pf_terms::NoMemory;
 use std::alloc::Global;
 
 /// How the run of a job ended, and whether its property holds; there is no verdict where memory ran out. How many

@@ -3,7 +3,7 @@ use Rattle.std.proofs.Common.{◌≡◌, ℕ, zero, suc, ◌<◌, ◌≤◌, ◌
 use Rattle.std.proofs.Common.{Result, Ok, Err, MatchResult, is_ok, refl, sym, ap, ◌∙◌, arith, length, slice_index_or, slice_set}
 use Rattle.std.specs.Prelude.{insert, remove, is_some}
 use Rattle.std.proofs.lemmas.Bool.Decides.{nat_tests}
-use Rattle.pf_model.specs.Maps.{got, put, without}
+use Rattle.pf_sorted.specs.Maps.{got, put, without}
 use Rattle.pf_sorted.specs.Sorted.{IsRising, IsThere, IsGap}
 use Rattle.pf_sorted.specs.Values.{IsValueAt, with_value}
 use Rattle.pf_sorted.proofs.Indices.{eq_of, below_ne, above_ne, below_not, above_is, lt_from, le_from, lower}

@@ -1,7 +1,7 @@
 -- What a change at an index makes of a set of numbers.
 use Rattle.std.proofs.Common.{◌≡◌, ℕ, zero, suc, ◌<◌, ◌≤◌, true, false, List, [], ◌∷◌, Result, Ok, Err, MatchResult, is_ok, refl, sym, ap, arith, length}
 use Rattle.std.specs.Prelude.{insert, remove}
-use Rattle.pf_model.specs.Maps.{has, with_number, without_number}
+use Rattle.pf_sorted.specs.Maps.{has, with_number, without_number}
 use Rattle.pf_sorted.specs.Sorted.{IsRising, IsThere, IsGap}
 use Rattle.pf_sorted.proofs.Indices.{eq_of, below_ne, above_ne, below_not, above_is}
 

@@ -1,3 +1,4 @@
 pub mod Sorted
 pub mod Values
 pub mod Lends
+pub mod Maps

@@ -2,7 +2,7 @@
 
 ghost use Rattle.std.specs.Prelude.{◌≡◌, ◌≤◌, ◌<◌, length, [], Some, is_some, slice_get, option_copied, OnErr, OnOk, MatchResult};
 ghost use Rattle.std.specs.Borrow.{sem};
-ghost use Rattle.pf_model.specs.Maps.{got, put, without};
+ghost use Rattle.pf_sorted.specs.Maps.{got, put, without};
 ghost use Rattle.pf_sorted.specs.Sorted.{IsRising, IsThere, IsGap};
 ghost use Rattle.pf_sorted.specs.Lends.{lends_value};
 ghost use Rattle.pf_sorted.specs.Values.{IsValueAt};

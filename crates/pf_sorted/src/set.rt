@@ -1,7 +1,7 @@
 //! A set of numbers, as a sorted list.
 
 ghost use Rattle.std.specs.Prelude.{◌≡◌, ◌≤◌, ◌<◌, length, [], OnErr, OnOk, MatchResult};
-ghost use Rattle.pf_model.specs.Maps.{has, with_number, without_number};
+ghost use Rattle.pf_sorted.specs.Maps.{has, with_number, without_number};
 ghost use Rattle.pf_sorted.specs.Sorted.{IsRising, IsThere, IsGap};
 
 use pf_errors::NoMemory;

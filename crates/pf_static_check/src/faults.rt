@@ -14,10 +14,10 @@ use crate::names::is_builtin;
 use crate::unlike::note_unlike;
 use crate::variable_states::VariableStates;
 use crate::walk::ClauseWalk;
-use pf_errors::{Code, SourceRefusal};
+use pf_errors::{Code, NoMemory, SourceRefusal};
 use pf_rules::Signatures;
 use pf_syntax::{ExprFunction, Head, SyntaxTree};
-use pf_terms::{AtomTable, NoMemory};
+use pf_terms::AtomTable;
 use std::alloc::Global;
 
 /// The first fault of a module: of those at the least offset the one whose code is the first in the table.

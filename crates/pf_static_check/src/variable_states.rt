@@ -4,7 +4,8 @@ ghost use Rattle.std.specs.Prelude.{◌≡◌, ℕ, [], ◌==◌, drop, length, 
 ghost use Rattle.pf_syntax.specs.Scope.{has};
 ghost use Rattle.pf_static_check.specs.Marks.{trail_of, status_of, Binds};
 
-use pf_terms::{AtomId, NoMemory};
+use pf_errors::NoMemory;
+use pf_terms::AtomId;
 use std::alloc::Global;
 
 /// What is known of a variable.

@@ -14,10 +14,10 @@ mod patterns;
 use crate::first::FirstFault;
 use crate::names::is_defined;
 use crate::variable_states::{Status, VariableStates};
-use pf_errors::Code;
+use pf_errors::{Code, NoMemory};
 use pf_rules::Signatures;
 use pf_syntax::{Branch, Condition, ExprId, ExprNode, ExprPatternId, Ident, SyntaxTree};
-use pf_terms::{AtomTable, NoMemory};
+use pf_terms::AtomTable;
 
 /// What is seen at a point of a function's clause, and the first fault up to there.
 #[derive(Drop)]

@@ -7,9 +7,10 @@ ghost use Rattle.pf_stepper.specs.Advanced.{Advanced, IsSound, RanFrom, stack_pr
 use crate::act::Act;
 use crate::frame::{Focus, MicroStep};
 use crate::stack::{Stack, put};
+use pf_errors::NoMemory;
 use pf_ops::ending_reason;
 use pf_syntax::{Module, NodeId};
-use pf_terms::{NoMemory, Term};
+use pf_terms::Term;
 use std::alloc::Global;
 
 /// A contraction was made; or the process sends a message to its last operand, asks for another action, is at the

@@ -11,10 +11,11 @@ use crate::frame::{Binary, Callee, Focus, Frame, FrameKind, MicroStep};
 use crate::lookups::{arguments, clauses, operation, patterns, rest};
 use crate::outcomes::{integer_outcome, pair_up};
 use crate::stack::Stack;
+use pf_errors::NoMemory;
 use pf_ops::{negated, tagged, truth_of};
 use pf_patterns::bind;
 use pf_syntax::{Module, NodeId, Operand};
-use pf_terms::{AtomId, NoMemory, Term};
+use pf_terms::{AtomId, Term};
 use std::alloc::Global;
 
 /// The body of the clause that was chosen for the value of a `case`, or the raise where there is none.

@@ -10,9 +10,10 @@ use crate::clauses::{first_clause, plain};
 use crate::frame::{Callee, Focus, MicroStep};
 use crate::outcomes::outcome;
 use crate::stack::{Stack, cut};
+use pf_errors::NoMemory;
 use pf_ops::tuple;
 use pf_syntax::{Builtin, FunctionId, Module};
-use pf_terms::{AtomId, NoMemory, Term};
+use pf_terms::{AtomId, Term};
 use std::alloc::Global;
 
 impl Stack {

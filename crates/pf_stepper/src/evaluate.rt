@@ -18,10 +18,11 @@ use crate::continuations::chosen;
 use crate::frame::{Binary, Callee, Focus, FrameKind, MicroStep};
 use crate::outcomes::outcome;
 use crate::stack::Stack;
+use pf_errors::NoMemory;
 use pf_ops::on_integers;
 use pf_patterns::slot;
 use pf_syntax::{Clause, Module, Node, NodeId, Operand, Operator};
-use pf_terms::{AtomId, List, NoMemory, Term};
+use pf_terms::{AtomId, List, Term};
 use std::alloc::Global;
 
 impl Stack {

@@ -7,8 +7,9 @@ ghost use Rattle.pf_stepper.specs.declared.frame.Focus.TheVariants.{Value as fin
 
 use crate::frame::{Frame, FrameKind, MicroStep};
 use crate::stack::Stack;
+use pf_errors::NoMemory;
 use pf_syntax::Module;
-use pf_terms::{NoMemory, Term};
+use pf_terms::Term;
 use std::alloc::Global;
 
 impl Stack {

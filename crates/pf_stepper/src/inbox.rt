@@ -8,9 +8,10 @@ ghost use Rattle.pf_stepper.specs.Readiness.{IsReadyForAll, Receive, receive_in}
 ghost use Rattle.pf_stepper.specs.Selected.{TakesMessage, TakesNothing};
 
 use crate::clauses::choose;
+use pf_errors::NoMemory;
 use pf_nodes::Pool;
 use pf_syntax::{Clause, Module, Operand};
-use pf_terms::{NoMemory, Term};
+use pf_terms::Term;
 use std::alloc::Global;
 
 /// The mailbox of a process, as a `receive` uses it (Erlang Reference Manual, "Receive").

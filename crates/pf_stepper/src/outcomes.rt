@@ -12,9 +12,10 @@ ghost use Rattle.pf_stepper.specs.Pairs.{pair_change};
 ghost use Rattle.pf_stepper.specs.MicroSteps.{IsOutcome, IsPairedUp};
 
 use crate::frame::{Binary, Focus, MicroStep};
+use pf_errors::NoMemory;
 use pf_ops::{apply, cons, on_integers};
 use pf_syntax::{Module, Operator};
-use pf_terms::{AtomId, NoMemory, Term};
+use pf_terms::{AtomId, Term};
 use std::alloc::Global;
 
 /// A value, or a raise.

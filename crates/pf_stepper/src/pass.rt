@@ -9,8 +9,8 @@ ghost use Rattle.pf_stepper.specs.MicroSteps.{CallPassed};
 
 use crate::frame::{Callee, Focus, FrameKind, MicroStep};
 use crate::stack::Stack;
+use pf_errors::NoMemory;
 use pf_syntax::{Module, NodeId, Operand};
-use pf_terms::NoMemory;
 
 /// A count of arguments as a frame notes it. It fails at 2^32, which no machine has the room for.
 pub(crate) fn noted(count: usize) -> Result<u32, NoMemory>

@@ -5,7 +5,8 @@ ghost use Rattle.pf_stepper.specs.Rooms.{BeginsWith};
 
 use crate::frame::Frame;
 use crate::stack::{Stack, cut};
-use pf_terms::{NoMemory, Term};
+use pf_errors::NoMemory;
+use pf_terms::Term;
 use smallvec::SmallVec;
 use std::alloc::Global;
 use std::marker::Model;

@@ -12,9 +12,10 @@ ghost use Rattle.pf_stepper.specs.Points.{IsAtNode};
 ghost use Rattle.pf_stepper.specs.Sound.{frame_for, top_end};
 
 use crate::frame::{Frame, FrameKind};
+use pf_errors::NoMemory;
 use pf_patterns::{copied, operand, slot};
 use pf_syntax::{Module, Operand};
-use pf_terms::{List, NoMemory, Term};
+use pf_terms::{List, Term};
 use std::mem;
 
 /// Slots, finished operands, frames, and where the activation begins.

@@ -17,7 +17,7 @@ use Rattle.pf_model.proofs.Meanings.{evaluation_is_the_meaning, only_evaluated}
 use Rattle.pf_property.specs.Texts.{IsPropertyOf}
 use Rattle.pf_property.proofs.AnyProperty.{any_property}
 use Rattle.pf_request.specs.Job.{Job, root_in, job_from, within_bounds, with_root, job_of}
-use Rattle.pf_request.specs.Module.{ReadModule}
+use Rattle.pf_check.specs.Module.{ReadModule}
 use Rattle.pf_request.specs.Request.{Request, RequestKind, run, shrink, choices_in, runs_in, count_of, may_weigh, may_shrink, is_within}
 use Rattle.pf_desks.specs.Desk.{readable}
 use Rattle.pf_book.specs.Profile.{reading_from}

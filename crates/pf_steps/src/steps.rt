@@ -7,7 +7,7 @@ ghost use Rattle.pf_wire.specs.Steps.{StepsAnswered, StepsLeaves};
 ghost use Rattle.pf_steps.specs.Profile.{run_profile};
 
 use pf_errors::OrNoMemory;
-use pf_terms::{Counted, StreamFault};
+use pf_streams::{Counted, StreamFault};
 use pf_wire::{InputEnd, MOST_BYTES};
 use std::alloc::Global;
 use std::hash::RandomState;

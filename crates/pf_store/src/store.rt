@@ -6,10 +6,8 @@ ghost use Rattle.pf_check.specs.Reading.{IsReadAs};
 ghost use Rattle.pf_store.specs.Sources.{HeldOnceLess, HeldOnceMore, holders};
 
 use indexmap::IndexMap;
-use pf_check::ReadModule;
-use pf_errors::{OrNoMemory, SourceRefusal};
-use pf_request::Source;
-use pf_terms::NoMemory;
+use pf_check::{ReadModule, Source};
+use pf_errors::{NoMemory, OrNoMemory, SourceRefusal};
 use std::alloc::Global;
 use std::hash::RandomState;
 use std::marker::Model;

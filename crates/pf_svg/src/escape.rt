@@ -3,7 +3,7 @@
 ghost use Rattle.std.specs.Prelude.{◌≡◌, ◌++◌, OnOk};
 ghost use Rattle.pf_svg.specs.Escaped.{character_of, escaped, escaped_byte, reference, short};
 
-use pf_terms::NoMemory;
+use pf_errors::NoMemory;
 use pf_text::{put, put_byte, put_number};
 
 /// The character that stands for a byte that can't be written as it is: a blank of lines or a byte of Latin-1 is

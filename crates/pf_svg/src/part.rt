@@ -5,7 +5,7 @@ ghost use Rattle.std.specs.Fmt.{decimal};
 ghost use Rattle.pf_svg.specs.Document.{attribute_text, moved_text, part_text, point_text};
 
 use crate::escape::{put_escaped, put_short};
-use pf_terms::NoMemory;
+use pf_errors::NoMemory;
 use pf_text::{put, put_number};
 
 /// A part of a document. Nothing but a label comes from outside the program.

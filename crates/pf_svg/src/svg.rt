@@ -25,7 +25,7 @@ ghost use Rattle.pf_svg.specs.Words.{is_phrase, is_document_word};
 
 use crate::part::DocumentPart::{self, Attribute, Markup, Phrase, Point};
 use crate::part::put_parts;
-use pf_terms::NoMemory;
+use pf_errors::NoMemory;
 use std::alloc::Global;
 use std::marker::{Model, PhantomData};
 

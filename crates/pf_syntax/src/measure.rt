@@ -3,7 +3,7 @@
 ghost use Rattle.std.specs.Prelude.{◌≡◌, ◌+◌, ◌<◌, IfOk, max, OnOk};
 ghost use Rattle.pf_syntax.specs.Measure.{capped};
 
-use pf_terms::NoMemory;
+use pf_errors::NoMemory;
 
 /// The size and the depth of a tree, or of several trees together. What is 2^32 - 1 or more is counted as 2^32 - 1.
 #[derive(Clone, Copy, PartialEq, Eq, Debug)]

@@ -12,7 +12,8 @@ ghost use Rattle.pf_syntax.specs.Within.{FunctionRepresents, PartsStand, Pattern
 
 use crate::node::{Function, FunctionId, LiteralId, Node, NodeId, PatternId, PatternNode};
 use crate::table::{entry, next_id};
-use pf_terms::{AtomId, AtomTable, NoMemory, Term};
+use pf_errors::NoMemory;
+use pf_terms::{AtomId, AtomTable, Term};
 use std::alloc::Global;
 use std::marker::Model;
 use std::sync::Arc;

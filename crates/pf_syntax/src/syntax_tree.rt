@@ -10,7 +10,8 @@ ghost use Rattle.pf_syntax.specs.SyntaxTreeOver.{export_of, heads_over, expr_ove
 use crate::expr::{Export, ExprFunction, ExprId, ExprNode, ExprPatternId, ExprPatternNode};
 use crate::measure::Measure;
 use crate::table::{entry, next_id};
-use pf_terms::{AtomId, NoMemory};
+use pf_errors::NoMemory;
+use pf_terms::AtomId;
 use std::alloc::Global;
 use std::marker::Model;
 

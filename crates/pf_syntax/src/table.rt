@@ -2,7 +2,7 @@
 
 ghost use Rattle.std.specs.Prelude.{◌≡◌, IfOk, MatchOption, None, slice_get, Some};
 
-use pf_terms::NoMemory;
+use pf_errors::NoMemory;
 
 /// The number of the next entry of a table with n entries.
 pub(crate) fn next_id(len: usize) -> Result<u32, NoMemory>

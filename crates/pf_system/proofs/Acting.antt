@@ -8,7 +8,7 @@ use Rattle.pf_terms.specs.declared.term.Term.{Term}
 use Rattle.pf_terms.specs.declared.term.Term.TheVariants as term
 use Rattle.pf_ops.specs.Operations.{truth}
 use Rattle.pf_ops.specs.Guards.{truth_of}
-use Rattle.pf_model.specs.Maps.{got, has, put, without}
+use Rattle.pf_sorted.specs.Maps.{got, has, put, without}
 use Rattle.pf_model.specs.Contraction.{send, link, unlink, monitor, exit_other, set_flag, register, unregister, whereis, make_ref}
 use Rattle.pf_model.specs.Channels as signal
 use Rattle.pf_model.specs.Channels.{Signal, Channels, sent}

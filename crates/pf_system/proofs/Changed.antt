@@ -1,7 +1,7 @@
 -- Processes of which the slot of one is changed.
 use Rattle.std.proofs.Common.{◌≡◌, ℕ, zero, suc, ◌+◌, ◌<◌, ◌≤◌, true, false, List, [], ◌∷◌, Option, Some, refl, sym, ap, ◌∙◌, subst, arith, length, map, slice_set}
 use Rattle.std.specs.Prelude.{slice_get}
-use Rattle.pf_model.specs.Maps.{with_number, without_number}
+use Rattle.pf_sorted.specs.Maps.{with_number, without_number}
 use Rattle.pf_model.specs.Configuration.{Process, Core, of, with_process, process_at}
 use Rattle.pf_model.specs.Runs.{can_go, pids_in_state}
 use Rattle.pf_model.specs.declared.limits.TheConstants.{MOST_PROCESSES}

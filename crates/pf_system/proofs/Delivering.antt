@@ -1,7 +1,7 @@
 -- Deliveries, row by row.
 use Rattle.std.proofs.Common.{◌≡◌, ℕ, zero, suc, ◌<◌, ◌≤◌, Bool, true, false, ◌&&◌, if◌then◌else◌, List, [], ◌∷◌, Option, Some, None, is_some, refl, sym, ap, ◌∙◌, subst, arith, length, slice_set}
 use Rattle.pf_terms.specs.Value.{Value}
-use Rattle.pf_model.specs.Maps.{got, has, without, without_number}
+use Rattle.pf_sorted.specs.Maps.{got, has, without, without_number}
 use Rattle.pf_model.specs.Channels as signal
 use Rattle.pf_model.specs.Channels.{Signal, Channels, sent, taken, with_senders}
 use Rattle.pf_model.specs.Configuration.{Process, Core, leaving, of, with_process, process_at, is_alive, posted}

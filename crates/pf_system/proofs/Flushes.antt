@@ -3,7 +3,7 @@ use Rattle.std.proofs.Common.{◌≡◌, ℕ, zero, ◌≤◌, Bool, true, false
 use Rattle.std.specs.Prelude.{slice_get}
 use Rattle.pf_terms.specs.Value.{Value, ref}
 use Rattle.pf_terms.specs.Fixed.{badarg}
-use Rattle.pf_model.specs.Maps.{got}
+use Rattle.pf_sorted.specs.Maps.{got}
 use Rattle.pf_model.specs.Contraction as asked
 use Rattle.pf_model.specs.Configuration.{Process, Core, of, with_process}
 use Rattle.pf_model.specs.Actions.{Acted, raising, given, as_reference, demonitored, demonitored_so, with_flushed}

@@ -1,7 +1,7 @@
 -- Who may go, by its index among those that may.
 use Rattle.std.proofs.Common.{◌≡◌, ◌⊎◌, inl, inr, ℕ, zero, suc, ◌+◌, ◌==◌, Bool, true, false, if◌then◌else◌, List, [], ◌∷◌, ◌++◌, Option, Some, None, is_some, refl, sym, ap, ◌∙◌, subst, arith, length, map, slice_get, length-append}
 use Rattle.std.proofs.lemmas.Bool.Decides.{nat_tests}
-use Rattle.pf_model.specs.Maps.{got}
+use Rattle.pf_sorted.specs.Maps.{got}
 use Rattle.pf_model.specs.Channels.{Queue, SenderRow, Channels, row_of, taken, taken_from, heads, heads_of, heads_from}
 use Rattle.pf_model.specs.Configuration.{Configuration}
 use Rattle.pf_model.specs.Runs.{Actor, process, channel, enabled, can_go, pids_in_state}

@@ -3,7 +3,7 @@ use Rattle.std.proofs.Common.{◌≡◌, ℕ, zero, ◌+◌, ◌<◌, Bool, true
 use Rattle.pf_terms.specs.Value.{Value}
 use Rattle.pf_syntax.specs.Module.{Checked}
 use Rattle.pf_model.specs.Context.{ProcessState, running, waiting, ending, ended}
-use Rattle.pf_model.specs.Maps.{with_number}
+use Rattle.pf_sorted.specs.Maps.{with_number}
 use Rattle.pf_model.specs.Configuration.{Process, Core, of, with_process, is_alive}
 use Rattle.pf_model.specs.Deliveries.{woken, with_message}
 use Rattle.pf_model.specs.Runs.{can_go, is_waiting, pids_in_state}

@@ -1,7 +1,7 @@
 -- The processes that can go, as their bodies change.
 use Rattle.std.proofs.Common.{◌≡◌, ℕ, zero, suc, ◌+◌, ◌<◌, ◌≤◌, ◌==◌, Bool, true, false, List, [], ◌∷◌, ◌++◌, if◌then◌else◌, refl, sym, ap, ◌∙◌, arith, nat_lt, length, map, slice_set}
 use Rattle.pf_model.specs.Context.{ProcessState}
-use Rattle.pf_model.specs.Maps.{with_number, without_number}
+use Rattle.pf_sorted.specs.Maps.{with_number, without_number}
 use Rattle.pf_model.specs.Configuration.{Process, Core, process_at}
 use Rattle.pf_model.specs.Runs.{pids_in_state}
 use Rattle.pf_system.specs.Bodies.{Body, process_body, bodies_of}

@@ -1,6 +1,6 @@
 -- The rows of channels, as signals are sent and as senders come.
 use Rattle.std.proofs.Common.{◌≡◌, ℕ, zero, suc, ◌+◌, ◌≤◌, List, [], ◌∷◌, ◌++◌, refl, ap, ◌∙◌, arith, add-one, length}
-use Rattle.pf_model.specs.Maps.{got, put}
+use Rattle.pf_sorted.specs.Maps.{got, put}
 use Rattle.pf_model.specs.Channels.{Signal, SenderRow, Channels, row_of, with_row, with_last, sent, with_senders}
 use Rattle.pf_model.specs.Configuration.{posted}
 

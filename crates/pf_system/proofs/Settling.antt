@@ -6,7 +6,7 @@ use Rattle.pf_terms.specs.Fixed.{undefined, process, trap_exit}
 use Rattle.pf_terms.specs.Term.{value_of}
 use Rattle.pf_ops.specs.Guards.{truth_of}
 use Rattle.pf_syntax.specs.Tree.{Tree}
-use Rattle.pf_model.specs.Maps.{put, without, has, with_number, without_number}
+use Rattle.pf_sorted.specs.Maps.{put, without, has, with_number, without_number}
 use Rattle.pf_model.specs.Module.{Module}
 use Rattle.pf_model.specs.Contraction as asked
 use Rattle.pf_model.specs.Contraction.{Act}

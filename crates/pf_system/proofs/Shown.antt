@@ -2,7 +2,7 @@
 use Rattle.std.proofs.Common.{◌≡◌, ℕ, zero, ◌<◌, ◌≤◌, List, [], refl, sym, ap, ◌∙◌, subst, arith, length, map, slice_set}
 use Rattle.std.specs.Prelude.{Result}
 use Rattle.pf_terms.specs.declared.term.Term.{Term}
-use Rattle.pf_model.specs.Maps.{without_number}
+use Rattle.pf_sorted.specs.Maps.{without_number}
 use Rattle.pf_model.specs.Context.{ended}
 use Rattle.pf_model.specs.Channels.{Signal}
 use Rattle.pf_model.specs.Configuration.{Process, Core, Left, fresh, of, with_process, posted}

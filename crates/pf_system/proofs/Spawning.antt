@@ -4,7 +4,7 @@ use Rattle.std.specs.Prelude.{Ok, slice_get}
 use Rattle.std.proofs.lemmas.Bool.Decides.{nat_tests}
 use Rattle.pf_terms.specs.Value.{Value, Values, atom, list, pid}
 use Rattle.pf_terms.specs.Fixed.{undefined, badarg, system_limit}
-use Rattle.pf_model.specs.Maps.{put, with_number}
+use Rattle.pf_sorted.specs.Maps.{put, with_number}
 use Rattle.pf_model.specs.Contraction as asked
 use Rattle.pf_model.specs.Contraction.{Bond, unbound, linking, watching}
 use Rattle.pf_model.specs.Channels.{with_senders}

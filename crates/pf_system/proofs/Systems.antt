@@ -6,7 +6,7 @@ use Rattle.pf_syntax.specs.Module.{Checked}
 use Rattle.pf_model.specs.Module.{module_of}
 use Rattle.pf_model.specs.Context.{running}
 use Rattle.pf_model.specs.Limits.{most_processes}
-use Rattle.pf_model.specs.Maps.{with_number}
+use Rattle.pf_sorted.specs.Maps.{with_number}
 use Rattle.pf_model.specs.declared.limits.TheConstants.{MOST_PROCESSES, MOST_PROCESSES_FIRST}
 use Rattle.pf_model.specs.Channels.{heads, with_senders}
 use Rattle.pf_model.specs.Configuration.{Process, Core, Configuration, of, process_at}

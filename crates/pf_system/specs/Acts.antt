@@ -2,7 +2,7 @@
 use Rattle.std.specs.Prelude.{◌≡◌, ◌<◌, ◌≤◌, ℕ, ◌+◌, true, List, [], ◌∷◌, ◌++◌, Option, Some, None, Result, Ok, length, slice_get, if◌then◌else◌, ◌==◌}
 use Rattle.pf_terms.specs.declared.term.Term.{Term}
 use Rattle.pf_syntax.specs.Module.{Checked}
-use Rattle.pf_model.specs.Maps.{with_number}
+use Rattle.pf_sorted.specs.Maps.{with_number}
 use Rattle.pf_model.specs.Context.{Frame, ProcessState}
 use Rattle.pf_model.specs.Runs.{can_go}
 use Rattle.pf_model.specs.Turns.{after_act}

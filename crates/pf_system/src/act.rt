@@ -10,9 +10,10 @@ ghost use Rattle.pf_system.specs.Processes.{IsShaped};
 
 use crate::processes::Processes;
 use crate::shared::Shared;
+use pf_errors::NoMemory;
 use pf_model::report::Label;
 use pf_stepper::Act;
-use pf_terms::{NoMemory, Term};
+use pf_terms::Term;
 use std::alloc::Global;
 
 impl Shared {

@@ -9,9 +9,10 @@ ghost use Rattle.pf_system.specs.Processes.{Delivered, IsShaped, Represents, cor
 
 use crate::messages::{down_message, exit_message};
 use crate::processes::Processes;
+use pf_errors::NoMemory;
 use pf_model::Signal;
 use pf_model::report::{Label, Suffix};
-use pf_terms::{AtomId, NoMemory, Term, copy};
+use pf_terms::{AtomId, Term, copy};
 use pf_ties::Fate;
 use std::alloc::Global;
 

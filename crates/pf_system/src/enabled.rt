@@ -7,9 +7,9 @@ ghost use Rattle.pf_model.specs.declared.limits.TheConstants.{MOST_PROCESSES};
 ghost use Rattle.pf_system.specs.Steps.{noted_actors};
 
 use pf_channels::Channels;
+use pf_errors::NoMemory;
 use pf_model::report::Actor;
 use pf_sorted::SortedSet;
-use pf_terms::NoMemory;
 
 /// The enabled actors: the processes that neither ended nor wait, by number, and then the channels that aren't empty,
 /// by sender and then by receiver.

@@ -5,8 +5,9 @@ ghost use Rattle.pf_system.specs.Processes.{EndsProcess, IsShaped, RepresentsBut
 
 use crate::processes::Processes;
 use crate::slot::{Life, Slot};
+use pf_errors::NoMemory;
 use pf_mailbox::Mailbox;
-use pf_terms::{AtomId, NoMemory, Term};
+use pf_terms::{AtomId, Term};
 use std::alloc::Global;
 use std::mem;
 

@@ -6,10 +6,11 @@ ghost use Rattle.pf_model.specs.Contraction.{exit_other, set_flag};
 ghost use Rattle.pf_system.specs.Acts.{ActsAs, IsMember, answer};
 
 use crate::shared::{Shared, giving_true, raising};
+use pf_errors::NoMemory;
 use pf_model::Signal;
 use pf_model::report::Label;
 use pf_ops::{truth, truth_of};
-use pf_terms::{AtomId, NoMemory, Term, copy, equal};
+use pf_terms::{AtomId, Term, copy, equal};
 use std::alloc::Global;
 
 impl Shared {

@@ -10,9 +10,10 @@ ghost use Rattle.pf_system.specs.Processes.{IsShaped};
 use crate::processes::Processes;
 use crate::shared::raising;
 use crate::slot::Slot;
+use pf_errors::NoMemory;
 use pf_model::report::Label;
 use pf_nodes::Pool;
-use pf_terms::{AtomId, List, NoMemory, Term, equal};
+use pf_terms::{AtomId, List, Term, equal};
 use std::alloc::Global;
 
 /// Whether each element is `flush`.

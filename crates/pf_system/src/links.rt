@@ -8,9 +8,10 @@ ghost use Rattle.pf_ties.specs.Laws.{ties_of};
 ghost use Rattle.pf_system.specs.Acts.{ActsAs, IsMember, answer};
 
 use crate::shared::{Shared, giving_true, raising};
+use pf_errors::NoMemory;
 use pf_model::Signal;
 use pf_model::report::Label;
-use pf_terms::{AtomId, NoMemory, Term, copy};
+use pf_terms::{AtomId, Term, copy};
 use std::alloc::Global;
 
 impl Shared {

@@ -7,8 +7,8 @@ ghost use Rattle.pf_terms.specs.Faults.{past_limits};
 ghost use Rattle.pf_model.specs.Deliveries.{down_message, exit_message};
 ghost use Rattle.pf_system.specs.Messages.{down_tuple, exit_tuple};
 
-use pf_errors::OrNoMemory;
-use pf_terms::{AtomId, NoMemory, Term, TooLarge, copy, tuple_of};
+use pf_errors::{NoMemory, OrNoMemory};
+use pf_terms::{AtomId, Term, TooLarge, copy, tuple_of};
 use std::alloc::Global;
 
 fn down_tuple(

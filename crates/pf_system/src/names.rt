@@ -6,9 +6,9 @@ ghost use Rattle.pf_model.specs.Contraction.{register, unregister, whereis};
 ghost use Rattle.pf_system.specs.Acts.{ActsAs, answer};
 
 use crate::shared::{Shared, giving_true, raising};
-use pf_errors::OrNoMemory;
+use pf_errors::{NoMemory, OrNoMemory};
 use pf_model::report::Label;
-use pf_terms::{AtomId, NoMemory, Term};
+use pf_terms::{AtomId, Term};
 use pf_ties::BadArgument;
 use std::alloc::Global;
 

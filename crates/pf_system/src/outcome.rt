@@ -10,8 +10,9 @@ ghost use Rattle.pf_system.specs.Processes.{core_of, Represents};
 
 use crate::processes::Processes;
 use crate::slot::{Life, Slot};
+use pf_errors::NoMemory;
 use pf_model::report::Outcome;
-use pf_terms::{AtomId, NoMemory, Term, copy};
+use pf_terms::{AtomId, Term, copy};
 use std::alloc::Global;
 
 impl Slot {

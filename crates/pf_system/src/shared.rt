@@ -12,10 +12,11 @@ ghost use Rattle.pf_ties.specs.Fates.{sent_of};
 ghost use Rattle.pf_system.specs.Acts.{AnswersAct, answer};
 
 use pf_channels::Channels;
+use pf_errors::NoMemory;
 use pf_model::Signal;
 use pf_model::limits::MOST_PROCESSES;
 use pf_model::report::Label;
-use pf_terms::{AtomId, NoMemory, Term};
+use pf_terms::{AtomId, Term};
 use pf_ties::Ties;
 use std::alloc::Global;
 

@@ -10,10 +10,11 @@ ghost use Rattle.pf_system.specs.Bodies.{body_of, with_one_message};
 ghost use Rattle.pf_system.specs.Slots.{AnswersIn, LifeAsks, LifeIsReady, PutsIn, RanInSlot, SlotIsLeft};
 ghost use Rattle.pf_system.specs.Slots.{SlotIsSound, slot_body, state_of};
 
+use pf_errors::NoMemory;
 use pf_mailbox::Mailbox;
 use pf_nodes::Pool;
 use pf_stepper::{Machine, Move};
-use pf_terms::{NoMemory, Term, copy};
+use pf_terms::{Term, copy};
 use std::alloc::Global;
 use std::mem;
 

@@ -11,9 +11,10 @@ ghost use Rattle.pf_system.specs.Settled.{CanSettle, SettlesAs, WaitsIn};
 ghost use Rattle.pf_system.specs.Processes.{IsShaped, Represents, ProcessTurned, core_of};
 
 use crate::processes::Processes;
+use pf_errors::NoMemory;
 use pf_model::report::Label;
 use pf_stepper::Move;
-use pf_terms::{AtomId, NoMemory, Term, copy};
+use pf_terms::{AtomId, Term, copy};
 use std::alloc::Global;
 
 /// What the end of a process shows.

@@ -1,5 +1,4 @@
 pub mod Before
-pub mod Writes
 pub mod Names
 pub mod Counts
 pub mod SameValues

@@ -5,7 +5,6 @@ pub mod Term
 pub mod Falls
 pub mod Atoms
 pub mod Fixed
-pub mod Streams
 pub mod Faults
 pub mod Packed
 pub mod Numbers

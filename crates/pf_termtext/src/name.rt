@@ -6,8 +6,8 @@ ghost use Rattle.pf_termtext.specs.Reading.{Gives, atom_of, escaped_byte, name_a
 
 use crate::bytes::{behind, split_word};
 use crate::fault::{Fault, no_term};
+use crate::is_plain_name;
 use pf_terms::{AtomId, AtomTable, Term};
-use pf_text::is_plain_name;
 use std::alloc::Global;
 
 /// The atom of this name.

@@ -5,11 +5,12 @@ ghost use Rattle.std.specs.Io.KnownBytes.{Appends};
 ghost use Rattle.pf_terms.specs.Atoms.{name_of};
 ghost use Rattle.pf_terms.specs.Term.{value_of};
 ghost use Rattle.pf_model.specs.TermText.{value_text};
-ghost use Rattle.pf_terms.specs.Streams.{LeavesFront};
+ghost use Rattle.pf_streams.specs.Streams.{LeavesFront};
 
+use crate::put_term;
 use pf_errors::OrNoMemory;
-use pf_terms::{AtomTable, Counted, StreamFault, Term};
-use pf_text::put_term;
+use pf_streams::{Counted, StreamFault};
+use pf_terms::{AtomTable, Term};
 use std::alloc::Global;
 use std::io::Write;
 use std::sync::ledger::Ledger;

@@ -3,9 +3,10 @@
 use crate::missed::Missed;
 use crate::waiting::rest;
 use pf_book::{Reply, TrialStage};
+use pf_check::Source;
 use pf_farm::{ClientSeat, Floor};
 use pf_farm_accounts::FarmNames;
-use pf_request::{Call, Order, Request, RequestKind, RunChoices, ShortBytes, Source};
+use pf_request::{Call, Order, Request, RequestKind, RunChoices, ShortBytes};
 use std::alloc::Global;
 use std::sync::Wait;
 

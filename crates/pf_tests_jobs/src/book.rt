@@ -1,7 +1,8 @@
 //! Each call of a client and each claim of a worker once, at one book.
 
 use pf_book::{Book, Reply};
-use pf_request::{Order, Request, RequestKind, RunChoices, ShortBytes, Source};
+use pf_check::Source;
+use pf_request::{Order, Request, RequestKind, RunChoices, ShortBytes};
 use pf_sched::{Finished, Job, Scratch, Silent, run_to_end};
 use std::alloc::Global;
 use std::hash::RandomState;

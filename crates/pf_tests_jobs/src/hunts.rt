@@ -1,8 +1,8 @@
 //! Hunts by workers in threads, over modules of their own, and what their observer is notified of.
 
-use pf_check::ReadModule;
+use pf_check::{ReadModule, Source};
 use pf_hunt::{Hunt, HuntObserver, Leak, Pace, first_failing, other_jobs, tally_all};
-use pf_request::{Request, RequestKind, RunChoices, ShortBytes, Source};
+use pf_request::{Request, RequestKind, RunChoices, ShortBytes};
 use pf_sched::Job;
 use pf_strategy::Strategy;
 use std::alloc::Global;

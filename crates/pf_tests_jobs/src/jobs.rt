@@ -1,7 +1,7 @@
 //! Jobs that are run whole, slice by slice, and with their events.
 
-use pf_check::ReadModule;
-use pf_request::{Request, RequestKind, RunChoices, ShortBytes, Source};
+use pf_check::{ReadModule, Source};
+use pf_request::{Request, RequestKind, RunChoices, ShortBytes};
 use pf_sched::{
     Finished, Job, JobResult, Scratch, Silent, Slice, choices_by_priorities, report_by_schedule,
     run_slice, run_to_end, start,

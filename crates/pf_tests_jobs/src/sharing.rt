@@ -1,6 +1,6 @@
 //! Who submits the same bytes shares their module, which leaves the store with its last holder.
 
-use pf_request::Source;
+use pf_check::Source;
 use pf_store::Store;
 use std::alloc::Global;
 use std::hash::RandomState;

@@ -1,7 +1,8 @@
 //! A worked list of steps: one run goes from worker to worker.
 
+use pf_check::Source;
 use pf_pool::{Response, World};
-use pf_request::{Call, Chore, Order, Request, RequestKind, RunChoices, ShortBytes, Source, Step};
+use pf_request::{Call, Chore, Order, Request, RequestKind, RunChoices, ShortBytes, Step};
 use std::alloc::Global;
 use std::hash::RandomState;
 use std::test::Fail;

@@ -1,7 +1,7 @@
 //! A module of a long pattern, which is read and dropped on a small stack.
 
 use pf_check::read;
-use pf_terms::NoMemory;
+use pf_errors::NoMemory;
 use std::alloc::Global;
 use std::test::Fail;
 use std::thread::Builder;

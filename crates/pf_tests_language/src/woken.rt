@@ -4,11 +4,12 @@ ghost use Rattle.std.specs.Prelude.{◌≡◌, IfOk};
 ghost use Rattle.pf_stepper.specs.Turns.{CanMove};
 
 use pf_check::read;
+use pf_errors::NoMemory;
 use pf_mailbox::Mailbox;
 use pf_nodes::Pool;
 use pf_stepper::{Machine, MachineRoom, Move};
 use pf_syntax::FunctionId;
-use pf_terms::{NoMemory, Term};
+use pf_terms::Term;
 use smallvec::SmallVec;
 use std::alloc::Global;
 use std::sync::Arc;

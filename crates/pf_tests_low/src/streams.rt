@@ -2,7 +2,7 @@
 
 ghost use Rattle.std.specs.Prelude.{◌≡◌, ◌<◌};
 
-use pf_terms::{Counted, FailAt, StreamFault};
+use pf_streams::{Counted, FailAt, StreamFault};
 use std::alloc::Global;
 use std::io;
 use std::io::{ErrorKind, Write};

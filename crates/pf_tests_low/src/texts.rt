@@ -3,7 +3,8 @@
 ghost use Rattle.std.specs.Prelude.{◌≡◌, ◌<◌};
 
 use pf_errors::OrNoMemory;
-use pf_terms::{AtomTable, Counted, FailAt, Term};
+use pf_streams::{Counted, FailAt};
+use pf_terms::{AtomTable, Term};
 use pf_termtext::{NoTerm, print, read};
 use std::alloc::Global;
 use std::marker::Brand;

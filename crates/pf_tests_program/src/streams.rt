@@ -6,7 +6,7 @@ use pf_cli::Args;
 use pf_command::{Shrink, run_source, serve};
 use pf_errors::OrNoMemory;
 use pf_sched::Silent;
-use pf_terms::{Counted, FailAt, StreamFault};
+use pf_streams::{Counted, FailAt, StreamFault};
 use pf_wire::{InputEnd, run_steps};
 use std::alloc::Global;
 use std::hash::RandomState;

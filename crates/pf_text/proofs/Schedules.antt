@@ -2,7 +2,7 @@
 use Rattle.std.proofs.Common.{◌≡◌, ℕ, List, [], ◌∷◌, ◌++◌, ap, ◌∙◌, append_assoc, append-nil}
 use Rattle.std.specs.Prelude.{codes, flat_map}
 use Rattle.std.specs.Fmt.{decimal}
-use Rattle.pf_model.specs.Text.{numbers_text}
+use Rattle.pf_text.specs.Schedules.{numbers_text}
 
 abbrev pub after_commas : List ℕ → List ℕ
 after_commas ms = flat_map (λ n. codes "," ++ decimal n) ms

@@ -5,11 +5,11 @@ ghost use Rattle.std.specs.Fmt.{decimal as digits_of};
 ghost use Rattle.std.specs.List.{list_all, slice_split};
 ghost use Rattle.pf_tokens.specs.Bytes.{is_digit};
 ghost use Rattle.pf_tokens.specs.TokenKinds.{decimal};
-ghost use Rattle.pf_model.specs.Text.{schedule_text};
+ghost use Rattle.pf_text.specs.Schedules.{schedule_text};
 ghost use Rattle.pf_text.specs.Numbers.{is_numeral, long, long_number_of, number_of_digits, numbers_of_texts, schedule_of};
 
 use crate::text::{put, put_number};
-use pf_terms::NoMemory;
+use pf_errors::NoMemory;
 use pf_tokens::is_digit;
 use std::alloc::{AllocError, Global};
 

@@ -4,7 +4,7 @@ ghost use Rattle.std.specs.Prelude.{◌≡◌, ◌+◌, ◌<◌, ◌≤◌, ◌+
 ghost use Rattle.std.specs.Fmt.{decimal, signed_decimal};
 
 use itoa::Buffer;
-use pf_terms::NoMemory;
+use pf_errors::NoMemory;
 
 /// The longest text that goes byte by byte: to hand on a few bytes as one piece costs more.
 const SHORT: usize = 16;
@@ -89,7 +89,7 @@ fn put_negative(out: &mut Vec<u8>, value: i64) -> Result<(), NoMemory>
 }
 
 /// Puts a number that may have a sign, or nothing if an allocation failed.
-pub(crate) fn put_signed(out: &mut Vec<u8>, value: i64) -> Result<(), NoMemory>
+pub fn put_signed(out: &mut Vec<u8>, value: i64) -> Result<(), NoMemory>
     ensures ok { OnOk result (out.new.items ≡ out.old.items ++ signed_decimal value) }
     ensures err { OnErr result (out.new.items ≡ out.old.items) }
 {

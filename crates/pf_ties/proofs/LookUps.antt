@@ -3,7 +3,7 @@ use Rattle.std.proofs.Common.{◌≡◌, ℕ, Bool, true, false, List, [], ◌�
 use Rattle.std.specs.Prelude.{is_some, unwrap_or}
 use Rattle.std.proofs.lemmas.Bool.{false≢true}
 use Rattle.std.proofs.lemmas.Bool.Decides.{nat_tests}
-use Rattle.pf_model.specs.Maps.{got, put, without}
+use Rattle.pf_sorted.specs.Maps.{got, put, without}
 use Rattle.pf_sorted.proofs.Indices.{eq_of}
 
 abbrev pub Entries : Type 0

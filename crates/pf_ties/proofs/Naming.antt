@@ -3,7 +3,7 @@ use Rattle.std.proofs.Common.{◌≡◌, ℕ, suc, Bool, true, false, not, [], �
 use Rattle.std.specs.Prelude.{is_some}
 use Rattle.std.proofs.lemmas.Bool.{false≢true}
 use Rattle.std.proofs.lemmas.Bool.Decides.{nat_tests}
-use Rattle.pf_model.specs.Maps.{got, put, without}
+use Rattle.pf_sorted.specs.Maps.{got, put, without}
 use Rattle.pf_model.specs.Actions.{has_name}
 use Rattle.pf_model.specs.Ends.{without_name}
 use Rattle.pf_model.proofs.Maps.{got_put, got_other, got_without, got_without_other}

@@ -3,7 +3,7 @@ use Rattle.std.specs.Prelude.{ℕ, Bool, true, false, not, ◌&&◌, ◌==◌, i
 use Rattle.pf_terms.specs.Value.{Value, same}
 use Rattle.pf_terms.specs.Fixed.{normal, kill, killed}
 use Rattle.pf_terms.specs.Term.{value_of}
-use Rattle.pf_model.specs.Maps.{has}
+use Rattle.pf_sorted.specs.Maps.{has}
 use Rattle.pf_model.specs.Channels as channels
 use Rattle.pf_model.specs.Signals.{signal_of}
 use Rattle.pf_model.specs.declared.signal.Signal.{Signal}

@@ -1,6 +1,6 @@
 -- Names in use, and the same by process.
 use Rattle.std.specs.Prelude.{◌≡◌, ℕ, List, Some}
-use Rattle.pf_model.specs.Maps.{got}
+use Rattle.pf_sorted.specs.Maps.{got}
 use Rattle.pf_sorted.specs.Sorted.{IsRising}
 
 -- a name leads to a process exactly where the process leads to the name

@@ -1,12 +1,13 @@
 //! Names of processes.
 
 ghost use Rattle.std.specs.Prelude.{◌≡◌, [], false, None, OnErr, OnOk};
-ghost use Rattle.pf_model.specs.Maps.{got, put, without};
+ghost use Rattle.pf_sorted.specs.Maps.{got, put, without};
 ghost use Rattle.pf_model.specs.Actions.{has_name};
 ghost use Rattle.pf_model.specs.Ends.{without_name};
 
+use pf_errors::NoMemory;
 use pf_sorted::SortedMap;
-use pf_terms::{AtomId, NoMemory};
+use pf_terms::AtomId;
 use std::alloc::Global;
 use std::marker::Model;
 

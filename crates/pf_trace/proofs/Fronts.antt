@@ -4,9 +4,9 @@ use Rattle.std.specs.Prelude.{IfErr, IsErr, IsErrAnd}
 use Rattle.std.specs.Io.KnownBytes.{Appends}
 use Rattle.pf_errors.specs.declared.fault.OrNoMemory.{OrNoMemory}
 use Rattle.pf_errors.specs.declared.fault.OrNoMemory.TheVariants.{NoMemory, Fault}
-use Rattle.pf_terms.specs.Streams.{AppendsFront, LeavesFront}
-use Rattle.pf_terms.specs.declared.stream.StreamFault.{StreamFault}
-use Rattle.pf_terms.proofs.Writes.{appends_both}
+use Rattle.pf_streams.specs.Streams.{AppendsFront, LeavesFront}
+use Rattle.pf_streams.specs.declared.stream.StreamFault.{StreamFault}
+use Rattle.pf_streams.proofs.Writes.{appends_both}
 use Rattle.pf_model.specs.Meaning.{Event, Report}
 use Rattle.pf_model.specs.Text.{event_text, report_text}
 use Rattle.pf_model.specs.TermText.{line}

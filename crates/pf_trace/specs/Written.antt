@@ -4,8 +4,8 @@ use Rattle.std.specs.Fmt.{decimal}
 use Rattle.std.specs.Io.KnownBytes.{Appends}
 use Rattle.pf_errors.specs.declared.fault.OrNoMemory.{OrNoMemory}
 use Rattle.pf_errors.specs.declared.fault.OrNoMemory.TheVariants.{NoMemory, Fault}
-use Rattle.pf_terms.specs.Streams.{AppendsFront, CountsWrite}
-use Rattle.pf_terms.specs.declared.stream.StreamFault.{StreamFault}
+use Rattle.pf_streams.specs.Streams.{AppendsFront, CountsWrite}
+use Rattle.pf_streams.specs.declared.stream.StreamFault.{StreamFault}
 use Rattle.pf_model.specs.Meaning.{Event, Report}
 use Rattle.pf_model.specs.Properties.{Outcome}
 use Rattle.pf_model.specs.Reports.{view_of_event, view_of_outcome}

@@ -9,8 +9,9 @@ ghost use Rattle.pf_trace.specs.Written.{AreWritten, AreWrittenSoFar, report_end
 
 use crate::event_lines::EventLines;
 use crate::report::{put_event, put_last_lines};
+use pf_errors::NoMemory;
 use pf_model::report::{Event, Outcome};
-use pf_terms::{AtomTable, NoMemory};
+use pf_terms::AtomTable;
 use pf_text::put;
 use std::alloc::Global;
 use std::snapshot::Snapshot;

@@ -3,7 +3,7 @@
 ghost use Rattle.std.specs.Prelude.{◌≡◌, ◌++◌, ◌∷◌, [], List, ℕ, IfErr, OnOk};
 ghost use Rattle.std.specs.Io.KnownBytes.{Appends};
 ghost use Rattle.pf_terms.specs.Atoms.{name_of};
-ghost use Rattle.pf_terms.specs.Streams.{LeavesFront};
+ghost use Rattle.pf_streams.specs.Streams.{LeavesFront};
 ghost use Rattle.pf_model.specs.Reports.{view_of_event, view_of_outcome};
 ghost use Rattle.pf_model.specs.TermText.{line};
 ghost use Rattle.pf_model.specs.Text.{event_text};
@@ -11,9 +11,10 @@ ghost use Rattle.pf_trace.specs.Written.{AreWrittenSoFar, GoesOut, IsShort, gone
 
 use crate::lines::LinesSoFar;
 use crate::report::put_last_lines;
-use pf_errors::OrNoMemory;
+use pf_errors::{NoMemory, OrNoMemory};
 use pf_model::report::{Event, Outcome};
-use pf_terms::{AtomTable, Counted, NoMemory, StreamFault};
+use pf_streams::{Counted, StreamFault};
+use pf_terms::AtomTable;
 use std::alloc::Global;
 use std::io::Write;
 use std::snapshot::Snapshot;

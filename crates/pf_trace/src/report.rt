@@ -9,9 +9,11 @@ ghost use Rattle.pf_model.specs.TermText.{line, pid_text};
 ghost use Rattle.pf_trace.specs.Written.{last_lines};
 
 use crate::labels::put_label;
+use pf_errors::NoMemory;
 use pf_model::report::{Actor, Event, Outcome, Report};
-use pf_terms::{AtomTable, NoMemory};
-use pf_text::{put, put_byte, put_number, put_pid, put_term};
+use pf_terms::AtomTable;
+use pf_termtext::{put_pid, put_term};
+use pf_text::{put, put_byte, put_number};
 
 /// Puts which of how many choices was taken, and a blank.
 fn put_choice(out: &mut Vec<u8>, choice: u32, count: u32) -> Result<(), NoMemory>

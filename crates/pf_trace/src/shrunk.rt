@@ -5,7 +5,7 @@ ghost use Rattle.pf_model.specs.Shrinking.{found};
 ghost use Rattle.pf_model.specs.Text.{complete_text, found_text};
 ghost use Rattle.pf_model.specs.TermText.{line};
 
-use pf_terms::NoMemory;
+use pf_errors::NoMemory;
 use pf_text::{put, put_byte, put_schedule};
 
 /// Puts whether no candidate of a schedule fails, on a line.

@@ -7,10 +7,10 @@ use Rattle.std.proofs.lemmas.List.{append-nil}
 use Rattle.std.proofs.Math.Seq.{take-append-add}
 use Rattle.pf_errors.specs.declared.fault.OrNoMemory.{OrNoMemory}
 use Rattle.pf_errors.specs.declared.fault.OrNoMemory.TheVariants.{NoMemory, Fault}
-use Rattle.pf_terms.specs.declared.stream.StreamFault.{StreamFault}
-use Rattle.pf_terms.specs.declared.stream.StreamFault.TheVariants.{Read, Write}
-use Rattle.pf_terms.specs.Streams.{AppendsFront, CountsWrite}
-use Rattle.pf_terms.proofs.Writes.{appends_both}
+use Rattle.pf_streams.specs.declared.stream.StreamFault.{StreamFault}
+use Rattle.pf_streams.specs.declared.stream.StreamFault.TheVariants.{Read, Write}
+use Rattle.pf_streams.specs.Streams.{AppendsFront, CountsWrite}
+use Rattle.pf_streams.proofs.Writes.{appends_both}
 use Rattle.pf_trace.proofs.Fronts.{front_of_both, front_of_more}
 use Rattle.pf_world.specs.World.{RunProfile, World, new_world}
 use Rattle.pf_world.specs.Chores.{Response}

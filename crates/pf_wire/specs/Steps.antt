@@ -6,9 +6,9 @@ use Rattle.pf_errors.specs.Codes.{code_text}
 use Rattle.pf_errors.specs.declared.code.Code.TheVariants as code
 use Rattle.pf_errors.specs.declared.fault.OrNoMemory.{OrNoMemory}
 use Rattle.pf_errors.specs.declared.fault.OrNoMemory.TheVariants.{NoMemory, Fault}
-use Rattle.pf_terms.specs.declared.stream.StreamFault.{StreamFault}
-use Rattle.pf_terms.specs.declared.stream.StreamFault.TheVariants.{Read, Write}
-use Rattle.pf_terms.specs.Streams.{AppendsFront}
+use Rattle.pf_streams.specs.declared.stream.StreamFault.{StreamFault}
+use Rattle.pf_streams.specs.declared.stream.StreamFault.TheVariants.{Read, Write}
+use Rattle.pf_streams.specs.Streams.{AppendsFront}
 use Rattle.pf_model.specs.TermText.{line}
 use Rattle.pf_world.specs.World.{RunProfile, World, new_world}
 use Rattle.pf_world.specs.Chores.{Response}

@@ -3,9 +3,9 @@ use Rattle.std.specs.Prelude.{◌≡◌, ℕ, ◌+◌, ◌<◌, ◌≤◌, ◌�
 use Rattle.std.specs.Io.KnownBytes.{Appends, Consumes, IsAtEnd, Keeps}
 use Rattle.pf_errors.specs.declared.fault.OrNoMemory.{OrNoMemory}
 use Rattle.pf_errors.specs.declared.fault.OrNoMemory.TheVariants.{NoMemory, Fault}
-use Rattle.pf_terms.specs.declared.stream.StreamFault.{StreamFault}
-use Rattle.pf_terms.specs.declared.stream.StreamFault.TheVariants.{Read, Write}
-use Rattle.pf_terms.specs.Streams.{AppendsFront}
+use Rattle.pf_streams.specs.declared.stream.StreamFault.{StreamFault}
+use Rattle.pf_streams.specs.declared.stream.StreamFault.TheVariants.{Read, Write}
+use Rattle.pf_streams.specs.Streams.{AppendsFront}
 use Rattle.pf_world.specs.World.{RunProfile, World}
 use Rattle.pf_world.specs.Chores.{Response}
 use Rattle.pf_world.specs.Steps.{WorldStep}

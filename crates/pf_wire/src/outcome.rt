@@ -14,10 +14,9 @@ ghost use Rattle.pf_wire.specs.Whole.{whole_text};
 
 use crate::reply::{put_code, put_project, put_reply};
 use crate::told::WrittenAnswer;
-use pf_errors::Code;
+use pf_errors::{Code, NoMemory};
 use pf_pool::Response;
 use pf_request::Step;
-use pf_terms::NoMemory;
 use pf_text::{put, put_byte, put_number};
 use std::alloc::Global;
 

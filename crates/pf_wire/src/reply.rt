@@ -11,10 +11,9 @@ ghost use Rattle.pf_wire.specs.Whole.{whole_text};
 
 use crate::told::WrittenAnswer;
 use pf_book::{Reply, TrialStage};
-use pf_errors::Code;
+use pf_errors::{Code, NoMemory};
 use pf_quota::Usage;
 use pf_sched::{Finished, JobResult, memory_report};
-use pf_terms::NoMemory;
 use pf_text::{put, put_byte, put_number, put_schedule};
 use pf_trace::WrittenReport;
 use std::alloc::Global;

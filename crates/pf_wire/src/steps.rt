@@ -24,7 +24,7 @@ use pf_errors::{Code, NoMemory, OrNoMemory};
 use pf_pool::World;
 use pf_protocol::{NoCommand, is_due, read_command};
 use pf_request::Step;
-use pf_terms::{Counted, StreamFault};
+use pf_streams::{Counted, StreamFault};
 use pf_text::{put, put_byte, put_number};
 use std::alloc::Global;
 use std::hash::RandomState;

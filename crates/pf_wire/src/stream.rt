@@ -2,7 +2,7 @@
 
 ghost use Rattle.std.specs.Prelude.{◌≡◌, ◌≤◌, ◌<◌, ◌+◌, ◌++◌, [], List, ℕ, length, false, true, IfErr, IfOk, OnErr, OnOk};
 ghost use Rattle.std.specs.Io.KnownBytes.{Appends, Consumes};
-ghost use Rattle.pf_terms.specs.Streams.{AppendsFront, CountsWrite};
+ghost use Rattle.pf_streams.specs.Streams.{AppendsFront, CountsWrite};
 ghost use Rattle.pf_protocol.specs.Commands.{first_line};
 ghost use Rattle.pf_wire.specs.Turns.{TakesPiece, PieceLeaves};
 ghost use Rattle.pf_wire.specs.Whole.{report_lines, whole_text};
@@ -12,7 +12,7 @@ use crate::steps::MOST_BYTES;
 use crate::told::{ToldReport, WrittenAnswer};
 use pf_errors::OrNoMemory;
 use pf_protocol::{first_line, is_due};
-use pf_terms::{Counted, StreamFault};
+use pf_streams::{Counted, StreamFault};
 use std::alloc::Global;
 use std::io::{Read, Write};
 use std::sync::ledger::Ledger;

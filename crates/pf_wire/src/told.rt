@@ -4,8 +4,8 @@ ghost use Rattle.std.specs.Prelude.{◌≡◌, ◌++◌, OnOk};
 ghost use Rattle.pf_desks.specs.Told.{result_rest};
 ghost use Rattle.pf_wire.specs.Whole.{result_end, result_events, whole_text};
 
+use pf_errors::NoMemory;
 use pf_sched::{Finished, JobResult, memory_report};
-use pf_terms::NoMemory;
 use std::alloc::Global;
 
 /// A report in an answer: the lines of its events, which the job's result holds, and the lines that follow them.

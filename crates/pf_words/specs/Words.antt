@@ -3,7 +3,7 @@ use Rattle.std.specs.Prelude.{◌≡◌, ◌⊎◌, ◌≤◌, ℕ, Bool, true, 
 use Rattle.std.specs.Str.{bytes_eq}
 use Rattle.pf_errors.specs.declared.memory.NoMemory.{NoMemory}
 use Rattle.pf_errors.specs.declared.fault.OrNoMemory.{OrNoMemory}
-use Rattle.pf_terms.specs.declared.stream.StreamFault.{StreamFault}
+use Rattle.pf_streams.specs.declared.stream.StreamFault.{StreamFault}
 use Rattle.pf_text.specs.Numbers.{schedule_of}
 use Rattle.clap.specs.Words.{Text}
 use Rattle.pf_cli.specs.Args.{ReadWords, Wanted, CommandWork, check, chart, farm, hunt, reading_of, reads, run, shrink, steps, tells, view_of_farm_args, works}

@@ -15,7 +15,7 @@ use pf_cli_messages::{
 };
 use pf_command::{Answering, Chart, CheckCommand, MOST_BYTES, Shrink, print_hunt, print_source};
 use pf_files::{AnsweredRoot, workers_of};
-use pf_terms::Counted;
+use pf_streams::Counted;
 use std::alloc::{AllocGlobal, Global};
 use std::io::{Read, Write};
 use std::random::RandomSource;

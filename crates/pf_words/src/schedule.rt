@@ -7,7 +7,7 @@ ghost use Rattle.pf_words.specs.Schedules.{schedule_in, told_in};
 
 use pf_errors::{NoMemory, OrNoMemory};
 use pf_files::open;
-use pf_terms::{Counted, StreamFault};
+use pf_streams::{Counted, StreamFault};
 use pf_text::schedule_of;
 use std::alloc::{AllocGlobal, Global};
 use std::fs::Files;

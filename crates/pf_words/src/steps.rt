@@ -7,7 +7,7 @@ use pf_cli_messages::{line_reason, say};
 use pf_errors::{NoMemory, OrNoMemory};
 use pf_files::AnsweredRoot;
 use pf_steps::run_steps;
-use pf_terms::{Counted, StreamFault};
+use pf_streams::{Counted, StreamFault};
 use pf_wire::{InputEnd, RefusedLine};
 use std::alloc::{AllocGlobal, Global};
 use std::hash::RandomState;

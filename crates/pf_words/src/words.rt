@@ -13,7 +13,7 @@ use crate::work::work;
 use pf_cli::{Args, CliCommand, FarmArgs, ReadWords, read};
 use pf_cli_messages::{ProgressLine, REFUSED, failed, no_memory, say, tell};
 use pf_errors::NoMemory;
-use pf_terms::{Counted, StreamFault};
+use pf_streams::{Counted, StreamFault};
 use std::alloc::AllocGlobal;
 use std::fs::Files;
 use std::io::{self, Read, Write};

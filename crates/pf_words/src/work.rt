@@ -11,7 +11,7 @@ use pf_cli_messages::{ProgressLine, end};
 use pf_errors::OrNoMemory;
 use pf_files::{AnsweredRoot, hunt_suite, is_suite, open};
 use pf_json::JsonLines;
-use pf_terms::{Counted, StreamFault};
+use pf_streams::{Counted, StreamFault};
 use std::alloc::AllocGlobal;
 use std::fs::Files;
 use std::io::{Read, Write};

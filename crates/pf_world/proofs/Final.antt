@@ -10,7 +10,7 @@ use Rattle.pf_quota.specs.declared.charges.Charge.{Charge}
 use Rattle.pf_quota.specs.declared.charges.Charge.TheVariants as charge
 use Rattle.pf_request.specs.Calls.{Call, submit, order, fetch, status, drop_trial, withdraw, usage, log, edition}
 use Rattle.pf_request.specs.Job.{Job}
-use Rattle.pf_request.specs.Module.{ReadModule}
+use Rattle.pf_check.specs.Module.{ReadModule}
 use Rattle.pf_desks.specs.Desk.{Profile, TrialState, queued, running, done, Trial, Desk, held_at, with_held, SourceReading, readable, faulty, job_ordered, marked_whole}
 use Rattle.pf_desks.specs.Desk.{Reply, ticket, result, uses, logged, has_edition, refused, Entry, called, claimed, filed, handed_back}
 use Rattle.pf_desks.specs.Calls.{calls_in, passed_by, within_limits, submitted, with_job, ordered, result_in, fetched, dropped, users_of, withdrawn, is_edition, in_edition, answer_of_call, with_entry, noted, reply_to, after_call}

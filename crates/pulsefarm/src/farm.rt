@@ -11,7 +11,7 @@ use pf_errors::OrNoMemory;
 use pf_farm::{Blanks, MOST_SEATS};
 use pf_farm_accounts::{FarmNames, NewRegister};
 use pf_files::{AnsweredRoot, open};
-use pf_terms::{Counted, StreamFault};
+use pf_streams::{Counted, StreamFault};
 use pf_words::random_keys;
 use std::alloc::AllocGlobal;
 use std::fs::Files;

@@ -17,7 +17,7 @@ use crate::farm::{Host, farm};
 use crate::stack::{STACK_BYTES, first_thread_has_stack};
 use pf_cli_messages::{Clearing, ProgressLine, REFUSED, no_memory};
 use pf_errors::NoMemory;
-use pf_terms::Counted;
+use pf_streams::Counted;
 use pf_words::{Obeyed, obey};
 use std::alloc::{AllocGlobal, Global};
 use std::env::Env;

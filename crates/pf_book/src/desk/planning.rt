@@ -20,13 +20,12 @@ use crate::plan::{DeskChange, Plan};
 use crate::refusal::CallRefusal;
 use crate::reply::Reply;
 use crate::trial::Trial;
-use pf_check::ReadModule;
-use pf_errors::OrNoMemory;
+use pf_check::{ReadModule, Source};
+use pf_errors::{NoMemory, OrNoMemory};
 use pf_quota::{Charge, Holding, Usage, trial_steps};
-use pf_request::{Order, Source};
+use pf_request::Order;
 use pf_sched::{Finished, Job};
 use pf_store::Store;
-use pf_terms::NoMemory;
 use std::alloc::Global;
 use std::sync::Arc;
 

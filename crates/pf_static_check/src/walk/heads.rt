@@ -7,9 +7,10 @@ ghost use Rattle.pf_rules.specs.Listing.{ListsFunctions};
 ghost use Rattle.pf_static_check.specs.Walking.{BeginsAnew};
 
 use crate::walk::ClauseWalk;
+use pf_errors::NoMemory;
 use pf_rules::Signatures;
 use pf_syntax::{Head, SyntaxTree};
-use pf_terms::{AtomTable, NoMemory};
+use pf_terms::AtomTable;
 
 impl ClauseWalk {
     /// Through the functions of a module.

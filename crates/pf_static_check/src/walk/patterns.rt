@@ -8,9 +8,8 @@ ghost use Rattle.pf_static_check.specs.Walking.{SafeWalked, ExprPatternWalked, E
 
 use crate::variable_states::Status;
 use crate::walk::ClauseWalk;
-use pf_errors::Code;
+use pf_errors::{Code, NoMemory};
 use pf_syntax::{ExprPatternId, ExprPatternNode, Ident, SyntaxTree};
-use pf_terms::NoMemory;
 
 impl ClauseWalk {
     /// Through a pattern.

@@ -1,6 +1,6 @@
 use Rattle.std.proofs.Common.{rules, arith, ◌≡◌, ◌≤◌, ◌-◌, ℕ, List, [], ◌∷◌, ◌++◌, Option, Some, None, sym, subst, ap, ◌∙◌}
 use Rattle.std.specs.Prelude.{slice_index, slice_set, IsSome}
-use Rattle.pf_request.specs.Module.{ReadModule}
+use Rattle.pf_check.specs.Module.{ReadModule}
 use Rattle.pf_desks.specs.Desk as desk
 use Rattle.pf_desks.specs.Desk.{Trial, held_at, with_held}
 use Rattle.pf_desks.specs.Calls.{users_of}

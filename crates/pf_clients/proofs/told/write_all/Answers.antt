@@ -2,7 +2,7 @@ use Rattle.std.proofs.Common.{rules, ◌≡◌, [], ◌∷◌, ◌++◌, length,
 use Rattle.std.specs.Vec.Iter.{into_iter_items}
 use Rattle.std.proofs.lemmas.List.{map-append}
 use Rattle.pf_errors.specs.declared.fault.OrNoMemory.TheVariants.{Fault}
-use Rattle.pf_terms.specs.Streams.{CountsWrite}
+use Rattle.pf_streams.specs.Streams.{CountsWrite}
 use Rattle.pf_trace.proofs.Fronts.{handed_on}
 use Rattle.pf_clients.specs.Farms.{client_text, Prints, PrintsInPart}
 use Rattle.pf_clients.proofs.Pairs.{nothing_left}

@@ -2,7 +2,7 @@ use Rattle.std.proofs.Common.{rules, ◌≡◌, ◌++◌, ◌∷◌, length, map
 use Rattle.std.proofs.lemmas.List.{nil_from_length}
 use Rattle.std.specs.Fmt.{decimal}
 use Rattle.std.proofs.lemmas.Result.{on_err_weaker, on_ok_weaker}
-use Rattle.pf_terms.specs.Streams.{AppendsFront}
+use Rattle.pf_streams.specs.Streams.{AppendsFront}
 use Rattle.pf_command.specs.Waiting.{Adds, after_commas}
 use Rattle.pf_command.proofs.Adding.{adds_both, at_fault, front_after, front_longer, schedule_of_more}
 use Rattle.pf_command.proofs.ending.add_choices.Goals as goal

@@ -3,9 +3,9 @@ use Rattle.std.specs.Prelude.{codes}
 use Rattle.std.specs.Fmt.{decimal}
 use Rattle.std.specs.Io.KnownBytes.{Appends}
 use Rattle.std.proofs.lemmas.Result.{on_err_weaker, on_ok_weaker}
-use Rattle.pf_terms.specs.Streams.{AppendsFront}
+use Rattle.pf_streams.specs.Streams.{AppendsFront}
 use Rattle.pf_model.specs.Reports.{view_of_report}
-use Rattle.pf_model.specs.Text.{schedule_text}
+use Rattle.pf_text.specs.Schedules.{schedule_text}
 use Rattle.pf_model.specs.declared.report.Event.{Event}
 use Rattle.pf_command.specs.Hunts.{choices_of, seed_text, strategy_text}
 use Rattle.pf_command.specs.Waiting.{Adds}

@@ -1,6 +1,6 @@
 use Rattle.std.proofs.Common.{refl, subst}
 use Rattle.std.specs.Io.KnownBytes.{Appends}
-use Rattle.pf_terms.specs.Streams.{AppendsFront}
+use Rattle.pf_streams.specs.Streams.{AppendsFront}
 use Rattle.pf_command.specs.Streams.{IsAnswer}
 use Rattle.pf_command.proofs.Streaming.{printed_fault}
 use Rattle.pf_command.proofs.printing.print_answer.Goals as goal

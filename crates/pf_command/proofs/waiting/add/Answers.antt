@@ -1,8 +1,8 @@
 use Rattle.std.proofs.Common.{rules, ◌≡◌, ◌++◌, List, ℕ, ap, append-nil, ◌∙◌, subst}
 use Rattle.std.proofs.lemmas.Result.{on_err_weaker, on_ok_weaker}
 use Rattle.std.specs.Io.KnownBytes.{Appends}
-use Rattle.pf_terms.specs.Streams.{AppendsFront}
-use Rattle.pf_terms.proofs.Writes.{appends_both}
+use Rattle.pf_streams.specs.Streams.{AppendsFront}
+use Rattle.pf_streams.proofs.Writes.{appends_both}
 use Rattle.pf_trace.proofs.Fronts.{front_of_both, front_of_more}
 use Rattle.pf_command.proofs.Adding.{at_fault}
 use Rattle.pf_command.proofs.waiting.add.Goals as goal

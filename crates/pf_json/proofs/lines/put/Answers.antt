@@ -1,5 +1,5 @@
 use Rattle.std.proofs.Common.{◌++◌, take}
-use Rattle.pf_terms.proofs.Writes.{appends_both, split_more}
+use Rattle.pf_streams.proofs.Writes.{appends_both, split_more}
 use Rattle.pf_json.proofs.lines.put.Goals as goal
 
 pub loop-rest-preserved : goal.loop-rest-preserved

@@ -1,7 +1,7 @@
 use Rattle.std.proofs.Common.{rules, ◌≡◌, ◌∷◌, ◌++◌, ap, sym, ◌∙◌, List, ℕ, append_assoc}
 use Rattle.std.specs.Fmt.{decimal}
 use Rattle.std.proofs.lemmas.Result.{on_ok_weaker}
-use Rattle.pf_model.specs.Text.{schedule_text}
+use Rattle.pf_text.specs.Schedules.{schedule_text}
 use Rattle.pf_text.proofs.Schedules.{after_commas, by_commas}
 use Rattle.pf_text.proofs.numbers.put_schedule.Goals as goal
 

@@ -3,8 +3,8 @@ use Rattle.std.proofs.lemmas.List.{map-append, map_more, take-append-drop}
 use Rattle.std.specs.Io.KnownBytes.{Appends}
 use Rattle.pf_errors.specs.declared.fault.OrNoMemory.TheVariants.{NoMemory}
 use Rattle.pf_terms.specs.Atoms.{name_of}
-use Rattle.pf_terms.specs.Streams.{LeavesFront}
-use Rattle.pf_terms.proofs.Writes.{appends_both}
+use Rattle.pf_streams.specs.Streams.{LeavesFront}
+use Rattle.pf_streams.proofs.Writes.{appends_both}
 use Rattle.pf_model.specs.Meaning.{Event}
 use Rattle.pf_model.specs.Reports.{view_of_event}
 use Rattle.pf_model.specs.declared.report.Event as code

@@ -1,7 +1,7 @@
 use Rattle.std.proofs.Common.{◌++◌, map, ap, sym, ◌∙◌, subst}
 use Rattle.std.proofs.lemmas.Result.{IfErr-weaker}
 use Rattle.pf_terms.specs.Atoms.{name_of}
-use Rattle.pf_terms.specs.Streams.{LeavesFront}
+use Rattle.pf_streams.specs.Streams.{LeavesFront}
 use Rattle.pf_model.specs.Reports.{view_of_event, view_of_report}
 use Rattle.pf_trace.specs.Written.{report_end_text, gone_from, lines_text, told_so_far}
 use Rattle.pf_trace.proofs.Fronts.{stops_at_end}

@@ -2,7 +2,7 @@ use Rattle.std.proofs.Common.{◌≡◌, ◌+◌, ◌∙◌, Result, Ok, Err, re
 use Rattle.std.specs.Prelude.{IfErr, IsErr, IsErrAnd}
 use Rattle.pf_errors.specs.declared.fault.OrNoMemory.{OrNoMemory}
 use Rattle.pf_errors.specs.declared.fault.OrNoMemory.TheVariants.{Fault}
-use Rattle.pf_terms.specs.declared.stream.StreamFault.{StreamFault}
+use Rattle.pf_streams.specs.declared.stream.StreamFault.{StreamFault}
 use Rattle.pf_wire.specs.Whole.{whole_text}
 use Rattle.pf_trace.proofs.Fronts.{handed_on}
 use Rattle.pf_wire.proofs.Leaving.{at_hand_first, at_hand_sent, at_hand_in_part, at_hand_more, more_in_part, ends_ill, ends_ill_in_part, in_part, leaves_at, shorter_after}

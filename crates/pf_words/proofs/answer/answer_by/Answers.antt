@@ -1,6 +1,6 @@
 use Rattle.std.proofs.Common.{subst}
 use Rattle.std.specs.Io.KnownBytes.{Appends}
-use Rattle.pf_terms.specs.Streams.{AppendsFront}
+use Rattle.pf_streams.specs.Streams.{AppendsFront}
 use Rattle.pf_command.proofs.Streaming.{sent_fault, sent_memory}
 use Rattle.pf_words.proofs.answer.answer_by.Goals as goal
 

@@ -5,7 +5,7 @@ use Rattle.pf_quota.specs.declared.usage.Usage.{Usage}
 use Rattle.pf_quota.specs.declared.charges.Holding.TheVariants as held
 use Rattle.pf_quota.specs.declared.charges.Charge.TheVariants as charge
 use Rattle.pf_quota.specs.Usage.{Covers, charged, refunded}
-use Rattle.pf_request.specs.Module.{ReadModule}
+use Rattle.pf_check.specs.Module.{ReadModule}
 use Rattle.pf_store.specs.Sources.{holders, HeldOnceLess}
 use Rattle.pf_desks.specs.Desk.{Desk, held_at}
 use Rattle.pf_desks.specs.Calls.{usage_in, users_of}

@@ -1,7 +1,7 @@
 use Rattle.std.proofs.Common.{◌≡◌, ap, sym, ◌∙◌}
 use Rattle.std.specs.Cmp.Lexicographic.{bytes_decides}
 use Rattle.std.specs.Arc.{arc_value}
-use Rattle.pf_request.specs.Module.{ReadModule}
+use Rattle.pf_check.specs.Module.{ReadModule}
 use Rattle.pf_check.proofs.One.{one_module}
 use Rattle.pf_check.proofs.read_module.ReadModule.same.Goals as goal
 

@@ -6,7 +6,7 @@ use Rattle.pf_terms.specs.declared.term.Term.{Term}
 use Rattle.pf_model.specs.Channels.{Signal}
 use Rattle.pf_model.specs.Configuration.{Core, posted}
 use Rattle.pf_model.specs.Ends.{reason_of}
-use Rattle.pf_model.specs.Maps.{without_number}
+use Rattle.pf_sorted.specs.Maps.{without_number}
 use Rattle.pf_model.specs.Context.{ended}
 use Rattle.pf_ties.specs.Ties as ties
 use Rattle.pf_ties.specs.Fates.{sent_of}

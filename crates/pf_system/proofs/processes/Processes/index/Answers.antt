@@ -1,7 +1,7 @@
 use Rattle.std.proofs.Common.{refl, sym, ap, ◌∙◌, if◌then◌else◌}
 use Rattle.std.proofs.lemmas.Option.{slice_get_read}
 use Rattle.pf_terms.specs.Term.{value_of}
-use Rattle.pf_model.specs.Maps.{with_number}
+use Rattle.pf_sorted.specs.Maps.{with_number}
 use Rattle.pf_system.proofs.Placing.{placed}
 use Rattle.pf_system.proofs.processes.Processes.index.Goals as goal
 

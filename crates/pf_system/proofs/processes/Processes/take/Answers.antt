@@ -1,5 +1,5 @@
 use Rattle.std.proofs.Common.{refl, sym, ap, ◌∙◌, subst, IfOk}
-use Rattle.pf_model.specs.Maps.{put, without, with_number, without_number}
+use Rattle.pf_sorted.specs.Maps.{put, without, with_number, without_number}
 use Rattle.pf_model.specs.Configuration.{of}
 use Rattle.pf_model.specs.Signals.{signal_of}
 use Rattle.pf_model.specs.declared.signal.Signal.TheVariants as code

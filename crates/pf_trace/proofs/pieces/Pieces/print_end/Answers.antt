@@ -1,6 +1,6 @@
 use Rattle.std.proofs.Common.{◌≡◌, ◌++◌, ap, ◌∙◌, subst}
 use Rattle.pf_terms.specs.Atoms.{name_of}
-use Rattle.pf_terms.specs.Streams.{AppendsFront}
+use Rattle.pf_streams.specs.Streams.{AppendsFront}
 use Rattle.pf_errors.specs.declared.fault.OrNoMemory.TheVariants.{Fault}
 use Rattle.pf_model.specs.Reports.{view_of_outcome}
 use Rattle.pf_trace.specs.Written.{last_lines}

@@ -1,5 +1,5 @@
 use Rattle.std.proofs.lemmas.Result.{on_err_weaker, on_ok_weaker}
-use Rattle.pf_terms.proofs.Writes.{appends_both}
+use Rattle.pf_streams.proofs.Writes.{appends_both}
 use Rattle.pf_wire.proofs.Adding.{at_err}
 use Rattle.pf_trace.proofs.Fronts.{front_of_both, front_of_more}
 use Rattle.pf_wire.proofs.stream.Gathered.send_with.Goals as goal

@@ -1,7 +1,7 @@
 use Rattle.std.proofs.Common.{◌≤◌, ◌-◌, ◌++◌, ℕ, List, length, take, arith}
 use Rattle.std.proofs.lemmas.List.{length-append, length-take}
-use Rattle.pf_terms.proofs.Writes.{consumes_both}
-use Rattle.pf_terms.proofs.counted.Counted.take_front.Goals as goal
+use Rattle.pf_streams.proofs.Writes.{consumes_both}
+use Rattle.pf_streams.proofs.counted.Counted.take_front.Goals as goal
 
 -- a piece that is no longer than what is left keeps the whole within the limit
 still_within : (bytes piece : List ℕ) (n limit : ℕ) → length bytes ≤ limit → n ≤ limit - length bytes → length (bytes ++ take n piece) ≤ limit

@@ -3,7 +3,7 @@ use Rattle.pf_terms.specs.Value.{nodes, nodes_in}
 use Rattle.pf_terms.specs.Term.{value_of, values_of, elements_of}
 use Rattle.pf_terms.specs.Atoms.{name_of}
 use Rattle.pf_model.specs.TermText.{rest_text}
-use Rattle.pf_text.proofs.terms.+terms.Given as goal
+use Rattle.pf_termtext.proofs.terms.+terms.Given as goal
 
 abbrev pub decreases-put_term : goal.decreases-put_term
 decreases-put_term l = 4 * nodes (value_of l.term.now)

@@ -1,6 +1,6 @@
 use Rattle.std.proofs.Common.{◌≡◌, ◌≤◌, ◌-◌, length}
 use Rattle.std.specs.Io.KnownBytes.{Consumes}
-use Rattle.pf_terms.proofs.counted.Counted.take_front.Given as goal
+use Rattle.pf_streams.proofs.counted.Counted.take_front.Given as goal
 
 -- what was read so far
 abbrev pub invariant-loop-buf : goal.invariant-loop-buf

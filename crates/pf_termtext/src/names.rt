@@ -6,8 +6,8 @@ ghost use Rattle.pf_tokens.specs.Bytes.{is_word_byte};
 ghost use Rattle.pf_tokens.specs.TokenKinds.{reserved_of};
 ghost use Rattle.pf_model.specs.TermText.{atom_text, is_plain_name, quoted_byte};
 
-use crate::text::{put, put_byte};
-use pf_terms::NoMemory;
+use pf_errors::NoMemory;
+use pf_text::{put, put_byte};
 use pf_tokens::{is_lower, is_word, reserved_of};
 
 fn is_reserved(word: &[u8]) -> bool

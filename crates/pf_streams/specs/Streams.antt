@@ -1,10 +1,10 @@
 -- What a reader or a writer does to the known bytes, and to its count of failed calls.
-use Rattle.std.specs.Prelude.{◌≡◌, ℕ, ◌+◌, List, ◌++◌, Option}
+use Rattle.std.specs.Prelude.{◌≡◌, ℕ, ◌+◌, List, ◌++◌, Option, codes}
 use Rattle.std.specs.Io.KnownBytes.{Appends}
 use Rattle.pf_errors.specs.declared.fault.OrNoMemory.{OrNoMemory}
 use Rattle.pf_errors.specs.declared.fault.OrNoMemory.TheVariants.{NoMemory, Fault}
-use Rattle.pf_terms.specs.declared.stream.StreamFault.{StreamFault}
-use Rattle.pf_terms.specs.declared.stream.StreamFault.TheVariants.{Read, Write}
+use Rattle.pf_streams.specs.declared.stream.StreamFault.{StreamFault}
+use Rattle.pf_streams.specs.declared.stream.StreamFault.TheVariants.{Read, Write}
 
 -- the known bytes grow by a beginning of the text
 abbrev pub AppendsFront : Option (List ℕ) → Option (List ℕ) → List ℕ → Type 0
@@ -29,3 +29,8 @@ CountsReadOrNone (Fault f) old new = CountsRead f old new
 abbrev pub LeavesFront : OrNoMemory StreamFault → (text : List ℕ) → (written_old written_new : Option (List ℕ)) → (failed_old failed_new : ℕ) → Type 0
 LeavesFront NoMemory text w0 w1 n0 n1 = (w1 ≡ w0) × (n1 ≡ n0)
 LeavesFront (Fault fault) text w0 w1 n0 n1 = AppendsFront w0 w1 text × CountsWrite fault n0 n1
+
+-- which stream failed, as it is printed
+abbrev pub stream_text : StreamFault → List ℕ
+stream_text (Read e) = codes "the input can't be read"
+stream_text (Write e) = codes "the output can't be written"

@@ -1,6 +1,6 @@
 use Rattle.std.proofs.Common.{rules, ◌++◌, take}
-use Rattle.pf_terms.proofs.Writes.{appends_both, split_more}
-use Rattle.pf_terms.proofs.counted.Counted.put.Goals as goal
+use Rattle.pf_streams.proofs.Writes.{appends_both, split_more}
+use Rattle.pf_streams.proofs.counted.Counted.put.Goals as goal
 
 pub loop-rest-preserved : goal.loop-rest-preserved
 loop-rest-preserved g c =

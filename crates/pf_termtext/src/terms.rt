@@ -8,8 +8,9 @@ ghost use Rattle.pf_model.specs.Text.{reference_text};
 ghost use Rattle.pf_model.specs.TermText.{pid_text, rest_text, value_text};
 
 use crate::names::put_atom;
-use crate::text::{put, put_number, put_signed};
-use pf_terms::{AtomTable, Elements, List, NoMemory, Term};
+use pf_errors::NoMemory;
+use pf_terms::{AtomTable, Elements, List, Term};
+use pf_text::{put, put_number, put_signed};
 
 /// Puts a pid, as `<0>`.
 pub fn put_pid(out: &mut Vec<u8>, pid: u32) -> Result<(), NoMemory>

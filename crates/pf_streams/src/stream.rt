@@ -23,7 +23,7 @@ impl StreamFault {
 
 impl fmt::Display for StreamFault {
     ghost use Rattle.std.specs.Prelude.{Some};
-    ghost use Rattle.pf_terms.specs.Faults.{stream_text};
+    ghost use Rattle.pf_streams.specs.Streams.{stream_text};
 
     ghost output = { λ fault. Some (stream_text fault) };
 

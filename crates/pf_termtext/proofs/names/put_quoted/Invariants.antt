@@ -1,7 +1,7 @@
 use Rattle.std.proofs.Common.{◌≡◌, ◌++◌, take}
 use Rattle.std.specs.Prelude.{flat_map}
 use Rattle.pf_model.specs.TermText.{quoted_byte}
-use Rattle.pf_text.proofs.names.put_quoted.Given as goal
+use Rattle.pf_termtext.proofs.names.put_quoted.Given as goal
 
 -- the bytes so far have gone out
 abbrev pub invariant-loop-byte : goal.invariant-loop-byte

@@ -3,7 +3,7 @@
 ghost use Rattle.std.specs.Prelude.{◌≡◌, ◌+◌, ◌<◌, ◌≤◌, ℕ, List, length, take, IfErr, IfOk, IfSome, OnErr, OnOk};
 ghost use Rattle.std.specs.Io.{ReadsAtMost};
 ghost use Rattle.std.specs.Io.KnownBytes.{Appends, Consumes, ReadConsumes};
-ghost use Rattle.pf_terms.specs.Streams.{AppendsFront, CountsRead, CountsReadOrNone, CountsWrite};
+ghost use Rattle.pf_streams.specs.Streams.{AppendsFront, CountsRead, CountsReadOrNone, CountsWrite};
 
 use crate::stream::StreamFault;
 use pf_errors::OrNoMemory;
