@@ -56,8 +56,8 @@ DeskHandsBack d t false d' = (is_running (held_at d.trials t) ≡ false) × (d' 
 abbrev pub work_answer : Bool → Answer
 work_answer b = if b then work_done else not_now
 
--- SimulatesCall w q c r w': a project's call is answered so, as the world's step says, and leads to the next world; memory
--- runs out only where the project's log has room for the call, and leaves the world as it was
+-- SimulatesCall w q c r w': a project's call is answered so, as the world's step says, and leads to the next world;
+-- memory runs out only where the project's log has room for the call, and leaves the world as it was
 abbrev pub SimulatesCall : Desks → ℕ → Call → Result Reply NoMemory → Desks → Type 0
 SimulatesCall w q c (Ok r) w' = ForRight (λ p. ◌≡◌ {A = Desks × Answer} (step p w (client q c)) (w', replied (view_of_reply r)))
 SimulatesCall w q c (Err e) w' = HasRoom (desk_at q w) × (w' ≡ w)
@@ -70,15 +70,15 @@ ClaimsAt w q t (Ok (Some j)) w' =
 ClaimsAt w q t (Ok None) w' = ◌≡◌ {A = Desks × Answer} (worked q w (claim_step (desk_at q w) t)) (w', not_now)
 ClaimsAt w q t (Err e) w' = (is_queued (held_at (desk_at q w).trials t) ≡ true) × (w' ≡ w)
 
--- SimulatesClaim w r w': some trial that is queued is claimed; or there is none, since no trial of any desk is queued; memory
--- runs out only where one is, and the world is as it was then
+-- SimulatesClaim w r w': some trial that is queued is claimed; or there is none, since no trial of any desk is queued;
+-- memory runs out only where one is, and the world is as it was then
 abbrev pub SimulatesClaim : Desks → Result (Option Claimed) NoMemory → Desks → Type 0
 SimulatesClaim w (Ok (Some c)) w' = ClaimsAt w c.project c.ticket (Ok (Some c.job)) w'
 SimulatesClaim w (Ok None) w' = ((q t : ℕ) → is_queued (held_at (desk_at q w).trials t) ≡ false) × (w' ≡ w)
 SimulatesClaim w (Err e) w' = ((q : ℕ) × (t : ℕ) × (is_queued (held_at (desk_at q w).trials t) ≡ true)) × (w' ≡ w)
 
--- SimulatesFile w q t f b w': the result of a project's ticket is filed under its mark, or the trial isn't running or is of
--- another job
+-- SimulatesFile w q t f b w': the result of a project's ticket is filed under its mark, or the trial isn't running or
+-- is of another job
 abbrev pub SimulatesFile : Desks → ℕ → ℕ → FinishedView → Bool → Desks → Type 0
 SimulatesFile w q t f true w' = ForRight (λ p. ◌≡◌ {A = Desks × Answer} (worked q w (file_step p (desk_at q w) t (mark_of f.result))) (w', work_done))
 SimulatesFile w q t f false w' = IsStrayJob (desk_at q w).trials t f.job × (w' ≡ w)
