@@ -21,7 +21,9 @@ use Rattle.pf_hunt.specs.Views.{failure_of}
 use Rattle.pf_cli.specs.Args.{HuntArgs, RunArgs, HuntGoal, failure, outcomes}
 use Rattle.pf_command.specs.declared.ending.HuntEnd.{HuntEnd}
 use Rattle.pf_command.specs.declared.ending.HuntEnd.TheVariants.{Told, Found}
-use Rattle.pf_command.specs.Answers.{AnswersRun, AnswersBy, AsksOf, IsModuleOf, IsNoMemory, cut_text, atom_names_of, no_memory_report}
+use Rattle.pf_command.specs.Answers.{AnswersRun, AnswersBy, IsNoMemory, cut_text, atom_names_of, no_memory_report}
+use Rattle.pf_cli_messages.specs.Explained.{AsksOf}
+use Rattle.pf_check.specs.Reading.{IsModuleOf}
 
 -- ---- what is asked for
 

@@ -3,7 +3,8 @@
 ghost use Rattle.std.specs.Prelude.{◌≡◌, IfErr, IfOk};
 ghost use Rattle.pf_errors.specs.Codes.{code_text, refusal_text};
 ghost use Rattle.pf_check.specs.Reads.{IsRefusalOf};
-ghost use Rattle.pf_command.specs.Answers.{IsModuleOf, Refuses, run_status};
+ghost use Rattle.pf_command.specs.Answers.{Refuses, run_status};
+ghost use Rattle.pf_check.specs.Reading.{IsModuleOf};
 
 use pf_check::{ReadModule, Source};
 use pf_errors::{Code, NoMemory, OrNoMemory, SourceRefusal};

@@ -4,7 +4,8 @@ ghost use Rattle.std.specs.Prelude.{◌≡◌, ◌<◌, List, ℕ, zero, IfOk, S
 ghost use Rattle.pf_model.specs.Reports.{view_of_report};
 ghost use Rattle.pf_model.specs.Shrinking.{IsResult, by_schedule};
 ghost use Rattle.pf_sched.specs.Views.{result_of};
-ghost use Rattle.pf_command.specs.Answers.{IsModuleOf, run_args};
+ghost use Rattle.pf_command.specs.Answers.{run_args};
+ghost use Rattle.pf_check.specs.Reading.{IsModuleOf};
 ghost use Rattle.pf_cli.specs.Args.{view_of_chart_args};
 ghost use Rattle.pf_command.specs.Charts.{
   AreNamesIn,

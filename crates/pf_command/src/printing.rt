@@ -4,7 +4,9 @@
 ghost use Rattle.std.specs.Prelude.{◌≡◌, List, ℕ, zero, IfErr, IfOk, OnOk, Some};
 ghost use Rattle.pf_errors.specs.Codes.{code_text, refusal_text};
 ghost use Rattle.pf_cli.specs.Args.{view_of_run_args};
-ghost use Rattle.pf_command.specs.Answers.{AnswersRun, AsksOf, Counts, CountsBy, IsModuleOf, IsNoMemory, ReportsJob, run_args};
+ghost use Rattle.pf_command.specs.Answers.{AnswersRun, Counts, CountsBy, IsNoMemory, ReportsJob, run_args};
+ghost use Rattle.pf_cli_messages.specs.Explained.{AsksOf};
+ghost use Rattle.pf_check.specs.Reading.{IsModuleOf};
 ghost use Rattle.pf_command.specs.Guided.{RunAnswers, RunCounts};
 ghost use Rattle.pf_command.specs.Streams.{IsAnsweredSo, IsAnswer, IsRefusedText, Leaves, NoneFailed, PrintsAnswer, Sends, TakesBytes, WentOut, streams};
 

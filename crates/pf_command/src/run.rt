@@ -7,7 +7,8 @@ ghost use Rattle.pf_model.specs.Text.{report_text};
 ghost use Rattle.pf_request.specs.Job.{memory_report};
 ghost use Rattle.pf_trace.specs.Written.{AreWritten, report_in};
 ghost use Rattle.pf_sched.specs.Views.{IsWritten, result_of};
-ghost use Rattle.pf_command.specs.Answers.{AnswersRun, IsModuleOf, ReportsJob, TellsResult, run_args};
+ghost use Rattle.pf_command.specs.Answers.{AnswersRun, ReportsJob, TellsResult, run_args};
+ghost use Rattle.pf_check.specs.Reading.{IsModuleOf};
 
 use crate::answer::{FAILED, Output, read_source, refused_at, refused_by_code, run_status};
 use crate::serving::Answering;

@@ -3,7 +3,8 @@ use Rattle.pf_check.specs.Reads.{IsRefusalOf, Reads, refused}
 use Rattle.pf_cli.specs.Args.{view_of_run_args}
 use Rattle.pf_sched.specs.Asked.{Asks, IsRefusal}
 use Rattle.pf_sched.specs.Views.{code_of}
-use Rattle.pf_cli_messages.specs.Explained.{IsModuleOf, job_refused, shrinks, source_refused}
+use Rattle.pf_cli_messages.specs.Explained.{job_refused, shrinks, source_refused}
+use Rattle.pf_check.specs.Reading.{IsModuleOf}
 use Rattle.pf_cli_messages.proofs.explained.job_of.Goals as goal
 
 pub returns-in-Err-Fault : goal.returns-in-Err-Fault
