@@ -17,18 +17,7 @@ import texts  # noqa: E402
 # Edges of crates.txt that nothing cites. A change of a line makes the proof of its crate due, so such an edge goes when
 # that proof is due anyway, and its entry here with it: an entry that is no such edge is a fault.
 UNCITED = """
-pf_positions: pf_syntax
-pf_strategy: pf_errors pf_terms
-pf_farm_laws: pf_farm_accounts pf_model pf_farm_accounts pf_terms
-pf_read_modules: pf_errors pf_rules
-pf_process_status: pf_errors
-pf_cli_messages: pf_diagnostics
-pf_farm: pf_model
-pf_cli_messages: pf_terms
-pf_command: pf_hints
-pf_hunt_suite: pf_strategy
 pf_tests_low: rand_core
-pf_tests_farm: pf_farm_state
 """
 
 LINE = re.compile(r"^([a-z][a-z0-9_]*)[^:\n#]*:(.*)$", re.M)
