@@ -1,6 +1,6 @@
 #!/usr/bin/env bash
-# Tries wrong bodies: each edit of crates/NAME/wrong/ changes what a function means, and the prover has to refuse the crate with it.
-# (One in crates/NAME/must-fail/ is tried by each `rt ci` too, which costs that crate a second proof.)
+# Tries wrong bodies: each edit of crates/NAME/wrong/ changes what a function means, and the prover has to refuse the
+# crate with it. (One in crates/NAME/must-fail/ is tried by each `rt ci` too, which costs that crate a second proof.)
 #
 #   tests/wrong.sh apply        prints the edits that can't be applied, and fails where there are any
 #   tests/wrong.sh due          prints which wrong bodies are due, and why; tries nothing
@@ -9,25 +9,30 @@
 #   tests/wrong.sh NAME..       tries those of these crates
 #   tests/wrong.sh lay FOLDER   makes a clone in FOLDER in which those that are due are in must-fail/, for `rt ci`
 #   tests/wrong.sh read LOG [FOLDER]
-#                               takes from the output of `rt ci` in such a clone what was refused: of those that were laid in FOLDER, or
-#                               else of those that are due now
+#                               takes from the output of `rt ci` in such a clone what was refused: of those that were
+#                               laid in FOLDER, or else of those that are due now
 #
-# A crate has two sums. Its own is of its sources, specs and proofs without comments and layout, its edits, the flags of its line of
-# crates.txt, and the kit's logic. Its sum below is of what its sources, specs and edits reach by name in the crates below it: definitions,
-# and in src/ what is declared and each contract, but no body of a function. Each edit has a sum below of its own: of what is reached
-# from the contract and the body of the function that it changes, from its new texts, from the Models in that file and from the
-# contracts of what is called. One that changes anything but the body of a function has all that its crate reaches.
+# A crate has a sum: of its sources, specs and proofs without comments and layout, its edits, the flags of its line of
+# crates.txt, and the kit's logic. Each edit has one too, of what decides below its crate whether it is refused: of what
+# is reached by name from the contract and the body of the function that it changes, from its new texts, from the Models
+# in that file and from the contracts of what is called. Definitions count, and in src/ what is declared and each
+# contract, but no body of a function. An edit that changes anything but the body of a function has all that the
+# sources, specs and edits of its crate reach. No sum depends on where a checkout is.
 #
-# Where the own sum of a crate changed, all its edits are due; but a gate takes no more than MOST_CHANGED edits of changed crates, 4 a
-# processor: crates go whole, new ones first and then those that were seen the longest ago, and the others wait. Where only the sum
-# below did, those edits are due whose own sums changed, the ones first that were seen the longest ago, until MOST_EDITS (16) are due
-# with those of changed crates. Where there is room among these, all edits of the TURNS (2) crates that were seen the longest ago are due in turn.
+# Where the sum of a crate changed, all its edits are due; but a gate takes no more than MOST_CHANGED edits of changed
+# crates, 4 a processor: crates go whole, new ones first and then those that were seen the longest ago, and the others
+# wait. Of other crates those edits are due whose own sums changed, the ones first that were seen the longest ago, until
+# MOST_EDITS (16) are due with those of changed crates. Where there is room among these, all edits of the TURNS (2)
+# crates that were seen the longest ago are due in turn.
 #
-# What was seen refused is noted in tests/wrong.seen, a line a crate: its name, its own sum, its sum below, the second at which it was
-# seen, and how many wrong bodies it has; and in tests/wrong.edits, a line an edit: its crate and name, its sum, and the second at which
-# it was seen. A crate keeps its line until all of its edits are seen with the sums that they have now. One with an edit that can't be
-# read, or isn't refused, loses its line, and the run fails. A refusal at no goal of a source, for a name that a proof file has, say, shows
-# nothing of a contract: a new wrong body that is refused so fails the run, and an old one isn't noted and stays due until it is changed.
+# What was seen refused is noted on the machine, beside what `rt ci` keeps: in the folder rattle-kept-pulsefarm beside
+# that of the kit, or where that can't be written in $XDG_STATE_HOME/pulsefarm (~/.local/state/pulsefarm). So each
+# checkout on the machine knows what all others saw. Its file `refused` has a line for an edit and a state in which it
+# was refused: its crate and name, the sum of its crate, its own sum, and the second at which it was seen. Where there
+# is no such folder all edits stay due as new. A crate with an edit that can't be read, or isn't refused, loses its
+# lines, and the run fails. A refusal at no goal of a source, for a name that a proof file has, say, shows nothing of a
+# contract: a wrong body that no line names fails the run with it, and another isn't noted and stays due until it is
+# changed.
 #
 # LANES (the processors) is how many crates are tried at once.
 set -uo pipefail
@@ -98,7 +103,8 @@ try() {
 export -f try
 export room
 
-# Has the crates below those that are tried built in the clone, over what out/ has kept here, so that no two lanes build one.
+# Has the crates below those that are tried built in the clone, over what out/ has kept here, so that no two lanes
+# build one.
 build_below() {
   for name in $(crates); do
     for part in rlib incremental; do

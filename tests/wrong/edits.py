@@ -118,8 +118,8 @@ class Wanted:
                 seeds |= self.tree.named(path, new)
 
     def names_of(self, edit):
-        """Returns all that is reached from the functions that an edit changes, and from its new texts. One that changes anything but
-        the bodies of functions may be refused anywhere in the crate."""
+        """Returns all that is reached from the functions that an edit changes, and from its new texts. One that changes
+        anything but the bodies of functions may be refused anywhere in the crate."""
         seeds, methods, now = set(), set(), {}
         for file, old, new in edit.changes:
             path = f"crates/{self.crate}/{file}"
@@ -135,10 +135,6 @@ class Wanted:
             now[path] = texts.RustFile(cut.text.replace(old, new)) if len(edit.changes) > 1 else cut
         self.add_new(edit, seeds, methods)
         return self.tree.closure(self.crate, seeds, methods)
-
-    def below_sum(self):
-        """Returns the sum of all that the crate reaches below it."""
-        return self.tree.sum_below(self.crate, self.all_names())
 
     def edit_sum(self, edit):
         """Returns the sum of what decides below the crate whether an edit is refused."""

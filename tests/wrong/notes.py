@@ -1,32 +1,94 @@
-"""The notes of what was seen refused: tests/wrong.seen, a line a crate, and tests/wrong.edits, a line an edit."""
+"""The notes of what was seen refused. They are kept on the machine beside what `rt ci` keeps, and in no checkout, so
+that each checkout finds those of all others: a line a wrong body and a state in which it was refused, with its crate
+and name, the sum of its crate, its own sum, and the second at which it was seen."""
+import contextlib
+import fcntl
 import os
+import shutil
+import stat
+
+# How many states of one wrong body are kept, the newest.
+MOST_STATES = 8
+
+
+def is_usable(folder):
+    """Returns whether a folder stands there, is this user's and can be written; makes it where nothing stands."""
+    try:
+        os.makedirs(folder, 0o700, exist_ok=True)
+        found = os.lstat(folder)
+    except OSError:
+        return False
+    is_own = stat.S_ISDIR(found.st_mode) and found.st_uid == os.geteuid()
+    return is_own and os.access(folder, os.W_OK | os.X_OK)
+
+
+def store():
+    """Returns the folder of the notes: beside the kit, or else among what this user's programs keep; or nothing."""
+    kit = os.path.dirname(os.path.dirname(os.path.realpath(shutil.which("rt") or "/")))
+    state = os.environ.get("XDG_STATE_HOME") or os.path.expanduser("~/.local/state")
+    folders = f"{os.path.dirname(kit)}/rattle-kept-pulsefarm", f"{state}/pulsefarm"
+    return next((it for it in folders if is_usable(it)), None)
 
 
 class Notes:
-    """`crates`: by name, the own sum, the sum below, the second at which they were seen, and how many wrong bodies there were.
-    `edits`: by crate and name, the sum of the names that it reaches below its crate, and the second at which it was seen refused."""
+    """What was seen refused: for each wrong body, the second of each state, the sum of its crate with its own."""
 
-    def __init__(self, top):
-        self.places = f"{top}/tests/wrong.seen", f"{top}/tests/wrong.edits"
-        self.crates = {name: (own, below, int(time), int(count)) for name, own, below, time, count in lines_of(self.places[0], 5)}
-        self.edits = {name: (total, int(time)) for name, total, time in lines_of(self.places[1], 3)}
+    def __init__(self, folder):
+        self.folder, self.seen = folder, {}
+        for key, own, total, time in lines_of(folder):
+            self.seen.setdefault(key, {})[own, total] = int(time)
+
+    def of_crate(self, crate):
+        """Returns the wrong bodies of a crate that were seen refused, in any state."""
+        return [key for key in self.seen if key.startswith(f"{crate}/")]
+
+    def knows(self, crate, own):
+        """Returns whether one of a crate was seen refused while the crate had this sum."""
+        return any(state[0] == own for key in self.of_crate(crate) for state in self.seen[key])
+
+    def time(self, key, own, total):
+        """Returns when one was seen refused in this state, or nothing."""
+        return self.seen.get(key, {}).get((own, total))
+
+    def last_time(self, key):
+        """Returns when one was seen refused in any state, or 0."""
+        return max(self.seen.get(key, {}).values(), default=0)
+
+    def add(self, key, own, total, time):
+        """Notes that one was seen refused in this state, and forgets the oldest states past the most."""
+        states = {**self.seen.get(key, {}), (own, total): time}
+        self.seen[key] = dict(sorted(states.items(), key=lambda it: it[1])[-MOST_STATES:])
 
     def drop(self, crate):
-        """Forgets a crate and its edits."""
-        self.crates.pop(crate, None)
-        for name in [it for it in self.edits if it.startswith(f"{crate}/")]:
-            del self.edits[name]
+        """Forgets all of a crate."""
+        for key in self.of_crate(crate):
+            del self.seen[key]
 
     def write(self):
-        """Writes the notes."""
-        for path, noted in zip(self.places, (self.crates, self.edits)):
-            with open(path, "w", encoding="utf-8") as file:
-                file.writelines(f"{' '.join([name, *map(str, noted[name])])}\n" for name in sorted(noted))
+        """Writes the notes apart and then puts them in place, so that no other run reads half of them."""
+        lines = [f"{key} {own} {total} {time}\n" for key in self.seen for (own, total), time in self.seen[key].items()]
+        with open(f"{self.folder}/new", "w", encoding="utf-8") as file:
+            file.writelines(sorted(lines))
+        os.replace(f"{self.folder}/new", f"{self.folder}/refused")
 
 
-def lines_of(path, size):
-    """Returns the lines of a file that have so many words, each as its words."""
-    if not os.path.exists(path):
+@contextlib.contextmanager
+def changing(folder):
+    """Gives the notes to change, while no other run may, and writes them; where there is no store they are lost."""
+    if folder is None:
+        print("there is no folder in which to note what was refused: all wrong bodies stay due")
+        yield Notes(None)
+        return
+    with open(f"{folder}/lock", "w", encoding="utf-8") as lock:
+        fcntl.flock(lock, fcntl.LOCK_EX)
+        noted = Notes(folder)
+        yield noted
+        noted.write()
+
+
+def lines_of(folder):
+    """Returns the lines of the notes in a folder, each as its four words."""
+    if folder is None or not os.path.exists(f"{folder}/refused"):
         return []
-    with open(path, encoding="utf-8") as file:
-        return [words for words in map(str.split, file) if len(words) == size]
+    with open(f"{folder}/refused", encoding="utf-8") as file:
+        return [words for words in map(str.split, file) if len(words) == 4 and words[3].isdigit()]

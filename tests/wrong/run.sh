@@ -1,6 +1,7 @@
 #!/usr/bin/env bash
-# Tests tests/wrong.sh over three small crates, of which nothing is proved: an `rt` that stands in for the prover refuses each wrong
-# body but those that `$stand_in/passing` names, and those that `$stand_in/by_form` names only by the form of a proof.
+# Tests tests/wrong.sh over three small crates, of which nothing is proved: an `rt` that stands in for the prover refuses
+# each wrong body but those that `$stand_in/passing` names, and those that `$stand_in/by_form` names only by the form of
+# a proof.
 set -u
 export LC_ALL=C
 here=$(cd "$(dirname "$0")" && pwd)
@@ -8,27 +9,31 @@ room=$(mktemp -d) || exit 2
 trap 'rm -rf "$room"' EXIT
 passed=0
 failed=0
-mkdir -p "$room/bin" "$room/farm"
+# What was seen refused is noted beside the kit.
+store=$room/rattle-kept-pulsefarm
+mkdir -p "$room/kit/bin" "$room/farm"
 cd "$room/farm" || exit 2
-export stand_in="$room" PATH="$room/bin:$PATH" TURNS=0 LANES=1
+export stand_in="$room" PATH="$room/kit/bin:$PATH" TURNS=0 LANES=1 XDG_STATE_HOME="$room/state"
 unset MOST_EDITS MOST_CHANGED
 
-cat > "$room/bin/rt" << 'END'
+cat > "$room/kit/bin/rt" << 'END'
 #!/bin/sh
 case $1 in
-version) cat "$stand_in/kit" ;;
+version) cat "$stand_in/version" ;;
 must-fail)
   for edit in crates/"$2"/must-fail/*.edit; do
     name=$2/$(basename "$edit")
     says="refused, as it must be: src/lib.rt:1:1: error"
     if grep -qx "$name" "$stand_in/passing"; then says="NOT REFUSED: it is still proved"; fi
-    if grep -qx "$name" "$stand_in/by_form"; then says="refused, as it must be (only because a proof file names what the edit took away)"; fi
+    if grep -qx "$name" "$stand_in/by_form"; then
+      says="refused, as it must be (only because a proof file names what the edit took away)"
+    fi
     echo "rt: must-fail $name: $says"
   done
   ;;
 esac
 END
-chmod +x "$room/bin/rt"
+chmod +x "$room/kit/bin/rt"
 
 # Makes the crates: `top` needs `mid`, and both need `low`.
 make_low() {
@@ -176,15 +181,18 @@ END
 # Makes all again, as seen refused.
 start_anew() {
   cd "$room/farm" || exit 2
-  rm -rf crates tests/wrong.seen tests/wrong.edits
+  rm -rf crates "$store" "$room/state"
   make_low
   make_mid
   make_top
   printf '# The crates.\nlow:\nmid: low\ntop tests_may=Threads: mid\n' > crates.txt
-  echo "a-kit logic one" > "$room/kit"
+  echo "a-kit logic one" > "$room/version"
   : > "$room/passing"
   : > "$room/by_form"
-  cp "$room/seen" "$room/edits" tests/ 2> /dev/null && mv tests/seen tests/wrong.seen && mv tests/edits tests/wrong.edits
+  if [ -e "$room/seen" ]; then
+    mkdir "$store"
+    cp "$room/seen" "$store/refused"
+  fi
 }
 
 # Compares the text $2 with the text $3, under the name $1.
@@ -199,6 +207,11 @@ same() {
 
 due() {
   tests/wrong.sh due | sed '$d'
+}
+
+# Has what begins with $1 in the notes seen at the second $2.
+seen_at() {
+  sed -i "s|^\($1.*\) [0-9]*\$|\1 $2|" "$store/refused"
 }
 
 # After the change $2 of the file $3, made by sed, what is due has to be $4; $1 names it.
@@ -222,9 +235,8 @@ start_anew
 same "new crates" "$(due)" "$(printf 'low 1 of 1, new\nmid 4 of 4, new\ntop 2 of 2, new')"
 tests/wrong.sh > "$room/out" && status=0 || status=$?
 same "all refused" "$status $(tail -n 1 "$room/out")" "0 3 crates passed, 0 failed"
-same "how many are noted" "$(cut -d' ' -f1,5 tests/wrong.seen | tr '\n' ' ')$(wc -l < tests/wrong.edits)" "low 1 mid 4 top 2 7"
-cp tests/wrong.seen "$room/seen"
-cp tests/wrong.edits "$room/edits"
+same "how many are noted" "$(cut -d/ -f1 "$store/refused" | uniq -c | xargs)" "1 low 4 mid 2 top"
+cp "$store/refused" "$room/seen"
 
 # What means nothing makes nothing due.
 case_of "a comment below" 's/^-- the first.*/-- another/' "$numbers" ""
@@ -257,9 +269,9 @@ case_of "a body of the own" 's/^    same(n)/    same(same(n))/' crates/top/src/l
 case_of "an edit of the own" 's/^new: 0/new: 1/' crates/top/wrong/itself_is_none.edit "top 2 of 2, changed"
 case_of "a flag" 's/tests_may=Threads/tests_may=Net/' crates.txt "top 2 of 2, changed"
 start_anew
-echo "another-kit logic one" > "$room/kit"
+echo "another-kit logic one" > "$room/version"
 same "another kit of the same logic" "$(due)" ""
-echo "another-kit logic two" > "$room/kit"
+echo "another-kit logic two" > "$room/version"
 same "another kit" "$(due)" "$(printf 'low 1 of 1, changed\nmid 4 of 4, changed\ntop 2 of 2, changed')"
 
 # An edit of a contract has all that its crate reaches, and the two crates that were seen the longest ago are due in turn.
@@ -269,7 +281,8 @@ tests/wrong.sh mid > /dev/null
 sed -i 's/MOST: u32 = 10/MOST: u32 = 11/' "$low"
 same "an edit of a contract" "$(due | grep mid)" "mid 2 of 5, $below a_contract most_is_less"
 start_anew
-sed -i 's/^\(top .* \)[0-9]* 2$/\15 2/; s/^\(low .* \)[0-9]* 1$/\16 1/' tests/wrong.seen
+seen_at top/ 5
+seen_at low/ 6
 same "in turn" "$(TURNS=1 tests/wrong.sh due | sed '$d')" "top 2 of 2, in turn"
 same "two in turn" "$(TURNS=2 MOST_EDITS=3 tests/wrong.sh due | sed '$d')" "$(printf 'low 1 of 1, in turn\ntop 2 of 2, in turn')"
 same "no room for the second in turn" "$(TURNS=2 MOST_EDITS=2 tests/wrong.sh due | sed '$d')" "top 2 of 2, in turn"
@@ -282,16 +295,25 @@ same "no room beside others" "$(TURNS=2 MOST_EDITS=2 tests/wrong.sh due | sed '$
 start_anew
 sed -i 's/^base = 1/base = 2/' "$numbers"
 tests/wrong.sh low > /dev/null
-sed -i 's/^\(mid.two_is_one.edit .*\) [0-9]*$/\1 20/; s/^\(top.four_is_none.edit .*\) [0-9]*$/\1 10/' tests/wrong.edits
+seen_at mid/two_is_one 20
+seen_at top/four_is_none 10
 same "the oldest first" "$(MOST_EDITS=1 tests/wrong.sh due)" \
-  "$(printf 'mid 1 of 4, wait for a later gate: %s two_is_one\ntop 1 of 2, %s four_is_none\n1 wrong bodies are due, and 1 wait for a later gate' "$below" "$below")"
-before=$(grep '^mid ' tests/wrong.seen)
+  "$(printf 'mid 1 of 4, wait for a later gate: %s two_is_one\ntop 1 of 2, %s four_is_none\n%s' "$below" "$below" \
+    "1 wrong bodies are due, and 1 wait for a later gate")"
+before=$(grep '^mid/' "$store/refused")
 MOST_EDITS=1 tests/wrong.sh > /dev/null
-same "one that waits keeps its line" "$(grep '^mid ' tests/wrong.seen)" "$before"
+same "nothing is noted of one that waits" "$(grep '^mid/' "$store/refused")" "$before"
 same "it waits still" "$(due)" "mid 1 of 4, $below two_is_one"
 MOST_EDITS=1 tests/wrong.sh > /dev/null
 same "none waits" "$(tests/wrong.sh due)" "0 wrong bodies are due, and 0 wait for a later gate"
-same "its line is new" "$(grep -c "^$before\$" tests/wrong.seen) $(grep -c '^mid ' tests/wrong.seen)" "0 1"
+sed -i 's/^base = 2/base = 1/' "$numbers"
+same "what is as it was before is known" "$(due)" ""
+for number in $(seq 2 10); do
+  sed -i "s/^base = .*/base = $number/" "$numbers"
+  tests/wrong.sh low > /dev/null
+done
+same "how many states are kept" "$(grep -c '^low/step_of_two.edit ' "$store/refused")" 8
+same "the newest state is kept" "$(due | grep -c '^low ')" 0
 start_anew
 for number in $(seq 19); do printf 'file: src/lib.rt\nold: same(n)\nnew: %s\n' "$number" > "crates/top/wrong/number_$number.edit"; done
 tests/wrong.sh top > /dev/null
@@ -303,17 +325,42 @@ same "the rest" "$(tests/wrong.sh due | tail -n 1)" "4 wrong bodies are due, and
 
 # Changed crates go whole, those first that were seen the longest ago; one that a gate has no time for keeps its line and waits.
 start_anew
-sed -i 's/^\(top .* \)[0-9]* 2$/\15 2/; s/^\(mid .* \)[0-9]* 4$/\16 4/; s/^\(low .* \)[0-9]* 1$/\17 1/' tests/wrong.seen
-echo "another-kit logic two" > "$room/kit"
+seen_at top/ 5
+seen_at mid/ 6
+seen_at low/ 7
+echo "another-kit logic two" > "$room/version"
 later="wait for a later gate: changed, beside more than a gate can try"
 same "more than a gate can try" "$(MOST_CHANGED=5 tests/wrong.sh due)" \
   "$(printf 'low 1 of 1, changed\nmid 4 of 4, %s\ntop 2 of 2, changed\n3 wrong bodies are due, and 4 wait for a later gate' "$later")"
-before=$(grep '^mid ' tests/wrong.seen)
+before=$(grep '^mid/' "$store/refused")
 MOST_CHANGED=5 tests/wrong.sh > /dev/null
-same "a crate that waits keeps its line" "$(grep '^mid ' tests/wrong.seen)" "$before"
+same "nothing is noted of a crate that waits" "$(grep '^mid/' "$store/refused")" "$before"
 same "a crate that waited is due" "$(due)" "mid 4 of 4, changed"
 MOST_CHANGED=1 tests/wrong.sh > /dev/null
 same "the first goes, however many it has" "$(due)" ""
+
+# What was seen is kept for all checkouts on the machine, beside the kit or else among what the user's programs keep.
+start_anew
+cp -a "$room/farm" "$room/other"
+same "another checkout" "$(cd "$room/other" && due)" ""
+rm "$store/refused"
+tests/wrong.sh low > /dev/null &
+(cd "$room/other" && tests/wrong.sh mid > /dev/null) &
+wait
+tests/wrong.sh top > /dev/null
+same "two runs at once" "$(due) $(wc -l < "$store/refused")" " 7"
+start_anew
+rm -r "$store"
+: > "$store"
+all_new=$(printf 'low 1 of 1, new\nmid 4 of 4, new\ntop 2 of 2, new')
+same "nothing beside the kit" "$(due)" "$all_new"
+tests/wrong.sh > /dev/null
+same "noted elsewhere" "$(due) $(wc -l < "$room/state/pulsefarm/refused")" " 7"
+rm -r "$room/state"
+: > "$room/state"
+tests/wrong.sh > "$room/out" && status=0 || status=$?
+same "noted nowhere" "$status $(grep -c '^there is no folder' "$room/out")" "0 1"
+same "all stay due" "$(due)" "$all_new"
 
 # In a clone for the gate.
 start_anew
