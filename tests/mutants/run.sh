@@ -1,7 +1,7 @@
 #!/usr/bin/env bash
-# Tests tests/wrong.sh over three small crates, of which nothing is proved: an `rt` that stands in for the prover refuses
-# each wrong body but those that `$stand_in/passing` names, and those that `$stand_in/by_form` names only by the form of
-# a proof.
+# Tests tests/mutants.sh over three small crates, of which nothing is proved: an `rt` that stands in for the prover
+# refuses each mutant but those that `$stand_in/passing` names, and those that `$stand_in/by_form` names only by the
+# form of a proof.
 set -u
 export LC_ALL=C
 here=$(cd "$(dirname "$0")" && pwd)
@@ -37,7 +37,7 @@ chmod +x "$room/kit/bin/rt"
 
 # Makes the crates: `top` needs `mid`, and both need `low`.
 make_low() {
-  mkdir -p crates/low/src crates/low/specs crates/low/wrong
+  mkdir -p crates/low/src crates/low/specs crates/low/mutants
   cat > crates/low/specs/Numbers.antt << 'END'
 -- Numbers.
 use Rattle.std.specs.Prelude.{ℕ}
@@ -98,11 +98,11 @@ pub fn nothing(n: u32) -> u32
     n
 }
 END
-  printf 'file: src/lib.rt\nold: n + 1\nnew: n + 2\n' > crates/low/wrong/step_of_two.edit
+  printf 'file: src/lib.rt\nold: n + 1\nnew: n + 2\n' > crates/low/mutants/step_of_two.edit
 }
 
 make_mid() {
-  mkdir -p crates/mid/src crates/mid/specs crates/mid/wrong
+  mkdir -p crates/mid/src crates/mid/specs crates/mid/mutants
   cat > crates/mid/specs/Twice.antt << 'END'
 use Rattle.low.specs.Numbers.{first}
 abbrev pub twice : ℕ → ℕ
@@ -149,14 +149,14 @@ pub fn same(n: u32) -> u32
     n + 0
 }
 END
-  printf 'file: src/lib.rt\nold: step(step(n))\nnew: step(n)\n' > crates/mid/wrong/two_is_one.edit
-  printf 'file: src/lib.rt\nold: count.add();\nnew: count.add(); count.add();\n' > crates/mid/wrong/many_twice.edit
-  printf 'file: src/lib.rt\nold:     MOST\nnew:     MOST - 1\n' > crates/mid/wrong/most_is_less.edit
-  printf 'file: src/lib.rt\nold: n + 0\nnew: nothing(n) + 1\n' > crates/mid/wrong/same_is_more.edit
+  printf 'file: src/lib.rt\nold: step(step(n))\nnew: step(n)\n' > crates/mid/mutants/two_is_one.edit
+  printf 'file: src/lib.rt\nold: count.add();\nnew: count.add(); count.add();\n' > crates/mid/mutants/many_twice.edit
+  printf 'file: src/lib.rt\nold:     MOST\nnew:     MOST - 1\n' > crates/mid/mutants/most_is_less.edit
+  printf 'file: src/lib.rt\nold: n + 0\nnew: nothing(n) + 1\n' > crates/mid/mutants/same_is_more.edit
 }
 
 make_top() {
-  mkdir -p crates/top/src crates/top/wrong
+  mkdir -p crates/top/src crates/top/mutants
   cat > crates/top/src/lib.rt << 'END'
 ghost use Rattle.mid.specs.Twice.{twice};
 use mid::{same, two};
@@ -174,8 +174,8 @@ pub fn itself(n: u32) -> u32
     same(n)
 }
 END
-  printf 'file: src/lib.rt\nold: two(two(n))\nnew: two(n)\nold: two(n)\nnew: n\n' > crates/top/wrong/four_is_none.edit
-  printf 'file: src/lib.rt\nold: same(n)\nnew: 0\n' > crates/top/wrong/itself_is_none.edit
+  printf 'file: src/lib.rt\nold: two(two(n))\nnew: two(n)\nold: two(n)\nnew: n\n' > crates/top/mutants/four_is_none.edit
+  printf 'file: src/lib.rt\nold: same(n)\nnew: 0\n' > crates/top/mutants/itself_is_none.edit
 }
 
 # Makes all again, as seen refused.
@@ -206,7 +206,7 @@ same() {
 }
 
 due() {
-  tests/wrong.sh due | sed '$d'
+  tests/mutants.sh due | sed '$d'
 }
 
 # Has what begins with $1 in the notes seen at the second $2.
@@ -223,9 +223,9 @@ case_of() {
   same "$1" "$(due)" "$4"
 }
 
-mkdir -p tests/wrong
-cp "$here/../wrong.sh" tests/
-cp "$here"/*.py tests/wrong/
+mkdir -p tests/mutants
+cp "$here/../mutants.sh" tests/
+cp "$here"/*.py tests/mutants/
 git init -q .
 
 below='names below changed:'
@@ -233,7 +233,7 @@ low=crates/low/src/lib.rt
 numbers=crates/low/specs/Numbers.antt
 start_anew
 same "new crates" "$(due)" "$(printf 'low 1 of 1, new\nmid 4 of 4, new\ntop 2 of 2, new')"
-tests/wrong.sh > "$room/out" && status=0 || status=$?
+tests/mutants.sh > "$room/out" && status=0 || status=$?
 same "all refused" "$status $(tail -n 1 "$room/out")" "0 3 crates passed, 0 failed"
 same "how many are noted" "$(cut -d/ -f1 "$store/refused" | uniq -c | xargs)" "1 low 4 mid 2 top"
 cp "$store/refused" "$room/seen"
@@ -244,7 +244,7 @@ case_of "a comment behind a definition below" 's/^base = 1/base = 1 -- one/' "$n
 case_of "a doc comment below" 's|/// A step.|/// A step, or none.|' "$low" ""
 case_of "a comment in the own crate" 's|// the first and.*|// other|' crates/mid/src/lib.rt ""
 case_of "a doc comment in the own crate" 's|/// Two steps.|/// Two.|' crates/mid/src/lib.rt ""
-case_of "a comment in an edit" '1i why it is wrong' crates/mid/wrong/two_is_one.edit ""
+case_of "a comment in an edit" '1i why it is wrong' crates/mid/mutants/two_is_one.edit ""
 case_of "layout in the own crate" 's/^    step(/\n      step(/' crates/mid/src/lib.rt ""
 case_of "a crate more in a line" 's/^mid: low/mid: low rand_core/' crates.txt ""
 
@@ -254,10 +254,12 @@ case_of "a requires below" 's/requires { 0 < n }/requires { 1 < n }/' "$low" \
 case_of "a body below" 's/    n + 1/    1 + n/; s/old: n + 1/old: 1 + n/' "$low" "low 1 of 1, changed"
 case_of "an ensures of a method below" 's/self.old + 1 }/self.old + 2 }/' "$low" \
   "$(printf 'low 1 of 1, changed\nmid 1 of 4, %s many_twice' "$below")"
-case_of "a Model below" 's/λ c. c.number/λ c. 0/' "$low" "$(printf 'low 1 of 1, changed\nmid 1 of 4, %s many_twice' "$below")"
+case_of "a Model below" 's/λ c. c.number/λ c. 0/' "$low" \
+  "$(printf 'low 1 of 1, changed\nmid 1 of 4, %s many_twice' "$below")"
 case_of "what a Model in the file names" 's/^shown n = n/shown n = n + 1/' "$numbers" \
   "$(printf 'low 1 of 1, changed\nmid 4 of 4, %s many_twice most_is_less same_is_more two_is_one' "$below")"
-case_of "a constant below" 's/MOST: u32 = 10/MOST: u32 = 11/' "$low" "$(printf 'low 1 of 1, changed\nmid 1 of 4, %s most_is_less' "$below")"
+case_of "a constant below" 's/MOST: u32 = 10/MOST: u32 = 11/' "$low" \
+  "$(printf 'low 1 of 1, changed\nmid 1 of 4, %s most_is_less' "$below")"
 case_of "a contract that a new text names" 's/ensures { result ≡ n }/ensures { n ≡ result }/' "$low" \
   "$(printf 'low 1 of 1, changed\nmid 1 of 4, %s same_is_more' "$below")"
 case_of "a definition two crates below" 's/^base = 1/base = 2/' "$numbers" \
@@ -266,7 +268,7 @@ case_of "a definition that isn't reached" 's/^lonely = 7/lonely = 8/' "$numbers"
 
 # What is the own makes all due.
 case_of "a body of the own" 's/^    same(n)/    same(same(n))/' crates/top/src/lib.rt "top 2 of 2, changed"
-case_of "an edit of the own" 's/^new: 0/new: 1/' crates/top/wrong/itself_is_none.edit "top 2 of 2, changed"
+case_of "an edit of the own" 's/^new: 0/new: 1/' crates/top/mutants/itself_is_none.edit "top 2 of 2, changed"
 case_of "a flag" 's/tests_may=Threads/tests_may=Net/' crates.txt "top 2 of 2, changed"
 start_anew
 echo "another-kit logic one" > "$room/version"
@@ -274,69 +276,72 @@ same "another kit of the same logic" "$(due)" ""
 echo "another-kit logic two" > "$room/version"
 same "another kit" "$(due)" "$(printf 'low 1 of 1, changed\nmid 4 of 4, changed\ntop 2 of 2, changed')"
 
-# An edit of a contract has all that its crate reaches, and the two crates that were seen the longest ago are due in turn.
+# An edit of a contract has all that its crate reaches. The two crates that were seen the longest ago are due in turn.
 start_anew
-printf 'file: src/lib.rt\nold: fn same(n: u32)\nnew: fn same(m: u32)\n' > crates/mid/wrong/a_contract.edit
-tests/wrong.sh mid > /dev/null
+printf 'file: src/lib.rt\nold: fn same(n: u32)\nnew: fn same(m: u32)\n' > crates/mid/mutants/a_contract.edit
+tests/mutants.sh mid > /dev/null
 sed -i 's/MOST: u32 = 10/MOST: u32 = 11/' "$low"
 same "an edit of a contract" "$(due | grep mid)" "mid 2 of 5, $below a_contract most_is_less"
 start_anew
 seen_at top/ 5
 seen_at low/ 6
-same "in turn" "$(TURNS=1 tests/wrong.sh due | sed '$d')" "top 2 of 2, in turn"
-same "two in turn" "$(TURNS=2 MOST_EDITS=3 tests/wrong.sh due | sed '$d')" "$(printf 'low 1 of 1, in turn\ntop 2 of 2, in turn')"
-same "no room for the second in turn" "$(TURNS=2 MOST_EDITS=2 tests/wrong.sh due | sed '$d')" "top 2 of 2, in turn"
-same "the first in turn has room" "$(TURNS=2 MOST_EDITS=1 tests/wrong.sh due | sed '$d')" "top 2 of 2, in turn"
+same "in turn" "$(TURNS=1 due)" "top 2 of 2, in turn"
+same "two in turn" "$(TURNS=2 MOST_EDITS=3 due)" "$(printf 'low 1 of 1, in turn\ntop 2 of 2, in turn')"
+same "no room for the second in turn" "$(TURNS=2 MOST_EDITS=2 due)" "top 2 of 2, in turn"
+same "the first in turn has room" "$(TURNS=2 MOST_EDITS=1 due)" "top 2 of 2, in turn"
 sed -i 's/^lonely = 7/lonely = 8/' "$numbers"
-same "room beside others" "$(TURNS=2 MOST_EDITS=3 tests/wrong.sh due | sed '$d')" "$(printf 'low 1 of 1, changed\ntop 2 of 2, in turn')"
-same "no room beside others" "$(TURNS=2 MOST_EDITS=2 tests/wrong.sh due | sed '$d')" "low 1 of 1, changed"
+same "room beside others" "$(TURNS=2 MOST_EDITS=3 due)" "$(printf 'low 1 of 1, changed\ntop 2 of 2, in turn')"
+same "no room beside others" "$(TURNS=2 MOST_EDITS=2 due)" "low 1 of 1, changed"
 
 # Those that wait: the oldest first, and a crate keeps its line until all were tried.
 start_anew
 sed -i 's/^base = 1/base = 2/' "$numbers"
-tests/wrong.sh low > /dev/null
+tests/mutants.sh low > /dev/null
 seen_at mid/two_is_one 20
 seen_at top/four_is_none 10
-same "the oldest first" "$(MOST_EDITS=1 tests/wrong.sh due)" \
+same "the oldest first" "$(MOST_EDITS=1 tests/mutants.sh due)" \
   "$(printf 'mid 1 of 4, wait for a later gate: %s two_is_one\ntop 1 of 2, %s four_is_none\n%s' "$below" "$below" \
-    "1 wrong bodies are due, and 1 wait for a later gate")"
+    "1 mutants are due, and 1 wait for a later gate")"
 before=$(grep '^mid/' "$store/refused")
-MOST_EDITS=1 tests/wrong.sh > /dev/null
+MOST_EDITS=1 tests/mutants.sh > /dev/null
 same "nothing is noted of one that waits" "$(grep '^mid/' "$store/refused")" "$before"
 same "it waits still" "$(due)" "mid 1 of 4, $below two_is_one"
-MOST_EDITS=1 tests/wrong.sh > /dev/null
-same "none waits" "$(tests/wrong.sh due)" "0 wrong bodies are due, and 0 wait for a later gate"
+MOST_EDITS=1 tests/mutants.sh > /dev/null
+same "none waits" "$(tests/mutants.sh due)" "0 mutants are due, and 0 wait for a later gate"
 sed -i 's/^base = 2/base = 1/' "$numbers"
 same "what is as it was before is known" "$(due)" ""
 for number in $(seq 2 10); do
   sed -i "s/^base = .*/base = $number/" "$numbers"
-  tests/wrong.sh low > /dev/null
+  tests/mutants.sh low > /dev/null
 done
 same "how many states are kept" "$(grep -c '^low/step_of_two.edit ' "$store/refused")" 8
 same "the newest state is kept" "$(due | grep -c '^low ')" 0
 start_anew
-for number in $(seq 19); do printf 'file: src/lib.rt\nold: same(n)\nnew: %s\n' "$number" > "crates/top/wrong/number_$number.edit"; done
-tests/wrong.sh top > /dev/null
+for number in $(seq 19); do
+  printf 'file: src/lib.rt\nold: same(n)\nnew: %s\n' "$number" > "crates/top/mutants/number_$number.edit"
+done
+tests/mutants.sh top > /dev/null
 sed -i '/fn same/,/^{/s/result ≡ n/n ≡ result/' crates/mid/src/lib.rt
-tests/wrong.sh mid > /dev/null
-same "at most sixteen" "$(tests/wrong.sh due | tail -n 1)" "16 wrong bodies are due, and 4 wait for a later gate"
-tests/wrong.sh > /dev/null
-same "the rest" "$(tests/wrong.sh due | tail -n 1)" "4 wrong bodies are due, and 0 wait for a later gate"
+tests/mutants.sh mid > /dev/null
+same "at most sixteen" "$(tests/mutants.sh due | tail -n 1)" "16 mutants are due, and 4 wait for a later gate"
+tests/mutants.sh > /dev/null
+same "the rest" "$(tests/mutants.sh due | tail -n 1)" "4 mutants are due, and 0 wait for a later gate"
 
-# Changed crates go whole, those first that were seen the longest ago; one that a gate has no time for keeps its line and waits.
+# Changed crates go whole, those first that were seen the longest ago; one that a gate has no time for waits.
 start_anew
 seen_at top/ 5
 seen_at mid/ 6
 seen_at low/ 7
 echo "another-kit logic two" > "$room/version"
 later="wait for a later gate: changed, beside more than a gate can try"
-same "more than a gate can try" "$(MOST_CHANGED=5 tests/wrong.sh due)" \
-  "$(printf 'low 1 of 1, changed\nmid 4 of 4, %s\ntop 2 of 2, changed\n3 wrong bodies are due, and 4 wait for a later gate' "$later")"
+same "more than a gate can try" "$(MOST_CHANGED=5 tests/mutants.sh due)" \
+  "$(printf 'low 1 of 1, changed\nmid 4 of 4, %s\ntop 2 of 2, changed\n%s' "$later" \
+    "3 mutants are due, and 4 wait for a later gate")"
 before=$(grep '^mid/' "$store/refused")
-MOST_CHANGED=5 tests/wrong.sh > /dev/null
+MOST_CHANGED=5 tests/mutants.sh > /dev/null
 same "nothing is noted of a crate that waits" "$(grep '^mid/' "$store/refused")" "$before"
 same "a crate that waited is due" "$(due)" "mid 4 of 4, changed"
-MOST_CHANGED=1 tests/wrong.sh > /dev/null
+MOST_CHANGED=1 tests/mutants.sh > /dev/null
 same "the first goes, however many it has" "$(due)" ""
 
 # What was seen is kept for all checkouts on the machine, beside the kit or else among what the user's programs keep.
@@ -344,81 +349,85 @@ start_anew
 cp -a "$room/farm" "$room/other"
 same "another checkout" "$(cd "$room/other" && due)" ""
 rm "$store/refused"
-tests/wrong.sh low > /dev/null &
-(cd "$room/other" && tests/wrong.sh mid > /dev/null) &
+tests/mutants.sh low > /dev/null &
+(cd "$room/other" && tests/mutants.sh mid > /dev/null) &
 wait
-tests/wrong.sh top > /dev/null
+tests/mutants.sh top > /dev/null
 same "two runs at once" "$(due) $(wc -l < "$store/refused")" " 7"
 start_anew
 rm -r "$store"
 : > "$store"
 all_new=$(printf 'low 1 of 1, new\nmid 4 of 4, new\ntop 2 of 2, new')
 same "nothing beside the kit" "$(due)" "$all_new"
-tests/wrong.sh > /dev/null
+tests/mutants.sh > /dev/null
 same "noted elsewhere" "$(due) $(wc -l < "$room/state/pulsefarm/refused")" " 7"
 rm -r "$room/state"
 : > "$room/state"
-tests/wrong.sh > "$room/out" && status=0 || status=$?
+tests/mutants.sh > "$room/out" && status=0 || status=$?
 same "noted nowhere" "$status $(grep -c '^there is no folder' "$room/out")" "0 1"
 same "all stay due" "$(due)" "$all_new"
 
 # In a clone for the gate.
 start_anew
 sed -i 's/requires { 0 < n }/requires { 1 < n }/' "$low"
-tests/wrong.sh lay "$room/clone" > /dev/null
-same "what is laid" "$(cd "$room/clone/crates" && echo */must-fail/*)" "low/must-fail/step_of_two.edit mid/must-fail/two_is_one.edit"
+tests/mutants.sh lay "$room/clone" > /dev/null
+same "what is laid" "$(cd "$room/clone/crates" && echo */must-fail/*)" \
+  "low/must-fail/step_of_two.edit mid/must-fail/two_is_one.edit"
 (cd "$room/clone" && rt must-fail low && rt must-fail mid) > "$room/log"
-tests/wrong.sh read "$room/log" "$room/clone" > "$room/out" && status=0 || status=$?
+tests/mutants.sh read "$room/log" "$room/clone" > "$room/out" && status=0 || status=$?
 same "what was laid is noted" "$status $(due)" "0 "
 start_anew
 sed -i 's/^base = 1/base = 2/' "$numbers"
-tests/wrong.sh read "$room/log" "$room/clone" > "$room/out" && status=0 || status=$?
-same "as it was laid" "$status $(due)" "$(printf '0 low 1 of 1, changed\nmid 1 of 4, %s two_is_one\ntop 1 of 2, %s four_is_none' "$below" "$below")"
+tests/mutants.sh read "$room/log" "$room/clone" > "$room/out" && status=0 || status=$?
+same "as it was laid" "$status $(due)" \
+  "$(printf '0 low 1 of 1, changed\nmid 1 of 4, %s two_is_one\ntop 1 of 2, %s four_is_none' "$below" "$below")"
 start_anew
 sed -i 's/requires { 0 < n }/requires { 1 < n }/' "$low"
-tests/wrong.sh read "$room/log" > "$room/out" && status=0 || status=$?
+tests/mutants.sh read "$room/log" > "$room/out" && status=0 || status=$?
 same "what is due now is noted" "$status $(due)" "0 "
 start_anew
 sed -i 's/requires { 0 < n }/requires { 1 < n }/' "$low"
 echo mid/two_is_one.edit > "$room/passing"
-tests/wrong.sh > "$room/out" && status=0 || status=$?
+tests/mutants.sh > "$room/out" && status=0 || status=$?
 same "one is not refused" "$status $(tail -n 1 "$room/out")" "1 1 crates passed, 1 failed"
 same "it is told" "$(grep -c 'mid/two_is_one.edit: NOT REFUSED' "$room/out")" 1
-same "its crate loses its line" "$(due)" "mid 4 of 4, new"
+same "its crate loses its lines" "$(due)" "mid 4 of 4, new"
 
-# A new wrong body has to fail at a goal of a source; an old one that doesn't stays due until it is changed.
+# A new mutant has to fail at a goal of a source; an old one that doesn't stays due until it is changed.
 start_anew
 sed -i 's/requires { 0 < n }/requires { 1 < n }/' "$low"
 echo mid/two_is_one.edit > "$room/by_form"
-tests/wrong.sh > "$room/out" && status=0 || status=$?
+tests/mutants.sh > "$room/out" && status=0 || status=$?
 same "an old one is refused by form alone" "$status $(tail -n 1 "$room/out")" "0 2 crates passed, 0 failed"
 same "it is reported" "$(grep -c 'no goal of a source failed: .*mid/two_is_one.edit' "$room/out")" 1
 same "it stays due" "$(due)" "mid 1 of 4, $below two_is_one"
 start_anew
-printf 'file: src/lib.rt\nold: fn same(n: u32)\nnew: fn same(m: u32)\n' > crates/mid/wrong/a_contract.edit
+printf 'file: src/lib.rt\nold: fn same(n: u32)\nnew: fn same(m: u32)\n' > crates/mid/mutants/a_contract.edit
 echo mid/a_contract.edit > "$room/by_form"
-tests/wrong.sh mid > "$room/out" && status=0 || status=$?
+tests/mutants.sh mid > "$room/out" && status=0 || status=$?
 same "a new one is refused by form alone" "$status $(tail -n 1 "$room/out")" "1 0 crates passed, 1 failed"
 
 # Each edit must apply.
 start_anew
-tests/wrong.sh apply > "$room/out" && status=0 || status=$?
-same "all apply" "$status $(cat "$room/out")" "0 0 wrong bodies can't be applied"
+tests/mutants.sh apply > "$room/out" && status=0 || status=$?
+same "all apply" "$status $(cat "$room/out")" "0 0 mutants can't be applied"
 apply_fails() {
-  tests/wrong.sh apply > "$room/out" && status=0 || status=$?
+  tests/mutants.sh apply > "$room/out" && status=0 || status=$?
   same "$1" "$status $(head -n 1 "$room/out")" "1 $2"
 }
 sed -i 's/^    step(step(n))/    step(step(step(n)))/' crates/mid/src/lib.rt
 echo "// same(n)" >> crates/top/src/lib.rt
-apply_fails "a text twice" "top/itself_is_none.edit: BAD EDIT: an old text stands in src/lib.rt 2 times, and not once: same(n)"
+apply_fails "a text twice" \
+  "top/itself_is_none.edit: BAD EDIT: an old text stands in src/lib.rt 2 times, and not once: same(n)"
 start_anew
 sed -i 's/^    step(step(n))/    step( step(n))/' crates/mid/src/lib.rt
-apply_fails "a text that is gone" "mid/two_is_one.edit: BAD EDIT: an old text stands in src/lib.rt 0 times, and not once: step(step(n))"
+apply_fails "a text that is gone" \
+  "mid/two_is_one.edit: BAD EDIT: an old text stands in src/lib.rt 0 times, and not once: step(step(n))"
 start_anew
-sed -i 's/lib.rt/two.rt/' crates/mid/wrong/two_is_one.edit
+sed -i 's/lib.rt/two.rt/' crates/mid/mutants/two_is_one.edit
 apply_fails "a file that is gone" "mid/two_is_one.edit: BAD EDIT: there is no file src/two.rt"
 start_anew
-sed -i 's/^new: n$/new: two(two(n))/' crates/top/wrong/four_is_none.edit
+sed -i 's/^new: n$/new: two(two(n))/' crates/top/mutants/four_is_none.edit
 apply_fails "an edit that changes nothing" "top/four_is_none.edit: BAD EDIT: it changes nothing"
 
 echo "$passed passed, $failed failed"

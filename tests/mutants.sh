@@ -1,16 +1,16 @@
 #!/usr/bin/env bash
-# Tries wrong bodies: each edit of crates/NAME/wrong/ changes what a function means, and the prover has to refuse the
+# Tries mutants: each edit of crates/NAME/mutants/ changes what a function means, and the prover has to refuse the
 # crate with it. (One in crates/NAME/must-fail/ is tried by each `rt ci` too, which costs that crate a second proof.)
 #
-#   tests/wrong.sh apply        prints the edits that can't be applied, and fails where there are any
-#   tests/wrong.sh due          prints which wrong bodies are due, and why; tries nothing
-#   tests/wrong.sh              tries those that are due
-#   tests/wrong.sh all          tries those of every crate
-#   tests/wrong.sh NAME..       tries those of these crates
-#   tests/wrong.sh lay FOLDER   makes a clone in FOLDER in which those that are due are in must-fail/, for `rt ci`
-#   tests/wrong.sh read LOG [FOLDER]
-#                               takes from the output of `rt ci` in such a clone what was refused: of those that were
-#                               laid in FOLDER, or else of those that are due now
+#   tests/mutants.sh apply       prints the edits that can't be applied, and fails where there are any
+#   tests/mutants.sh due         prints which mutants are due, and why; tries nothing
+#   tests/mutants.sh             tries those that are due
+#   tests/mutants.sh all         tries those of every crate
+#   tests/mutants.sh NAME..      tries those of these crates
+#   tests/mutants.sh lay FOLDER  makes a clone in FOLDER in which those that are due are in must-fail/, for `rt ci`
+#   tests/mutants.sh read LOG [FOLDER]
+#                                takes from the output of `rt ci` in such a clone what was refused: of those that were
+#                                laid in FOLDER, or else of those that are due now
 #
 # A crate has a sum: of its sources, specs and proofs without comments and layout, its edits, the flags of its line of
 # crates.txt, and the kit's logic. Each edit has one too, of what decides below its crate whether it is refused: of what
@@ -31,7 +31,7 @@
 # was refused: its crate and name, the sum of its crate, its own sum, and the second at which it was seen. Where there
 # is no such folder all edits stay due as new. A crate with an edit that can't be read, or isn't refused, loses its
 # lines, and the run fails. A refusal at no goal of a source, for a name that a proof file has, say, shows nothing of a
-# contract: a wrong body that no line names fails the run with it, and another isn't noted and stays due until it is
+# contract: a mutant that no line names fails the run with it, and another isn't noted and stays due until it is
 # changed.
 #
 # LANES (the processors) is how many crates are tried at once.
@@ -44,17 +44,17 @@ trap 'rm -rf "$room"' EXIT
 trap 'exit 130' INT TERM HUP
 
 fail() {
-  echo "wrong.sh: $*" >&2
+  echo "mutants.sh: $*" >&2
   exit 2
 }
 
-# Says what is due and notes what was refused (tests/wrong/due.py).
+# Says what is due and notes what was refused (tests/mutants/due.py).
 says() {
-  KIT=$kit python3 -B tests/wrong/due.py "$top" "$@"
+  KIT=$kit python3 -B tests/mutants/due.py "$top" "$@"
 }
 
 kit=$(rt version) || fail "there is no rt"
-# (what refuses a wrong body is the kit's logic, which comes after its name: kits of one logic see the same)
+# (what refuses a mutant is the kit's logic, which comes after its name: kits of one logic see the same)
 kit=${kit#* }
 
 # The crates, in the order of crates.txt.
@@ -86,16 +86,16 @@ to_try() {
   grep -vE ' (seen|waits|later)$' "$1"
 }
 
-# Moves the wrong bodies that the plan $2 tries into must-fail/ of the clone $1.
+# Moves the mutants that the plan $2 tries into must-fail/ of the clone $1.
 lay_out() {
   to_try "$2" | while read -r crate edit _; do
     folder=$1/crates/$crate
     mkdir -p "$folder/must-fail"
-    if [ -e "$folder/wrong/$edit" ]; then mv "$folder/wrong/$edit" "$folder/must-fail/"; fi
+    if [ -e "$folder/mutants/$edit" ]; then mv "$folder/mutants/$edit" "$folder/must-fail/"; fi
   done
 }
 
-# Tries the wrong bodies of crate $1 in the clone; the output goes to a file.
+# Tries the mutants of crate $1 in the clone; the output goes to a file.
 try() {
   (cd "$room/clone" && rt must-fail "$1") > "$room/log.$1" 2>&1
   echo "$1: tried"
@@ -121,7 +121,7 @@ build_below() {
   done
 }
 
-# Tries the wrong bodies of the plan $1, the longest work first, and notes what was refused.
+# Tries the mutants of the plan $1, the longest work first, and notes what was refused.
 # The name goes to the shells that xargs starts.
 # shellcheck disable=SC2016
 try_all() {
@@ -150,10 +150,10 @@ lay)
   make_plan
   clone "$2"
   lay_out "$2" "$room/plan"
-  cp "$room/plan" "$2/.git/wrong.plan"
+  cp "$room/plan" "$2/.git/mutants.plan"
   ;;
 read)
-  if [ -n "${3:-}" ]; then cp "$3/.git/wrong.plan" "$room/plan" || fail "nothing was laid in $3"; else make_plan; fi
+  if [ -n "${3:-}" ]; then cp "$3/.git/mutants.plan" "$room/plan" || fail "nothing was laid in $3"; else make_plan; fi
   says note "$room/plan" "$2"
   ;;
 all) mapfile -t every < <(crates) && make_plan "${every[@]}" && try_all "$room/plan" ;;

@@ -1,4 +1,4 @@
-"""Finds what is reached by name from a text: definitions, declarations and contracts, in its own crate and in those below it."""
+"""Finds what is reached by name from a text: definitions, declarations and contracts, in its own crate and below it."""
 import glob
 import hashlib
 import os
@@ -44,7 +44,7 @@ class Tree:
                     self.index(name, path)
 
     def view(self, crate):
-        """Returns a crate and the crates of the repository below it: those of its line, those of their lines, and so on."""
+        """Returns a crate and the crates of the repository below it: those of its line, of their lines, and so on."""
         found = [crate]
         for name in found:
             for it in self.lines[name]:
@@ -54,8 +54,9 @@ class Tree:
 
     def files(self, crate):
         """Returns the paths of a crate's sources, specs and proofs."""
-        parts = [glob.glob(f"{self.top}/crates/{crate}/{part}/**", recursive=True) for part in ("src", "specs", "proofs")]
-        return sorted(os.path.relpath(path, self.top) for part in parts for path in part if os.path.isfile(path))
+        folders = [f"{self.top}/crates/{crate}/{part}" for part in ("src", "specs", "proofs")]
+        paths = [path for it in folders for path in glob.glob(f"{it}/**", recursive=True)]
+        return sorted(os.path.relpath(path, self.top) for path in paths if os.path.isfile(path))
 
     def read(self, path):
         """Returns the text of a file."""
@@ -94,9 +95,10 @@ class Tree:
                     modules.setdefault(it["alias"] or target[2][-1], []).append(target)
                 for entry in re.split(r"\s*,\s*", (it["list"] or "").strip()):
                     source, _, alias = entry.partition(" as ")
+                    source, name = source.strip(), (alias or source).strip()
                     if source:
-                        names.setdefault((alias or source).strip(), []).append((target, source.strip()))
-                        modules.setdefault((alias or source).strip(), []).append((*target[:2], (*target[2], source.strip())))
+                        names.setdefault(name, []).append((target, source))
+                        modules.setdefault(name, []).append((*target[:2], (*target[2], source)))
             self.imports[path] = self.without_places(names), modules
         return self.imports[path]
 
@@ -110,7 +112,7 @@ class Tree:
         return names
 
     def rust_uses(self, path):
-        """Returns the crates that a Rust file imports each word from, what else a word is called, and the crates of its `*`."""
+        """Returns the crates that a file imports each word from, a word's other names, and the crates of its `*`."""
         key = (path, "rust")
         if key not in self.imports:
             crate, words, other, stars = path.split("/")[1], {}, {}, []
@@ -129,7 +131,7 @@ class Tree:
     # Where a name leads.
 
     def resolve(self, target, name, trail=()):
-        """Returns the keys that a name leads to in what `use` names: those of a whole file where it isn't found there."""
+        """Returns the keys that a name leads to in what `use` names: those of a whole file where it isn't there."""
         crate, part, path = target
         if part == "specs" and path[0] in ("declared", "contracts"):
             return self.resolve_rust(crate, path, name)
@@ -138,8 +140,7 @@ class Tree:
             if file in self.sources[crate]:
                 break
         else:
-            files = [it for it in self.sources[crate] if it.startswith(f"crates/{crate}/{part}/") and it.endswith(".antt")]
-            return {("antt", it, item) for it in files for item in self.file(it).items}
+            return self.keys_of_part(crate, part)
         items = self.file(file)
         for word in [it for it in (name, *reversed(path[size:])) if it]:
             if items.find(word):
@@ -149,13 +150,20 @@ class Tree:
                 return {key for entry in names[word] for key in self.resolve(*entry, (*trail, file))}
         return {("antt", file, item) for item in items.items}
 
+    def keys_of_part(self, crate, part):
+        """Returns the keys of all that is in a crate's specs or proofs."""
+        folder = f"crates/{crate}/{part}/"
+        files = [it for it in self.sources[crate] if it.startswith(folder) and it.endswith(".antt")]
+        return {("antt", it, item) for it in files for item in self.file(it).items}
+
     def resolve_rust(self, crate, path, name):
-        """Returns the keys of what is declared, or of a contract, in a Rust source: all of the crate where it isn't found."""
+        """Returns the keys of what is declared, or of a contract, in a Rust source: all of the crate where it isn't."""
         words = [it for it in (*path[1:], name) if it]
         keys = {("type", crate, word) for word in words if (crate, word) in self.types}
         if path[0] == "contracts":
             owners = [word for word in words if (crate, word) in self.owned] or [""]
-            keys |= {("fn", crate, owner, word) for owner in owners for word in words if word in self.owned.get((crate, owner), {})}
+            for owner in owners:
+                keys |= {("fn", crate, owner, word) for word in words if word in self.owned.get((crate, owner), {})}
         return keys or {("type", crate, it) for home, it in self.types if home == crate}
 
     def type_keys(self, path, word):
@@ -171,7 +179,7 @@ class Tree:
         return keys
 
     def qualified_keys(self, path, first, name):
-        """Returns the keys of the types, traits and constants that a name may mean after a path that begins with this word."""
+        """Returns the keys of the types, traits and constants that a name may mean after a path that begins so."""
         crate = path.split("/")[1]
         words, other, _ = self.rust_uses(path)
         homes = {first} & self.lines.keys() | ({crate} if first in ("crate", "self", "super") else set())
@@ -181,7 +189,7 @@ class Tree:
         return found or {("type", it, name) for it in self.seen_from(crate) if (it, name) in self.types}
 
     def free_keys(self, path, word, module=None):
-        """Returns the keys of the functions outside `impl` that a word of a Rust file may mean, after a module or by itself."""
+        """Returns the keys of the functions outside `impl` that a word may mean, after a module or by itself."""
         crate = path.split("/")[1]
         words, other, stars = self.rust_uses(path)
         homes = set(words.get(module or word, ()))
@@ -248,11 +256,12 @@ class Tree:
                 keys |= self.named(path, text)
                 told.append(text)
             keys.discard(key)
-            self.known[key] = keys, short("\n".join(["/".join(key), *sorted(told), *sorted("/".join(it) for it in keys)]))
+            told = ["/".join(key), *sorted(told), *sorted("/".join(it) for it in keys)]
+            self.known[key] = keys, short("\n".join(told))
         return self.known[key]
 
     def closure(self, crate, seeds, methods):
-        """Returns all keys that are reached from these. A method of one of these names is, where its type is reached."""
+        """Returns all keys that are reached from these. A method of one of these names is where its type is."""
         seen, todo = set(seeds), list(seeds)
         homes = self.seen_from(crate)
         while todo:

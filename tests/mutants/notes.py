@@ -1,5 +1,5 @@
 """The notes of what was seen refused. They are kept on the machine beside what `rt ci` keeps, and in no checkout, so
-that each checkout finds those of all others: a line a wrong body and a state in which it was refused, with its crate
+that each checkout finds those of all others: a line a mutant and a state in which it was refused, with its crate
 and name, the sum of its crate, its own sum, and the second at which it was seen."""
 import contextlib
 import fcntl
@@ -7,7 +7,7 @@ import os
 import shutil
 import stat
 
-# How many states of one wrong body are kept, the newest.
+# How many states of one mutant are kept, the newest.
 MOST_STATES = 8
 
 
@@ -31,7 +31,7 @@ def store():
 
 
 class Notes:
-    """What was seen refused: for each wrong body, the second of each state, the sum of its crate with its own."""
+    """What was seen refused: for each mutant, the second of each state, the sum of its crate with its own."""
 
     def __init__(self, folder):
         self.folder, self.seen = folder, {}
@@ -39,7 +39,7 @@ class Notes:
             self.seen.setdefault(key, {})[own, total] = int(time)
 
     def of_crate(self, crate):
-        """Returns the wrong bodies of a crate that were seen refused, in any state."""
+        """Returns the mutants of a crate that were seen refused, in any state."""
         return [key for key in self.seen if key.startswith(f"{crate}/")]
 
     def knows(self, crate, own):
@@ -76,7 +76,7 @@ class Notes:
 def changing(folder):
     """Gives the notes to change, while no other run may, and writes them; where there is no store they are lost."""
     if folder is None:
-        print("there is no folder in which to note what was refused: all wrong bodies stay due")
+        print("there is no folder in which to note what was refused: all mutants stay due")
         yield Notes(None)
         return
     with open(f"{folder}/lock", "w", encoding="utf-8") as lock:

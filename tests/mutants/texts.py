@@ -27,7 +27,10 @@ def plain_antt(text):
     """Returns an antt text without comments, a line for each that begins at its margin and the lines below it."""
     parts = []
     for line in text.split("\n"):
-        words = ANTT.sub(lambda it: it["literal"] or " ", line).strip() if "--" in line or '"' in line else " ".join(line.split())
+        if "--" in line or '"' in line:
+            words = ANTT.sub(lambda it: it["literal"] or " ", line).strip()
+        else:
+            words = " ".join(line.split())
         if words:
             parts += [" " if line[0].isspace() else "\n", words]
     return "".join(parts).strip()
@@ -66,7 +69,7 @@ def first_of(text, start, marks):
 
 
 class Function:
-    """A function of a Rust file: its name, the type or trait that it belongs to, and where its signature, body and end are."""
+    """A function of a Rust file: its name, the type or trait that it is of, where its signature, body and end are."""
 
     def __init__(self, name, owner, head, places):
         self.name, self.owner, self.head = name, owner, head
@@ -74,7 +77,7 @@ class Function:
 
 
 def body_of(text, start):
-    """Returns where the body of the function that starts here is, and where it ends, past the clauses of its contract."""
+    """Returns where the body of the function that starts here is, past the clauses of its contract, and its end."""
     at = start
     while True:
         at = first_of(text, at, "{;")
@@ -170,19 +173,26 @@ class RustFile:
         return within[-1] if within else None
 
 
-HEAD = re.compile(r"^(?:(?:abbrev|pub|unfoldable|opaque|private)\s+)*(?:(?P<kind>record|data|ruleset|mutual)\b\s*)?(?P<name>[^\s:(){}]*)")
+HEAD = re.compile(
+    r"^(?:(?:abbrev|pub|unfoldable|opaque|private)\s+)*"
+    r"(?:(?P<kind>record|data|ruleset|mutual)\b\s*)?(?P<name>[^\s:(){}]*)"
+)
 SAID = re.compile(r"^(?:[^\s:(){}]+(?:\s*,\s*[^\s:(){}]+)*)\s+:(?:\s|$)")
 MODIFIED = re.compile(r"^(?:abbrev|pub|unfoldable|opaque|private|record|data|ruleset|mutual)(?:\s|$)")
-WITHIN = re.compile(r"^\s+(?:(?:abbrev|pub|unfoldable|record|data)\s+)*(?P<names>[^\s:(){}]+(?:[ ,]+[^\s:(){}]+)*)\s*(?:[({][^:]*)?:(?:\s|$)")
+WITHIN = re.compile(
+    r"^\s+(?:(?:abbrev|pub|unfoldable|record|data)\s+)*"
+    r"(?P<names>[^\s:(){}]+(?:[ ,]+[^\s:(){}]+)*)\s*(?:[({][^:]*)?:(?:\s|$)"
+)
 USE = re.compile(
-    r"^[ \t]*(?:ghost\s+)?(?:(?:abbrev|pub)\s+)*use\s+Rattle\.(?P<crate>\w+)\.(?P<part>specs|proofs)(?P<path>(?:\.[^\s.{;]+)*)"
+    r"^[ \t]*(?:ghost\s+)?(?:(?:abbrev|pub)\s+)*use\s+Rattle\.(?P<crate>\w+)\.(?P<part>specs|proofs)"
+    r"(?P<path>(?:\.[^\s.{;]+)*)"
     r"(?:\s+as\s+(?P<alias>[^\s;]+)|\.\{(?P<list>[^}]*)\})?;?",
     re.M,
 )
 
 
 class AnttFile:
-    """An antt file, cut: `items`, a text by name; `part_of`, the item that has a constructor, a field or a name of a group."""
+    """An antt file, cut: `items`, texts by name; `part_of`, the item with a constructor, a field or a name of a group."""
 
     def __init__(self, text):
         self.items, self.part_of, self.head = {}, {}, []

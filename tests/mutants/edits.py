@@ -1,4 +1,4 @@
-"""Reads wrong bodies, applies them, and finds the names that decide whether one is refused."""
+"""Reads mutants, applies them, and finds the names that decide whether one is refused."""
 import glob
 import os
 import re
@@ -8,7 +8,7 @@ import texts
 
 
 class Edit:
-    """A wrong body: its crate, its name, where it is, and its triples of a file, an old text and a new one."""
+    """A mutant: its crate, its name, where it is, and its triples of a file, an old text and a new one."""
 
     def __init__(self, crate, path):
         self.crate, self.path, self.name, self.changes = crate, path, os.path.basename(path), []
@@ -29,9 +29,10 @@ class Edit:
 
 
 def edits_of(tree, crate):
-    """Returns the wrong bodies of a crate, by name."""
-    found = [path for part in ("wrong", "must-fail") for path in glob.glob(f"{tree.top}/crates/{crate}/{part}/*.edit")]
-    return sorted((Edit(crate, path) for path in found), key=lambda it: (it.name, it.path))
+    """Returns the mutants of a crate, by name."""
+    folders = [f"{tree.top}/crates/{crate}/{part}" for part in ("mutants", "must-fail")]
+    found = [Edit(crate, path) for it in folders for path in glob.glob(f"{it}/*.edit")]
+    return sorted(found, key=lambda it: (it.name, it.path))
 
 
 def fault(tree, edit):
@@ -66,7 +67,7 @@ def faults(tree):
     for crate in tree.crates:
         edits, seen = edits_of(tree, crate), set()
         for it in edits:
-            why = "it stands in wrong/ and in must-fail/" if it.name in seen else fault(tree, it)
+            why = "it stands in mutants/ and in must-fail/" if it.name in seen else fault(tree, it)
             seen.add(it.name)
             if why:
                 lines.append(f"{it.key()}: BAD EDIT: {why}")
@@ -74,7 +75,7 @@ def faults(tree):
 
 
 class Wanted:
-    """What a crate's wrong bodies reach below it."""
+    """What a crate's mutants reach below it."""
 
     def __init__(self, tree, crate):
         self.tree, self.crate = tree, crate

@@ -1,4 +1,4 @@
-"""Says which wrong bodies are due, whether each can be applied, and notes what was refused; tests/wrong.sh says how.
+"""Says which mutants are due, whether each can be applied, and notes what was refused; tests/mutants.sh says how.
 
     due.py TOP apply              prints the edits that can't be applied
     due.py TOP plan PLAN [NAME..] prints what is due and why, or these crates, and writes a line for each of their edits
@@ -132,7 +132,7 @@ def tell(lines):
             print(f"{crate} {len(found)} of {count}, {WHY[why]}{which}")
     waiting = sum(1 for it in lines if it.why in ("waits", "later"))
     tried = sum(1 for it in lines if it.why not in LEFT)
-    print(f"{tried} wrong bodies are due, and {waiting} wait for a later gate")
+    print(f"{tried} mutants are due, and {waiting} wait for a later gate")
 
 
 def read_plan(path):
@@ -162,7 +162,7 @@ def note_crate(noted, crate, lines, log):
         print(f"no goal of a source failed: {said[it.key()][:200]}")
     if len(refused) < len(tried) or any(it.key() not in noted.seen for it in by_form):
         noted.drop(crate)
-        print(f"{crate}: FAILED: {len(refused) - len(by_form)} of {len(tried)} wrong bodies refused at a goal")
+        print(f"{crate}: FAILED: {len(refused) - len(by_form)} of {len(tried)} mutants refused at a goal")
         for it in tried:
             if it not in refused:
                 print(said.get(it.key(), f"must-fail {it.key()}: not tried"))
@@ -173,7 +173,7 @@ def note_crate(noted, crate, lines, log):
             noted.add(it.key(), it.own, it.total, now)
     if tried:
         of_these = f", {len(by_form)} of them by form alone" if by_form else ""
-        print(f"{crate}: {len(tried)} wrong bodies refused{of_these}")
+        print(f"{crate}: {len(tried)} mutants refused{of_these}")
     return True
 
 
@@ -192,7 +192,7 @@ def note(path, logs):
 def tell_faults(tree):
     """Prints the edits that can't be applied, and returns whether all can."""
     found = edits.faults(tree)
-    print("\n".join([*found, f"{len(found)} wrong bodies can't be applied"]))
+    print("\n".join([*found, f"{len(found)} mutants can't be applied"]))
     return not found
 
 
