@@ -20,7 +20,7 @@ UNCITED = """
 pf_positions: pf_syntax
 pf_strategy: pf_errors pf_terms
 pf_farm_laws: pf_farm_accounts pf_model pf_farm_accounts pf_terms
-pf_printable: pf_errors pf_rules
+pf_read_modules: pf_errors pf_rules
 pf_process_status: pf_errors
 pf_cli_messages: pf_diagnostics
 pf_farm: pf_model

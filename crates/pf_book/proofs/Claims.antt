@@ -11,7 +11,7 @@ use Rattle.pf_errors.specs.declared.memory.NoMemory.{NoMemory}
 use Rattle.pf_book.specs.declared.claimed.Claimed.{Claimed}
 use Rattle.pf_book.specs.declared.queue.TrialQueue.{TrialQueue}
 use Rattle.pf_book.specs.Queues.{IsQueuedIn, HoldsRoom, QueuesAll}
-use Rattle.pf_book.specs.Answers.{Claims, ClaimsAt}
+use Rattle.pf_book.specs.Answers.{SimulatesClaim, ClaimsAt}
 use Rattle.pf_book.specs.Kept.{CountsAll}
 use Rattle.pf_store.specs.Sources.{Kept}
 use Rattle.pf_book.proofs.Counts.{counts_kept}
@@ -68,7 +68,7 @@ counts_claimed k q t w w' (Some j) h all =
     subst (CountsAll k) (sym (claimed_world q t w w' j h).1) (counts_kept k q w (desk_at q w) (after_claim (desk_at q w) t) refl all refl)
 counts_claimed k q t w w' None h all = subst (CountsAll k) (sym (unclaimed_world q t w w' h).1) all
 
-pub counts_any_claimed : (k : Kept) (w w' : Desks) (r : Result (Option Claimed) NoMemory) → Claims w r w' → CountsAll k w → CountsAll k w'
+pub counts_any_claimed : (k : Kept) (w w' : Desks) (r : Result (Option Claimed) NoMemory) → SimulatesClaim w r w' → CountsAll k w → CountsAll k w'
 counts_any_claimed k w w' (Ok (Some c)) h all = counts_claimed k c.project c.ticket w w' (Some c.job) h all
 counts_any_claimed k w w' (Ok None) h all = subst (CountsAll k) (sym h.1) all
 counts_any_claimed k w w' (Err e) h all = subst (CountsAll k) (sym h.1) all

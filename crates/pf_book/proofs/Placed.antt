@@ -21,7 +21,7 @@ use Rattle.pf_book.specs.Profile.{ForRight}
 use Rattle.pf_book.specs.Queued.{job_at}
 use Rattle.pf_book.specs.Trials.{JobAt, IsStrayJob}
 use Rattle.pf_book.specs.View.{mark_of}
-use Rattle.pf_book.specs.Answers.{DeskAnswers, DeskClaims, DeskFiles, DeskHandsBack, AnswersCall, ClaimsAt, Files, HandsBack}
+use Rattle.pf_book.specs.Answers.{DeskAnswers, DeskClaims, DeskFiles, DeskHandsBack, SimulatesCall, ClaimsAt, SimulatesFile, SimulatesHandBack}
 use Rattle.pf_book.specs.declared.reply.Reply.{Reply}
 
 pub at_some : (p : ℕ) (es : Desks) (d : Desk) → lookup (nat_eq p) es ≡ Some d → desk_at p es ≡ d
@@ -85,14 +85,14 @@ no_desk_at p es w none seen = ap (desk_at p) (sym seen) ∙ at_none p es (Missin
 
 -- a desk's answer to a call is the world's
 module _ (q : ℕ) (w : Desks) (c : Call) (d d' : Desk) (here : desk_at q w ≡ d) (w' : Desks) (put : w' ≡ put_desk q d' w) where
-  pub answers : (r : Reply) → DeskAnswers d c (Ok r) d' → AnswersCall w q c (Ok r) w'
+  pub answers : (r : Reply) → DeskAnswers d c (Ok r) d' → SimulatesCall w q c (Ok r) w'
   answers r h p right =
       let h' = h p right in
       let placed = ap (λ (k : Desk). put_desk q (after_call p k c) w) here ∙ ap (λ (k : Desk). put_desk q k w) (sym h'.1) ∙ sym put in
       let reply = ap (λ (k : Desk). reply_to p k c) here ∙ sym h'.0 in
       λ i. (placed i, replied (reply i))
 
-  pub answers_all : put_desk q d w ≡ w → (r : Result Reply NoMemory) → DeskAnswers d c r d' → AnswersCall w q c r w'
+  pub answers_all : put_desk q d w ≡ w → (r : Result Reply NoMemory) → DeskAnswers d c r d' → SimulatesCall w q c r w'
   answers_all same (Ok r) h = answers r h
   answers_all same (Err e) h = (subst HasRoom (sym here) h.0, put ∙ ap (λ (k : Desk). put_desk q k w) h.1 ∙ same)
 
@@ -104,10 +104,10 @@ module _ (q : ℕ) (w : Desks) (t : ℕ) (d : Desk) (here : desk_at q w ≡ d) w
       ap (worked q w) (ap (λ (k : Desk). claim_step k t) here ∙ ap (λ (b : Bool). if b then Some (after_claim d t) else None) h)
       ∙ ap (λ (v : Desks). (v, not_now)) (sym same)
 
-  pub no_file : (f : FinishedView) → is_running (held_at d.trials t) ≡ false → (w' : Desks) → w' ≡ w → Files w q t f false w'
+  pub no_file : (f : FinishedView) → is_running (held_at d.trials t) ≡ false → (w' : Desks) → w' ≡ w → SimulatesFile w q t f false w'
   no_file f h w' same = (inl (ap (λ (k : Desk). is_running (held_at k.trials t)) here ∙ h), same)
 
-  pub no_hand_back : is_running (held_at d.trials t) ≡ false → (w' : Desks) → w' ≡ w → HandsBack w q t false w'
+  pub no_hand_back : is_running (held_at d.trials t) ≡ false → (w' : Desks) → w' ≡ w → SimulatesHandBack w q t false w'
   no_hand_back h w' same =
       ap (worked q w) (ap (λ (k : Desk). hand_back_step k t) here ∙ ap (λ (b : Bool). if b then Some (after_hand_back d t) else None) h)
       ∙ ap (λ (v : Desks). (v, not_now)) (sym same)
@@ -127,7 +127,7 @@ claims_at q w t d d' here w' put same (Err e) h =
 
 -- a file at a desk is the world's
 pub files : (q : ℕ) (w : Desks) (t : ℕ) (f : FinishedView) (d d' : Desk) → desk_at q w ≡ d → (w' : Desks) → w' ≡ put_desk q d' w → put_desk q d w ≡ w
-    → (b : Bool) → DeskFiles d t f b d' → Files w q t f b w'
+    → (b : Bool) → DeskFiles d t f b d' → SimulatesFile w q t f b w'
 files q w t f d d' here w' put same true h =
     λ p right. ap (worked q w) (ap (λ (k : Desk). file_step p k t (mark_of f.result)) here ∙ h.2 p right) ∙ ap (λ (v : Desks). (v, work_done)) (sym put)
 files q w t f d d' here w' put same false h =
@@ -140,7 +140,7 @@ own_job_at q w t j d here b h = subst (λ (k : Desk). OnTrue b (JobAt k.trials t
 
 -- a hand-back at a desk is the world's
 pub takes_back : (q : ℕ) (w : Desks) (t : ℕ) (d d' : Desk) → desk_at q w ≡ d → (w' : Desks) → w' ≡ put_desk q d' w → put_desk q d w ≡ w
-    → (b : Bool) → DeskHandsBack d t b d' → HandsBack w q t b w'
+    → (b : Bool) → DeskHandsBack d t b d' → SimulatesHandBack w q t b w'
 takes_back q w t d d' here w' put same true h =
     ap (worked q w) (ap (λ (k : Desk). hand_back_step k t) here ∙ h) ∙ ap (λ (v : Desks). (v, work_done)) (sym put)
 takes_back q w t d d' here w' put same false h = no_hand_back q w t d here h.0 w' (put ∙ ap (λ (k : Desk). put_desk q k w) h.1 ∙ same)

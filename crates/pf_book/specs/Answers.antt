@@ -45,7 +45,7 @@ DeskFiles d t f true d' =
     (is_running (held_at d.trials t) ≡ true) × (d' ≡ with_result d t f.result) × ForRight (λ p. file_step p d t (mark_of f.result) ≡ Some d')
 DeskFiles d t f false d' = IsStrayJob d.trials t f.job × (d' ≡ d)
 
--- DeskTakesBack d t b d': the trial of a ticket is handed back, or it isn't running
+-- DeskHandsBack d t b d': the trial of a ticket is handed back, or it isn't running
 abbrev pub DeskHandsBack : desk.Desk → ℕ → Bool → desk.Desk → Type 0
 DeskHandsBack d t true d' = hand_back_step d t ≡ Some d'
 DeskHandsBack d t false d' = (is_running (held_at d.trials t) ≡ false) × (d' ≡ d)
@@ -56,11 +56,11 @@ DeskHandsBack d t false d' = (is_running (held_at d.trials t) ≡ false) × (d' 
 abbrev pub work_answer : Bool → Answer
 work_answer b = if b then work_done else not_now
 
--- AnswersCall w q c r w': a project's call is answered so, as the world's step says, and leads to the next world; memory
--- runs out only where the project's log has room for the call, and leaves the world as it was
-abbrev pub AnswersCall : Desks → ℕ → Call → Result Reply NoMemory → Desks → Type 0
-AnswersCall w q c (Ok r) w' = ForRight (λ p. ◌≡◌ {A = Desks × Answer} (step p w (client q c)) (w', replied (view_of_reply r)))
-AnswersCall w q c (Err e) w' = HasRoom (desk_at q w) × (w' ≡ w)
+-- SimulatesCall w q c r w': a project's call is answered so, as the world's step says, and leads to the next world;
+-- memory runs out only where the project's log has room for the call, and leaves the world as it was
+abbrev pub SimulatesCall : Desks → ℕ → Call → Result Reply NoMemory → Desks → Type 0
+SimulatesCall w q c (Ok r) w' = ForRight (λ p. ◌≡◌ {A = Desks × Answer} (step p w (client q c)) (w', replied (view_of_reply r)))
+SimulatesCall w q c (Err e) w' = HasRoom (desk_at q w) × (w' ≡ w)
 
 -- ClaimsAt w q t r w': the trial of a project's ticket is claimed, and this is its job; or there is none, since it
 -- isn't queued; memory runs out only where it is, and the world is as it was then
@@ -70,19 +70,19 @@ ClaimsAt w q t (Ok (Some j)) w' =
 ClaimsAt w q t (Ok None) w' = ◌≡◌ {A = Desks × Answer} (worked q w (claim_step (desk_at q w) t)) (w', not_now)
 ClaimsAt w q t (Err e) w' = (is_queued (held_at (desk_at q w).trials t) ≡ true) × (w' ≡ w)
 
--- Claims w r w': some trial that is queued is claimed; or there is none, since no trial of any desk is queued; memory
--- runs out only where one is, and the world is as it was then
-abbrev pub Claims : Desks → Result (Option Claimed) NoMemory → Desks → Type 0
-Claims w (Ok (Some c)) w' = ClaimsAt w c.project c.ticket (Ok (Some c.job)) w'
-Claims w (Ok None) w' = ((q t : ℕ) → is_queued (held_at (desk_at q w).trials t) ≡ false) × (w' ≡ w)
-Claims w (Err e) w' = ((q : ℕ) × (t : ℕ) × (is_queued (held_at (desk_at q w).trials t) ≡ true)) × (w' ≡ w)
+-- SimulatesClaim w r w': some trial that is queued is claimed; or there is none, since no trial of any desk is queued;
+-- memory runs out only where one is, and the world is as it was then
+abbrev pub SimulatesClaim : Desks → Result (Option Claimed) NoMemory → Desks → Type 0
+SimulatesClaim w (Ok (Some c)) w' = ClaimsAt w c.project c.ticket (Ok (Some c.job)) w'
+SimulatesClaim w (Ok None) w' = ((q t : ℕ) → is_queued (held_at (desk_at q w).trials t) ≡ false) × (w' ≡ w)
+SimulatesClaim w (Err e) w' = ((q : ℕ) × (t : ℕ) × (is_queued (held_at (desk_at q w).trials t) ≡ true)) × (w' ≡ w)
 
--- Files w q t f b w': the result of a project's ticket is filed under its mark, or the trial isn't running or is of
--- another job
-abbrev pub Files : Desks → ℕ → ℕ → FinishedView → Bool → Desks → Type 0
-Files w q t f true w' = ForRight (λ p. ◌≡◌ {A = Desks × Answer} (worked q w (file_step p (desk_at q w) t (mark_of f.result))) (w', work_done))
-Files w q t f false w' = IsStrayJob (desk_at q w).trials t f.job × (w' ≡ w)
+-- SimulatesFile w q t f b w': the result of a project's ticket is filed under its mark, or the trial isn't running or
+-- is of another job
+abbrev pub SimulatesFile : Desks → ℕ → ℕ → FinishedView → Bool → Desks → Type 0
+SimulatesFile w q t f true w' = ForRight (λ p. ◌≡◌ {A = Desks × Answer} (worked q w (file_step p (desk_at q w) t (mark_of f.result))) (w', work_done))
+SimulatesFile w q t f false w' = IsStrayJob (desk_at q w).trials t f.job × (w' ≡ w)
 
--- TakesBack w q t b w': the trial of a project's ticket is handed back, or it isn't running
-abbrev pub HandsBack : Desks → ℕ → ℕ → Bool → Desks → Type 0
-HandsBack w q t b w' = ◌≡◌ {A = Desks × Answer} (worked q w (hand_back_step (desk_at q w) t)) (w', work_answer b)
+-- SimulatesHandBack w q t b w': the trial of a project's ticket is handed back, or it isn't running
+abbrev pub SimulatesHandBack : Desks → ℕ → ℕ → Bool → Desks → Type 0
+SimulatesHandBack w q t b w' = ◌≡◌ {A = Desks × Answer} (worked q w (hand_back_step (desk_at q w) t)) (w', work_answer b)

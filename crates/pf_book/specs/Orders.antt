@@ -12,7 +12,8 @@ use Rattle.pf_book.specs.declared.refusal.CallRefusal.{CallRefusal}
 use Rattle.pf_book.specs.Profile.{ForRight}
 use Rattle.pf_book.specs.View.{code_of}
 
--- OrderAsksFor e modules o r: an order to a desk of an edition with these modules asks for this job, or is refused for this
+-- OrderAsksFor e modules o r: an order to a desk of an edition with these modules asks for this job, or is refused for
+-- this
 abbrev pub OrderAsksFor : (edition : ℕ) → List (Option ReadModule) → Order → Result Job Code → Type 0
 OrderAsksFor e modules o r = ForRight (λ p. job_ordered p e (held_at modules o.module) (view_of_request o.request) ≡ r)
 

@@ -10,7 +10,7 @@ ghost use Rattle.pf_desks.specs.Desk.{held_at};
 ghost use Rattle.pf_desks.specs.History.{IsLegalDesk};
 ghost use Rattle.pf_desks.specs.Jobs.{KeepsAllTickets};
 ghost use Rattle.pf_desks.specs.Desks.{desk_at};
-ghost use Rattle.pf_book.specs.Answers.{AnswersCall, Claims, ClaimsAt, Files, HandsBack};
+ghost use Rattle.pf_book.specs.Answers.{SimulatesCall, SimulatesClaim, ClaimsAt, SimulatesFile, SimulatesHandBack};
 ghost use Rattle.pf_book.specs.Profile.{ForRight};
 ghost use Rattle.pf_book.specs.Queued.{job_at};
 ghost use Rattle.pf_book.specs.Queues.{FrontIsQueued, QueuesAll};
@@ -112,7 +112,7 @@ impl Book {
 
     /// Asks for a number for the module that a source is.
     pub fn submit(&mut self, alloc: Global, project: u32, source: Source) -> Result<Reply, NoMemory>
-        ensures answer { AnswersCall self.old project (calls.submit source) result self.new }
+        ensures answer { SimulatesCall self.old project (calls.submit source) result self.new }
         ensures tickets { KeepsAllTickets self.old self.new }
     {
         self.call(alloc, project, Call::Submit(source))
@@ -120,7 +120,7 @@ impl Book {
 
     /// Asks for a ticket for what is requested of a module: a trial, or a shrinking.
     pub fn order(&mut self, alloc: Global, project: u32, order: Order) -> Result<Reply, NoMemory>
-        ensures answer { AnswersCall self.old project (view_of_order order) result self.new }
+        ensures answer { SimulatesCall self.old project (view_of_order order) result self.new }
         ensures tickets { KeepsAllTickets self.old self.new }
     {
         self.call(alloc, project, Call::Order(order))
@@ -128,7 +128,7 @@ impl Book {
 
     /// Asks for the result of the trial of a ticket.
     pub fn fetch(&mut self, alloc: Global, project: u32, ticket: u64) -> Result<Reply, NoMemory>
-        ensures answer { AnswersCall self.old project (calls.fetch ticket) result self.new }
+        ensures answer { SimulatesCall self.old project (calls.fetch ticket) result self.new }
         ensures tickets { KeepsAllTickets self.old self.new }
     {
         self.call(alloc, project, Call::Fetch(ticket))
@@ -136,7 +136,7 @@ impl Book {
 
     /// Asks how far the trial of a ticket is.
     pub fn status(&mut self, alloc: Global, project: u32, ticket: u64) -> Result<Reply, NoMemory>
-        ensures answer { AnswersCall self.old project (calls.status ticket) result self.new }
+        ensures answer { SimulatesCall self.old project (calls.status ticket) result self.new }
         ensures tickets { KeepsAllTickets self.old self.new }
     {
         self.call(alloc, project, Call::Status(ticket))
@@ -149,7 +149,7 @@ impl Book {
         project: u32,
         ticket: u64,
     ) -> Result<Reply, NoMemory>
-        ensures answer { AnswersCall self.old project (calls.drop_trial ticket) result self.new }
+        ensures answer { SimulatesCall self.old project (calls.drop_trial ticket) result self.new }
         ensures tickets { KeepsAllTickets self.old self.new }
     {
         self.call(alloc, project, Call::DropTrial(ticket))
@@ -157,7 +157,7 @@ impl Book {
 
     /// Withdraws the module of a number if no trial that the project holds uses it. Its bytes no longer count.
     pub fn withdraw(&mut self, alloc: Global, project: u32, number: u64) -> Result<Reply, NoMemory>
-        ensures answer { AnswersCall self.old project (calls.withdraw number) result self.new }
+        ensures answer { SimulatesCall self.old project (calls.withdraw number) result self.new }
         ensures tickets { KeepsAllTickets self.old self.new }
     {
         self.call(alloc, project, Call::Withdraw(number))
@@ -165,7 +165,7 @@ impl Book {
 
     /// Asks how many calls the project logged.
     pub fn log(&mut self, alloc: Global, project: u32) -> Result<Reply, NoMemory>
-        ensures answer { AnswersCall self.old project calls.log result self.new }
+        ensures answer { SimulatesCall self.old project calls.log result self.new }
         ensures tickets { KeepsAllTickets self.old self.new }
     {
         self.call(alloc, project, Call::Log)
@@ -173,7 +173,7 @@ impl Book {
 
     /// Asks for what the project uses.
     pub fn usage(&mut self, alloc: Global, project: u32) -> Result<Reply, NoMemory>
-        ensures answer { AnswersCall self.old project calls.usage result self.new }
+        ensures answer { SimulatesCall self.old project calls.usage result self.new }
         ensures tickets { KeepsAllTickets self.old self.new }
     {
         self.call(alloc, project, Call::Usage)
@@ -182,7 +182,7 @@ impl Book {
     /// Asks that the project's desk has this edition from now on, which isn't below the one that it has. What the
     /// project holds stays.
     pub fn edition(&mut self, alloc: Global, project: u32, edition: u32) -> Result<Reply, NoMemory>
-        ensures answer { AnswersCall self.old project (calls.edition edition) result self.new }
+        ensures answer { SimulatesCall self.old project (calls.edition edition) result self.new }
         ensures tickets { KeepsAllTickets self.old self.new }
     {
         self.call(alloc, project, Call::Edition(edition))
@@ -192,7 +192,7 @@ impl Book {
     /// memory nothing has changed and nothing is noted. A new desk is put among the others before its first call, which
     /// the store then counts.
     pub fn call(&mut self, alloc: Global, project: u32, call: Call) -> Result<Reply, NoMemory>
-        ensures answer { AnswersCall self.old project (view_of_call call) result self.new }
+        ensures answer { SimulatesCall self.old project (view_of_call call) result self.new }
         ensures tickets { KeepsAllTickets self.old self.new }
     {
         if let Some(index) = index_of(&self.desks, self.last, project) {
@@ -222,7 +222,7 @@ impl Book {
     /// makes the room that the file or the hand-back needs. After running out of memory nothing has changed and nothing
     /// is noted.
     pub fn claim(&mut self) -> Result<Option<Claimed>, NoMemory>
-        ensures { Claims self.old result self.new }
+        ensures { SimulatesClaim self.old result self.new }
     {
         claim_first(&mut self.desks, self.last, &mut self.queue)
     }
@@ -247,7 +247,7 @@ impl Book {
     /// Files the result of the trial of a project's ticket; returns false if it isn't running or is of another job, and
     /// changes nothing then. It takes no memory.
     pub fn file(&mut self, project: u32, ticket: u64, finished: Finished) -> bool
-        ensures file { Files self.old project ticket finished result self.new }
+        ensures file { SimulatesFile self.old project ticket finished result self.new }
         ensures own { OnTrue result (JobAt (desk_at project self.old).trials ticket finished.job) }
         ensures tickets { KeepsAllTickets self.old self.new }
     {
@@ -264,7 +264,7 @@ impl Book {
     /// Hands the trial of a project's ticket back, which is queued again; returns false if it isn't running, and
     /// changes nothing then. It takes no memory.
     pub fn hand_back(&mut self, project: u32, ticket: u64) -> bool
-        ensures { HandsBack self.old project ticket result self.new }
+        ensures { SimulatesHandBack self.old project ticket result self.new }
     {
         let Some(index) = index_of(&self.desks, self.last, project) else {
             return false;
@@ -348,7 +348,7 @@ fn claim_first(
     queue: &mut TrialQueue,
 ) -> Result<Option<Claimed>, NoMemory>
     requires { QueuesAll queue.old desks.old.entries }
-    ensures claim { Claims desks.old.entries result desks.new.entries }
+    ensures claim { SimulatesClaim desks.old.entries result desks.new.entries }
     ensures queue { QueuesAll queue.new desks.new.entries }
 {
     while let Some((project, ticket)) = queue.waiting.pop_front() {

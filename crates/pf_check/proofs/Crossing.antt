@@ -1,4 +1,5 @@
--- A source and a read module may go to another thread, and be shared by threads: a lemma a type, each from those of its parts.
+-- A source and a read module may go to another thread, and be shared by threads: a lemma a type, each from those of its
+-- parts.
 use denote.Param.Send.{IsSend, IsSync, sendable}
 use Rattle.std.proofs.Crossing as heap
 use Rattle.pf_syntax.proofs.Crossing as syntax

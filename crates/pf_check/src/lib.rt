@@ -3,13 +3,13 @@
 #![tactic(auto)]
 
 mod laws;
+mod read_module;
+mod read_source;
 mod reading;
 mod source;
 
 pub use laws::{offsets_are_within, one_outcome, some_outcome};
-pub use reading::read;
-
-mod read_module;
-
 pub use read_module::ReadModule;
+pub use read_source::ReadSource;
+pub use reading::read;
 pub use source::Source;

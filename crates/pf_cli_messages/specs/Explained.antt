@@ -6,7 +6,7 @@ use Rattle.pf_cli.specs.Args.{RunArgs}
 use Rattle.pf_model.specs.Configuration.{Configuration}
 use Rattle.pf_model.specs.Meaning as meaning
 use Rattle.pf_model.specs.Meaning.{Means, Report}
-use Rattle.pf_check.specs.Reading.{IsReadAs}
+use Rattle.pf_check.specs.Reading.{IsModuleOf}
 use Rattle.pf_positions.specs.Placed.{ArePlaces}
 use Rattle.pf_positions.specs.declared.places.Position.{Position}
 use Rattle.pf_request.specs.Job.{Job}
@@ -57,10 +57,6 @@ pub record ReportsProcesses (j : meaning.Job) (priorities : Option ℕ) (source 
   pub last : Configuration
   pub comes : RunLeadsTo run last
   pub tells : TellsRun run source text
-
--- a source of these bytes is this module
-abbrev pub IsModuleOf : List ℕ → ReadModule → Type 0
-IsModuleOf bytes m = (m.source ≡ bytes) × IsReadAs bytes m
 
 -- what is asked for of a module is this job, or refused for this
 abbrev pub AsksOf : RunArgs → ReadModule → Result Job Code → Type 0

@@ -2,12 +2,13 @@
 
 use crate::explain_run;
 use crate::messages::say;
+use pf_check::ReadSource;
 use pf_cli::{Args, CliCommand};
 use std::alloc::AllocGlobal;
 
 /// Says on standard error, a line for each, the status of the processes of the run that was asked for, if that was
 /// asked for too. Where memory runs out for it nothing is said.
-pub fn say_processes(rt: &(impl Eprint + AllocGlobal), asked: &CliCommand, source: &[u8]) {
+pub fn say_processes(rt: &(impl Eprint + AllocGlobal), asked: &CliCommand, source: &ReadSource) {
     let (Args::Run(args), true) = (&asked.args, asked.explain) else {
         return;
     };

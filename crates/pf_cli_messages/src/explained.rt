@@ -5,18 +5,10 @@ ghost use Rattle.pf_cli.specs.Args.{view_of_run_args};
 ghost use Rattle.pf_model.specs.Limits.{IsEdition};
 ghost use Rattle.pf_model.specs.Reports.{view_of_report};
 ghost use Rattle.pf_check.specs.Module.{ReadModule};
-ghost use Rattle.pf_cli_messages.specs.Explained.{
-  AreStatusLines,
-  AsksOf,
-  ExplainsRun,
-  FindsRun,
-  IsModuleOf,
-  MeansBy,
-  ReportsProcesses,
-  TellsRun,
-};
+ghost use Rattle.pf_cli_messages.specs.Explained.{AreStatusLines, AsksOf, ExplainsRun, FindsRun, MeansBy, ReportsProcesses, TellsRun};
+ghost use Rattle.pf_check.specs.Reading.{IsModuleOf};
 
-use pf_check::{ReadModule, Source};
+use pf_check::ReadSource;
 use pf_cli::RunArgs;
 use pf_errors::{NoMemory, OrNoMemory};
 use pf_model::report::Report;
@@ -25,18 +17,15 @@ use pf_process_status::{KnownRun, ProcessStatus, put_standing, standings};
 use pf_sched::{Job, Scratch, report_by_priorities, report_of_run};
 use std::alloc::Global;
 
-/// The job of one run that is asked for of a source of these bytes; none where the source is refused, or what is asked
-/// for of it, or a shrinking is.
-fn job_of(alloc: Global, args: &RunArgs, bytes: Vec<u8>) -> Result<Option<Job>, NoMemory>
-    ensures { IfOk result (FindsRun (view_of_run_args args.now) bytes.items) }
+/// The job of one run that is asked for of a source; none where the source is refused, or what is asked for of it, or a
+/// shrinking is.
+fn job_of(alloc: Global, args: &RunArgs, source: &ReadSource) -> Result<Option<Job>, NoMemory>
+    ensures { IfOk result (FindsRun (view_of_run_args args.now) source.now) }
 {
-    let source = Source::new(alloc, bytes)?;
-    let module = match ReadModule::read(alloc, &source) {
-        Ok(module) => module,
-        Err(OrNoMemory::Fault(_refusal)) => return Ok(None),
-        Err(OrNoMemory::NoMemory) => return Err(NoMemory),
+    let Ok(module) = source.module() else {
+        return Ok(None);
     };
-    let job = match Job::new(alloc, module, &args.request, args.edition.number()) {
+    let job = match Job::new(alloc, module.share()?, &args.request, args.edition.number()) {
         Ok(job) => job,
         Err(OrNoMemory::Fault(_refusal)) => return Ok(None),
         Err(OrNoMemory::NoMemory) => return Err(NoMemory),
@@ -110,12 +99,11 @@ fn explain_job(alloc: Global, args: &RunArgs, job: &Job, source: &[u8]) -> Resul
 /// What is said of the processes of the run that is asked for of a source: of each, by pid, a line that says in whose
 /// call it began, and how it ended or where it waits when the run is over. Nothing is said where the source is refused,
 /// or what is asked for of it, or where that is a shrinking.
-pub fn explain_run(alloc: Global, args: &RunArgs, source: &[u8]) -> Result<Vec<u8>, NoMemory>
+pub fn explain_run(alloc: Global, args: &RunArgs, source: &ReadSource) -> Result<Vec<u8>, NoMemory>
     ensures { IfOk result (λ text. ExplainsRun (view_of_run_args args.now) source.now text.items) }
 {
-    let bytes = Vec::from_slice(alloc, source)?;
-    match job_of(alloc, args, bytes)? {
-        Some(job) => explain_job(alloc, args, &job, source),
+    match job_of(alloc, args, source)? {
+        Some(job) => explain_job(alloc, args, &job, source.bytes()),
         None => Ok(Vec::new(alloc)),
     }
 }

@@ -3,7 +3,7 @@
 ghost use Rattle.std.specs.Prelude.{ℕ, List, IfOk};
 ghost use Rattle.pf_cli_messages.specs.Reasons.{IsReason};
 
-use pf_check::{ReadModule, Source};
+use pf_check::{ReadModule, ReadSource};
 use pf_errors::{NoMemory, OrNoMemory, SourceRefusal};
 use pf_request::Request;
 use pf_sched::{Job, JobRefusal};
@@ -32,24 +32,23 @@ pub enum Reason {
 /// Why a request of a module is refused, if it is.
 fn reason_of_request(
     alloc: Global,
-    module: ReadModule,
+    module: &ReadModule,
     asked: SourceRequest<'_>,
 ) -> Result<Reason, NoMemory>
     ensures { IfOk result (λ r. (bytes : List ℕ) → IsReason bytes r) }
 {
     let edition = if asked.is_second_edition { 2 } else { 1 };
-    let kept = module.share()?;
-    match Job::new(alloc, module, asked.request, edition) {
+    match Job::new(alloc, module.share()?, asked.request, edition) {
         Ok(_) => Ok(Reason::Later),
         Err(OrNoMemory::NoMemory) => Err(NoMemory),
-        Err(OrNoMemory::Fault(refusal)) => Ok(Reason::OfRequest(kept, refusal)),
+        Err(OrNoMemory::Fault(refusal)) => Ok(Reason::OfRequest(module.share()?, refusal)),
     }
 }
 
 /// Why a module is refused for what is asked for of it; a check asks for nothing.
 fn reason_of_module(
     alloc: Global,
-    module: ReadModule,
+    module: &ReadModule,
     asked: Option<SourceRequest<'_>>,
 ) -> Result<Reason, NoMemory>
     ensures { IfOk result (λ r. (bytes : List ℕ) → IsReason bytes r) }
@@ -60,19 +59,16 @@ fn reason_of_module(
     }
 }
 
-/// Why a source of these bytes, or what is asked for of it, is refused; a check asks for nothing.
+/// Why a source, or what is asked for of it, is refused; a check asks for nothing.
 pub fn find_reason(
     alloc: Global,
-    bytes: Vec<u8>,
+    source: &ReadSource,
     asked: Option<SourceRequest<'_>>,
 ) -> Result<Reason, NoMemory>
-    ensures { IfOk result (IsReason bytes.items) }
+    ensures { IfOk result (IsReason source.now) }
 {
-    let source = Source::new(alloc, bytes)?;
-    let refusal = match ReadModule::read(alloc, &source) {
-        Ok(module) => return reason_of_module(alloc, module, asked),
-        Err(OrNoMemory::NoMemory) => return Err(NoMemory),
-        Err(OrNoMemory::Fault(refusal)) => refusal,
-    };
-    Ok(Reason::OfSource(refusal))
+    match source.module() {
+        Ok(module) => reason_of_module(alloc, module, asked),
+        Err(refusal) => Ok(Reason::OfSource(refusal)),
+    }
 }

@@ -6,7 +6,7 @@ ghost use Rattle.pf_tokens.specs.TokenKinds.{PlacedToken, kind_of, placed_of};
 ghost use Rattle.pf_cli_messages.specs.Lacked.{lacked, lacked_name};
 
 use crate::wording::quoted;
-use pf_check::{ReadModule, Source};
+use pf_check::{ReadModule, ReadSource};
 use pf_errors::{NoMemory, OrNoMemory, SourceRefusal};
 use pf_terms::AtomTable;
 use pf_tokens::{Token, TokenForm, tokens};
@@ -75,19 +75,17 @@ fn said_of_module(
     }
 }
 
-/// The same of a source of these bytes.
+/// The same of a source.
 pub fn lacking_sentence(
     alloc: Global,
-    source: &[u8],
+    source: &ReadSource,
     property: &[u8],
 ) -> Result<Option<String>, NoMemory> {
     let Some(pattern) = property.strip_prefix(b"never:".as_slice()) else {
         return Ok(None);
     };
-    let source = Source::new(alloc, Vec::from_slice(alloc, source)?)?;
-    match ReadModule::read(alloc, &source) {
-        Ok(module) => said_of_module(alloc, &module, pattern),
-        Err(OrNoMemory::Fault(_)) => Ok(None),
-        Err(OrNoMemory::NoMemory) => Err(NoMemory),
+    match source.module() {
+        Ok(module) => said_of_module(alloc, module, pattern),
+        Err(_) => Ok(None),
     }
 }

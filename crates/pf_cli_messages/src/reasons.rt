@@ -1,6 +1,7 @@
 //! Why a command of a source ended with the status of what is refused.
 
 use crate::{SourceRequest, find_reason, lacking_sentence, sentence};
+use pf_check::ReadSource;
 use pf_cli::{Args, Edition, HuntArgs, HuntGoal, RunArgs};
 use pf_errors::NoMemory;
 use pf_request::Request;
@@ -38,22 +39,22 @@ fn asked_of<'a>(args: &'a Args) -> Option<SourceRequest<'a>> {
     }
 }
 
-/// The sentence that says why a source of these bytes is refused, or what is asked for of it.
+/// The sentence that says why a source is refused, or what is asked for of it.
 fn sentence_of(
     alloc: Global,
     asked: Option<SourceRequest>,
-    source: &[u8],
+    source: &ReadSource,
 ) -> Result<String, NoMemory> {
-    let reason = find_reason(alloc, Vec::from_slice(alloc, source)?, asked)?;
+    let reason = find_reason(alloc, source, asked)?;
     sentence(alloc, source, asked, &reason)
 }
 
-/// Why a source of these bytes is refused, or what a hunt over several roots asks for of one.
+/// Why a source is refused, or what a hunt over several roots asks for of one.
 pub fn why_of_root(
     alloc: Global,
     args: &HuntArgs,
     request: &Request,
-    source: &[u8],
+    source: &ReadSource,
 ) -> Result<String, NoMemory> {
     let asked = SourceRequest {
         request,
@@ -63,8 +64,8 @@ pub fn why_of_root(
     sentence_of(alloc, Some(asked), source)
 }
 
-/// Why what is asked for of a source of these bytes is refused, or the source. A check that explains it has said so.
-pub fn why(alloc: Global, args: &Args, source: &[u8]) -> Result<String, NoMemory> {
+/// Why what is asked for of a source is refused, or the source. A check that explains it has said so.
+pub fn why(alloc: Global, args: &Args, source: &ReadSource) -> Result<String, NoMemory> {
     match args {
         Args::Check(check) if check.explain => Ok(String::from_str(
             alloc,
@@ -76,7 +77,11 @@ pub fn why(alloc: Global, args: &Args, source: &[u8]) -> Result<String, NoMemory
 
 /// What is said of a property that no message of this source's runs can break, since an atom of its pattern occurs
 /// nowhere in it; usually nothing.
-pub fn lacking_of(alloc: Global, args: &Args, source: &[u8]) -> Result<Option<String>, NoMemory> {
+pub fn lacking_of(
+    alloc: Global,
+    args: &Args,
+    source: &ReadSource,
+) -> Result<Option<String>, NoMemory> {
     match asked_of(args) {
         Some(asked) => lacking_sentence(alloc, source, asked.request.property.as_slice()),
         None => Ok(None),

@@ -2,7 +2,7 @@
 
 use crate::finding::{Reason, SourceRequest};
 use crate::position::{column, line};
-use pf_check::ReadModule;
+use pf_check::{ReadModule, ReadSource};
 use pf_errors::{NoMemory, SourceRefusal};
 use pf_hints::advise;
 use pf_request::Request;
@@ -144,12 +144,12 @@ fn of_request(
 /// The sentence of a reason, of a source and what is asked for of it: what is wrong, and how it is fixed.
 pub fn sentence(
     alloc: Global,
-    source: &[u8],
+    source: &ReadSource,
     asked: Option<SourceRequest<'_>>,
     reason: &Reason,
 ) -> Result<String, NoMemory> {
     match (reason, asked) {
-        (Reason::OfSource(refusal), _) => of_source(alloc, source, *refusal),
+        (Reason::OfSource(refusal), _) => of_source(alloc, source.bytes(), *refusal),
         (Reason::OfRequest(module, refusal), Some(SourceRequest { request, .. })) => {
             of_request(alloc, module, request, *refusal)
         }

@@ -10,7 +10,8 @@ use Rattle.pf_sched.specs.Asked.{Asks}
 use Rattle.pf_strategy.specs.Runs.{MeansByPriorities}
 use Rattle.pf_chart.specs.declared.manner.Manner.{Manner}
 use Rattle.pf_cli.specs.Args.{RunArgs}
-use Rattle.pf_command.specs.Answers.{AnswersBy, IsModuleOf, source_refused, job_refused, told}
+use Rattle.pf_command.specs.Answers.{AnswersBy, source_refused, job_refused, told}
+use Rattle.pf_check.specs.Reading.{IsModuleOf}
 use Rattle.pf_command.specs.Charts.{DrawsJob}
 use Rattle.pf_command.specs.Guided.{AsksOfRun, by_own, by_priorities, with_schedule}
 use Rattle.pf_command.specs.Hunts.{choices_of}

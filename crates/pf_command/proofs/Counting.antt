@@ -19,7 +19,8 @@ use Rattle.pf_sched.specs.Waiting.{waiting_in}
 use Rattle.pf_sched.specs.declared.printing.PrintedRun.{PrintedRun}
 use Rattle.pf_strategy.specs.Runs.{MeansByPriorities}
 use Rattle.pf_cli.specs.Args.{RunArgs}
-use Rattle.pf_command.specs.Answers.{Counts, CountsBy, IsModuleOf, IsNoMemory, counted, atom_names_of, refused_before, reported, run_status, unreported}
+use Rattle.pf_command.specs.Answers.{Counts, CountsBy, IsNoMemory, counted, atom_names_of, refused_before, reported, run_status, unreported}
+use Rattle.pf_check.specs.Reading.{IsModuleOf}
 use Rattle.pf_command.specs.Guided.{AsksOfRun, RunCounts, by_own, by_priorities, with_schedule}
 use Rattle.pf_command.specs.Hunts.{choices_of}
 use Rattle.pf_command.specs.Streams.{IsAnsweredSo, Answering, IsRefusedText, PrintsAnswer, Sends, WentOut, streams}

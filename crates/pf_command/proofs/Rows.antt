@@ -13,7 +13,8 @@ use Rattle.pf_model.specs.TermText.{line}
 use Rattle.pf_check.specs.Reads.{Reads, refused, accepted_as}
 use Rattle.pf_check.specs.Module.{ReadModule}
 use Rattle.pf_request.specs.Job.{Job, memory_report}
-use Rattle.pf_command.specs.Answers.{AnswersBy, IsModuleOf, Refuses, no_memory_report, ReportsJob, TellsResult, source_refused, job_refused, told, result, out_of_memory}
+use Rattle.pf_command.specs.Answers.{AnswersBy, Refuses, no_memory_report, ReportsJob, TellsResult, source_refused, job_refused, told, result, out_of_memory}
+use Rattle.pf_check.specs.Reading.{IsModuleOf}
 use Rattle.pf_command.specs.Checks.{Checks, ExplainsRefusal, is_module, is_refused}
 use Rattle.pf_command.specs.declared.answer.Output.{Output}
 

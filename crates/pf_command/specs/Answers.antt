@@ -16,16 +16,13 @@ use Rattle.pf_request.specs.Job.{Job}
 use Rattle.pf_request.specs.View.{view_of_request}
 use Rattle.pf_request.specs.declared.request.Request.{Request}
 use Rattle.pf_check.specs.Reads.{Reads, refused}
-use Rattle.pf_check.specs.Reading.{IsReadAs}
+use Rattle.pf_check.specs.Reading.{IsModuleOf}
 use Rattle.pf_sched.specs.Asked.{Asks}
 use Rattle.pf_sched.specs.Waiting.{waiting_in}
 use Rattle.pf_cli.specs.Args.{RunArgs, edition_number}
+use Rattle.pf_cli_messages.specs.Explained.{AsksOf}
 use Rattle.pf_cli.specs.declared.args.Edition.{Edition}
 use Rattle.pf_command.specs.declared.answer.Output.{Output}
-
--- a source of these bytes is this module
-abbrev pub IsModuleOf : List ℕ → ReadModule → Type 0
-IsModuleOf bytes m = (m.source ≡ bytes) × IsReadAs bytes m
 
 -- AnswersBy asks tells bytes text status: a source of these bytes is answered with this text and this status, if `asks`
 -- says which job is asked for of a module or what it is refused for, and `tells` what is reported of a job
@@ -41,10 +38,6 @@ pub data AnswersBy (asks : ReadModule → Result Job Code → Type 0) (tells : J
       → AnswersBy asks tells bytes text status
 
 -- ---- runs and shrinkings
-
--- what is asked for of a module is this job, or refused for this
-abbrev pub AsksOf : RunArgs → ReadModule → Result Job Code → Type 0
-AsksOf a m = Asks m a.edition a.request
 
 -- the names of the atoms of a job's module
 abbrev pub atom_names_of : Job → ℕ → List ℕ

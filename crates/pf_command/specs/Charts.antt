@@ -10,14 +10,14 @@ use Rattle.pf_model.specs.Shrinking.{Found, IsResult, by_schedule, report, shrun
 use Rattle.pf_model.specs.TermText.{line}
 use Rattle.pf_request.specs.Job.{Job}
 use Rattle.pf_syntax.specs.Root.{root_of}
-use Rattle.pf_cli_messages.specs.Explained.{IsKnownRunOf}
+use Rattle.pf_cli_messages.specs.Explained.{IsKnownRunOf, AsksOf}
 use Rattle.pf_process_status.specs.Known.{RunLeadsTo}
 use Rattle.pf_process_status.specs.Lines.{AreNames}
 use Rattle.pf_process_status.specs.declared.known.KnownRun.{KnownRun}
 use Rattle.pf_chart.specs.Chart.{IsChart}
 use Rattle.pf_chart.specs.declared.manner.Manner.{Manner}
 use Rattle.pf_cli.specs.Args.{RunArgs}
-use Rattle.pf_command.specs.Answers.{AnswersBy, AsksOf, atom_names_of, run_status}
+use Rattle.pf_command.specs.Answers.{AnswersBy, atom_names_of, run_status}
 use Rattle.pf_command.specs.declared.answer.Output.{Output}
 
 -- these are the names of the functions in whose calls the processes began in the run of a job that has this report

@@ -10,8 +10,8 @@ use Rattle.pf_diagnostics.specs.declared.advice.Advice.{Advice}
 use Rattle.pf_hints.specs.Faults.{ReportsRefusal}
 use Rattle.pf_command.specs.declared.answer.Output.{Output}
 
--- ExplainsRefusal bytes code offset explain text: what follows the line of a refusal is this text: nothing, or where that is
--- asked for explanations of faults, among them that of the refusal
+-- ExplainsRefusal bytes code offset explain text: what follows the line of a refusal is this text: nothing, or where
+-- that is asked for explanations of faults, among them that of the refusal
 pub data ExplainsRefusal (bytes : List ℕ) (code : Code) (offset : ℕ) : (explain : Bool) → List ℕ → Type 0 where
   unasked : ExplainsRefusal bytes code offset false []
   asked : (told : List Advice) → ReportsRefusal bytes code offset told → ExplainsRefusal bytes code offset true (explanations bytes told)

@@ -9,7 +9,8 @@ use Rattle.pf_sched.specs.Asked.{Asks}
 use Rattle.pf_strategy.specs.Runs.{MeansByPriorities}
 use Rattle.pf_chart.specs.declared.manner.Manner.{Manner}
 use Rattle.pf_cli.specs.Args.{ChartArgs, RunArgs}
-use Rattle.pf_command.specs.Answers.{AnswersBy, CountsBy, IsModuleOf, ReportsJob}
+use Rattle.pf_command.specs.Answers.{AnswersBy, CountsBy, ReportsJob}
+use Rattle.pf_check.specs.Reading.{IsModuleOf}
 use Rattle.pf_command.specs.Charts.{DrawsJob}
 use Rattle.pf_command.specs.Hunts.{choices_of}
 

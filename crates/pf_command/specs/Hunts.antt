@@ -21,7 +21,9 @@ use Rattle.pf_hunt.specs.Views.{failure_of}
 use Rattle.pf_cli.specs.Args.{HuntArgs, RunArgs, HuntGoal, failure, outcomes}
 use Rattle.pf_command.specs.declared.ending.HuntEnd.{HuntEnd}
 use Rattle.pf_command.specs.declared.ending.HuntEnd.TheVariants.{Told, Found}
-use Rattle.pf_command.specs.Answers.{AnswersRun, AnswersBy, AsksOf, IsModuleOf, IsNoMemory, cut_text, atom_names_of, no_memory_report}
+use Rattle.pf_command.specs.Answers.{AnswersRun, AnswersBy, IsNoMemory, cut_text, atom_names_of, no_memory_report}
+use Rattle.pf_cli_messages.specs.Explained.{AsksOf}
+use Rattle.pf_check.specs.Reading.{IsModuleOf}
 
 -- ---- what is asked for
 
@@ -35,8 +37,8 @@ MayShrink h (failure (Some runs)) m = (j : Job) × AsksOf (shrinking_of h [] run
 MayShrink h (failure None) m = Unit {0}
 MayShrink h outcomes m = Unit {0}
 
--- HuntAsksFor h sought m x: the run in whose place those by the seeds go is this job, or what is asked for is refused for
--- this: first the shrinking of the empty schedule, if one is to be shrunk, and then the run
+-- HuntAsksFor h sought m x: the run in whose place those by the seeds go is this job, or what is asked for is refused
+-- for this: first the shrinking of the empty schedule, if one is to be shrunk, and then the run
 pub data HuntAsksFor (h : HuntArgs) : HuntGoal → ReadModule → Result Job Code → Type 0 where
   shrinking_refused : (runs : ℕ) (m : ReadModule) (code : Code) → AsksOf (shrinking_of h [] runs) m (Err code)
       → HuntAsksFor h (failure (Some runs)) m (Err code)

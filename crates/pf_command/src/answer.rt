@@ -1,12 +1,10 @@
 //! What a source is answered with: a text and a status.
 
-ghost use Rattle.std.specs.Prelude.{◌≡◌, IfErr, IfOk};
+ghost use Rattle.std.specs.Prelude.{◌≡◌, IfOk};
 ghost use Rattle.pf_errors.specs.Codes.{code_text, refusal_text};
-ghost use Rattle.pf_check.specs.Reads.{IsRefusalOf};
-ghost use Rattle.pf_command.specs.Answers.{IsModuleOf, Refuses, run_status};
+ghost use Rattle.pf_command.specs.Answers.{Refuses, run_status};
 
-use pf_check::{ReadModule, Source};
-use pf_errors::{Code, NoMemory, OrNoMemory, SourceRefusal};
+use pf_errors::{Code, NoMemory, SourceRefusal};
 use pf_text::{put, put_byte};
 use std::alloc::Global;
 
@@ -61,16 +59,4 @@ pub(crate) fn run_status(verdict: Option<bool>) -> u8
         Some(false) => FAILED,
         None => REFUSED,
     }
-}
-
-/// The module that a source of these bytes is, or why it is none.
-pub(crate) fn read_source(
-    alloc: Global,
-    bytes: Vec<u8>,
-) -> Result<ReadModule, OrNoMemory<SourceRefusal>>
-    ensures read { IfOk result (λ m. IsModuleOf bytes.items m) }
-    ensures fault { IfErr result (IsRefusalOf bytes.items) }
-{
-    let source = Source::new(alloc, bytes)?;
-    ReadModule::read(alloc, &source)
 }

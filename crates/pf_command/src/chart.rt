@@ -4,7 +4,8 @@ ghost use Rattle.std.specs.Prelude.{◌≡◌, ◌<◌, List, ℕ, zero, IfOk, S
 ghost use Rattle.pf_model.specs.Reports.{view_of_report};
 ghost use Rattle.pf_model.specs.Shrinking.{IsResult, by_schedule};
 ghost use Rattle.pf_sched.specs.Views.{result_of};
-ghost use Rattle.pf_command.specs.Answers.{IsModuleOf, run_args};
+ghost use Rattle.pf_command.specs.Answers.{run_args};
+ghost use Rattle.pf_check.specs.Reading.{IsModuleOf};
 ghost use Rattle.pf_cli.specs.Args.{view_of_chart_args};
 ghost use Rattle.pf_command.specs.Charts.{
   AreNamesIn,
@@ -17,11 +18,11 @@ ghost use Rattle.pf_command.specs.Charts.{
 };
 ghost use Rattle.pf_command.specs.Guided.{DrawnAnswers, manner_of};
 
-use crate::answer::{Output, read_source, refused_at, refused_by_code, run_status};
+use crate::answer::{Output, refused_at, refused_by_code, run_status};
 use crate::guided::scheduled;
 use crate::serving::Answering;
 use pf_chart::{Manner, put_chart};
-use pf_check::ReadModule;
+use pf_check::{ReadModule, ReadSource};
 use pf_cli::{ChartArgs, Edition};
 use pf_errors::{Code, NoMemory, OrNoMemory};
 use pf_model::report::Report;
@@ -227,14 +228,13 @@ fn draw_asked(alloc: Global, args: &ChartArgs, module: ReadModule) -> Result<Out
     }
 }
 
-/// The answer to a source of these bytes: the chart of its run, or why there is none.
-fn draw_source(alloc: Global, args: &ChartArgs, bytes: Vec<u8>) -> Result<Output, NoMemory>
-    ensures { IfOk result (λ a. DrawnAnswers (view_of_chart_args args.now) bytes.items a.text.items a.status) }
+/// The answer to a source: the chart of its run, or why there is none.
+fn draw_source(alloc: Global, args: &ChartArgs, source: &ReadSource) -> Result<Output, NoMemory>
+    ensures { IfOk result (λ a. DrawnAnswers (view_of_chart_args args.now) source.now a.text.items a.status) }
 {
-    match read_source(alloc, bytes) {
-        Ok(module) => draw_asked(alloc, args, module),
-        Err(OrNoMemory::Fault(refusal)) => refused_at(alloc, refusal),
-        Err(OrNoMemory::NoMemory) => Err(NoMemory),
+    match source.module() {
+        Ok(module) => draw_asked(alloc, args, module.share()?),
+        Err(refusal) => refused_at(alloc, refusal),
     }
 }
 
@@ -250,7 +250,7 @@ impl Answering for Chart<'_> {
 
     ghost answers = { λ c. DrawnAnswers (view_of_chart_args c.args.now) };
 
-    fn answer(self, alloc: Global, bytes: Vec<u8>) -> Result<Output, NoMemory> {
-        draw_source(alloc, self.args, bytes)
+    fn answer(self, alloc: Global, source: &ReadSource) -> Result<Output, NoMemory> {
+        draw_source(alloc, self.args, source)
     }
 }

@@ -7,9 +7,9 @@ ghost use Rattle.pf_command.specs.Checks.{Checks, ExplainsRefusal, IsCheckRefuse
 
 use crate::answer::{Output, refused_at};
 use crate::serving::Answering;
-use pf_check::read;
+use pf_check::ReadSource;
 use pf_diagnostics::put_explanations;
-use pf_errors::{NoMemory, OrNoMemory, SourceRefusal};
+use pf_errors::{NoMemory, SourceRefusal};
 use pf_hints::faults;
 use pf_text::put;
 use std::alloc::Global;
@@ -69,15 +69,13 @@ fn refuse(
 }
 
 /// The answer to a source: `ok` if it is a module, else its first refusal.
-fn answer_check(alloc: Global, explain: bool, source: &[u8]) -> Result<Output, NoMemory>
+fn answer_check(alloc: Global, explain: bool, source: &ReadSource) -> Result<Output, NoMemory>
     ensures { IfOk result (λ a. Checks explain source.now a.text.items a.status) }
 {
-    let refusal = match read(alloc, source) {
-        Ok(_) => return accepted(alloc),
-        Err(OrNoMemory::NoMemory) => return Err(NoMemory),
-        Err(OrNoMemory::Fault(refusal)) => refusal,
-    };
-    refuse(alloc, explain, source, refusal)
+    match source.module() {
+        Ok(_) => accepted(alloc),
+        Err(refusal) => refuse(alloc, explain, source.bytes(), refusal),
+    }
 }
 
 /// A check is asked for, and whether a refusal is explained.
@@ -91,7 +89,7 @@ impl Answering for CheckCommand {
 
     ghost answers = { λ c. Checks c.explain };
 
-    fn answer(self, alloc: Global, bytes: Vec<u8>) -> Result<Output, NoMemory> {
-        answer_check(alloc, self.explain, &bytes)
+    fn answer(self, alloc: Global, source: &ReadSource) -> Result<Output, NoMemory> {
+        answer_check(alloc, self.explain, source)
     }
 }

@@ -6,10 +6,11 @@ ghost use Rattle.pf_cli.specs.Args.{view_of_hunt_args};
 ghost use Rattle.pf_command.specs.Hunts.{HuntEndsAs, HuntAnswers, HuntNotifies};
 ghost use Rattle.pf_command.specs.Streams.{IsAnsweredSo, Leaves, NoneFailed, PrintsAnswer, Sends, TakesBytes, streams};
 
-use crate::answer::{read_source, refused_at};
+use crate::answer::refused_at;
 use crate::ending::{HuntEnd, print_end};
 use crate::seek::hunt_module;
 use crate::serving::MOST_BYTES;
+use pf_check::ReadSource;
 use pf_cli::HuntArgs;
 use pf_errors::{NoMemory, OrNoMemory};
 use pf_hunt::HuntObserver;
@@ -20,48 +21,47 @@ use std::io::{Read, Write};
 use std::sync::ledger::Ledger;
 use std::thread::Threads;
 
-/// The result for a source of these bytes, by the given number of workers: an answer, or a run that fails.
+/// The result for a source, by the given number of workers: an answer, or a run that fails.
 fn end_of_hunt<T: Threads + Sync, S: HuntObserver>(
     rt: &T,
     alloc: Global,
     args: &HuntArgs,
-    bytes: Vec<u8>,
+    source: &ReadSource,
     workers: u64,
     seeds: &mut S,
 ) -> Result<HuntEnd, NoMemory>
     ensures { IfOk result (λ x. HearsSome S.Heard seeds.old
-        (HuntEndsAs (view_of_hunt_args args.now) (view_of_hunt_args args.now).sought bytes.items x) seeds.new) }
+        (HuntEndsAs (view_of_hunt_args args.now) (view_of_hunt_args args.now).sought source.now x) seeds.new) }
 {
-    match read_source(alloc, bytes) {
-        Ok(module) => hunt_module(rt, alloc, args, module, workers, seeds),
-        Err(OrNoMemory::NoMemory) => Err(NoMemory),
-        Err(OrNoMemory::Fault(refusal)) => {
+    match source.module() {
+        Ok(module) => hunt_module(rt, alloc, args, module.share()?, workers, seeds),
+        Err(refusal) => {
             let answer = refused_at(alloc, refusal)?;
             Ok(HuntEnd::Told(answer))
         }
     }
 }
 
-/// Prints what a source of these bytes is answered with, by the given number of workers.
+/// Prints what a source is answered with, by the given number of workers.
 pub fn print_hunt<W: Write, M: Ledger, T: Threads + Sync, S: HuntObserver>(
     rt: &T,
     alloc: Global,
     args: &HuntArgs,
-    bytes: Vec<u8>,
+    source: &ReadSource,
     workers: u64,
     writer: &mut Counted<W, M>,
     seeds: &mut S,
     observer: &mut impl Observer,
 ) -> Result<u8, OrNoMemory<StreamFault>>
-    ensures sent { Sends (HuntAnswers (view_of_hunt_args args.now) bytes.items)
+    ensures sent { Sends (HuntAnswers (view_of_hunt_args args.now) source.now)
         (W.contents writer.old.inner) (W.contents writer.new.inner)
         writer.old.failures.total writer.new.failures.total result }
     ensures heard { IfOk result (λ status. HearsSome S.Heard seeds.old
-        (λ ns. PrintsAnswer (HuntNotifies (view_of_hunt_args args.now) ns bytes.items)
+        (λ ns. PrintsAnswer (HuntNotifies (view_of_hunt_args args.now) ns source.now)
         (W.contents writer.old.inner) (W.contents writer.new.inner)
         writer.old.failures.total writer.new.failures.total (Ok status)) seeds.new) }
 {
-    let end = end_of_hunt(rt, alloc, args, bytes, workers, seeds)?;
+    let end = end_of_hunt(rt, alloc, args, source, workers, seeds)?;
     Ok(print_end(alloc, args, end, observer, writer)?)
 }
 
@@ -105,6 +105,7 @@ pub fn hunt_source<R: Read, W: Write, L: Ledger, M: Ledger, T: Threads + Sync, S
         (streams (R.remaining reader.new.inner) (W.contents writer.new.inner)
         reader.new.failures.total writer.new.failures.total)) }
 {
-    let source = reader.take_front(alloc, MOST_BYTES)?;
-    print_hunt(rt, alloc, args, source, workers, writer, seeds, observer)
+    let bytes = reader.take_front(alloc, MOST_BYTES)?;
+    let source = ReadSource::new(alloc, bytes)?;
+    print_hunt(rt, alloc, args, &source, workers, writer, seeds, observer)
 }

@@ -4,15 +4,17 @@
 ghost use Rattle.std.specs.Prelude.{◌≡◌, List, ℕ, zero, IfErr, IfOk, OnOk, Some};
 ghost use Rattle.pf_errors.specs.Codes.{code_text, refusal_text};
 ghost use Rattle.pf_cli.specs.Args.{view_of_run_args};
-ghost use Rattle.pf_command.specs.Answers.{AnswersRun, AsksOf, Counts, CountsBy, IsModuleOf, IsNoMemory, ReportsJob, run_args};
+ghost use Rattle.pf_command.specs.Answers.{AnswersRun, Counts, CountsBy, IsNoMemory, ReportsJob, run_args};
+ghost use Rattle.pf_cli_messages.specs.Explained.{AsksOf};
+ghost use Rattle.pf_check.specs.Reading.{IsModuleOf};
 ghost use Rattle.pf_command.specs.Guided.{RunAnswers, RunCounts};
 ghost use Rattle.pf_command.specs.Streams.{IsAnsweredSo, IsAnswer, IsRefusedText, Leaves, NoneFailed, PrintsAnswer, Sends, TakesBytes, WentOut, streams};
 
-use crate::answer::{Output, REFUSED, read_source, refused_at, refused_by_code, run_status};
+use crate::answer::{Output, REFUSED, refused_at, refused_by_code, run_status};
 use crate::guided::scheduled;
 use crate::run::answer_job;
 use crate::serving::MOST_BYTES;
-use pf_check::ReadModule;
+use pf_check::{ReadModule, ReadSource};
 use pf_cli::{Edition, RunArgs};
 use pf_errors::{Code, OrNoMemory, SourceRefusal};
 use pf_request::Request;
@@ -191,25 +193,24 @@ fn print_module<W: Write, M: Ledger>(
     }
 }
 
-/// Prints the answer to a source of these bytes of which a run is asked for. Where a report is printed, how many
+/// Prints the answer to a source of which a run is asked for. Where a report is printed, how many
 /// processes still wait though the root returned is put in `waiting`.
 pub fn print_source<W: Write, M: Ledger>(
     alloc: Global,
     args: &RunArgs,
-    bytes: Vec<u8>,
+    source: &ReadSource,
     writer: &mut Counted<W, M>,
     waiting: &mut u32,
 ) -> Result<u8, OrNoMemory<StreamFault>>
-    ensures told { Sends (RunAnswers (view_of_run_args args.now) bytes.items)
+    ensures told { Sends (RunAnswers (view_of_run_args args.now) source.now)
         (W.contents writer.old.inner) (W.contents writer.new.inner)
         writer.old.failures.total writer.new.failures.total result }
-    ensures waits { IfOk result (WentOut (RunCounts (view_of_run_args args.now) waiting.old waiting.new bytes.items)
+    ensures waits { IfOk result (WentOut (RunCounts (view_of_run_args args.now) waiting.old waiting.new source.now)
         (W.contents writer.old.inner) (W.contents writer.new.inner)) }
 {
-    match read_source(alloc, bytes) {
-        Ok(module) => print_module(alloc, args, module, writer, waiting),
-        Err(OrNoMemory::NoMemory) => Err(OrNoMemory::NoMemory),
-        Err(OrNoMemory::Fault(refusal)) => print_refusal(alloc, refusal, writer),
+    match source.module() {
+        Ok(module) => print_module(alloc, args, module.share()?, writer, waiting),
+        Err(refusal) => print_refusal(alloc, refusal, writer),
     }
 }
 
@@ -249,6 +250,7 @@ pub fn run_source<R: Read, W: Write, L: Ledger, M: Ledger>(
         (streams (R.remaining reader.new.inner) (W.contents writer.new.inner)
         reader.new.failures.total writer.new.failures.total)) }
 {
-    let source = reader.take_front(alloc, MOST_BYTES)?;
-    print_source(alloc, args, source, writer, waiting)
+    let bytes = reader.take_front(alloc, MOST_BYTES)?;
+    let source = ReadSource::new(alloc, bytes)?;
+    print_source(alloc, args, &source, writer, waiting)
 }

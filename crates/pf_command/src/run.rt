@@ -7,11 +7,12 @@ ghost use Rattle.pf_model.specs.Text.{report_text};
 ghost use Rattle.pf_request.specs.Job.{memory_report};
 ghost use Rattle.pf_trace.specs.Written.{AreWritten, report_in};
 ghost use Rattle.pf_sched.specs.Views.{IsWritten, result_of};
-ghost use Rattle.pf_command.specs.Answers.{AnswersRun, IsModuleOf, ReportsJob, TellsResult, run_args};
+ghost use Rattle.pf_command.specs.Answers.{AnswersRun, ReportsJob, TellsResult, run_args};
+ghost use Rattle.pf_check.specs.Reading.{IsModuleOf};
 
-use crate::answer::{FAILED, Output, read_source, refused_at, refused_by_code, run_status};
+use crate::answer::{FAILED, Output, refused_at, refused_by_code, run_status};
 use crate::serving::Answering;
-use pf_check::ReadModule;
+use pf_check::{ReadModule, ReadSource};
 use pf_cli::{Edition, RunArgs};
 use pf_errors::{Code, NoMemory, OrNoMemory};
 use pf_request::Request;
@@ -124,20 +125,19 @@ pub(crate) fn answer_module(
     }
 }
 
-/// The answer to a source of these bytes of which this is asked for. The observer receives the progress of a shrinking.
+/// The answer to a source of which this is asked for. The observer receives the progress of a shrinking.
 fn answer_source(
     alloc: Global,
     request: &Request,
     edition: Edition,
-    bytes: Vec<u8>,
+    source: &ReadSource,
     observer: &mut impl Observer,
 ) -> Result<Output, NoMemory>
-    ensures { IfOk result (λ a. AnswersRun (run_args request.now edition) bytes.items a.text.items a.status) }
+    ensures { IfOk result (λ a. AnswersRun (run_args request.now edition) source.now a.text.items a.status) }
 {
-    match read_source(alloc, bytes) {
-        Ok(module) => answer_module(alloc, request, edition, module, observer),
-        Err(OrNoMemory::Fault(refusal)) => refused_at(alloc, refusal),
-        Err(OrNoMemory::NoMemory) => Err(NoMemory),
+    match source.module() {
+        Ok(module) => answer_module(alloc, request, edition, module.share()?, observer),
+        Err(refusal) => refused_at(alloc, refusal),
     }
 }
 
@@ -154,8 +154,8 @@ impl<O: Observer + Drop> Answering for Shrink<'_, O> {
 
     ghost answers = { λ c. AnswersRun (view_of_run_args c.args.now) };
 
-    fn answer(self, alloc: Global, bytes: Vec<u8>) -> Result<Output, NoMemory> {
+    fn answer(self, alloc: Global, source: &ReadSource) -> Result<Output, NoMemory> {
         let Shrink { args, mut observer } = self;
-        answer_source(alloc, &args.request, args.edition, bytes, &mut observer)
+        answer_source(alloc, &args.request, args.edition, source, &mut observer)
     }
 }

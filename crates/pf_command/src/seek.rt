@@ -7,7 +7,9 @@ ghost use Rattle.pf_sched.specs.Asked.{IsRefusal};
 ghost use Rattle.pf_hunt.specs.Notices.{HearsSome};
 ghost use Rattle.pf_hunt.specs.Views.{row_of};
 ghost use Rattle.pf_cli.specs.Args.{failure, outcomes, view_of_hunt_args};
-ghost use Rattle.pf_command.specs.Answers.{AnswersRun, AsksOf, IsModuleOf, atom_names_of, run_args};
+ghost use Rattle.pf_command.specs.Answers.{AnswersRun, atom_names_of, run_args};
+ghost use Rattle.pf_cli_messages.specs.Explained.{AsksOf};
+ghost use Rattle.pf_check.specs.Reading.{IsModuleOf};
 ghost use Rattle.pf_command.specs.Hunts.{HuntAsksFor, HuntEndsAs, MayShrink, OfEach, SoughtAnswers, TellsAs, TellsSought};
 ghost use Rattle.pf_command.specs.Hunts.{front_text, none_text, row_text, shrinking_of, strategy_text};
 

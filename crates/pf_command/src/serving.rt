@@ -4,6 +4,7 @@ ghost use Rattle.std.specs.Prelude.{IfErr, IfOk, OnOk};
 ghost use Rattle.pf_command.specs.Streams.{IsAnsweredSo, Leaves, NoneFailed, TakesBytes, streams};
 
 use crate::answer::Output;
+use pf_check::ReadSource;
 use pf_errors::{NoMemory, OrNoMemory};
 use pf_streams::{Counted, StreamFault};
 use pf_tokens::MOST_SOURCE_BYTES;
@@ -20,9 +21,9 @@ pub trait Answering {
 
     ghost answers: { Self → (bytes text : List ℕ) → ℕ → Type 0 };
 
-    /// The answer to a source of these bytes.
-    fn answer(self, alloc: Global, bytes: Vec<u8>) -> Result<Output, NoMemory>
-        ensures { IfOk result (λ a. answers self bytes.items a.text.items a.status) };
+    /// The answer to a source.
+    fn answer(self, alloc: Global, source: &ReadSource) -> Result<Output, NoMemory>
+        ensures { IfOk result (λ a. answers self source.now a.text.items a.status) };
 }
 
 /// Answers a source by a command: reads at most one byte more than a source may have, writes a text and gives the
@@ -54,8 +55,9 @@ pub fn serve<R: Read, W: Write, L: Ledger, M: Ledger, C: Answering + Drop>(
         (streams (R.remaining reader.new.inner) (W.contents writer.new.inner)
         reader.new.failures.total writer.new.failures.total)) }
 {
-    let source = reader.take_front(alloc, MOST_BYTES)?;
-    let answer = command.answer(alloc, source)?;
+    let bytes = reader.take_front(alloc, MOST_BYTES)?;
+    let source = ReadSource::new(alloc, bytes)?;
+    let answer = command.answer(alloc, &source)?;
     writer.put(&answer.text)?;
     Ok(answer.status)
 }

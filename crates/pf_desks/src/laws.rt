@@ -19,8 +19,8 @@ pub fn legality()
 {}
 
 /// Limits of legal desks: each desk whose history is legal is within its limits, whoever made its calls and did its
-/// work. Each desk of a world is one (`legality` of `pf_world`), and so is each that a closed farm leaves (the
-/// clause `legal` of `Closing::note_count` of `pf_farm_state`): so it holds of the desks of `steps` and of `farm` alike.
+/// work. Each desk of a world is one (`legality` of `pf_world`), and so is each that a closed farm leaves (the clause
+/// `legal` of `Closing::note_count` of `pf_farm_state`): so it holds of the desks of `steps` and of `farm` alike.
 pub fn legal_desks_are_in_limits()
     ensures { LegalDesksAreInLimits }
 {}

@@ -1,7 +1,7 @@
 //! What a worker calls for each slice.
 
 ghost use Rattle.std.specs.Prelude.{◌<◌};
-ghost use Rattle.pf_sched.specs.Slices.{Sliced};
+ghost use Rattle.pf_sched.specs.Slices.{SimulatesSlice};
 
 use pf_sched::{Parked, Scratch, Slice, run_slice};
 use std::alloc::Global;
@@ -21,7 +21,7 @@ pub trait Gate {
         turns: u32,
     ) -> Slice
         requires { 0 < turns }
-        ensures { Sliced parked turns result };
+        ensures { SimulatesSlice parked turns result };
 }
 
 /// The gate that only runs the slice.

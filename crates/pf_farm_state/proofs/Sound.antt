@@ -28,7 +28,7 @@ use Rattle.pf_farm_accounts.specs.declared.row.ClaimEnd.TheVariants.{Filed, Hand
 use Rattle.pf_farm_accounts.specs.Rows.{claim_of, row_of}
 use Rattle.pf_sched.specs.Views.{FinishedView}
 use Rattle.pf_book.specs.declared.reply.Reply.{Reply}
-use Rattle.pf_book.specs.Answers.{AnswersCall, ClaimsAt, Files, HandsBack}
+use Rattle.pf_book.specs.Answers.{SimulatesCall, ClaimsAt, SimulatesFile, SimulatesHandBack}
 use Rattle.pf_book.specs.Profile.{IsRight, ForRight}
 use Rattle.pf_book.specs.Queued.{job_in_state, job_of_trial}
 use Rattle.pf_book.specs.Trials.{JobAt}
@@ -106,7 +106,7 @@ reply_told work_done = desk.given_up
 reply_told not_now = desk.given_up
 
 module _ (rows : List (ClaimRow Job)) (log : List ClientReplies) (w w' : Desks) (q : ℕ) (c : call_code.Call) (r : Reply)
-    (a : AnswersCall w q (view_of_call c) (Ok r) w') (s : IsSound rows log w) where
+    (a : SimulatesCall w q (view_of_call c) (Ok r) w') (s : IsSound rows log w) where
   abbrev mine : Desk
   mine = desk_at q w
 
@@ -157,11 +157,11 @@ module _ (rows : List (ClaimRow Job)) (log : List ClientReplies) (w w' : Desks) 
 -- ---- calls for which the log has no room
 
 module _ (rows : List (ClaimRow Job)) (log : List ClientReplies) (w w' : Desks) (q : ℕ) (c : call_code.Call) (s : IsSound rows log w) (full : MOST_CALLS ≤ calls_in (desk_at q w).history) where
-  pub sound_past : (r : Result Reply NoMemory) → AnswersCall w q (view_of_call c) r w' → KeepsAllTickets w w' → IsSound rows log w'
+  pub sound_past : (r : Result Reply NoMemory) → SimulatesCall w q (view_of_call c) r w' → KeepsAllTickets w w' → IsSound rows log w'
   sound_past (Ok r) a keeps = sound_full rows log w w' q c r a s full keeps
   sound_past (Err e) a keeps = absurd (full_below (desk_at q w) full a.0)
 
-  pub refused_past : (r : Result Reply NoMemory) → AnswersCall w q (view_of_call c) r w' → IsOneTooMany r
+  pub refused_past : (r : Result Reply NoMemory) → SimulatesCall w q (view_of_call c) r w' → IsOneTooMany r
   refused_past (Ok r) a = refused_full rows log w w' q c r a s full
   refused_past (Err e) a = full_below (desk_at q w) full a.0
 
@@ -219,12 +219,12 @@ module _ (rows : List (ClaimRow Job)) (log : List ClientReplies) (w : Desks) (n 
   gone idle p right = open_gone c.project rows own n c (self_is c.project) at ((s.0 p right).0 c.project) idle
 
   -- what can't be filed isn't running, since the job is that of its ticket
-  stray_idle : (w' : Desks) (f : FinishedView) → c.job.value ≡ f.job → Files w c.project c.ticket f false w' → is_running (held_at own.trials c.ticket) ≡ false
+  stray_idle : (w' : Desks) (f : FinishedView) → c.job.value ≡ f.job → SimulatesFile w c.project c.ticket f false w' → is_running (held_at own.trials c.ticket) ≡ false
   stray_idle w' f job h =
       let mine : JobAt own.trials c.ticket f.job = subst (JobAt own.trials c.ticket) job (own_job rows w n c None at s.1).1 in
       ⊎_elim (λ (x : is_running (held_at own.trials c.ticket) ≡ false). x) (λ (other : JobAt own.trials c.ticket f.job → ⊥). absurd (other mine)) h.0
 
-  pub sound_filed : (w' : Desks) (f : FinishedView) (b : Bool) → c.job.value ≡ f.job → Files w c.project c.ticket f b w' → KeepsAllTickets w w' → IsSound (slice_set rows n (row_of c (Some (end_or_stray b Filed)))) log w'
+  pub sound_filed : (w' : Desks) (f : FinishedView) (b : Bool) → c.job.value ≡ f.job → SimulatesFile w c.project c.ticket f b w' → KeepsAllTickets w w' → IsSound (slice_set rows n (row_of c (Some (end_or_stray b Filed)))) log w'
   sound_filed w' f true job h keeps = (
     (λ p right.
         let x = worked_done c.project w w' (is_running (held_at own.trials c.ticket)) (after_file p own c.ticket (mark_of f.result)) (h p right) in (
@@ -236,11 +236,11 @@ module _ (rows : List (ClaimRow Job)) (log : List ClientReplies) (w : Desks) (n 
   )
   sound_filed w' f false job h keeps = subst (IsSound (slice_set rows n (row_of c (Some Stray))) log) (sym h.1) (stray (stray_idle w' f job h))
 
-  pub filed_gone : (w' : Desks) (f : FinishedView) (b : Bool) → c.job.value ≡ f.job → Files w c.project c.ticket f b w' → OnFalse b (ForRight (λ p. IsGone own c.ticket))
+  pub filed_gone : (w' : Desks) (f : FinishedView) (b : Bool) → c.job.value ≡ f.job → SimulatesFile w c.project c.ticket f b w' → OnFalse b (ForRight (λ p. IsGone own c.ticket))
   filed_gone w' f true job h = tt
   filed_gone w' f false job h = gone (stray_idle w' f job h)
 
-  pub sound_back : (w' : Desks) (b : Bool) → HandsBack w c.project c.ticket b w' → IsSound (slice_set rows n (row_of c (Some (end_or_stray b HandedBack)))) log w'
+  pub sound_back : (w' : Desks) (b : Bool) → SimulatesHandBack w c.project c.ticket b w' → IsSound (slice_set rows n (row_of c (Some (end_or_stray b HandedBack)))) log w'
   sound_back w' true h = (
     (λ p right. (
       subst (AgreesWithHistories (slice_set rows n (row_of c (Some HandedBack)))) (sym x.1) (placed c.project (slice_set rows n (row_of c (Some HandedBack))) w (after_hand_back own c.ticket)
@@ -262,6 +262,6 @@ module _ (rows : List (ClaimRow Job)) (log : List ClientReplies) (w : Desks) (n 
       let x = worked_not c.project w w' (is_running (held_at own.trials c.ticket)) (after_hand_back own c.ticket) h in
       subst (IsSound (slice_set rows n (row_of c (Some Stray))) log) (sym x.1) (stray x.0)
 
-  pub back_gone : (w' : Desks) (b : Bool) → HandsBack w c.project c.ticket b w' → OnFalse b (ForRight (λ p. IsGone own c.ticket))
+  pub back_gone : (w' : Desks) (b : Bool) → SimulatesHandBack w c.project c.ticket b w' → OnFalse b (ForRight (λ p. IsGone own c.ticket))
   back_gone w' true h = tt
   back_gone w' false h = gone (worked_not c.project w w' (is_running (held_at own.trials c.ticket)) (after_hand_back own c.ticket) h).0

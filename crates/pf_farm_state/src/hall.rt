@@ -9,7 +9,7 @@ ghost use Rattle.pf_desks.specs.Desk.{held_at};
 ghost use Rattle.pf_desks.specs.Desks.{desk_at};
 ghost use Rattle.pf_book.specs.View.{view_of_stage};
 ghost use Rattle.pf_farm_accounts.specs.Rows.{row_of, HaveEnded};
-ghost use Rattle.pf_book.specs.Answers.{AnswersCall, ClaimsAt, Files, HandsBack};
+ghost use Rattle.pf_book.specs.Answers.{SimulatesCall, ClaimsAt, SimulatesFile, SimulatesHandBack};
 ghost use Rattle.pf_book.specs.Profile.{ForRight};
 ghost use Rattle.pf_farm_laws.specs.Gone.{IsGone};
 ghost use Rattle.pf_farm_laws.specs.Told.{AgreesWithHistories};
@@ -112,7 +112,7 @@ impl<N: FarmNames> Hall<N> {
         seat: &mut ClientSeat<N>,
         call: Call,
     ) -> Result<Reply, NoMemory>
-        ensures answer { AnswersCall self.old.desks seat.old.project (view_of_call call) result self.new.desks }
+        ensures answer { SimulatesCall self.old.desks seat.old.project (view_of_call call) result self.new.desks }
         ensures rows { self.new.rows ≡ self.old.rows }
         ensures project { seat.new.project ≡ seat.old.project }
         ensures receipt { IfOk result (λ r. GetsReceipt call r seat.old seat.new) }
@@ -150,7 +150,7 @@ impl<N: FarmNames> Hall<N> {
     ) -> Result<Reply, NoMemory>
         requires { (seat.old.is_full ≡ true)
             ⊎ (MOST_CALLS ≤ calls_in (desk_at seat.old.project self.old.desks).history) }
-        ensures answer { AnswersCall self.old.desks seat.old.project (view_of_call call) result self.new.desks }
+        ensures answer { SimulatesCall self.old.desks seat.old.project (view_of_call call) result self.new.desks }
         ensures rows { self.new.rows ≡ self.old.rows }
         ensures seat { seat.new ≡ full_seat seat.old }
         ensures reply { IsOneTooMany result }
@@ -204,7 +204,7 @@ impl<N: FarmNames> Hall<N> {
     ) -> bool
         requires job { claim.1.job.value ≡ finished.job }
         requires parts { 0 < share.old.parts }
-        ensures file { Files self.old.desks claim.1.project claim.1.ticket finished result self.new.desks }
+        ensures file { SimulatesFile self.old.desks claim.1.project claim.1.ticket finished result self.new.desks }
         ensures was { slice_get self.old.rows claim.0 ≡ Some (row_of claim.1 None) }
         ensures row { self.new.rows
             ≡ slice_set self.old.rows claim.0 (row_of claim.1 (Some (end_or_stray result End.Filed))) }
@@ -224,7 +224,7 @@ impl<N: FarmNames> Hall<N> {
     /// claim is stray, and no desk has changed. It takes no memory.
     pub fn hand_back(&mut self, share: &mut Share<EndedLedger<N>>, claim: OpenClaim<N, Job>) -> bool
         requires { 0 < share.old.parts }
-        ensures back { HandsBack self.old.desks claim.1.project claim.1.ticket result self.new.desks }
+        ensures back { SimulatesHandBack self.old.desks claim.1.project claim.1.ticket result self.new.desks }
         ensures was { slice_get self.old.rows claim.0 ≡ Some (row_of claim.1 None) }
         ensures row { self.new.rows
             ≡ slice_set self.old.rows claim.0 (row_of claim.1 (Some (end_or_stray result End.HandedBack))) }

@@ -8,7 +8,7 @@ ghost use Rattle.pf_files.specs.Suites.{goes_over_several};
 
 use crate::folder::{files_in, is_folder};
 use crate::names::open;
-use pf_check::ReadModule;
+use pf_check::{ReadModule, ReadSource};
 use pf_cli::{HuntArgs, HuntGoal, Roots};
 use pf_cli_messages::{
     ProgressLine, REFUSED, Seeds, ShownText, WaitingProcesses, failed, say, why_of_root,
@@ -165,7 +165,7 @@ where
     }
 
     /// Says on standard error why something of this name is refused.
-    fn say_why(&self, name: &str, request: &Request, source: &[u8]) -> Result<(), NoMemory> {
+    fn say_why(&self, name: &str, request: &Request, source: &ReadSource) -> Result<(), NoMemory> {
         let alloc = self.rt.alloc();
         let why = why_of_root(alloc, self.args, request, source)?;
         let told = format!(in alloc; "{name}: {why}")?;
@@ -177,7 +177,7 @@ where
     fn say_more(
         &self,
         file: &str,
-        module: &ReadModule,
+        source: &ReadSource,
         root: &[u8],
         end: RootEnd,
         waiting: Option<WaitingProcesses>,
@@ -187,7 +187,7 @@ where
         let name = str::from_utf8(&bytes).unwrap_or(file);
         if matches!(end, RootEnd::Refused(_)) {
             let request = request_for(alloc, self.args, root)?;
-            self.say_why(name, &request, module.source().bytes())?;
+            self.say_why(name, &request, source)?;
         }
         if let Some(waiting) = waiting {
             let told = format!(in alloc; "{name}: {waiting}")?;
@@ -200,6 +200,7 @@ where
     fn root<W: Write, M: Ledger>(
         &mut self,
         file: &str,
+        source: &ReadSource,
         module: &ReadModule,
         root: &[u8],
         writer: &mut Counted<W, M>,
@@ -213,7 +214,7 @@ where
         self.suite.ends.push(SuiteCounts::Root(end))?;
         put_now(&line_of_root(alloc, file, root, end)?, writer)?;
         // The line went out: nothing more is said where memory runs out now.
-        let _said = self.say_more(file, module, root, end, observer.waiting());
+        let _said = self.say_more(file, source, root, end, observer.waiting());
         if args.fail_fast && matches!(end, RootEnd::Fails { .. }) {
             Ok(AfterRoot::Stops)
         } else {
@@ -225,14 +226,15 @@ where
     fn roots<W: Write, M: Ledger>(
         &mut self,
         file: &str,
-        source: &Hunted,
+        source: &ReadSource,
+        hunted: &Hunted,
         writer: &mut Counted<W, M>,
     ) -> SuiteStep {
-        if source.roots.is_empty() {
+        if hunted.roots.is_empty() {
             put_now(&line_of_rootless(self.rt.alloc(), file)?, writer)?;
         }
-        for root in &source.roots {
-            if self.root(file, &source.module, root, writer)? == AfterRoot::Stops {
+        for root in &hunted.roots {
+            if self.root(file, source, &hunted.module, root, writer)? == AfterRoot::Stops {
                 return Ok(AfterRoot::Stops);
             }
         }
@@ -243,17 +245,18 @@ where
     fn source<W: Write, M: Ledger>(
         &mut self,
         file: &str,
-        bytes: &[u8],
+        bytes: Vec<u8>,
         writer: &mut Counted<W, M>,
     ) -> SuiteStep {
         let (alloc, args) = (self.rt.alloc(), self.args);
-        match read_hunted(alloc, args, bytes) {
-            Ok(source) => self.roots(file, &source, writer),
+        let source = ReadSource::new(alloc, bytes)?;
+        match read_hunted(alloc, args, &source) {
+            Ok(hunted) => self.roots(file, &source, &hunted, writer),
             Err(OrNoMemory::NoMemory) => Err(OrNoMemory::NoMemory),
             Err(OrNoMemory::Fault(refusal)) => {
                 self.suite.ends.push(SuiteCounts::Lost)?;
                 put_now(&line_of_refusal(alloc, file, refusal)?, writer)?;
-                let _said = self.say_why(file, &args.request, bytes);
+                let _said = self.say_why(file, &args.request, &source);
                 Ok(AfterRoot::GoesOn)
             }
         }
@@ -275,7 +278,7 @@ where
                     has_lines,
                 };
                 let file = format!(in self.rt.alloc(); "{shown}")?;
-                self.source(&file, &bytes, writer)
+                self.source(&file, bytes, writer)
             }
             Err(OrNoMemory::Fault(fault)) => self.lost(name, fault),
             Err(OrNoMemory::NoMemory) => Err(OrNoMemory::NoMemory),

@@ -29,8 +29,8 @@ stops may_stop Stop = may_stop
 stops may_stop Longer = false
 stops may_stop Same = false
 
--- HuntGoesOn has may_stop a b c notices: of the seeds from a to before b those to before c were run, block by block. After
--- each block the observer was notified of how many were run in all and that the hunt has so many failures, and no
+-- HuntGoesOn has may_stop a b c notices: of the seeds from a to before b those to before c were run, block by block.
+-- After each block the observer was notified of how many were run in all and that the hunt has so many failures, and no
 -- answer ended the hunt
 pub data HuntGoesOn (has : (c failures : ℕ) → Type 0) (may_stop : Bool) (a b : ℕ) : (c : ℕ) → List Notice → Type 0 where
   begins : HuntGoesOn has may_stop a b a []

@@ -2,11 +2,11 @@
 
 ghost use Rattle.std.specs.Prelude.{◌≡◌, ◌∷◌, [], IfErr, IfOk, map};
 ghost use Rattle.pf_check.specs.Reads.{IsRefusalOf};
-ghost use Rattle.pf_check.specs.Reading.{IsReadAs};
+ghost use Rattle.pf_check.specs.Reading.{IsModuleOf};
 ghost use Rattle.pf_hunt_suite.specs.Roots.{AreHunted};
 
 use crate::roots::roots;
-use pf_check::{ReadModule, Source};
+use pf_check::{ReadModule, ReadSource};
 use pf_cli::{HuntArgs, Roots};
 use pf_errors::{NoMemory, OrNoMemory, SourceRefusal};
 use std::alloc::Global;
@@ -43,19 +43,21 @@ fn hunted_roots(
     }
 }
 
-/// The source of these bytes with the roots that a hunt goes over, or why it is refused.
+/// A source with the roots that a hunt goes over, or why it is refused.
 pub fn read_hunted(
     alloc: Global,
     args: &HuntArgs,
-    bytes: &[u8],
+    source: &ReadSource,
 ) -> Result<Hunted, OrNoMemory<SourceRefusal>>
-    ensures source { IfOk result (λ h. (h.«module».source ≡ bytes.now) × IsReadAs bytes.now h.«module») }
+    ensures source { IfOk result (λ h. IsModuleOf source.now h.«module») }
     ensures roots { IfOk result (λ h.
-        AreHunted args.now.roots args.now.request.root.items bytes.now (map (λ name. name.items) h.roots.items)) }
-    ensures fault { IfErr result (IsRefusalOf bytes.now) }
+        AreHunted args.now.roots args.now.request.root.items source.now (map (λ name. name.items) h.roots.items)) }
+    ensures fault { IfErr result (IsRefusalOf source.now) }
 {
-    let source = Source::new(alloc, Vec::from_slice(alloc, bytes)?)?;
-    let module = ReadModule::read(alloc, &source)?;
-    let roots = hunted_roots(alloc, args, bytes)?;
+    let module = match source.module() {
+        Ok(module) => module.share()?,
+        Err(refusal) => return Err(OrNoMemory::Fault(refusal)),
+    };
+    let roots = hunted_roots(alloc, args, source.bytes())?;
     Ok(Hunted { module, roots })
 }

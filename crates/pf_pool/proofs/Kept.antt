@@ -15,7 +15,7 @@ use Rattle.pf_desks.specs.Work.{DeskWork, claim, hand_back, is_queued, after_cla
 use Rattle.pf_desks.specs.Desks.{Desks, Answer, desk_at, put_desk, worked}
 use Rattle.pf_desks.proofs.Jobs.{tickets_placed, tickets_worked}
 use Rattle.pf_sched.specs.Views.{FinishedView}
-use Rattle.pf_book.specs.Answers.{ClaimsAt, HandsBack}
+use Rattle.pf_book.specs.Answers.{ClaimsAt, SimulatesHandBack}
 use Rattle.pf_book.specs.Queued.{job_at}
 use Rattle.pf_book.specs.Trials.{JobAt}
 use Rattle.pf_book.proofs.Claims.{claimed_world, unclaimed_world}
@@ -83,7 +83,7 @@ new_sound n = record {
 put_keeps : (w : Desks) (q : ℕ) (d' : Desk) (k : DeskWork) → worker_step any_profile.profile (desk_at q w) k ≡ Some d' → KeepsAllTickets w (put_desk q d' w)
 put_keeps w q d' k done = λ r. tickets_placed r q d' w (tickets_worked any_profile.profile (desk_at q w) d' k done)
 
-pub back_keeps : (w w' : Desks) (q t : ℕ) (b : Bool) → HandsBack w q t b w' → KeepsAllTickets w w'
+pub back_keeps : (w w' : Desks) (q t : ℕ) (b : Bool) → SimulatesHandBack w q t b w' → KeepsAllTickets w w'
 back_keeps w w' q t b h = subst (KeepsAllTickets w) (ap (λ (x : Desks × Answer). x.0) h) (by (hand_back_step (desk_at q w) t) refl)
   where
     by : (o : Option Desk) → hand_back_step (desk_at q w) t ≡ o → KeepsAllTickets w (worked q w o).0

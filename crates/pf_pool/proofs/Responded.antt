@@ -15,7 +15,7 @@ use Rattle.pf_desks.specs.Work.{after_claim, after_file, file_step, hand_back_st
 use Rattle.pf_desks.specs.Desks.{Desks, Answer, work_done, not_now, desk_at, put_desk, worked}
 use Rattle.pf_sched.specs.Views.{FinishedView}
 use Rattle.pf_book.specs.Answers as book
-use Rattle.pf_book.specs.Answers.{ClaimsAt, Files, HandsBack}
+use Rattle.pf_book.specs.Answers.{ClaimsAt, SimulatesFile, SimulatesHandBack}
 use Rattle.pf_book.specs.Profile as book_profile
 use Rattle.pf_book.specs.Queued.{job_at}
 use Rattle.pf_book.specs.Trials.{JobAt, IsStrayJob}
@@ -32,7 +32,7 @@ use Rattle.pf_pool.specs.declared.response.Response.TheVariants as response
 use Rattle.pf_pool.specs.Deques.{Parks, TakesOldest}
 use Rattle.pf_pool.specs.Hands.{held_of_worker, is_free, hand_holds, holds_going, SlicesHand, RunCameTo, TakesFinished, TakesUpRun, take_effect}
 use Rattle.pf_pool.specs.Profile.{IsRight, ForRight}
-use Rattle.pf_pool.specs.Responses.{Responds, view_of_response, work_response}
+use Rattle.pf_pool.specs.Responses.{SimulatesStep, view_of_response, work_response}
 use Rattle.pf_pool.proofs.Lifted.{deque_there, at_hand, no_worker, with_its_effect}
 use Rattle.pf_pool.proofs.Done.{claim_busy, claim_unqueued, claim_queued, slice_none, slice_zero, slice_does, park_none, park_full, park_does, file_not_held, file_going, file_does, back_none, back_does}
 use Rattle.pf_pool.proofs.Taken.{takes_up, steals}
@@ -58,8 +58,8 @@ same_both s w h h' rs rs' i j a b =
     (λ z. record { desks = s.desks; hands = hands z; deques = deques z })
 
 -- a world that is the same as another answers as it does
-pub seen : (s s0 s' : World) (x : WorldStep) (r : Result Response NoMemory) → s ≡ s0 → Responds s x r s' → Responds s0 x r s'
-seen s s0 s' x r is h = subst (λ (k : World). Responds k x r s') is h
+pub seen : (s s0 s' : World) (x : WorldStep) (r : Result Response NoMemory) → s ≡ s0 → SimulatesStep s x r s' → SimulatesStep s0 x r s'
+seen s s0 s' x r is h = subst (λ (k : World). SimulatesStep k x r s') is h
 
 -- ---- what tests of a worker's hand show
 
@@ -81,15 +81,15 @@ going_so q t (Some (Some x)) h = (x, refl, h)
 -- ---- what can't be done now
 
 module _ (s : World) (w q t : ℕ) (k : Chore) where
-  pub responds_not_now : ((p : RunProfile) → effect_of p s w q t k ≡ None) → Responds s (worker_does w q t k) (Ok response.NotNow) s
+  pub responds_not_now : ((p : RunProfile) → effect_of p s w q t k ≡ None) → SimulatesStep s (worker_does w q t k) (Ok response.NotNow) s
   responds_not_now none p right = with_its_effect p s w q t k None (none p)
 
-  pub responds_no_worker : slice_get s.hands w ≡ None → Responds s (worker_does w q t k) (Ok response.NotNow) s
+  pub responds_no_worker : slice_get s.hands w ≡ None → SimulatesStep s (worker_does w q t k) (Ok response.NotNow) s
   responds_no_worker h = responds_not_now (λ p. no_worker p s w q t k h)
 
   -- an allocation failed in a claim or a parking, which changed nothing
   pub responds_refused : (e : NoMemory) → MayTakeMemory k → refused_in s (worker_does w q t k) ≡ s
-      → ((p : RunProfile) → (x : Effect) × (effect_of p s w q t k ≡ Some x)) → Responds s (worker_does w q t k) (Err e) s
+      → ((p : RunProfile) → (x : Effect) × (effect_of p s w q t k ≡ Some x)) → SimulatesStep s (worker_does w q t k) (Err e) s
   responds_refused e may same some p right = ((may, subst IsSome (sym (some p).1) refl), sym same)
 
 -- ---- at a hand and the worker's own deque
@@ -101,7 +101,7 @@ at_held T b hs w h i test = sym (ap (λ (o : Option Hand). T (option_flatten o))
 module _ (s : World) (same : length s.hands ≡ length s.deques) (w q t : ℕ) (k : Chore) (other : is_theft_of_own w k ≡ false) (own : deque_owner w k ≡ w) where
   -- it can't be done with that hand, whatever the deque is
   not_with : (T : Hand → Type 0) → ((p : RunProfile) (h : Hand) (rs : Deque) → T h → chore_effect p q t k (desk_at q s.desks) h rs ≡ None)
-      → ((h : Hand) → slice_get s.hands w ≡ Some h → T h) → Responds s (worker_does w q t k) (Ok response.NotNow) s
+      → ((h : Hand) → slice_get s.hands w ≡ Some h → T h) → SimulatesStep s (worker_does w q t k) (Ok response.NotNow) s
   not_with T none at = responds_not_now s w q t k (λ p. by p (slice_get s.hands w) refl)
     where
       by : (p : RunProfile) (o : Option Hand) → slice_get s.hands w ≡ o → effect_of p s w q t k ≡ None
@@ -111,27 +111,27 @@ module _ (s : World) (same : length s.hands ≡ length s.deques) (w q t : ℕ) (
           at_hand p s w q t k h d.0 None other i (subst (λ (v : ℕ). slice_get s.deques v ≡ Some d.0) (sym own) d.1) (none p h d.0 (at h i))
 
 module _ (s : World) (same : length s.hands ≡ length s.deques) (w q t : ℕ) where
-  pub slice_not : (n : ℕ) → holds_going q t (held_of_worker s.hands w) ≡ false → Responds s (worker_does w q t (slicing n)) (Ok response.NotNow) s
+  pub slice_not : (n : ℕ) → holds_going q t (held_of_worker s.hands w) ≡ false → SimulatesStep s (worker_does w q t (slicing n)) (Ok response.NotNow) s
   slice_not n missing =
       not_with s same w q t (slicing n) refl refl (λ h. holds_going q t h ≡ false) (λ p h rs is. slice_none p q t (desk_at q s.desks) n h rs is)
       (λ h i. at_held (holds_going q t) false s.hands w h i missing)
 
-  pub slice_no_turns : (n : ℕ) → nat_lt 0 n ≡ false → Responds s (worker_does w q t (slicing n)) (Ok response.NotNow) s
+  pub slice_no_turns : (n : ℕ) → nat_lt 0 n ≡ false → SimulatesStep s (worker_does w q t (slicing n)) (Ok response.NotNow) s
   slice_no_turns n missing =
       not_with s same w q t (slicing n) refl refl (λ h. Unit {0}) (λ p h rs is. slice_zero p q t (desk_at q s.desks) n h rs missing) (λ h i. tt)
 
-  pub park_not : holds_going q t (held_of_worker s.hands w) ≡ false → Responds s (worker_does w q t parking) (Ok response.NotNow) s
+  pub park_not : holds_going q t (held_of_worker s.hands w) ≡ false → SimulatesStep s (worker_does w q t parking) (Ok response.NotNow) s
   park_not missing =
       not_with s same w q t parking refl refl (λ h. holds_going q t h ≡ false) (λ p h rs is. park_none p q t (desk_at q s.desks) h rs is)
       (λ h i. at_held (holds_going q t) false s.hands w h i missing)
 
-  pub back_not : hand_holds q t (held_of_worker s.hands w) ≡ false → Responds s (worker_does w q t handing_back) (Ok response.NotNow) s
+  pub back_not : hand_holds q t (held_of_worker s.hands w) ≡ false → SimulatesStep s (worker_does w q t handing_back) (Ok response.NotNow) s
   back_not missing =
       not_with s same w q t handing_back refl refl (λ h. hand_holds q t h ≡ false) (λ p h rs is. back_none p q t (desk_at q s.desks) h rs is)
       (λ h i. at_held (hand_holds q t) false s.hands w h i missing)
 
   pub file_not : (hand_holds q t (held_of_worker s.hands w) ≡ false) ⊎ (holds_going q t (held_of_worker s.hands w) ≡ true)
-      → Responds s (worker_does w q t filing) (Ok response.NotNow) s
+      → SimulatesStep s (worker_does w q t filing) (Ok response.NotNow) s
   file_not (inl missing) =
       not_with s same w q t filing refl refl (λ h. hand_holds q t h ≡ false) (λ p h rs is. file_not_held p q t (desk_at q s.desks) h rs is)
       (λ h i. at_held (hand_holds q t) false s.hands w h i missing)
@@ -139,7 +139,7 @@ module _ (s : World) (same : length s.hands ≡ length s.deques) (w q t : ℕ) w
       not_with s same w q t filing refl refl (λ h. holds_going q t h ≡ true) (λ p h rs is. file_going p q t (desk_at q s.desks) h rs is)
       (λ h i. at_held (holds_going q t) true s.hands w h i goes)
 
-  pub claim_not_free : is_free (slice_get s.hands w) ≡ false → Responds s (worker_does w q t claiming) (Ok response.NotNow) s
+  pub claim_not_free : is_free (slice_get s.hands w) ≡ false → SimulatesStep s (worker_does w q t claiming) (Ok response.NotNow) s
   claim_not_free missing =
       not_with s same w q t claiming refl refl (λ h. is_free (Some h) ≡ false) (λ p h rs is. claim_busy p q t (desk_at q s.desks) h rs is)
       (λ h i. sym (ap is_free i) ∙ missing)
@@ -148,7 +148,7 @@ module _ (s : World) (same : length s.hands ≡ length s.deques) (w q t : ℕ) w
 
 pub slice_responds : (s : World) (w q t n : ℕ) (h h' : Hand) (rs : Deque) (r : Result Response NoMemory) → slice_get s.hands w ≡ Some h
     → slice_get s.deques w ≡ Some rs → holds_going q t h ≡ true → nat_lt 0 n ≡ true → SlicesHand n h r h'
-    → Responds s (worker_does w q t (slicing n)) r (record s { hands = slice_set s.hands w h' })
+    → SimulatesStep s (worker_does w q t (slicing n)) r (record s { hands = slice_set s.hands w h' })
 slice_responds s w q t n None h' rs r i j hand_holds some k p right = absurd (cc)
 slice_responds s w q t n (Some x) h' rs (Ok r) i j hand_holds some k p right =
     with_its_effect p s w q t (slicing n) (Some (in_hand (sliced p n x)))
@@ -166,7 +166,7 @@ slice_responds s w q t n (Some x) h' rs (Err e) i j hand_holds some k p right =
 
 pub park_responds : (s : World) (w q t : ℕ) (h h' : Hand) (rs rs' : Deque) → slice_get s.hands w ≡ Some h → slice_get s.deques w ≡ Some rs
     → holds_going q t h ≡ true → nat_lt (length rs) MOST_PARKED ≡ true → Parks rs h (Ok tt) rs' h'
-    → Responds s (worker_does w q t parking) (Ok response.Done) (record { desks = s.desks; hands = slice_set s.hands w h'; deques = slice_set s.deques w rs' })
+    → SimulatesStep s (worker_does w q t parking) (Ok response.Done) (record { desks = s.desks; hands = slice_set s.hands w h'; deques = slice_set s.deques w rs' })
 park_responds s w q t None h' rs rs' i j hand_holds room k p right = absurd (cc)
 park_responds s w q t (Some r) h' rs rs' i j hand_holds room k p right =
     with_its_effect p s w q t parking (Some (onto_deque r rs))
@@ -174,14 +174,14 @@ park_responds s w q t (Some r) h' rs rs' i j hand_holds room k p right =
     ∙ (λ z. (record { desks = s.desks; hands = slice_set s.hands w (sym k.1 z); deques = slice_set s.deques w (sym k.0 z) }, answer work_done))
 
 pub park_refused : (s : World) (w q t : ℕ) (h : Hand) (rs : Deque) (e : NoMemory) → slice_get s.hands w ≡ Some h → slice_get s.deques w ≡ Some rs
-    → holds_going q t h ≡ true → nat_lt (length rs) MOST_PARKED ≡ true → Responds s (worker_does w q t parking) (Err e) s
+    → holds_going q t h ≡ true → nat_lt (length rs) MOST_PARKED ≡ true → SimulatesStep s (worker_does w q t parking) (Err e) s
 park_refused s w q t None rs e i j hand_holds room = absurd (cc)
 park_refused s w q t (Some r) rs e i j hand_holds room =
     responds_refused s w q t parking e tt refl
     (λ p. (onto_deque r rs, at_hand p s w q t parking (Some r) rs (Some (onto_deque r rs)) refl i j (park_does p q t (desk_at q s.desks) r rs hand_holds room)))
 
 pub park_no_room : (s : World) (w q t : ℕ) (h : Hand) (rs : Deque) → slice_get s.hands w ≡ Some h → slice_get s.deques w ≡ Some rs
-    → nat_lt (length rs) MOST_PARKED ≡ false → Responds s (worker_does w q t parking) (Ok response.NotNow) s
+    → nat_lt (length rs) MOST_PARKED ≡ false → SimulatesStep s (worker_does w q t parking) (Ok response.NotNow) s
 park_no_room s w q t h rs i j missing =
     responds_not_now s w q t parking (λ p. at_hand p s w q t parking h rs None refl i j (park_full p q t (desk_at q s.desks) h rs missing))
 
@@ -189,7 +189,7 @@ park_no_room s w q t h rs i j missing =
 
 module _ (s : World) (w q t : ℕ) (rs : Deque) (j : slice_get s.deques w ≡ Some rs) where
   module _ (i : slice_get s.hands w ≡ Some None) where
-    pub claim_not_queued : job_at (desk_at q s.desks).trials t ≡ None → Responds s (worker_does w q t claiming) (Ok response.NotNow) s
+    pub claim_not_queued : job_at (desk_at q s.desks).trials t ≡ None → SimulatesStep s (worker_does w q t claiming) (Ok response.NotNow) s
     claim_not_queued none =
         responds_not_now s w q t claiming (λ p. at_hand p s w q t claiming None rs None refl i j (claim_unqueued p q t (desk_at q s.desks) rs none))
 
@@ -200,11 +200,11 @@ module _ (s : World) (w q t : ℕ) (rs : Deque) (j : slice_get s.deques w ≡ So
       claims : (p : RunProfile) → effect_of p s w q t claiming ≡ Some left
       claims p = at_hand p s w q t claiming None rs (Some left) refl i j (claim_queued p q t (desk_at q s.desks) job rs waits)
 
-      pub claim_refused : (e : NoMemory) → Responds s (worker_does w q t claiming) (Err e) s
+      pub claim_refused : (e : NoMemory) → SimulatesStep s (worker_does w q t claiming) (Err e) s
       claim_refused e = responds_refused s w q t claiming e tt refl (λ p. (left, claims p))
 
       pub claim_responds : (o : Option (Arc Job Global)) (w' : Desks) → ClaimsAt s.desks q t (Ok o) w'
-          → Responds s (worker_does w q t claiming) (Ok response.Done) (record { desks = w'; hands = slice_set s.hands w (Some (new_run q t job)); deques = s.deques })
+          → SimulatesStep s (worker_does w q t claiming) (Ok response.Done) (record { desks = w'; hands = slice_set s.hands w (Some (new_run q t job)); deques = s.deques })
       claim_responds None w' h p right = absurd (cc (is_waiting (desk_at q s.desks).trials t job waits, (unclaimed_world q t s.desks w' h).0))
       claim_responds (Some a) w' h p right =
           with_its_effect p s w q t claiming (Some left) (claims p)
@@ -226,8 +226,8 @@ module _ (s : World) (w v q : ℕ) where
   emptied None true w' h = let told : not_now ≡ work_done = ap (λ (x : Desks × Answer). x.1) h in absurd (cc)
 
 module _ (s : World) (w q t : ℕ) (h : Hand) (rs : Deque) (i : slice_get s.hands w ≡ Some h) (j : slice_get s.deques w ≡ Some rs) where
-  pub back_responds : (b : Bool) (r : Response) (w' : Desks) → hand_holds q t h ≡ true → view_of_response r ≡ work_response b → HandsBack s.desks q t b w'
-      → Responds s (worker_does w q t handing_back) (Ok r) (record { desks = w'; hands = slice_set s.hands w None; deques = s.deques })
+  pub back_responds : (b : Bool) (r : Response) (w' : Desks) → hand_holds q t h ≡ true → view_of_response r ≡ work_response b → SimulatesHandBack s.desks q t b w'
+      → SimulatesStep s (worker_does w q t handing_back) (Ok r) (record { desks = w'; hands = slice_set s.hands w None; deques = s.deques })
   back_responds b r w' hand_holds told back p right =
       let o = hand_back_step (desk_at q s.desks) t in
       with_its_effect p s w q t handing_back (Some (hand_emptied o))
@@ -236,7 +236,7 @@ module _ (s : World) (w q t : ℕ) (h : Hand) (rs : Deque) (i : slice_get s.hand
       ∙ ap (λ (x : chores.Response). (record { desks = w'; hands = slice_set s.hands w None; deques = s.deques }, x)) (sym told)
 
 -- what is filed is of the trial's job: so it is stray only if the trial isn't running
-filed : (q t : ℕ) (w w' : Desks) (f : FinishedView) (b : Bool) → JobAt (desk_at q w).trials t f.job → Files w q t f b w'
+filed : (q t : ℕ) (w w' : Desks) (f : FinishedView) (b : Bool) → JobAt (desk_at q w).trials t f.job → SimulatesFile w q t f b w'
     → (p : desk.Profile) → book_profile.IsRight p → ◌≡◌ {A = Desks × Answer} (worked q w (file_step p (desk_at q w) t (mark_of f.result))) (w', book.work_answer b)
 filed q t w w' f true own h p right = h p right
 filed q t w w' f false own h p right = by h.0
@@ -249,8 +249,8 @@ filed q t w w' f false own h p right = by h.0
 
 module _ (s : World) (w q t : ℕ) (rs : Deque) (j : slice_get s.deques w ≡ Some rs) where
   pub file_responds : (f : FinishedView) (b : Bool) (r : Response) (hs' : List Hand) (w' : Desks) → TakesFinished w q t s.hands (Some f) hs'
-      → JobAt (desk_at q s.desks).trials t f.job → view_of_response r ≡ work_response b → Files s.desks q t f b w'
-      → Responds s (worker_does w q t filing) (Ok r) (record { desks = w'; hands = hs'; deques = s.deques })
+      → JobAt (desk_at q s.desks).trials t f.job → view_of_response r ≡ work_response b → SimulatesFile s.desks q t f b w'
+      → SimulatesStep s (worker_does w q t filing) (Ok r) (record { desks = w'; hands = hs'; deques = s.deques })
   file_responds f b r hs' w' taken own told files p right =
       let x = taken.0 in
       let o = file_step p.profile (desk_at q s.desks) t (mark_of f.result) in
@@ -279,17 +279,17 @@ module _ (s : World) (w v q t : ℕ) (rs rs' : Deque) where
       (λ z. with_effect s w v q (take_effect q t (i z) (j z))) ∙ ap (λ (o : Option Effect). with_effect s w v q o) k
 
 module _ (s s' : World) (w v q t : ℕ) (r : Response) (takes : TakesUpRun w v q t s r s') where
-  pub take_up_responds : v ≡ w → Responds s (worker_does w q t taking_up) (Ok r) s'
+  pub take_up_responds : v ≡ w → SimulatesStep s (worker_does w q t taking_up) (Ok r) s'
   take_up_responds own p right =
       ap (λ (o : Option Effect). with_effect s w w q o) (takes_up p s.desks q t (slice_get s.hands w) (slice_get s.deques w))
       ∙ subst (λ (u : ℕ). TakesUpRun w u q t s r s') own takes
 
-  pub steal_responds : (v == w) ≡ false → Responds s (worker_does w q t (stealing v)) (Ok r) s'
+  pub steal_responds : (v == w) ≡ false → SimulatesStep s (worker_does w q t (stealing v)) (Ok r) s'
   steal_responds other p right =
       ap (λ (b : Bool). with_effect s w v q (if b then None else effect_among p s.desks q t (stealing v) (slice_get s.hands w) (slice_get s.deques v))) other
       ∙ ap (λ (o : Option Effect). with_effect s w v q o) (steals p s.desks q t v (slice_get s.hands w) (slice_get s.deques v))
       ∙ takes
 
-pub steal_own : (s : World) (w v q t : ℕ) → (v == w) ≡ true → Responds s (worker_does w q t (stealing v)) (Ok response.NotNow) s
+pub steal_own : (s : World) (w v q t : ℕ) → (v == w) ≡ true → SimulatesStep s (worker_does w q t (stealing v)) (Ok response.NotNow) s
 steal_own s w v q t own =
     responds_not_now s w q t (stealing v) (λ p. ap (λ (b : Bool). if b then None else effect_among p s.desks q t (stealing v) (slice_get s.hands w) (slice_get s.deques v)) own)

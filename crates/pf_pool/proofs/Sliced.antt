@@ -8,7 +8,7 @@ use Rattle.pf_desks.specs.Desk.{FileMark, marked_whole, marked_memory}
 use Rattle.pf_sched.specs.Events.{HasEvents}
 use Rattle.pf_sched.specs.Views.{ParkedView, FinishedView, without_memory}
 use Rattle.pf_sched.specs.declared.slice.Slice.TheVariants.{More, Done}
-use Rattle.pf_sched.specs.Slices.{GoesPast, EndsBy, Sliced}
+use Rattle.pf_sched.specs.Slices.{GoesPast, EndsBy, SimulatesSlice}
 use Rattle.pf_book.specs.View.{mark_of}
 use Rattle.pf_book.proofs.Marks.{result_whole}
 use Rattle.pf_world.specs.World.{RunProfile, RunProgress, going, over, ClaimedRun}
@@ -69,12 +69,12 @@ module _ (r : Inside) (self : ClaimedRun) (n : ℕ) (g : code.RunProgress) (seen
       (subst (λ (x : ClaimedRun). Slices (run r.project r.ticket (job_of_progress k) (progress_in k)) n x)
       (ap (λ (x : code.RunProgress). run r.project r.ticket (job_of_progress x) (progress_in x)) (sym is)) h)
 
-  pub after_more : (p p' : ParkedView) → r.progress ≡ Going p → g ≡ Going p' → Sliced p n (More p') → Slices self n after
+  pub after_more : (p p' : ParkedView) → r.progress ≡ Going p → g ≡ Going p' → SimulatesSlice p n (More p') → Slices self n after
   after_more p p' was is h =
       between (Going p) (Going p') was is
       (sliced_more r.project r.ticket p.job p.at n p'.job p'.at (ap (λ (x : ParkedView). x.job) h.0) (ap (λ (x : ParkedView). x.at) h.0) h.1)
 
-  pub after_done : (p : ParkedView) (f : FinishedView) → r.progress ≡ Going p → g ≡ Over f → Sliced p n (Done f) → Slices self n after
+  pub after_done : (p : ParkedView) (f : FinishedView) → r.progress ≡ Going p → g ≡ Over f → SimulatesSlice p n (Done f) → Slices self n after
   after_done p f was is h = between (Going p) (Over f) was is (sliced_over r.project r.ticket p.job p.at n f h.0 h.1)
 
   pub after_over : (f : FinishedView) → r.progress ≡ Over f → g ≡ Over f → Slices self n after

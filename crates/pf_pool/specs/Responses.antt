@@ -32,6 +32,6 @@ work_response false = stray
 
 -- ---- steps
 
--- Responds s x r s': in a world a step is answered so, and leads to a world, for each profile that is right
-abbrev pub Responds : World → WorldStep → Result Response NoMemory → World → Type 0
-Responds s x r s' = ForRight (λ p. RespondsTo p s x (response_in r) s')
+-- SimulatesStep s x r s': in a world a step is answered so, and leads to a world, for each profile that is right
+abbrev pub SimulatesStep : World → WorldStep → Result Response NoMemory → World → Type 0
+SimulatesStep s x r s' = ForRight (λ p. RespondsTo p s x (response_in r) s')

@@ -8,7 +8,7 @@ ghost use Rattle.pf_world.specs.World.{new_world};
 ghost use Rattle.pf_world.specs.View.{view_of_chore, view_of_step};
 ghost use Rattle.pf_pool.specs.Hands as held;
 ghost use Rattle.pf_pool.specs.Hands.{held_of_worker, HoldsSameTrial, SlicesHand, TakesUpRun, TakesFinished};
-ghost use Rattle.pf_pool.specs.Responses.{Responds, view_of_response, work_response};
+ghost use Rattle.pf_pool.specs.Responses.{SimulatesStep, view_of_response, work_response};
 
 use crate::claimed_run::{ClaimedRun, RunProgress};
 use crate::deque::Deque;
@@ -74,7 +74,7 @@ impl World {
 
     /// Does a step. After running out of memory a run that was sliced is over, and all else is as it was.
     pub fn step(&mut self, alloc: Global, step: Step) -> Result<Response, NoMemory>
-        ensures { Responds self.old (view_of_step step) result self.new }
+        ensures { SimulatesStep self.old (view_of_step step) result self.new }
     {
         match step {
             Step::Call { project, call } => self.call(alloc, project, call),
@@ -89,7 +89,7 @@ impl World {
 
     /// Answers a client's call.
     pub fn call(&mut self, alloc: Global, project: u32, call: Call) -> Result<Response, NoMemory>
-        ensures { Responds self.old (client_calls project (view_of_call call)) result self.new }
+        ensures { SimulatesStep self.old (client_calls project (view_of_call call)) result self.new }
     {
         Ok(Response::Reply(self.book.call(alloc, project, call)?))
     }
@@ -103,7 +103,7 @@ impl World {
         ticket: u64,
         chore: Chore,
     ) -> Result<Response, NoMemory>
-        ensures { Responds self.old (worker_does worker project ticket (view_of_chore chore)) result self.new }
+        ensures { SimulatesStep self.old (worker_does worker project ticket (view_of_chore chore)) result self.new }
     {
         match chore {
             Chore::Claim => self.claim(alloc, worker, project, ticket),
@@ -125,7 +125,7 @@ impl World {
         project: u32,
         ticket: u64,
     ) -> Result<Response, NoMemory>
-        ensures { Responds self.old (worker_does worker project ticket claiming) result self.new }
+        ensures { SimulatesStep self.old (worker_does worker project ticket claiming) result self.new }
     {
         if !is_free(&self.hands, worker) {
             return Ok(Response::NotNow);
@@ -149,7 +149,7 @@ impl World {
         ticket: u64,
         turns: u32,
     ) -> Result<Response, NoMemory>
-        ensures { Responds self.old (worker_does worker project ticket (slicing turns)) result self.new }
+        ensures { SimulatesStep self.old (worker_does worker project ticket (slicing turns)) result self.new }
     {
         if turns == 0 || !holds_going(&self.hands, worker, project, ticket) {
             return Ok(Response::NotNow);
@@ -160,7 +160,7 @@ impl World {
 
     /// A worker parks a run that it holds and that isn't over, if fewer than 64 are parked.
     pub fn park(&mut self, worker: u32, project: u32, ticket: u64) -> Result<Response, NoMemory>
-        ensures { Responds self.old (worker_does worker project ticket parking) result self.new }
+        ensures { SimulatesStep self.old (worker_does worker project ticket parking) result self.new }
     {
         if !holds_going(&self.hands, worker, project, ticket) {
             return Ok(Response::NotNow);
@@ -174,14 +174,14 @@ impl World {
 
     /// A free worker takes up the oldest run that it parked, if it is that of the ticket.
     pub fn take_up(&mut self, worker: u32, project: u32, ticket: u64) -> Response
-        ensures { Responds self.old (worker_does worker project ticket taking_up) (Ok result) self.new }
+        ensures { SimulatesStep self.old (worker_does worker project ticket taking_up) (Ok result) self.new }
     {
         self.take(worker, worker, project, ticket)
     }
 
     /// A free worker steals the oldest run that another parked, if it is that of the ticket.
     pub fn steal(&mut self, worker: u32, from: u32, project: u32, ticket: u64) -> Response
-        ensures { Responds self.old (worker_does worker project ticket (stealing from)) (Ok result) self.new }
+        ensures { SimulatesStep self.old (worker_does worker project ticket (stealing from)) (Ok result) self.new }
     {
         if worker == from {
             return Response::NotNow;
@@ -191,7 +191,7 @@ impl World {
 
     /// A worker files a run that it holds and that is over. It takes no memory.
     pub fn file(&mut self, worker: u32, project: u32, ticket: u64) -> Response
-        ensures { Responds self.old (worker_does worker project ticket filing) (Ok result) self.new }
+        ensures { SimulatesStep self.old (worker_does worker project ticket filing) (Ok result) self.new }
     {
         let Some(finished) = take_finished(&mut self.hands, worker, project, ticket) else {
             return Response::NotNow;
@@ -201,7 +201,7 @@ impl World {
 
     /// A worker hands back a run that it holds, however far it is; its trial is queued again. It takes no memory.
     pub fn hand_back(&mut self, worker: u32, project: u32, ticket: u64) -> Response
-        ensures { Responds self.old (worker_does worker project ticket handing_back) (Ok result) self.new }
+        ensures { SimulatesStep self.old (worker_does worker project ticket handing_back) (Ok result) self.new }
     {
         if !holds(&self.hands, worker, project, ticket) {
             return Response::NotNow;

@@ -17,7 +17,7 @@ use Rattle.pf_model.specs.Runs.{Passes, Transition, enabled, start}
 use Rattle.pf_model.proofs.Turned.{pass_only}
 use Rattle.pf_stepper.specs.declared.point.Point.{Point}
 use Rattle.pf_stepper.specs.declared.point.Point.TheVariants as point
-use Rattle.pf_system.specs.Steps.{PassesTo}
+use Rattle.pf_system.specs.Steps.{SimulatesTransition}
 use Rattle.pf_system.specs.View.{SystemView, view_of_system}
 use Rattle.pf_system.proofs.Bodies.{more_length}
 use Rattle.pf_process_status.specs.Fates.{Began, IsCalled, IsNoCall, IsAtPoint, begun_in}
@@ -110,7 +110,7 @@ module _ (k : KnownRun) (d : Configuration) (h : RunLeadsTo k d) (i : ℕ) (s : 
     abbrev used : ℕ
     used = went.2.0
 
-    passes : PassesTo (k.limit - s.steps) s went.0 l used s'
+    passes : SimulatesTransition (k.limit - s.steps) s went.0 l used s'
     passes = went.2.1
 
     actor : went.0 ≡ t.actor

@@ -1,1 +1,2 @@
 pub mod ReadModules
+pub mod Printable

@@ -16,7 +16,7 @@ use Rattle.pf_strategy.specs.ActorKeys.{keys_of}
 use Rattle.pf_strategy.specs.Runs.{GoesBy, MeansByPriorities, state_later, actor_picked, stays}
 use Rattle.pf_strategy.proofs.Longer.{goes_on}
 use Rattle.pf_strategy.proofs.Replayed.{by_numbers, choices, replayed}
-use Rattle.pf_system.specs.Steps.{PassesTo}
+use Rattle.pf_system.specs.Steps.{SimulatesTransition}
 use Rattle.pf_system.specs.View.{SystemView}
 use Rattle.pf_system.proofs.Bodies.{map_more}
 use Rattle.pf_sched.specs.Closing.{ClosesRun}
@@ -82,7 +82,7 @@ module _ (j : Job) (seed : ℕ) where
       s : SystemView
       s = x.system
 
-      p : PassesTo (limit - s.steps) s e.actor e.label w.used x'.system
+      p : SimulatesTransition (limit - s.steps) s e.actor e.label w.used x'.system
       p = w.passes
 
       k : ℕ

@@ -18,7 +18,7 @@ use Rattle.pf_trace.specs.declared.lines.WrittenReport.{WrittenReport}
 use Rattle.pf_sched.specs.Asked.{IsValid}
 use Rattle.pf_sched.specs.Events.{of_run, of_shrinking}
 use Rattle.pf_sched.specs.Parts.{Executes, IsRunBy, IsRunOf, events_in}
-use Rattle.pf_sched.specs.Slices.{Advances, Continues, EndsBy, GoesPast, IsRunOver, IsReportBy, RunAdvances}
+use Rattle.pf_sched.specs.Slices.{Advances, SimulatesEvents, EndsBy, GoesPast, IsRunOver, IsReportBy, RunAdvances}
 use Rattle.pf_sched.specs.Told.{WritesEvents}
 use Rattle.pf_sched.specs.Views.{without_memory}
 use Rattle.pf_sched.specs.declared.execution.Execution.{Execution}
@@ -65,15 +65,15 @@ ended limit before after turns x c stands count false goes = (count, λ over. go
 
 -- so it is where the system has other spare nodes
 pub continues_alike : {T : Type 0} (Told : T → meaning.Job → List meaning.Event → Type 0) (limit turns : ℕ) (old new : Execution) (t u : T) (s r : SystemView) → s ≡ old.system → r ≡ new.system
-    → (over : Bool) → Continues Told limit (record old { system = s }) t new u turns over → Continues Told limit old t (record new { system = r }) u turns over
+    → (over : Bool) → SimulatesEvents Told limit (record old { system = s }) t new u turns over → SimulatesEvents Told limit old t (record new { system = r }) u turns over
 continues_alike Told limit turns old new t u s r e f over went =
-    subst (λ z. Continues Told limit old t (record new { system = z }) u turns over) (sym f)
-    (subst (λ z. Continues Told limit (record old { system = z }) t new u turns over) e went)
+    subst (λ z. SimulatesEvents Told limit old t (record new { system = z }) u turns over) (sym f)
+    (subst (λ z. SimulatesEvents Told limit (record old { system = z }) t new u turns over) e went)
 
 -- a run has the events that its trace received
 pub advances_written : (j : Job) (turns limit : ℕ) → limit ≡ j.asked.limit → (old new : code.Run) (t u : Writer) → property_of t.property.now ≡ j.asked.property
     → t.atoms.now ≡ j.asked.code.atoms → t.written ≡ old.written → u.written ≡ new.written → (over : Bool)
-    → Continues WritesEvents limit old.execution t new.execution u turns over → RunAdvances j old new turns over
+    → SimulatesEvents WritesEvents limit old.execution t new.execution u turns over → RunAdvances j old new turns over
 advances_written j turns limit same old new t u property atoms before after over went cs run = (
   record { run = subst (λ es. Executes j cs es new.execution) (sym events) w.1; written = written; ruled_out = ruled_out },
   subst (λ n. Advances (length (events_in old)) n turns over (IsRunOver j.asked.limit new.execution)) (ap length (sym events))

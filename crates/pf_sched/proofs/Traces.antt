@@ -12,7 +12,7 @@ use Rattle.pf_model.specs.Configuration.{Configuration}
 use Rattle.pf_model.specs.Channels.{heads}
 use Rattle.pf_model.specs.Meaning.{Event, event_of_transition, picks}
 use Rattle.pf_model.specs.Runs.{enabled, Goes, stays, Passes, transition, Transition, Words}
-use Rattle.pf_system.specs.Steps.{IsNoteOf, PassesTo}
+use Rattle.pf_system.specs.Steps.{IsNoteOf, SimulatesTransition}
 use Rattle.pf_system.specs.View.{SystemView}
 use Rattle.pf_system.specs.declared.enabled.Enabled.{Enabled}
 use Rattle.pf_sched.specs.declared.execution.Execution.{Execution}
@@ -64,7 +64,7 @@ module _ (m : Module) (f : Weighting) (ws : Words) (limit : ℕ) (c : Configurat
       s : SystemView
       s = x.system
 
-      p : PassesTo (limit - s.steps) s e.actor e.label w.used x'.system
+      p : SimulatesTransition (limit - s.steps) s e.actor e.label w.used x'.system
       p = w.passes
 
       k : ℕ

@@ -10,7 +10,7 @@ use Rattle.pf_request.specs.Job.{Job}
 use Rattle.pf_strategy.specs.Priorities.{PriorityState, choice, first, state_of}
 use Rattle.pf_strategy.specs.ActorKeys.{keys_of}
 use Rattle.pf_strategy.specs.Runs.{GoesBy}
-use Rattle.pf_system.specs.Steps.{PassesTo}
+use Rattle.pf_system.specs.Steps.{SimulatesTransition}
 use Rattle.pf_sched.specs.declared.guided.Guided.{Guided}
 use Rattle.pf_sched.specs.Told.{Hears}
 
@@ -24,7 +24,7 @@ pub record WentBy (left : ℕ) (c : Configuration) (x : Guided) (e : meaning.Eve
   pub counts : e.count ≡ length (enabled c)
   pub chooses : choice pcg32 (priorities_in x) (keys_of (enabled c)) ≡ (e.choice, priorities_in x')
   pub chosen : slice_get (enabled c) e.choice ≡ Some e.actor
-  pub passes : PassesTo left x.system e.actor e.label used x'.system
+  pub passes : SimulatesTransition left x.system e.actor e.label used x'.system
 
 -- the same, and a trace received it; or nobody may go and nothing was done
 abbrev pub MayHaveGoneBy : {T : Type 0} (Told : T → meaning.Job → List meaning.Event → Type 0) → ℕ → Configuration → Guided → T → Bool → Guided → T → Type 0

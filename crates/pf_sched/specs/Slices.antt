@@ -35,9 +35,9 @@ EndsBy j n r = IsResult j.asked r × ((m : ℕ) × HasEvents j.asked m × (m ≤
 
 -- a slice of n turns: the job goes on after n events more, if it has more than those; else it is over, with its
 -- result, or memory ran out
-abbrev pub Sliced : ParkedView → (turns : ℕ) → Slice → Type 0
-Sliced p turns (More q) = (q ≡ view_of_parked p.job (p.at + turns)) × GoesPast p.job (p.at + turns)
-Sliced p turns (Done f) = (f.job ≡ p.job) × (EndsBy p.job (p.at + turns) f.result ⊎ (f.result ≡ without_memory))
+abbrev pub SimulatesSlice : ParkedView → (turns : ℕ) → Slice → Type 0
+SimulatesSlice p turns (More q) = (q ≡ view_of_parked p.job (p.at + turns)) × GoesPast p.job (p.at + turns)
+SimulatesSlice p turns (Done f) = (f.job ≡ p.job) × (EndsBy p.job (p.at + turns) f.result ⊎ (f.result ≡ without_memory))
 
 -- ---- within a slice
 
@@ -51,8 +51,8 @@ abbrev pub IsRunOver : (limit : ℕ) → Execution → Type 0
 IsRunOver limit x = (c : Configuration) × (x.system.standing ≡ Some c) × Stops (limit - x.system.steps) c
 
 -- a run goes on, whichever job's it is and by whichever choices, and a trace receives all its events
-abbrev pub Continues : {T : Type 0} (Told : T → meaning.Job → List Event → Type 0) (limit : ℕ) (old : Execution) (t : T) (new : Execution) (u : T) (turns : ℕ) (over : Bool) → Type 0
-Continues Told limit old t new u turns over =
+abbrev pub SimulatesEvents : {T : Type 0} (Told : T → meaning.Job → List Event → Type 0) (limit : ℕ) (old : Execution) (t : T) (new : Execution) (u : T) (turns : ℕ) (over : Bool) → Type 0
+SimulatesEvents Told limit old t new u turns over =
     (j : Job) (cs : meaning.Choices) (es : List Event) → j.asked.limit ≡ limit → Executes j cs es old → Told t j.asked es
     → (es' : List Event) × Executes j cs es' new × Told u j.asked es' × Advances (length es) (length es') turns over (IsRunOver limit new)
 

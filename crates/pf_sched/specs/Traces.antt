@@ -14,7 +14,7 @@ use Rattle.pf_model.specs.Channels.{heads}
 use Rattle.pf_model.specs.Meaning as meaning
 use Rattle.pf_model.specs.Meaning.{picks, profile_of, words_of}
 use Rattle.pf_model.specs.Runs.{can_go, enabled, pids_in_state, Goes, Transition, Words}
-use Rattle.pf_system.specs.Steps.{PassesTo}
+use Rattle.pf_system.specs.Steps.{SimulatesTransition}
 use Rattle.pf_sched.specs.declared.execution.Execution.{Execution}
 use Rattle.pf_sched.specs.declared.execution.Chosen.{Chosen}
 use Rattle.pf_sched.specs.Told.{Hears, event}
@@ -37,7 +37,7 @@ pub record Went (left : ℕ) (c : Configuration) (x : Execution) (e : meaning.Ev
   pub counts : e.count ≡ length (enabled c)
   pub chooses : Chooses pcg32 x.choices (ready_in c) (heads_in c) e.choice x'.choices
   pub chosen : slice_get (enabled c) e.choice ≡ Some e.actor
-  pub passes : PassesTo left x.system e.actor e.label used x'.system
+  pub passes : SimulatesTransition left x.system e.actor e.label used x'.system
 
 -- the same of the actor that is chosen, which showed this; or nobody may go and nothing was done
 abbrev pub MayHavePassed : ℕ → Configuration → Execution → Option Chosen → Label → Execution → Type 0

@@ -9,7 +9,7 @@ ghost use Rattle.pf_model.specs.Reports.{label_of};
 ghost use Rattle.pf_model.specs.Runs.{Stops};
 ghost use Rattle.pf_system.specs.Steps.{IsNoteOf, noted_actors};
 ghost use Rattle.pf_sched.specs.Parts.{Executes};
-ghost use Rattle.pf_sched.specs.Slices.{Continues, IsComplete};
+ghost use Rattle.pf_sched.specs.Slices.{SimulatesEvents, IsComplete};
 ghost use Rattle.pf_sched.specs.Traces.{Makes, MayHaveGone, MayHavePassed, heads_in, ready_in};
 
 use crate::job::Job;
@@ -128,7 +128,7 @@ impl Execution {
         shown: &mut Label,
         trace: &mut T,
     ) -> Result<bool, NoMemory>
-        ensures { IfOk result (Continues T.Told limit self.old trace.old self.new trace.new turns) }
+        ensures { IfOk result (SimulatesEvents T.Told limit self.old trace.old self.new trace.new turns) }
     {
         for _ in 0..turns {
             if self.system.steps() >= limit {
@@ -150,7 +150,7 @@ impl Execution {
         turns: u32,
         trace: &mut T,
     ) -> Result<bool, NoMemory>
-        ensures { IfOk result (Continues T.Told limit self.old trace.old self.new trace.new turns) }
+        ensures { IfOk result (SimulatesEvents T.Told limit self.old trace.old self.new trace.new turns) }
     {
         let mut shown = Label::Waits;
         self.system.put_spare(scratch.take_spare(alloc));

@@ -2,7 +2,7 @@
 
 ghost use Rattle.std.specs.Prelude.{◌≡◌, ◌⊎◌, ◌<◌, IfOk, length};
 ghost use Rattle.pf_sched.specs.Parts.{IsRunOf, IsShrinkingOf, events_in, events_so_far};
-ghost use Rattle.pf_sched.specs.Slices.{EndsBy, IsRunOver, Sliced};
+ghost use Rattle.pf_sched.specs.Slices.{EndsBy, IsRunOver, SimulatesSlice};
 ghost use Rattle.pf_sched.specs.Views.{view_of_parked, without_memory};
 
 use crate::finished::Finished;
@@ -52,7 +52,7 @@ fn slice_of_run(
     turns: u32,
 ) -> Slice
     requires { IsRunOf job.value run.value }
-    ensures { Sliced (view_of_parked job.value (length (events_in run.value))) turns result }
+    ensures { SimulatesSlice (view_of_parked job.value (length (events_in run.value))) turns result }
 {
     match run.go_on(alloc, &job, scratch, turns) {
         Ok(false) => Slice::More(Parked {
@@ -73,7 +73,7 @@ fn slice_of_shrinking(
     turns: u32,
 ) -> Slice
     requires { IsShrinkingOf job.value shrinking.value }
-    ensures { Sliced (view_of_parked job.value (events_so_far shrinking.value)) turns result }
+    ensures { SimulatesSlice (view_of_parked job.value (events_so_far shrinking.value)) turns result }
 {
     match Box::into_inner(shrinking).advance(alloc, &job, scratch, turns) {
         Ok(ShrinkingAdvance::More(shrinking)) => match Box::new(alloc, shrinking) {
@@ -93,7 +93,7 @@ fn slice_of_shrinking(
 /// in the scratch makes no difference.
 pub fn run_slice(alloc: Global, parked: Parked, scratch: &mut Scratch, turns: u32) -> Slice
     requires { 0 < turns }
-    ensures { Sliced parked turns result }
+    ensures { SimulatesSlice parked turns result }
 {
     let Parked { job, work } = parked;
     match work {

@@ -6,7 +6,7 @@ ghost use Rattle.pf_stepper.specs.MachineView.{at_call, spent, standing_so};
 ghost use Rattle.pf_stepper.specs.Points.{IsPointAt};
 ghost use Rattle.pf_stepper.specs.Readiness.{IsReadyAhead};
 ghost use Rattle.pf_stepper.specs.Settled.{AdvanceIsSound, IsReadyAfter, IsReadyToSettle, Settled};
-ghost use Rattle.pf_stepper.specs.Turns.{AnsweredMachine, CanAnswer, CanMove, MovedFrom, RunsTurn};
+ghost use Rattle.pf_stepper.specs.Turns.{AnsweredMachine, CanAnswer, CanMove, MovedFrom, SimulatesTurn};
 
 use crate::act::Act;
 use crate::advance::Advance;
@@ -235,7 +235,7 @@ impl Machine {
         requires stands { CanMove self.old.standing }
         requires ready { IsReadyAhead (I.IsReady inbox.old) self.old }
         ensures ran { IfOk result (λ used.
-            RunsTurn left self.old (I.messages inbox.old) did.new self.new used (I.messages inbox.new)) }
+            SimulatesTurn left self.old (I.messages inbox.old) did.new self.new used (I.messages inbox.new)) }
         ensures spent { OnErr result ((self.new ≡ standing_so self.old spent)
             × (I.messages inbox.new ≡ I.messages inbox.old)) }
         ensures ready { IsReadyAhead (I.IsReady inbox.new) self.new }

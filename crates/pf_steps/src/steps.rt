@@ -3,7 +3,7 @@
 ghost use Rattle.std.specs.Prelude.{◌≡◌, ◌≤◌, ℕ, List, length, IfOk, IfErr, OnOk};
 ghost use Rattle.std.specs.Io.KnownBytes.{Consumes};
 ghost use Rattle.pf_wire.specs.Endings.{EndsAs};
-ghost use Rattle.pf_wire.specs.Steps.{StepsAnswered, StepsLeaves};
+ghost use Rattle.pf_wire.specs.Steps.{SimulatesSteps, StepsLeaves};
 ghost use Rattle.pf_steps.specs.Profile.{run_profile};
 
 use pf_errors::OrNoMemory;
@@ -25,7 +25,7 @@ pub fn run_steps<R: Read, W: Write, L: Ledger, M: Ledger>(
     writer: &mut Counted<W, M>,
     ending: &mut InputEnd,
 ) -> Result<u8, OrNoMemory<StreamFault>>
-    ensures answered { IfOk result (λ status. StepsAnswered run_profile (R.remaining reader.old.inner)
+    ensures answered { IfOk result (λ status. SimulatesSteps run_profile (R.remaining reader.old.inner)
         (W.contents writer.old.inner) (W.contents writer.new.inner) status) }
     ensures taken { (bytes : List ℕ) × (length bytes ≤ MOST_BYTES)
         × Consumes (R.remaining reader.old.inner) (R.remaining reader.new.inner) bytes }

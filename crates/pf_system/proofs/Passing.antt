@@ -9,7 +9,7 @@ use Rattle.pf_model.specs.Runs.{can_go, pids_in_state, channel, Passed, passed, 
 use Rattle.pf_model.specs.Reports.{label_of}
 use Rattle.pf_model.specs.declared.report.Label.{Label}
 use Rattle.pf_system.specs.View.{SystemView, view_of_system}
-use Rattle.pf_system.specs.Steps.{IsValid, RunsModule, PassesTo, unless_spent, view_of_inside}
+use Rattle.pf_system.specs.Steps.{IsValid, RunsModule, SimulatesTransition, unless_spent, view_of_inside}
 use Rattle.pf_system.specs.Processes.{Represents, Delivered, core_of, configuration_of}
 use Rattle.pf_system.specs.declared.processes.Processes.{Processes}
 use Rattle.pf_system.specs.declared.system.System.TheInside.{Inside}
@@ -52,7 +52,7 @@ pub still_kept : (m : Checked) (w w' : Processes) (from to : ℕ) (l : Label) �
 still_kept m w w' from to l k h = kept_after m w w' (delivered (core_of w) from to h.signal).left.core k h.shown.done.stands h.shown.done.basis
 
 pub delivery_passes : (m : Checked) (w w' : Processes) (k from to : ℕ) (l : Label) → Delivered (core_of w) from to w l w'
-    → PassesTo 1 (view_of_system m k (Some (configuration_of w))) (channel from to) (label_of l) 1
+    → SimulatesTransition 1 (view_of_system m k (Some (configuration_of w))) (channel from to) (label_of l) 1
     (view_of_system m (k + 1) (Some (configuration_of w')))
 delivery_passes m w w' k from to l h =
     let d = delivered (core_of w) from to h.signal in

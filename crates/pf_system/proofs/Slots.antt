@@ -12,7 +12,7 @@ use Rattle.pf_model.specs.Runs.{can_go}
 use Rattle.pf_model.specs.Turns.{with_answer}
 use Rattle.pf_stepper.specs.Advanced.{no_step}
 use Rattle.pf_stepper.specs.MachineView.{MachineView, MachineStatus, spent, goes, asking, over}
-use Rattle.pf_stepper.specs.Turns.{CanMove, RunsTurn, MachineRan, AnsweredMachine, answered_in, answer_value}
+use Rattle.pf_stepper.specs.Turns.{CanMove, SimulatesTurn, MachineRan, AnsweredMachine, answered_in, answer_value}
 use Rattle.pf_stepper.specs.declared.machine.Move.{Move}
 use Rattle.pf_stepper.specs.declared.machine.Move.TheVariants as v
 use Rattle.pf_mailbox.specs.MailView.{MailView}
@@ -38,7 +38,7 @@ can_move false x s = subst CanMove (sym s.1) tt
 
 pub ran_machine : (m : Checked) (own left : ℕ) (k k' : MachineView) (w : Bool) (mail mail' : MailView) (move : Move) (used : ℕ)
     → can_go (waiting_if w (state_in k.standing)) ≡ true → SlotIsSound m own (slot_with (life.Lives k w) mail)
-    → RunsTurn left k mail.messages move k' used mail'.messages → IsAheadOf k' mail'
+    → SimulatesTurn left k mail.messages move k' used mail'.messages → IsAheadOf k' mail'
     → RanInSlot m own left (slot_with (life.Lives k w) mail) move used (slot_with (life.Lives k' w) mail')
 ran_machine m own left k k' w mail mail' move used can h r ahead =
     let f = never_waits w k.standing h.ready.0 can in

@@ -18,7 +18,7 @@ use Rattle.pf_stepper.specs.MachineView.{MachineView, goes, at_call}
 use Rattle.pf_system.specs.View.{view_of_system}
 use Rattle.pf_system.specs.Acts.{OpensWithTies}
 use Rattle.pf_system.specs.Slots.{SlotIsSound, SlotsAreSound, slot_body, state_in}
-use Rattle.pf_system.specs.Steps.{IsAmong, RunsModule, PassesTo}
+use Rattle.pf_system.specs.Steps.{IsAmong, RunsModule, SimulatesTransition}
 use Rattle.pf_system.specs.Processes.{Represents, ProcessTurned, checked_in, core_of, configuration_of}
 use Rattle.pf_system.specs.declared.slot.Life.TheVariants as life
 use Rattle.pf_system.specs.declared.slot.Slot.{Slot}
@@ -80,7 +80,7 @@ pub turn_kept : (m : Checked) (w w' : Processes) (c : Core) (a left used : ℕ) 
 turn_kept m w w' c a left used l k h = kept_after m w w' h.deed.left.core k h.shown.done.stands h.shown.done.basis
 
 pub turn_passes : (m : Checked) (w w' : Processes) (k a left used : ℕ) (l : Label) → RunsModule m w → ProcessTurned (core_of w) a left w l used w'
-    → PassesTo left (view_of_system m k (Some (configuration_of w))) (process a) (label_of l) used (view_of_system m (k + used) (Some (configuration_of w')))
+    → SimulatesTransition left (view_of_system m k (Some (configuration_of w))) (process a) (label_of l) used (view_of_system m (k + used) (Some (configuration_of w')))
 turn_passes m w w' k a left used l i h =
     let d = h.deed in
     let p : Passed = passed a d w.shared.channels None used in

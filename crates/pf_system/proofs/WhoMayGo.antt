@@ -8,7 +8,7 @@ use Rattle.pf_model.specs.Channels.{heads}
 use Rattle.pf_model.specs.Configuration.{Configuration}
 use Rattle.pf_model.specs.Labels.{Label}
 use Rattle.pf_model.specs.Runs.{Actor, process, channel, enabled, Passed, Passes, delivery}
-use Rattle.pf_system.specs.Steps.{IsAmong, MayGo, PassesTo, noted_actors}
+use Rattle.pf_system.specs.Steps.{IsAmong, MayGo, SimulatesTransition, noted_actors}
 use Rattle.pf_system.specs.View.{SystemView}
 use Rattle.pf_system.specs.declared.enabled.Enabled.{Enabled}
 
@@ -19,7 +19,7 @@ among (y ∷ xs) zero x e = ([], xs, ap (λ z. z ∷ xs) (same_Some y x e))
 among (y ∷ xs) (suc k) x e = let r = among xs k x e in (y ∷ r.0, r.1, ap (λ z. y ∷ z) r.2)
 
 -- a delivery is one step, however many are left
-pub delivers_within : (left a b : ℕ) (s s' : SystemView) (l : Label) → 0 < left → PassesTo 1 s (channel a b) l 1 s' → PassesTo left s (channel a b) l 1 s'
+pub delivers_within : (left a b : ℕ) (s s' : SystemView) (l : Label) → 0 < left → SimulatesTransition 1 s (channel a b) l 1 s' → SimulatesTransition left s (channel a b) l 1 s'
 delivers_within left a b s s' l h p =
     record {
       before = p.before;

@@ -11,7 +11,7 @@ ghost use Rattle.pf_model.specs.declared.limits.TheConstants.{MOST_PROCESSES};
 ghost use Rattle.pf_model.specs.Runs.{process, channel, enabled, start};
 ghost use Rattle.pf_stepper.specs.Points.{IsPointOf};
 ghost use Rattle.pf_system.specs.View.{view_of_system};
-ghost use Rattle.pf_system.specs.Steps.{IsNoteOf, MayGo, PassesTo, noted_actors};
+ghost use Rattle.pf_system.specs.Steps.{IsNoteOf, MayGo, SimulatesTransition, noted_actors};
 
 use crate::enabled::Enabled;
 use crate::processes::{Basis, Processes};
@@ -177,7 +177,7 @@ impl System {
     ) -> Result<u32, NoMemory>
         requires enabled { MayGo (process pid) self.old.standing }
         requires left { self.old.steps < limit }
-        ensures passed { IfOk result (λ used. PassesTo (limit - self.old.steps)
+        ensures passed { IfOk result (λ used. SimulatesTransition (limit - self.old.steps)
             self.old (process pid) (label_of shown.new) used self.new) }
         ensures spent { OnErr result (self.new ≡ view_of_system self.old.checked self.old.steps None) }
         ensures refused { self.old.standing ≡ None → IsErr result }
@@ -205,7 +205,7 @@ impl System {
         requires enabled { MayGo (channel from to) self.old.standing }
         requires left { self.old.steps < limit }
         ensures passed { OnOk result
-            (PassesTo 1 self.old (channel from to) (label_of shown.new) 1 self.new) }
+            (SimulatesTransition 1 self.old (channel from to) (label_of shown.new) 1 self.new) }
         ensures spent { OnErr result (self.new ≡ view_of_system self.old.checked self.old.steps None) }
         ensures refused { self.old.standing ≡ None → IsErr result }
     {
@@ -230,7 +230,7 @@ impl System {
     ) -> Result<u32, NoMemory>
         requires enabled { MayGo (actor_of actor) self.old.standing }
         requires left { self.old.steps < limit }
-        ensures { IfOk result (λ used. PassesTo (limit - self.old.steps)
+        ensures { IfOk result (λ used. SimulatesTransition (limit - self.old.steps)
             self.old (actor_of actor) (label_of shown.new) used self.new) }
     {
         match actor {

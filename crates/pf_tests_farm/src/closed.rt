@@ -1,6 +1,6 @@
 //! What is left when a farm is closed.
 
-ghost use Rattle.pf_sched.specs.Slices.{Sliced};
+ghost use Rattle.pf_sched.specs.Slices.{SimulatesSlice};
 
 use crate::calls::{ENDLESS, SENDERS, fetch, give_up, order, submit};
 use crate::missed::Missed;

@@ -1,6 +1,6 @@
 //! A run that one worker parks goes on at another.
 
-ghost use Rattle.pf_sched.specs.Slices.{Sliced};
+ghost use Rattle.pf_sched.specs.Slices.{SimulatesSlice};
 
 use crate::calls::{SPAWNING, SUM, fetch, order, submit};
 use crate::missed::Missed;

@@ -1,7 +1,7 @@
 //! Two trials of two projects run at the same time: neither ends before both have begun, and the one that began first
 //! waits until the other was fetched.
 
-ghost use Rattle.pf_sched.specs.Slices.{Sliced};
+ghost use Rattle.pf_sched.specs.Slices.{SimulatesSlice};
 
 use crate::calls::{SUM, await_done, fetch, order, status, submit};
 use crate::missed::Missed;

@@ -17,7 +17,7 @@ use Rattle.pf_world.specs.Chores.{Response}
 use Rattle.pf_world.specs.Steps.{WorldStep}
 use Rattle.pf_world.specs.Memory.{RespondsInTurn}
 use Rattle.pf_pool.specs.Profile.{IsRight, ForRight}
-use Rattle.pf_wire.specs.Steps.{AnswersOne, AnswersInPart, AreRead, StepsAnswered, StepsAnsweredInPart, StepsLeaves, WholeAnswered, last_text}
+use Rattle.pf_wire.specs.Steps.{AnswersOne, AnswersInPart, AreRead, SimulatesSteps, StepsAnsweredInPart, StepsLeaves, WholeAnswered, last_text}
 use Rattle.pf_wire.specs.Turns.{MayFollow, Turns, AnswersCommands, so_far, no_more, TellsUpTo, TellsAll, TellsInPart, TurnsLeave, TakesPiece, PieceLeaves}
 use Rattle.pf_protocol.specs.Complete.{is_due, is_complete, CompleteCommands, unfinished}
 use Rattle.pf_wire.specs.declared.steps.TheConstants.{MOST_BYTES, WORKERS}
@@ -327,7 +327,7 @@ module _ (p : RunProfile) (right : IsRight p) where
 
   -- all was answered, and the last line was no command
   pub stands_ended_ill : (over : Bool) (bytes : List ℕ) (w : World) (k taken : ℕ) (r0 r1 w0 w1 w2 : Option (List ℕ)) → Stands over bytes w k taken r0 r1 w0 w1 → taken ≤ MOST_BYTES
-      → TellsAll p over bytes w k w1 w2 → StepsAnswered p r0 w0 w2 2
+      → TellsAll p over bytes w k w1 w2 → SimulatesSteps p r0 w0 w2 2
   stands_ended_ill over bytes w k taken r0 r1 w0 w1 w2 s le t =
       let c = goes over r0 r1 s.0 taken s.1 s.2 le s.3 in
       let one = s.4 p right in
@@ -342,7 +342,7 @@ module _ (p : RunProfile) (right : IsRight p) where
 
   -- all was answered
   pub stands_ended : (bytes : List ℕ) (w : World) (k taken : ℕ) (r0 r1 w0 w1 : Option (List ℕ)) → Stands true bytes w k taken r0 r1 w0 w1 → taken ≤ MOST_BYTES
-      → is_due true bytes ≡ false → StepsAnswered p r0 w0 w1 0
+      → is_due true bytes ≡ false → SimulatesSteps p r0 w0 w1 0
   stands_ended (b ∷ bs) w k taken r0 r1 w0 w1 s le done = absurd (some_due b bs done)
   stands_ended [] w k taken r0 r1 w0 w1 s le done =
       let c = goes true r0 r1 s.0 taken s.1 s.2 le s.3 in

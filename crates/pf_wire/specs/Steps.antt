@@ -61,8 +61,8 @@ abbrev pub AreRead : Option (List ℕ) → List ℕ → Type 0
 AreRead r0 bytes = IfSome r0 (λ input. bytes ≡ take MOST_BYTES input)
 
 -- what was read is answered with the text that went out and the status
-abbrev pub StepsAnswered : RunProfile → (read_old written_old written_new : Option (List ℕ)) → ℕ → Type 0
-StepsAnswered p r0 w0 w1 status = (bytes : List ℕ) × (text : List ℕ) × AreRead r0 bytes × StepsText p bytes text status × Appends w0 w1 text
+abbrev pub SimulatesSteps : RunProfile → (read_old written_old written_new : Option (List ℕ)) → ℕ → Type 0
+SimulatesSteps p r0 w0 w1 status = (bytes : List ℕ) × (text : List ℕ) × AreRead r0 bytes × StepsText p bytes text status × Appends w0 w1 text
 
 -- a beginning of the answer to what was to be read went out
 abbrev pub StepsAnsweredInPart : RunProfile → (read_old written_old written_new : Option (List ℕ)) → Type 0

@@ -10,7 +10,7 @@ ghost use Rattle.pf_world.specs.View.{view_of_step};
 ghost use Rattle.pf_pool.specs.Profile.{ForRight};
 ghost use Rattle.pf_world.specs.World.{new_world};
 ghost use Rattle.pf_wire.specs.Endings.{EndsAs, LeadsTo, LeadsToNone};
-ghost use Rattle.pf_wire.specs.Steps.{last_text, AnswersOne, StepsAnswered, StepsLeaves};
+ghost use Rattle.pf_wire.specs.Steps.{last_text, AnswersOne, SimulatesSteps, StepsLeaves};
 ghost use Rattle.pf_wire.specs.Turns.{TellsAll, TellsUpTo, TurnsLeave};
 ghost use Rattle.pf_wire.specs.Whole.{whole_text};
 ghost use Rattle.pf_protocol.specs.Complete.{is_due};
@@ -178,7 +178,7 @@ fn answer_pieces<R: Read, W: Write, L: Ledger, M: Ledger>(
 ) -> Result<u8, OrNoMemory<StreamFault>>
     requires is_new { world.old ≡ new_world WORKERS }
     requires room { 0 < length piece.old }
-    ensures answered { IfOk result (λ status. ForRight (λ p. StepsAnswered p (R.remaining reader.old.inner)
+    ensures answered { IfOk result (λ status. ForRight (λ p. SimulatesSteps p (R.remaining reader.old.inner)
         (W.contents writer.old.inner) (W.contents writer.new.inner) status)) }
     ensures ending { IfOk result (λ status. EndsAs (R.remaining reader.old.inner) status ending.old ending.new) }
     ensures taken { (bytes : List ℕ) × (length bytes ≤ MOST_BYTES)
@@ -229,7 +229,7 @@ pub fn run_steps<R: Read, W: Write, L: Ledger, M: Ledger>(
     writer: &mut Counted<W, M>,
     ending: &mut InputEnd,
 ) -> Result<u8, OrNoMemory<StreamFault>>
-    ensures answered { IfOk result (λ status. ForRight (λ p. StepsAnswered p (R.remaining reader.old.inner)
+    ensures answered { IfOk result (λ status. ForRight (λ p. SimulatesSteps p (R.remaining reader.old.inner)
         (W.contents writer.old.inner) (W.contents writer.new.inner) status)) }
     ensures ending { IfOk result (λ status. EndsAs (R.remaining reader.old.inner) status ending.old ending.new) }
     ensures taken { (bytes : List ℕ) × (length bytes ≤ MOST_BYTES)

@@ -15,7 +15,7 @@ use Rattle.pf_cli.specs.declared.args.HuntArgs as hunt_code
 use Rattle.pf_files.specs.Suites.{goes_over_several}
 use Rattle.pf_command.specs.Streams.{Answering, Leaves, NoneFailed, Sends, Streams, streams}
 use Rattle.pf_command.specs.declared.serving.TheConstants.{MOST_BYTES}
-use Rattle.pf_wire.specs.Steps.{StepsAnswered, StepsLeaves}
+use Rattle.pf_wire.specs.Steps.{SimulatesSteps, StepsLeaves}
 use Rattle.pf_steps.specs.Profile.{run_profile}
 use Rattle.pf_cli_messages.specs.Texts.{HasStatus, IsFailure}
 use Rattle.pf_words.specs.Words.{AnswersOf, End, FromFile, FromInput, FromNamed, FromOne, SourceEnds, StepsEnd, WorkEnds, has_source, is_farm, may_be_several, unless_several}
@@ -60,7 +60,7 @@ sent_back P bytes known w0 w1 n0 n1 answered r e same was is h =
 -- ---- of commands
 
 module _ (u0 u1 w0 w1 : Option (List ℕ)) (m0 m1 n0 n1 : ℕ) where
-  pub steps_end : (r : End) → IfOk r (λ status. StepsAnswered run_profile u0 w0 w1 status) → OnOk r ((m1 ≡ m0) × (n1 ≡ n0))
+  pub steps_end : (r : End) → IfOk r (λ status. SimulatesSteps run_profile u0 w0 w1 status) → OnOk r ((m1 ≡ m0) × (n1 ≡ n0))
       → IfErr r (λ e. StepsLeaves run_profile e u0 u1 w0 w1 m0 m1 n0 n1) → StepsEnd (streams u0 w0 m0 n0) (streams u1 w1 m1 n1) r
   steps_end (Ok s) answered counts fault = (counts, answered)
   steps_end (Err e) answered counts fault = inl fault

@@ -16,7 +16,7 @@ use Rattle.pf_command.specs.Checks.{Checks}
 use Rattle.pf_command.specs.Guided.{DrawnAnswers, RunAnswers}
 use Rattle.pf_command.specs.Hunts.{HuntAnswers}
 use Rattle.pf_command.specs.Streams.{IsAnsweredSo, Answering, Leaves, NoneFailed, Streams}
-use Rattle.pf_wire.specs.Steps.{StepsAnswered, StepsLeaves}
+use Rattle.pf_wire.specs.Steps.{SimulatesSteps, StepsLeaves}
 use Rattle.pf_steps.specs.Profile.{run_profile}
 use Rattle.pf_cli_messages.specs.Texts.{HasStatus, IsFailure, TellsText}
 use Rattle.pf_files.specs.Suites.{goes_over_several}
@@ -57,7 +57,7 @@ SourceEnds P old new (Err e) = Leaves e P old new
 
 -- the same of commands; where the system gives no random numbers nothing is done
 abbrev pub StepsEnd : (old new : Streams) → End → Type 0
-StepsEnd old new (Ok status) = NoneFailed old new × StepsAnswered run_profile old.unread old.written new.written status
+StepsEnd old new (Ok status) = NoneFailed old new × SimulatesSteps run_profile old.unread old.written new.written status
 StepsEnd old new (Err e) =
     StepsLeaves run_profile e old.unread new.unread old.written new.written old.failed_reads new.failed_reads old.failed_writes new.failed_writes
     ⊎ (new ≡ old)

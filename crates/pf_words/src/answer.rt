@@ -8,6 +8,7 @@ ghost use Rattle.pf_command.specs.Streams.{Sends, streams};
 ghost use Rattle.pf_words.specs.Words.{AnswersOf, SourceEnds, WorkEnds, has_source, is_farm};
 
 use crate::steps::answer_steps;
+use pf_check::ReadSource;
 use pf_cli::{Args, CliCommand, HuntArgs, HuntGoal, RunArgs};
 use pf_cli_messages::{
     ProgressLine, REFUSED, Runs, Seeds, WaitingProcesses, lacking_of, say, say_processes,
@@ -37,10 +38,10 @@ pub fn has_source(args: &Args) -> bool
 fn answer_run<W: Write, M: Ledger>(
     rt: &(impl Eprint + AllocGlobal),
     args: &RunArgs,
-    source: Vec<u8>,
+    source: &ReadSource,
     writer: &mut Counted<W, M>,
 ) -> AnsweredRoot
-    ensures { Sends (RunAnswers (view_of_run_args args.now) source.items)
+    ensures { Sends (RunAnswers (view_of_run_args args.now) source.now)
         (W.contents writer.old.inner) (W.contents writer.new.inner)
         writer.old.failures.total writer.new.failures.total result }
 {
@@ -65,11 +66,11 @@ fn most_runs(args: &HuntArgs) -> u32 {
 fn answer_hunt<W: Write, M: Ledger>(
     rt: &(impl Eprint + AllocGlobal + Clock + Threads + Sync),
     args: &HuntArgs,
-    source: Vec<u8>,
+    source: &ReadSource,
     writer: &mut Counted<W, M>,
     line: &ProgressLine,
 ) -> AnsweredRoot
-    ensures { Sends (HuntAnswers (view_of_hunt_args args.now) source.items)
+    ensures { Sends (HuntAnswers (view_of_hunt_args args.now) source.now)
         (W.contents writer.old.inner) (W.contents writer.new.inner)
         writer.old.failures.total writer.new.failures.total result }
 {
@@ -97,10 +98,10 @@ fn answer_hunt<W: Write, M: Ledger>(
 fn answer_by<W: Write, M: Ledger, C: Answering + Drop>(
     alloc: Global,
     command: C,
-    source: Vec<u8>,
+    source: &ReadSource,
     writer: &mut Counted<W, M>,
 ) -> AnsweredRoot
-    ensures { Sends (C.answers command source.items)
+    ensures { Sends (C.answers command source.now)
         (W.contents writer.old.inner) (W.contents writer.new.inner)
         writer.old.failures.total writer.new.failures.total result }
 {
@@ -113,12 +114,12 @@ fn answer_by<W: Write, M: Ledger, C: Answering + Drop>(
 fn answer_source<W: Write, M: Ledger>(
     rt: &(impl Eprint + AllocGlobal + Clock + Threads + Sync),
     asked: &Args,
-    source: Vec<u8>,
+    source: &ReadSource,
     writer: &mut Counted<W, M>,
     line: &ProgressLine,
 ) -> AnsweredRoot
     requires { has_source (view_of_args asked.now) ≡ true }
-    ensures { Sends (AnswersOf (view_of_args asked.now) source.items)
+    ensures { Sends (AnswersOf (view_of_args asked.now) source.now)
         (W.contents writer.old.inner) (W.contents writer.new.inner)
         writer.old.failures.total writer.new.failures.total result }
 {
@@ -140,7 +141,7 @@ fn answer_source<W: Write, M: Ledger>(
 }
 
 /// Says more of a source on standard error: if it is refused, or what is asked for of it, why.
-fn say_more(rt: &(impl Eprint + AllocGlobal), asked: &CliCommand, source: &[u8], status: u8) {
+fn say_more(rt: &(impl Eprint + AllocGlobal), asked: &CliCommand, source: &ReadSource, status: u8) {
     let args = &asked.args;
     // The answer went out: nothing more is said where memory runs out now.
     if status != REFUSED {
@@ -153,24 +154,24 @@ fn say_more(rt: &(impl Eprint + AllocGlobal), asked: &CliCommand, source: &[u8],
     }
 }
 
-/// Answers a source of these bytes, and says more of it; the line is empty at the end.
+/// Answers a source of these bytes, which is read once, and says more of it; the line is empty at the end.
 fn answer_bytes<W: Write, M: Ledger>(
     rt: &(impl Eprint + AllocGlobal + Clock + Threads + Sync),
     asked: &CliCommand,
-    source: &[u8],
+    bytes: Vec<u8>,
     writer: &mut Counted<W, M>,
     line: &ProgressLine,
 ) -> AnsweredRoot
     requires { has_source (view_of_args asked.now.args) ≡ true }
-    ensures { Sends (AnswersOf (view_of_args asked.now.args) source.now)
+    ensures { Sends (AnswersOf (view_of_args asked.now.args) bytes.items)
         (W.contents writer.old.inner) (W.contents writer.new.inner)
         writer.old.failures.total writer.new.failures.total result }
 {
-    let bytes = Vec::from_slice(rt.alloc(), source)?;
-    let answered = answer_source(rt, &asked.args, bytes, writer, line);
+    let source = ReadSource::new(rt.alloc(), bytes)?;
+    let answered = answer_source(rt, &asked.args, &source, writer, line);
     line.clear();
     let status = answered?;
-    say_more(rt, asked, source, status);
+    say_more(rt, asked, &source, status);
     Ok(status)
 }
 
@@ -189,8 +190,8 @@ fn answer_read<R: Read, W: Write, L: Ledger, M: Ledger>(
         (streams (R.remaining reader.new.inner) (W.contents writer.new.inner)
         reader.new.failures.total writer.new.failures.total) result }
 {
-    let source = reader.take_front(rt.alloc(), MOST_BYTES)?;
-    answer_bytes(rt, asked, &source, writer, line)
+    let bytes = reader.take_front(rt.alloc(), MOST_BYTES)?;
+    answer_bytes(rt, asked, bytes, writer, line)
 }
 
 /// Does what is asked for between a reader and a writer; the line shows the progress of a hunt or a shrinking, and is

@@ -1,7 +1,7 @@
 //! How far a farm came, on the terminal that standard error is, and what its workers did.
 
 ghost use Rattle.std.specs.Prelude.{◌≡◌, IfOk, vec_len};
-ghost use Rattle.pf_sched.specs.Slices.{Sliced};
+ghost use Rattle.pf_sched.specs.Slices.{SimulatesSlice};
 
 use pf_clients::Watch;
 use pf_errors::NoMemory;

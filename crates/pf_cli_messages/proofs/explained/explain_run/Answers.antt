@@ -1,6 +1,6 @@
 use Rattle.std.proofs.Common.{Some, subst}
 use Rattle.pf_cli.specs.Args.{view_of_run_args}
-use Rattle.pf_cli_messages.specs.Explained.{FindsRun, told}
+use Rattle.pf_cli_messages.specs.Explained.{FindsRun, ReportsProcesses, told}
 use Rattle.pf_process_status.proofs.Survivors.{if_ok}
 use Rattle.pf_cli_messages.proofs.explained.explain_run.Goals as goal
 
@@ -8,7 +8,7 @@ pub returns-in-Some : goal.returns-in-Some
 returns-in-Some c =
     let a = view_of_run_args c.args.args.now in
     let j = c.in-Some.job in
-    let found =
-    subst (λ b. FindsRun a b (Some j)) c.in_ok-bytes.ensures.items
-    (subst (FindsRun a c.in_ok-bytes.bytes.items) c.in-Some.is c.in_ok-job.ensures) in
-    if_ok c.explain_job.result (λ text tells. told found.1.0 j text.items found.1.1 found.1.2 found.0 tells) c.explain_job.ensures
+    let found = subst (FindsRun a c.args.source.now) c.in-Some.is c.in_ok-job.ensures in
+    if_ok c.explain_job.result
+    (λ text tells. told found.1.0 j text.items found.1.1 found.1.2 found.0 (subst (λ b. ReportsProcesses j.asked a.priorities b text.items) c.bytes.ensures tells))
+    c.explain_job.ensures

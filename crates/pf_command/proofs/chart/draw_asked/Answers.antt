@@ -1,7 +1,8 @@
 use Rattle.std.proofs.Common.{ℕ, List, subst}
 use Rattle.std.proofs.lemmas.Result.{IfOk-weaker}
 use Rattle.pf_cli.specs.Args.{view_of_chart_args}
-use Rattle.pf_command.specs.Answers.{IsModuleOf, run_args}
+use Rattle.pf_command.specs.Answers.{run_args}
+use Rattle.pf_check.specs.Reading.{IsModuleOf}
 use Rattle.pf_command.specs.Charts.{ChartAnswers, DrawsJob}
 use Rattle.pf_command.specs.Guided.{DrawnAnswers, manner_of}
 use Rattle.pf_command.proofs.ByPriorities.{answers_own}

@@ -5,7 +5,9 @@ use Rattle.pf_request.specs.View.{view_of_request}
 use Rattle.pf_sched.specs.Asked.{Asks}
 use Rattle.pf_sched.specs.Views.{code_of}
 use Rattle.pf_cli.specs.Args.{view_of_chart_args}
-use Rattle.pf_command.specs.Answers.{AsksOf, IsModuleOf, Refuses, run_args}
+use Rattle.pf_command.specs.Answers.{Refuses, run_args}
+use Rattle.pf_cli_messages.specs.Explained.{AsksOf}
+use Rattle.pf_check.specs.Reading.{IsModuleOf}
 use Rattle.pf_command.specs.Charts.{ChartAnswers, DrawsJob}
 use Rattle.pf_command.specs.Guided.{AsksOfRun, DrawnAnswers, manner_of, refused}
 use Rattle.pf_command.specs.Hunts.{choices_of}

@@ -5,7 +5,9 @@ use Rattle.pf_syntax.specs.Root.{root_of}
 use Rattle.pf_model.specs.Module.{Module}
 use Rattle.pf_cli_messages.proofs.Telling.{from_asked}
 use Rattle.pf_sched.specs.Views.{code_of}
-use Rattle.pf_command.specs.Answers.{AsksOf, IsModuleOf, Refuses, run_args}
+use Rattle.pf_command.specs.Answers.{Refuses, run_args}
+use Rattle.pf_cli_messages.specs.Explained.{AsksOf}
+use Rattle.pf_check.specs.Reading.{IsModuleOf}
 use Rattle.pf_command.specs.Charts.{ChartAnswers, DrawsJob, IsRootOf}
 use Rattle.pf_command.proofs.Asking.{asks_in}
 use Rattle.pf_command.proofs.Rows.{row_told, row_job_refused}

@@ -1,7 +1,8 @@
 use Rattle.std.proofs.Common.{Ok, Err}
 use Rattle.pf_errors.specs.Codes.{code_text}
 use Rattle.pf_sched.specs.Views.{code_of}
-use Rattle.pf_command.specs.Answers.{AnswersRun, AsksOf, Counts, CountsBy, ReportsJob, counted, job_refused, refused_before, run_args, told}
+use Rattle.pf_command.specs.Answers.{AnswersRun, Counts, CountsBy, ReportsJob, counted, job_refused, refused_before, run_args, told}
+use Rattle.pf_cli_messages.specs.Explained.{AsksOf}
 use Rattle.pf_command.specs.Streams.{IsRefusedText}
 use Rattle.pf_command.proofs.Asking.{asks_in}
 use Rattle.pf_command.proofs.Counting.{went_more, went_refused}

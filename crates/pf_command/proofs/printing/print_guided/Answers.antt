@@ -4,7 +4,8 @@ use Rattle.pf_request.specs.View.{view_of_request}
 use Rattle.pf_sched.specs.Asked.{Asks}
 use Rattle.pf_sched.specs.Views.{code_of}
 use Rattle.pf_cli.specs.Args.{view_of_run_args}
-use Rattle.pf_command.specs.Answers.{AnswersRun, AsksOf, CountsBy, ReportsJob, job_refused, refused_before, run_args}
+use Rattle.pf_command.specs.Answers.{AnswersRun, CountsBy, ReportsJob, job_refused, refused_before, run_args}
+use Rattle.pf_cli_messages.specs.Explained.{AsksOf}
 use Rattle.pf_command.specs.Guided.{RunAnswers, RunCounts, refused}
 use Rattle.pf_command.specs.Streams.{IsRefusedText}
 use Rattle.pf_command.proofs.ByPriorities.{answers_guided, asks_shared}

@@ -1,5 +1,6 @@
 use Rattle.pf_cli.specs.Args.{view_of_run_args}
-use Rattle.pf_command.specs.Answers.{AnswersRun, AsksOf, CountsBy, ReportsJob, run_args}
+use Rattle.pf_command.specs.Answers.{AnswersRun, CountsBy, ReportsJob, run_args}
+use Rattle.pf_cli_messages.specs.Explained.{AsksOf}
 use Rattle.pf_command.specs.Guided.{RunAnswers, RunCounts}
 use Rattle.pf_command.proofs.ByPriorities.{answers_own}
 use Rattle.pf_command.proofs.Counting.{counts_own, went_more}

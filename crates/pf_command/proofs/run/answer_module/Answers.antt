@@ -2,7 +2,9 @@ use Rattle.std.proofs.Common.{ℕ, List, Ok, Err}
 use Rattle.std.proofs.lemmas.Result.{IfOk-weaker}
 use Rattle.pf_errors.specs.Codes.{code_text}
 use Rattle.pf_sched.specs.Views.{code_of}
-use Rattle.pf_command.specs.Answers.{AnswersRun, AsksOf, IsModuleOf, Refuses, ReportsJob, run_args}
+use Rattle.pf_command.specs.Answers.{AnswersRun, Refuses, ReportsJob, run_args}
+use Rattle.pf_cli_messages.specs.Explained.{AsksOf}
+use Rattle.pf_check.specs.Reading.{IsModuleOf}
 use Rattle.pf_command.proofs.Asking.{asks_in}
 use Rattle.pf_command.proofs.Rows.{row_told, row_job_refused}
 use Rattle.pf_command.proofs.run.answer_module.Goals as goal

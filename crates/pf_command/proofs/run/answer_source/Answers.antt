@@ -1,6 +1,7 @@
 use Rattle.std.proofs.lemmas.Result.{IfOk-weaker}
 use Rattle.pf_errors.specs.Codes.{refusal_text}
-use Rattle.pf_command.specs.Answers.{AnswersRun, AsksOf, Refuses, ReportsJob, run_args}
+use Rattle.pf_command.specs.Answers.{AnswersRun, Refuses, ReportsJob, run_args}
+use Rattle.pf_cli_messages.specs.Explained.{AsksOf}
 use Rattle.pf_command.proofs.Rows.{row_refused}
 use Rattle.pf_command.proofs.run.answer_source.Goals as goal
 

@@ -1,6 +1,6 @@
 use Rattle.std.proofs.Common.{[], Some}
 use Rattle.pf_cli.specs.Args.{failure, view_of_hunt_args}
-use Rattle.pf_command.specs.Answers.{AsksOf}
+use Rattle.pf_cli_messages.specs.Explained.{AsksOf}
 use Rattle.pf_command.specs.Hunts.{HuntAsksFor, shrinking_of, shrinking_refused}
 use Rattle.pf_command.proofs.Asking.{refusal_weaker}
 use Rattle.pf_command.proofs.seek.may_shrink.Goals as goal

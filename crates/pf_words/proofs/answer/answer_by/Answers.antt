@@ -6,11 +6,11 @@ use Rattle.pf_words.proofs.answer.answer_by.Goals as goal
 
 pub returns-in_err-answer : goal.returns-in_err-answer
 returns-in_err-answer g c =
-    sent_memory (g.C.Answering.answers c.args.command c.args.source.items) _ _ c.from_residual.result c.from_residual.ensures
+    sent_memory (g.C.Answering.answers c.args.command c.args.source.now) _ _ c.from_residual.result c.from_residual.ensures
 
 pub returns-in_err-put : goal.returns-in_err-put
 returns-in_err-put g c =
-    sent_fault (g.C.Answering.answers c.args.command c.args.source.items) _ _ _ _ c.from_residual-in_err-put.result c.in_err-put.field-0.0
+    sent_fault (g.C.Answering.answers c.args.command c.args.source.now) _ _ _ _ c.from_residual-in_err-put.result c.in_err-put.field-0.0
     c.from_residual-in_err-put.ensures (
       c.in_ok-answer.answer.text.items,
       c.in_ok-answer.answer.status,

@@ -1,16 +1,15 @@
 use Rattle.pf_cli.specs.Args.{view_of_args}
 use Rattle.pf_words.specs.Words.{AnswersOf}
-use Rattle.pf_words.proofs.Ends.{handed_on_source, sent_as, source_ends, unread_ends}
+use Rattle.pf_words.proofs.Ends.{handed_on_source, source_ends, unread_ends}
 use Rattle.pf_words.proofs.answer.answer_read.Goals as goal
 
-pub returns-in_err-source : goal.returns-in_err-source
-returns-in_err-source g c =
-    handed_on_source (AnswersOf (view_of_args c.args.asked.now.args)) _ _ c.from_residual.result c.in_err-source.field-0.0 c.from_residual.ensures
-    (unread_ends (AnswersOf (view_of_args c.args.asked.now.args)) _ _ _ _ _ _ c.in_err-source.field-0.0 c.in_err-source.ensures.counted)
+pub returns-in_err-bytes : goal.returns-in_err-bytes
+returns-in_err-bytes g c =
+    handed_on_source (AnswersOf (view_of_args c.args.asked.now.args)) _ _ c.from_residual.result c.in_err-bytes.field-0.0 c.from_residual.ensures
+    (unread_ends (AnswersOf (view_of_args c.args.asked.now.args)) _ _ _ _ _ _ c.in_err-bytes.field-0.0 c.in_err-bytes.ensures.counted)
 
 pub returns : goal.returns
 returns g c =
-    source_ends (AnswersOf (view_of_args c.args.asked.now.args)) c.in_ok-source.source.items (g.R.Read.remaining c.args.reader.now.inner) _ _ _ _ _ _ _
-    c.in_ok-source.ensures.front c.in_ok-source.ensures.kept c.answer_bytes.result
-    (sent_as (AnswersOf (view_of_args c.args.asked.now.args)) c.deref.result.now c.in_ok-source.source.items _ _ _ _ c.answer_bytes.result c.deref.ensures.value
-    c.answer_bytes.ensures)
+    source_ends (AnswersOf (view_of_args c.args.asked.now.args)) c.in_ok-bytes.bytes.items (g.R.Read.remaining c.args.reader.now.inner) _ _ _ _ _ _ _
+    c.in_ok-bytes.ensures.front c.in_ok-bytes.ensures.kept c.answer_bytes.result
+    c.answer_bytes.ensures

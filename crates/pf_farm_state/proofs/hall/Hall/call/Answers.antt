@@ -5,7 +5,7 @@ use Rattle.pf_quota.specs.declared.refusals.TheConstants.{MOST_CALLS}
 use Rattle.pf_desks.specs.Calls.{calls_in}
 use Rattle.pf_desks.specs.Desks.{desk_at}
 use Rattle.pf_farm_accounts.specs.Receipts.{receipt_of, of_project}
-use Rattle.pf_book.specs.Answers.{AnswersCall}
+use Rattle.pf_book.specs.Answers.{SimulatesCall}
 use Rattle.pf_farm_state.specs.Clients.{ClientReplies}
 use Rattle.pf_farm_state.specs.Hall.{IsSound}
 use Rattle.pf_farm_state.proofs.Full.{HasMost, most_and_more}
@@ -18,7 +18,7 @@ log_call-requires-clause-number g c =
     let h = c.self.inside in
     let q = c.project-project.result in
     let less : calls_in (desk_at q h.book).history < MOST_CALLS = search rules in
-    let does : AnswersCall h.book q (view_of_call c.args.call) (Ok c.in_ok-reply.reply) c.call-2.new.self = c.in_ok-reply.ensures.answer in
+    let does : SimulatesCall h.book q (view_of_call c.args.call) (Ok c.in_ok-reply.reply) c.call-2.new.self = c.in_ok-reply.ensures.answer in
     let own : q ≡ c.make_room.new.self.project = search rules in
     c.call_count-number.ensures
     ∙ is_next h.ledger.0 h.calls h.book c.call-2.new.self q c.args.call c.in_ok-reply.reply does c.self.invariant (room_below (desk_at q h.book) less)
@@ -32,7 +32,7 @@ invariant_of-self-2 g c =
     let reply = c.in_ok-reply.reply in
     let less : calls_in (desk_at q h.book).history < MOST_CALLS = search rules in
     let room = room_below (desk_at q h.book) less in
-    let does : AnswersCall h.book q (view_of_call c.args.call) (Ok reply) c.call-2.new.self = c.in_ok-reply.ensures.answer in
+    let does : SimulatesCall h.book q (view_of_call c.args.call) (Ok reply) c.call-2.new.self = c.in_ok-reply.ensures.answer in
     let number : n ≡ length (of_project q h.calls) + 1 = c.call_count-number.ensures ∙ is_next h.ledger.0 h.calls h.book c.call-2.new.self q c.args.call reply does c.self.invariant room in
     let now : c.log_call.new.self ≡ h.calls ++ receipt_of q n c.args.call reply ∷ [] = search rules in
     subst (λ (l : List ClientReplies). IsSound h.ledger.0 l c.call-2.new.self) (sym now)

@@ -4,7 +4,7 @@ use Rattle.pf_request.specs.Job.{Job}
 use Rattle.pf_desks.specs.Desks.{Desks}
 use Rattle.pf_farm_accounts.specs.declared.row.ClaimRow.{ClaimRow}
 use Rattle.pf_farm_accounts.specs.Rows.{claim_of, row_of}
-use Rattle.pf_book.specs.Answers.{Claims, ClaimsAt}
+use Rattle.pf_book.specs.Answers.{SimulatesClaim, ClaimsAt}
 use Rattle.pf_farm_state.specs.Clients.{ClientReplies}
 use Rattle.pf_farm_state.specs.Hall.{IsSound}
 use Rattle.pf_farm_state.proofs.Sound.{sound_claimed}
@@ -22,7 +22,7 @@ invariant_of-self-in_err-project g c = kept c.self.inside.ledger.0 c.make_room.n
 
 pub invariant_of-self-in-None : goal.invariant_of-self-in-None
 invariant_of-self-in-None g c =
-    let none : Claims c.self.inside.book (Ok None) c.claim.new.self = search rules in
+    let none : SimulatesClaim c.self.inside.book (Ok None) c.claim.new.self = search rules in
     kept c.self.inside.ledger.0 c.make_room.new.self.0 c.self.inside.calls c.self.inside.book c.claim.new.self c.make_room.ensures.rows none.1 c.self.invariant
 
 pub invariant_of-self-in-Some : goal.invariant_of-self-in-Some

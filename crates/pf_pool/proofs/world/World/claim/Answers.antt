@@ -12,7 +12,7 @@ use Rattle.pf_world.specs.Steps.{worker_does}
 use Rattle.pf_world.specs.World.{ClaimedRun, Hand, World}
 use Rattle.pf_pool.specs.declared.response.Response.TheVariants.{Done}
 use Rattle.pf_pool.specs.Hands.{is_free}
-use Rattle.pf_pool.specs.Responses.{Responds}
+use Rattle.pf_pool.specs.Responses.{SimulatesStep}
 use Rattle.pf_pool.specs.Sound.{IsSound, world_in}
 use Rattle.pf_pool.proofs.Kept.{hand_sound, claim_keeps}
 use Rattle.pf_pool.proofs.Lifted.{deque_there}
@@ -41,9 +41,9 @@ returns-in_err-claim_at c =
     let same : k ≡ s = ap (λ (d : Desks). record s { desks = d }) c.in_err-claim_at.ensures.1 in
     let e = err_from_is_err_and c.from_residual-in_err-claim_at.result c.from_residual-in_err-claim_at.ensures.1 in
     let waits : job_at (desk_at q s.desks).trials t ≡ Some c.in-Some.job.now.value = sym c.in-Some.ensures in
-    let refused : Responds s x (Err e.0) s = claim_refused s w q t rs.0 rs.1 free c.in-Some.job.now.value waits e.0 in
-    subst (λ (z : Result Response NoMemory). Responds c.args.self.now x z k) (sym e.1)
-    (seen s c.args.self.now k x (Err e.0) c.self.view_is (subst (λ (z : World). Responds s x (Err e.0) z) (sym same) refused))
+    let refused : SimulatesStep s x (Err e.0) s = claim_refused s w q t rs.0 rs.1 free c.in-Some.job.now.value waits e.0 in
+    subst (λ (z : Result Response NoMemory). SimulatesStep c.args.self.now x z k) (sym e.1)
+    (seen s c.args.self.now k x (Err e.0) c.self.view_is (subst (λ (z : World). SimulatesStep s x (Err e.0) z) (sym same) refused))
 
 pub invariant_of-self-2 : goal.invariant_of-self-2
 invariant_of-self-2 c =
@@ -73,7 +73,7 @@ returns c =
     let waits : job_at (desk_at q s.desks).trials t ≡ Some j = sym c.in-Some.ensures in
     let run_is : c.in_ok-run.run' ≡ new_run q t j = c.in_ok-run.ensures ∙ ap (λ (i : Job). new_run q t i) c.in_ok-try_clone.ensures in
     let k : World = record { desks = w'; hands = slice_set s.hands w (Some c.in_ok-run.run'); deques = s.deques } in
-    let done : Responds s x (Ok Done) k =
-    subst (λ (r : ClaimedRun). Responds s x (Ok Done) (record { desks = w'; hands = slice_set s.hands w (Some r); deques = s.deques })) (sym run_is)
+    let done : SimulatesStep s x (Ok Done) k =
+    subst (λ (r : ClaimedRun). SimulatesStep s x (Ok Done) (record { desks = w'; hands = slice_set s.hands w (Some r); deques = s.deques })) (sym run_is)
     (claim_responds s w q t rs.0 rs.1 free j waits c.in_ok-claim_at.field-0 w' c.in_ok-claim_at.ensures) in
     seen s c.args.self.now k x (Ok Done) c.self.view_is done

@@ -8,7 +8,7 @@ use Rattle.pf_world.specs.World.{Hand, Deque, World}
 use Rattle.pf_pool.specs.declared.response.Response.{Response}
 use Rattle.pf_pool.specs.declared.response.Response.TheVariants.{Done}
 use Rattle.pf_pool.specs.Hands.{held_of_worker, holds_going}
-use Rattle.pf_pool.specs.Responses.{Responds}
+use Rattle.pf_pool.specs.Responses.{SimulatesStep}
 use Rattle.pf_pool.specs.Sound.{world_in}
 use Rattle.pf_pool.proofs.Kept.{nothing_lost, hand_of, deque_of, both_sound, parked_runs}
 use Rattle.pf_pool.proofs.Lifted.{deque_there}
@@ -39,9 +39,9 @@ returns-in_err-park c =
     let k : World = record { desks = s.desks; hands = slice_set s.hands w c.park.new.hand; deques = slice_set s.deques w c.park.new.self } in
     let same : k ≡ s =
     same_both s w (Some held.0) c.park.new.hand own.0 c.park.new.self held.1 own.1 (left.1 ∙ h_is) (left.0 ∙ rs_is) in
-    let refused : Responds s x (Err e.0) s = park_refused s w q t (Some held.0) own.0 e.0 held.1 own.1 held.2 room in
-    subst (λ (z : Result Response NoMemory). Responds c.args.self.now x z k) (sym e.1)
-    (seen s c.args.self.now k x (Err e.0) c.self.view_is (subst (λ (z : World). Responds s x (Err e.0) z) (sym same) refused))
+    let refused : SimulatesStep s x (Err e.0) s = park_refused s w q t (Some held.0) own.0 e.0 held.1 own.1 held.2 room in
+    subst (λ (z : Result Response NoMemory). SimulatesStep c.args.self.now x z k) (sym e.1)
+    (seen s c.args.self.now k x (Err e.0) c.self.view_is (subst (λ (z : World). SimulatesStep s x (Err e.0) z) (sym same) refused))
 
 pub invariant_of-self-2 : goal.invariant_of-self-2
 invariant_of-self-2 c =

@@ -2,7 +2,7 @@ use Rattle.std.proofs.Common.{◌+◌, Some, sym, subst, arith}
 use Rattle.pf_model.specs.Runs.{channel}
 use Rattle.pf_model.specs.Reports.{label_of}
 use Rattle.pf_system.specs.View.{view_of_system}
-use Rattle.pf_system.specs.Steps.{MayGo, PassesTo}
+use Rattle.pf_system.specs.Steps.{MayGo, SimulatesTransition}
 use Rattle.pf_system.specs.Processes.{configuration_of}
 use Rattle.pf_system.proofs.Going.{has_signal}
 use Rattle.pf_system.proofs.Passing.{unspent, still_kept, delivery_passes}
@@ -33,6 +33,6 @@ returns-clause-passed c =
     let e = configuration_of c.deliver.new.self in
     let x = channel c.args.from c.args.to in
     let l = label_of c.deliver.new.shown in
-    subst (λ s. PassesTo 1 s x l 1 (view_of_system m (f.steps + 1) (Some e)))
+    subst (λ s. SimulatesTransition 1 s x l 1 (view_of_system m (f.steps + 1) (Some e)))
     (sym (unspent c.args.self.now m f.steps f.spent d c.self.view_is c.if-self.false))
     (delivery_passes m f.processes c.deliver.new.self f.steps c.args.from c.args.to c.deliver.new.shown c.in_ok-deliver.ensures)

@@ -2,7 +2,7 @@ use Rattle.std.proofs.Common.{◌≡◌, ◌+◌, ◌-◌, Some, sym, ap, ◌∙
 use Rattle.pf_model.specs.Runs.{process}
 use Rattle.pf_model.specs.Reports.{label_of}
 use Rattle.pf_system.specs.View.{view_of_system}
-use Rattle.pf_system.specs.Steps.{MayGo, PassesTo, unless_spent}
+use Rattle.pf_system.specs.Steps.{MayGo, SimulatesTransition, unless_spent}
 use Rattle.pf_system.specs.Processes.{configuration_of, core_of}
 use Rattle.pf_system.specs.declared.processes.Processes.{Processes}
 use Rattle.pf_system.proofs.Systems.{can_go_of, turn_kept, turn_passes}
@@ -44,5 +44,5 @@ returns-clause-passed c =
     let l = label_of c.turn.new.shown in
     let v : c.args.self.now ≡ view_of_system m k (Some (configuration_of w)) =
     sym c.self.view_is ∙ ap (λ t. view_of_system m k (unless_spent t (configuration_of w))) c.if-self.false in
-    subst (λ s. PassesTo (n - s.steps) s x l u (view_of_system m (k + u) (Some (configuration_of w')))) (sym v)
+    subst (λ s. SimulatesTransition (n - s.steps) s x l u (view_of_system m (k + u) (Some (configuration_of w')))) (sym v)
     (turn_passes m w w' k c.args.pid (n - k) u c.turn.new.shown (c.self.invariant c.if-self.false) c.in_ok-used.ensures)

@@ -11,7 +11,7 @@ use Rattle.pf_tokens.specs.TokenKinds as kinds
 use Rattle.pf_tokens.specs.TokenKinds.{PlacedToken, TokenKind, put_first}
 use Rattle.pf_tokens.specs.Rules.{BeginsWithParts, HasTokens, IsName, IsPiece, IsToken, RulePart, WritesByte, WritesAll, is_plain_in, tokens_from}
 use Rattle.pf_tokens.specs.NumberedTokens.{atom_name, atoms_of}
-use Rattle.pf_printable.proofs.Bytes.{passes_append, passes_too}
+use Rattle.pf_read_modules.proofs.Bytes.{passes_append, passes_too}
 
 abbrev pub Quotable : List ℕ → Type 0
 Quotable name = list_all is_quotable name ≡ true

@@ -9,7 +9,7 @@ use Rattle.std.proofs.lemmas.List.Sums.{AllPass-from_list_all}
 use Rattle.std.proofs.lemmas.Nat.{mod_below}
 use Rattle.pf_tokens.specs.Bytes.{is_visible}
 use Rattle.pf_model.specs.TermText.{line}
-use Rattle.pf_printable.specs.Printable.{AreLines, AreVisible, IsVisible}
+use Rattle.pf_read_modules.specs.Printable.{AreLines, AreVisible, IsVisible}
 
 -- ---- of any test
 

@@ -18,9 +18,9 @@ use Rattle.pf_model.specs.Shrinking.{Found, Result, report, shrunk_to, nothing_f
 use Rattle.pf_model.specs.TermText.{atom_text, is_plain_name, line, pid_text, quoted_byte, rest_text, value_text, values_text}
 use Rattle.pf_model.specs.Text.{actor_text, complete_text, event_text, found_text, kind_text, label_text, outcome_text, reference_text, report_text, result_text, suffix_text, verdict_text}
 use Rattle.pf_text.specs.Schedules.{numbers_text, schedule_text}
-use Rattle.pf_printable.specs.Printable.{PrintsVisibly}
-use Rattle.pf_printable.proofs.Bytes.{InLines, Seen, are_lines, are_visible, is_printed, line_printed, lines_append, passes_flat, passes_too, seen_append, seen_decimal, seen_signed}
-use Rattle.pf_printable.proofs.Names.{Quotable, lower_visible, word_visible}
+use Rattle.pf_read_modules.specs.Printable.{PrintsVisibly}
+use Rattle.pf_read_modules.proofs.Bytes.{InLines, Seen, are_lines, are_visible, is_printed, line_printed, lines_append, passes_flat, passes_too, seen_append, seen_decimal, seen_signed}
+use Rattle.pf_read_modules.proofs.Names.{Quotable, lower_visible, word_visible}
 
 -- ---- parts one after the other
 

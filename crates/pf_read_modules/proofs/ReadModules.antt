@@ -2,9 +2,9 @@
 use Rattle.std.proofs.Common.{ℕ, List, [], refl, sym, subst}
 use Rattle.pf_terms.specs.Atoms.{name_of}
 use Rattle.pf_check.specs.Reads.{ReadOutcome, accepted, refused, Reads, token_fault, no_head, no_tree, static, checked}
-use Rattle.pf_printable.specs.Printable.{ReadModulesPrintVisibly}
-use Rattle.pf_printable.proofs.Names.{AreQuotable, atoms_quotable, name_quotable}
-use Rattle.pf_printable.proofs.Texts.{prints_visibly}
+use Rattle.pf_read_modules.specs.Printable.{ReadModulesPrintVisibly}
+use Rattle.pf_read_modules.proofs.Names.{AreQuotable, atoms_quotable, name_quotable}
+use Rattle.pf_read_modules.proofs.Texts.{prints_visibly}
 
 -- the atoms of a source that is a module
 abbrev atoms_in : ReadOutcome → List (List ℕ)

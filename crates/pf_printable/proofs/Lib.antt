@@ -1,4 +1,0 @@
-pub mod Bytes
-pub mod Names
-pub mod Texts
-pub mod ReadModules
