@@ -18,9 +18,9 @@ fail() {
   exit 1
 }
 
-# A package is of a commit: what goes into it and into the program is as the commit has it. (The gate lays its wrong bodies elsewhere.)
+# A package is of a commit: what goes into it and into the program is as the commit has it. (The gate lays its mutants elsewhere.)
 git -C "$top" rev-parse -q --verify HEAD > /dev/null 2>&1 || fail "this is no clone, so there is no commit to make a package of"
-git -C "$top" diff --quiet HEAD -- LICENSE ':(glob)*.md' HANDLES crates.txt crates ':!crates/*/wrong' docs examples install install.sh package.sh port ||
+git -C "$top" diff --quiet HEAD -- LICENSE ':(glob)*.md' HANDLES crates.txt crates ':!crates/*/mutants' docs examples install install.sh package.sh port ||
   fail "there are changes that aren't committed: a package is of a commit"
 commit=$(git -C "$top" rev-parse HEAD)
 SOURCE_DATE_EPOCH=$(git -C "$top" log -1 --format=%ct)

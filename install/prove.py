@@ -24,7 +24,7 @@ sys.dont_write_bytecode = True
 import order
 
 PROGRAM = "pulsefarm"
-# What a proof and a run of a crate read. (Wrong bodies, in must-fail/, are the gate's.)
+# What a proof and a run of a crate read. (Mutants, in must-fail/, are the gate's.)
 PARTS = ("src", "specs", "proofs", "data", "stdin", "stdout", "args", "status")
 LINES_OF_A_LOG = 30
 PROVED = re.compile(r"rt: (\w+) (proved$|is kept: )")

@@ -1,6 +1,7 @@
 #!/bin/sh
-# The tests of the built programs, of `tests/wrong.sh`, and of mutants of the farm's threads: each folder of tests/ with a `run.sh`, whose last line is `N passed, M failed`. As many run at once as there are
-# processors, first those that take long; those that build the Erlang part run one after another.
+# The tests of the built programs, of `tests/mutants.sh`, and of mutants of the farm's threads: each folder of tests/
+# with a `run.sh`, whose last line is `N passed, M failed`. As many run at once as there are processors, first those
+# that take long; those that build the Erlang part run one after another.
 set -u
 cd "$(dirname "$0")/.." || exit 2
 room=$(mktemp -d) || exit 2

@@ -11,7 +11,7 @@ import os
 import re
 import sys
 
-sys.path.insert(0, os.path.join(os.path.dirname(os.path.abspath(__file__)), "..", "wrong"))
+sys.path.insert(0, os.path.join(os.path.dirname(os.path.abspath(__file__)), "..", "mutants"))
 import texts  # noqa: E402
 
 # Edges of crates.txt that nothing cites. A change of a line makes the proof of its crate due, so such an edge goes when

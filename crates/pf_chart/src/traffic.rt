@@ -65,7 +65,7 @@ fn answer_to(signal: &Signal, suffix: &Suffix) -> Option<SignalKind>
 impl Traffic {
     pub(crate) fn new(alloc: Global, columns: usize) -> Result<Traffic, NoMemory>
         ensures arrows { IfOk result (λ t. t.arrows.items ≡ []) }
-        ensures waiting_signals { IfOk result AreWaiting }
+        ensures waiting { IfOk result AreWaiting }
     {
         Ok(Traffic {
             arrows: Vec::new(alloc),
@@ -235,7 +235,7 @@ impl Traffic {
         signal: &Signal,
         suffix: &Suffix,
     ) -> Result<(), NoMemory>
-        ensures with_return_arrow { OnOk result (self.new.arrows.items
+        ensures answered { OnOk result (self.new.arrows.items
             ≡ with_return_arrow row to from (answer_to (signal_of signal.now) (suffix_of suffix.now)) self.old.arrows.items) }
         ensures sends { OnOk result (Sends row to self.old self.new) }
     {

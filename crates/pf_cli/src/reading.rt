@@ -34,7 +34,7 @@ fn told<'a, E: Display>(
     kind: ErrorKind,
     error: &E,
 ) -> Result<ReadWords<'a>, NoMemory>
-    ensures text_answered { IfOk result (λ r. view_of_reading r ≡ text_answered (status_of_kind kind)) }
+    ensures told { IfOk result (λ r. view_of_reading r ≡ text_answered (status_of_kind kind)) }
     ensures text { IfOk result (λ r. IfSome (E.output error.now) (λ printed. text_in r ≡ Some printed)) }
     ensures memory { IfOk result (λ r. kind ≢ ErrorKind.OutOfMemory) }
 {

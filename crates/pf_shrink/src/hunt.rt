@@ -50,7 +50,7 @@ impl ShrinkingSearch {
     pub fn new(schedule: Vec<u32>, runs: u32) -> ShrinkingSearch
         requires { 0 < runs }
         ensures begins { result ≡ begins (runs - 1) schedule.items }
-        ensures search_result { (fails : List ℕ → Bool)
+        ensures comes_to { (fails : List ℕ → Bool)
             → search_result fails result ≡ shrunk fails runs schedule.items }
     {
         ShrinkingSearch {
@@ -76,7 +76,7 @@ impl ShrinkingSearch {
     pub fn told(&mut self, fails: bool)
         requires { IsSome (next_of self.old) }
         ensures told { self.new ≡ after_answer fails self.old }
-        ensures search_result { (f : List ℕ → Bool) → IsAnswerOf f fails self.old
+        ensures comes_to { (f : List ℕ → Bool) → IsAnswerOf f fails self.old
             → search_result f self.new ≡ search_result f self.old }
     {
         self.phase = answered(&mut self.round, self.phase, fails);
@@ -91,7 +91,7 @@ impl ShrinkingSearch {
     pub fn found(&self) -> Option<(&[u32], bool)>
         requires { IsNone (next_of self.now) }
         ensures found { option_map (λ f. found_at f.0.now f.1) result ≡ found_of self.now }
-        ensures search_result { (fails : List ℕ → Bool)
+        ensures comes_to { (fails : List ℕ → Bool)
             → option_map (λ f. found_at f.0.now f.1) result ≡ search_result fails self.now }
     {
         match self.phase {

@@ -104,8 +104,8 @@ impl Round {
 
 // The position of the first candidate of a schedule.
 fn first_position(schedule: &[u32]) -> Position
-    ensures round_kept { IsPositionOf schedule.now result }
-    ensures round_begun { round_kept schedule.now result ≡ round_begun schedule.now }
+    ensures kept { IsPositionOf schedule.now result }
+    ensures begun { round_kept schedule.now result ≡ round_begun schedule.now }
 {
     if schedule.is_empty() {
         Position::End
@@ -117,8 +117,8 @@ fn first_position(schedule: &[u32]) -> Position
 // Makes the next candidate from that of this position.
 fn following(numbers: &mut [u32], position: Position) -> Position
     requires { IsPositionOf numbers.old position }
-    ensures round_kept { IsPositionOf numbers.new result }
-    ensures round_passed { round_kept numbers.new result ≡ round_passed (round_kept numbers.old position) }
+    ensures kept { IsPositionOf numbers.new result }
+    ensures passed { round_kept numbers.new result ≡ round_passed (round_kept numbers.old position) }
 {
     match position {
         Position::WithoutLast if numbers.len() > 1 => {
@@ -146,7 +146,7 @@ fn following(numbers: &mut [u32], position: Position) -> Position
 // Halves the first number above 0 at or after this position of a schedule.
 fn halved_from(numbers: &mut [u32], start: usize) -> Position
     requires { start ≤ length numbers.old }
-    ensures round_kept { IsPositionOf numbers.new result }
+    ensures kept { IsPositionOf numbers.new result }
     ensures schedule { schedule_in numbers.new result ≡ numbers.old }
     ensures left { candidates_left numbers.new result ≡ from_position halved start numbers.old }
 {

@@ -27,7 +27,7 @@ fn word_length(text: &[u8]) -> usize
 
 /// The bytes of words at the front, and the bytes after them.
 pub fn split_word(text: &[u8]) -> (&[u8], &[u8])
-    ensures word_bytes { result.0.now ≡ word_bytes text.now }
+    ensures word { result.0.now ≡ word_bytes text.now }
     ensures rest { result.1.now ≡ behind_word text.now }
 {
     text.split_at(word_length(text))

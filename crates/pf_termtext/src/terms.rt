@@ -7,7 +7,7 @@ ghost use Rattle.pf_terms.specs.Value.{list, tuple};
 ghost use Rattle.pf_model.specs.Text.{reference_text};
 ghost use Rattle.pf_model.specs.TermText.{pid_text, rest_text, value_text};
 
-use crate::names::put_atom;
+use crate::atom_names::put_atom;
 use pf_errors::NoMemory;
 use pf_terms::{AtomTable, Elements, List, Term};
 use pf_text::{put, put_number, put_signed};

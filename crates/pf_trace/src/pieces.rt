@@ -35,7 +35,7 @@ impl Pieces {
     /// No line.
     pub fn new(alloc: Global) -> Pieces
         ensures gone { gone_from result ≡ [] }
-        ensures waiting_bytes { told_so_far result.lines ≡ [] }
+        ensures waiting { told_so_far result.lines ≡ [] }
         ensures written { (name : ℕ → List ℕ) → AreWrittenSoFar name result.lines }
         ensures short { IsShort result }
     {
