@@ -22,8 +22,9 @@ use std::alloc::Global;
 fn job_of(alloc: Global, args: &RunArgs, source: &ReadSource) -> Result<Option<Job>, NoMemory>
     ensures { IfOk result (FindsRun (view_of_run_args args.now) source.now) }
 {
-    let Ok(module) = source.module() else {
-        return Ok(None);
+    let module = match source.module() {
+        Ok(module) => module,
+        Err(_refusal) => return Ok(None),
     };
     let job = match Job::new(alloc, module.share()?, &args.request, args.edition.number()) {
         Ok(job) => job,

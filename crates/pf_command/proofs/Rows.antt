@@ -47,9 +47,9 @@ pub tells_no_memory : (j : Job) (atoms : List (List ℕ)) (a : Output) → j.ask
     → ReportsJob j a.text.items a.status
 tells_no_memory j atoms a run tells = rw (tells.0 ∙ memory_text (name_of atoms), tells.1) (out_of_memory [] run (λ r means. (r.events, refl)))
 
-pub row_module : (explain : Bool) (m : Checked) (bytes text : List ℕ) (status : ℕ) → Reads bytes (accepted_as m)
+pub row_module : (explain : Bool) (m : ReadModule) (bytes text : List ℕ) (status : ℕ) → IsReadAs bytes m
     → text ≡ line (codes "ok") → status ≡ 0 → Checks explain bytes text status
-row_module explain m bytes text status reads e s = rw (e, s) (is_module m.name m.atoms m.functions reads)
+row_module explain m bytes text status reads e s = rw (e, s) (is_module m.code.name m.code.atoms m.code.functions reads)
 
 pub row_check_refused : (explain : Bool) (bytes text more : List ℕ) (status : ℕ) (code : Code) (offset : ℕ) → Reads bytes (refused code offset)
     → ExplainsRefusal bytes code offset explain more → text ≡ line (refusal_text code offset) ++ more → status ≡ 2 → Checks explain bytes text status

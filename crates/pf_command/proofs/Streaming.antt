@@ -56,6 +56,11 @@ pub sent_memory : (P : List ℕ → ℕ → Type 0) (w : Option (List ℕ)) (n :
 sent_memory P w n (Ok s) is = absurd cc
 sent_memory P w n (Err e) is = subst (λ z. Sends P w w n n (Err z)) (sym is.1) (refl, refl)
 
+-- what is sent of bytes is sent of the same by another name
+pub sent_as : (P : Answering) (bytes known : List ℕ) (w0 w1 : Option (List ℕ)) (n0 n1 : ℕ) (r : Result ℕ (OrNoMemory StreamFault)) → bytes ≡ known → Sends (P bytes) w0 w1 n0 n1 r
+    → Sends (P known) w0 w1 n0 n1 r
+sent_as P bytes known w0 w1 n0 n1 r same h = subst (λ b. Sends (P b) w0 w1 n0 n1 r) same h
+
 -- ---- what a command leaves
 
 module _ (P : Answering) (bytes : List ℕ) (u0 u1 w0 w1 : Option (List ℕ)) (m0 m1 n0 n1 : ℕ) (read : IfSome u0 (λ input. bytes ≡ take MOST_BYTES input)) (same : m1 ≡ m0) where

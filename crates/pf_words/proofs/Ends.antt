@@ -15,6 +15,7 @@ use Rattle.pf_cli.specs.declared.args.HuntArgs as hunt_code
 use Rattle.pf_files.specs.Suites.{goes_over_several}
 use Rattle.pf_command.specs.Streams.{Answering, Leaves, NoneFailed, Sends, Streams, streams}
 use Rattle.pf_command.specs.declared.serving.TheConstants.{MOST_BYTES}
+use Rattle.pf_command.proofs.Streaming.{sent_as}
 use Rattle.pf_wire.specs.Steps.{SimulatesSteps, StepsLeaves}
 use Rattle.pf_steps.specs.Profile.{run_profile}
 use Rattle.pf_cli_messages.specs.Texts.{HasStatus, IsFailure}
@@ -36,11 +37,6 @@ module _ (P : Answering) (bytes : List ℕ) (u0 u1 w0 w1 : Option (List ℕ)) (m
   source_ends (Err NoMemory) h = ((same, h.1), h.0)
   source_ends (Err (Fault (Read e))) h = absurd h.4
   source_ends (Err (Fault (Write e))) h = (same, h.4, (bytes, h.0, h.1, read, h.2, h.3))
-
--- what is sent of bytes is sent of the same by another name
-pub sent_as : (P : Answering) (bytes known : List ℕ) (w0 w1 : Option (List ℕ)) (n0 n1 : ℕ) (r : End) → bytes ≡ known → Sends (P bytes) w0 w1 n0 n1 r
-    → Sends (P known) w0 w1 n0 n1 r
-sent_as P bytes known w0 w1 n0 n1 r same h = subst (λ b. Sends (P b) w0 w1 n0 n1 r) same h
 
 pub sent_well : (P : Answering) (bytes known : List ℕ) (w0 w1 : Option (List ℕ)) (n0 n1 status : ℕ) (answered : End) → bytes ≡ known → answered ≡ Ok status
     → Sends (P bytes) w0 w1 n0 n1 answered → Sends (P known) w0 w1 n0 n1 (Ok status)

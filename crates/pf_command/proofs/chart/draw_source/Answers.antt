@@ -7,12 +7,11 @@ use Rattle.pf_command.specs.Guided.{AsksOfRun, DrawnAnswers, manner_of}
 use Rattle.pf_command.proofs.Rows.{row_refused}
 use Rattle.pf_command.proofs.chart.draw_source.Goals as goal
 
-pub returns-in-Err-Fault : goal.returns-in-Err-Fault
-returns-in-Err-Fault c =
-    let refusal = c.in-Err-Fault.refusal in
+pub returns-in-Err : goal.returns-in-Err
+returns-in-Err c =
+    let refusal = c.in-Err.refusal in
     let asked = view_of_chart_args c.args.args.now in
-    let bytes = c.args.bytes.items in
-    let reads = rw c.in-Err-Fault.field-0-is at c.in-Err-Fault.ensures.fault in
+    let bytes = c.args.source.now in
     IfOk-weaker c.refused_at.result (λ a. Refuses a (refusal_text refusal.code refusal.offset)) (λ a. DrawnAnswers asked bytes a.text.items a.status)
-    (λ a is. row_refused (AsksOfRun asked.run) (DrawsJob asked.run.request.root (manner_of asked)) bytes a refusal.code refusal.offset reads is)
+    (λ a is. row_refused (AsksOfRun asked.run) (DrawsJob asked.run.request.root (manner_of asked)) bytes a refusal.code refusal.offset c.in-Err.ensures is)
     c.refused_at.ensures

@@ -10,21 +10,21 @@ use Rattle.pf_command.proofs.hunt.end_of_hunt.Goals as goal
 pub returns-in-Ok : goal.returns-in-Ok
 returns-in-Ok g c =
     let h = view_of_hunt_args c.args.args.now in
-    let bytes = c.args.bytes.items in
-    let m = c.in-Ok.module in
+    let bytes = c.args.source.now in
+    let m = c.in-Ok.module.now in
     let heard = g.S.HuntObserver.Heard in
     let old = c.args.seeds.now in
     let new = c.hunt_module.new.seeds in
     IfOk-weaker c.hunt_module.result (λ x. HearsSome heard old (OfEach m (λ bytes. HuntEndsAs h h.sought bytes x)) new)
     (λ x. HearsSome heard old (HuntEndsAs h h.sought bytes x) new)
-    (λ x. hears_weaker heard (OfEach m (λ bytes. HuntEndsAs h h.sought bytes x)) (HuntEndsAs h h.sought bytes x) old new (λ ns ends. ends bytes c.in-Ok.ensures.read))
+    (λ x. hears_weaker heard (OfEach m (λ bytes. HuntEndsAs h h.sought bytes x)) (HuntEndsAs h h.sought bytes x) old new (λ ns ends. ends bytes c.in-Ok.ensures))
     c.hunt_module.ensures
 
-pub returns-in_ok-answer-in-Err-Fault : goal.returns-in_ok-answer-in-Err-Fault
-returns-in_ok-answer-in-Err-Fault g c =
-    let refusal = c.in-Err-Fault.refusal in
-    let reads = rw c.in-Err-Fault.field-0-is at c.in-Err-Fault.ensures.fault in
-    let is = c.in_ok-answer-in-Err-Fault.ensures in (
+pub returns-in_ok-answer-in-Err : goal.returns-in_ok-answer-in-Err
+returns-in_ok-answer-in-Err g c =
+    let refusal = c.in-Err.refusal in
+    let reads = c.in-Err.ensures in
+    let is = c.in_ok-answer-in-Err.ensures in (
       [],
       (tt, λ t s say. rw (say.0 ∙ is.0, say.1 ∙ is.1) (refused _ _ (source_refused refusal.code refusal.offset reads))),
       hears_none g.S.HuntObserver.Heard c.args.seeds.now,

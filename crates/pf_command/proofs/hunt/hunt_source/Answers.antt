@@ -1,32 +1,33 @@
-use Rattle.std.proofs.Common.{Ok}
+use Rattle.std.proofs.Common.{Ok, subst}
+use Rattle.std.specs.Prelude.{IfOk}
 use Rattle.std.proofs.lemmas.Result.{IfOk-weaker}
 use Rattle.pf_hunt.specs.Notices.{HearsSome}
 use Rattle.pf_hunt.proofs.Hearing.{hears_weaker}
 use Rattle.pf_cli.specs.Args.{view_of_hunt_args}
 use Rattle.pf_command.specs.Hunts.{HuntAnswers, HuntNotifies}
 use Rattle.pf_command.specs.Streams.{IsAnsweredSo, PrintsAnswer, streams}
-use Rattle.pf_command.proofs.Streaming.{answered, leaves, none_failed}
+use Rattle.pf_command.proofs.Streaming.{answered, leaves, none_failed, sent_as}
 use Rattle.pf_command.proofs.hunt.hunt_source.Goals as goal
 
 pub returns-clause-answered : goal.returns-clause-answered
 returns-clause-answered g c =
-    answered (HuntAnswers (view_of_hunt_args c.args.args.now)) c.in_ok-source.source.items (g.R.Read.remaining c.args.reader.now.inner) (g.R.Read.remaining c.take_front.new.self.inner) _ _ _ _ _ _ c.in_ok-source.ensures.front c.in_ok-source.ensures.kept
-    c.print_hunt.result c.print_hunt.ensures.sent
+    answered (HuntAnswers (view_of_hunt_args c.args.args.now)) c.in_ok-bytes.bytes.items (g.R.Read.remaining c.args.reader.now.inner) (g.R.Read.remaining c.take_front.new.self.inner) _ _ _ _ _ _ c.in_ok-bytes.ensures.front c.in_ok-bytes.ensures.kept
+    c.print_hunt.result (sent_as (HuntAnswers (view_of_hunt_args c.args.args.now)) c.in_ok-source.source c.in_ok-bytes.bytes.items _ _ _ _ c.print_hunt.result c.in_ok-source.ensures c.print_hunt.ensures.sent)
 
 pub returns-clause-counts : goal.returns-clause-counts
 returns-clause-counts g c =
-    none_failed (HuntAnswers (view_of_hunt_args c.args.args.now)) c.in_ok-source.source.items (g.R.Read.remaining c.args.reader.now.inner) (g.R.Read.remaining c.take_front.new.self.inner) _ _ _ _ _ _ c.in_ok-source.ensures.front c.in_ok-source.ensures.kept
-    c.print_hunt.result c.print_hunt.ensures.sent
+    none_failed (HuntAnswers (view_of_hunt_args c.args.args.now)) c.in_ok-bytes.bytes.items (g.R.Read.remaining c.args.reader.now.inner) (g.R.Read.remaining c.take_front.new.self.inner) _ _ _ _ _ _ c.in_ok-bytes.ensures.front c.in_ok-bytes.ensures.kept
+    c.print_hunt.result (sent_as (HuntAnswers (view_of_hunt_args c.args.args.now)) c.in_ok-source.source c.in_ok-bytes.bytes.items _ _ _ _ c.print_hunt.result c.in_ok-source.ensures c.print_hunt.ensures.sent)
 
 pub returns-clause-fault : goal.returns-clause-fault
 returns-clause-fault g c =
-    leaves (HuntAnswers (view_of_hunt_args c.args.args.now)) c.in_ok-source.source.items (g.R.Read.remaining c.args.reader.now.inner) (g.R.Read.remaining c.take_front.new.self.inner) _ _ _ _ _ _ c.in_ok-source.ensures.front c.in_ok-source.ensures.kept
-    c.print_hunt.result c.print_hunt.ensures.sent
+    leaves (HuntAnswers (view_of_hunt_args c.args.args.now)) c.in_ok-bytes.bytes.items (g.R.Read.remaining c.args.reader.now.inner) (g.R.Read.remaining c.take_front.new.self.inner) _ _ _ _ _ _ c.in_ok-bytes.ensures.front c.in_ok-bytes.ensures.kept
+    c.print_hunt.result (sent_as (HuntAnswers (view_of_hunt_args c.args.args.now)) c.in_ok-source.source c.in_ok-bytes.bytes.items _ _ _ _ c.print_hunt.result c.in_ok-source.ensures c.print_hunt.ensures.sent)
 
 pub returns-clause-heard : goal.returns-clause-heard
 returns-clause-heard g c =
     let h = view_of_hunt_args c.args.args.now in
-    let bytes = c.in_ok-source.source.items in
+    let bytes = c.in_ok-bytes.bytes.items in
     let old = c.args.seeds.now in
     let new = c.print_hunt.new.seeds in
     let heard = g.S.HuntObserver.Heard in
@@ -43,5 +44,6 @@ returns-clause-heard g c =
     (λ s.
     hears_weaker heard (λ ns. PrintsAnswer (HuntNotifies h ns bytes) w0 w1 n0 n1 (Ok s))
     (λ ns. IsAnsweredSo (HuntNotifies h ns) (streams u0 w0 m0 n0) (streams u1 w1 m1 n1) s) old new
-    (λ ns k. answered (HuntNotifies h ns) bytes u0 u1 w0 w1 m0 m1 n0 n1 c.in_ok-source.ensures.front c.in_ok-source.ensures.kept (Ok s) k))
-    c.print_hunt.ensures.heard
+    (λ ns k. answered (HuntNotifies h ns) bytes u0 u1 w0 w1 m0 m1 n0 n1 c.in_ok-bytes.ensures.front c.in_ok-bytes.ensures.kept (Ok s) k))
+    (subst (λ b. IfOk c.print_hunt.result (λ s. HearsSome heard old (λ ns. PrintsAnswer (HuntNotifies h ns b) w0 w1 n0 n1 (Ok s)) new)) c.in_ok-source.ensures
+    c.print_hunt.ensures.heard)

@@ -7,17 +7,16 @@ use Rattle.pf_command.proofs.Counting.{went_refused}
 use Rattle.pf_command.proofs.Streaming.{sends_more}
 use Rattle.pf_command.proofs.printing.print_source.Goals as goal
 
-pub returns-in-Err-Fault-clause-told : goal.returns-in-Err-Fault-clause-told
-returns-in-Err-Fault-clause-told g c =
-    let refusal = c.in-Err-Fault.refusal in
+pub returns-in-Err-clause-told : goal.returns-in-Err-clause-told
+returns-in-Err-clause-told g c =
+    let refusal = c.in-Err.refusal in
     let asked = view_of_run_args c.args.args.now in
-    let bytes = c.args.bytes.items in
-    let reads = rw c.in-Err-Fault.field-0-is at c.in-Err-Fault.ensures.fault in
+    let bytes = c.args.source.now in
     sends_more (IsRefusedText (refusal_text refusal.code refusal.offset)) (RunAnswers asked bytes) _ _ _ _
-    (λ t s is. rw (is.0, is.1) (source_refused refusal.code refusal.offset reads)) c.print_refusal.result c.print_refusal.ensures
+    (λ t s is. rw (is.0, is.1) (source_refused refusal.code refusal.offset c.in-Err.ensures)) c.print_refusal.result c.print_refusal.ensures
 
-pub returns-in-Err-Fault-clause-waits : goal.returns-in-Err-Fault-clause-waits
-returns-in-Err-Fault-clause-waits g c =
+pub returns-in-Err-clause-waits : goal.returns-in-Err-clause-waits
+returns-in-Err-clause-waits g c =
     let old = c.args.waiting.now in
-    let bytes = c.args.bytes.items in
+    let bytes = c.args.source.now in
     went_refused (RunCounts (view_of_run_args c.args.args.now) old old bytes) _ _ _ _ _ (λ t. refused_before bytes t) c.print_refusal.result c.print_refusal.ensures

@@ -1,15 +1,14 @@
 use Rattle.std.proofs.lemmas.Result.{IfOk-weaker}
 use Rattle.pf_errors.specs.Codes.{refusal_text}
-use Rattle.pf_command.specs.Answers.{AnswersRun, Refuses, ReportsJob, run_args}
 use Rattle.pf_cli_messages.specs.Explained.{AsksOf}
+use Rattle.pf_command.specs.Answers.{AnswersRun, Refuses, ReportsJob, run_args}
 use Rattle.pf_command.proofs.Rows.{row_refused}
 use Rattle.pf_command.proofs.run.answer_source.Goals as goal
 
-pub returns-in-Err-Fault : goal.returns-in-Err-Fault
-returns-in-Err-Fault g c =
-    let refusal = c.in-Err-Fault.refusal in
+pub returns-in-Err : goal.returns-in-Err
+returns-in-Err g c =
+    let refusal = c.in-Err.refusal in
     let asked = run_args c.args.request.now c.args.edition in
-    let bytes = c.args.bytes.items in
-    let reads = rw c.in-Err-Fault.field-0-is at c.in-Err-Fault.ensures.fault in
+    let bytes = c.args.source.now in
     IfOk-weaker c.refused_at.result (λ a. Refuses a (refusal_text refusal.code refusal.offset)) (λ a. AnswersRun asked bytes a.text.items a.status)
-    (λ a is. row_refused (AsksOf asked) ReportsJob bytes a refusal.code refusal.offset reads is) (rw c.in-Err-Fault.field-0-is at c.refused_at.ensures)
+    (λ a is. row_refused (AsksOf asked) ReportsJob bytes a refusal.code refusal.offset c.in-Err.ensures is) c.refused_at.ensures
