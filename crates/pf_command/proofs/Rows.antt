@@ -5,16 +5,15 @@ use Rattle.std.proofs.lemmas.Fmt.{decimal_digit}
 use Rattle.pf_errors.specs.Codes.{code_text, refusal_text}
 use Rattle.pf_errors.specs.declared.code.Code.{Code}
 use Rattle.pf_terms.specs.Atoms.{name_of}
-use Rattle.pf_syntax.specs.Module.{Checked}
 use Rattle.pf_model.specs.Shrinking as shrinking
 use Rattle.pf_model.specs.Shrinking.{IsResult}
 use Rattle.pf_model.specs.Text.{report_text}
 use Rattle.pf_model.specs.TermText.{line}
-use Rattle.pf_check.specs.Reads.{Reads, refused, accepted_as}
+use Rattle.pf_check.specs.Reads.{Reads, refused}
 use Rattle.pf_check.specs.Module.{ReadModule}
 use Rattle.pf_request.specs.Job.{Job, memory_report}
 use Rattle.pf_command.specs.Answers.{AnswersBy, Refuses, no_memory_report, ReportsJob, TellsResult, source_refused, job_refused, told, result, out_of_memory}
-use Rattle.pf_check.specs.Reading.{IsModuleOf}
+use Rattle.pf_check.specs.Reading.{IsModuleOf, IsReadAs}
 use Rattle.pf_command.specs.Checks.{Checks, ExplainsRefusal, is_module, is_refused}
 use Rattle.pf_command.specs.declared.answer.Output.{Output}
 

@@ -4,7 +4,7 @@ use Rattle.std.specs.Prelude.{IfErr, IfOk, IfSome, IsErr, IsErrAnd, OnOk, take}
 use Rattle.std.specs.Io.KnownBytes.{Appends}
 use Rattle.pf_errors.specs.declared.fault.OrNoMemory.{OrNoMemory}
 use Rattle.pf_errors.specs.declared.fault.OrNoMemory.TheVariants.{NoMemory, Fault}
-use Rattle.pf_streams.specs.Streams.{CountsWrite}
+use Rattle.pf_streams.specs.Streams.{CountsReadOrNone, CountsWrite}
 use Rattle.pf_streams.specs.declared.stream.StreamFault.{StreamFault}
 use Rattle.pf_streams.specs.declared.stream.StreamFault.TheVariants.{Read, Write}
 use Rattle.pf_streams.proofs.Writes.{appends_both}
@@ -19,7 +19,7 @@ use Rattle.pf_trace.proofs.Fronts.{front_of_both}
 use Rattle.pf_sched.specs.Printing.{HasPrinted, HasStopped}
 use Rattle.pf_sched.specs.declared.printing.PrintedRun.{PrintedRun}
 use Rattle.pf_command.specs.Answers.{AreFirst, IsNoMemory, ReportsJob, atom_names_of, result, out_of_memory, run_status}
-use Rattle.pf_command.specs.Streams.{IsAnsweredSo, Answering, Leaves, NoneFailed, PrintsAnswer, Sends, streams}
+use Rattle.pf_command.specs.Streams.{Answering, IsAnsweredSo, PrintsAnswer, Sends, Serves, Streams, streams}
 use Rattle.pf_command.specs.declared.serving.TheConstants.{MOST_BYTES}
 
 module _ (P Q : List ℕ → ℕ → Type 0) (w0 w1 : Option (List ℕ)) (n0 n1 : ℕ) (more : (t : List ℕ) (s : ℕ) → P t s → Q t s) where
@@ -61,22 +61,37 @@ pub sent_as : (P : Answering) (bytes known : List ℕ) (w0 w1 : Option (List ℕ
     → Sends (P known) w0 w1 n0 n1 r
 sent_as P bytes known w0 w1 n0 n1 r same h = subst (λ b. Sends (P b) w0 w1 n0 n1 r) same h
 
+-- a fault is handed on
+pub sent_on : (P : List ℕ → ℕ → Type 0) (w0 w1 : Option (List ℕ)) (n0 n1 : ℕ) (r : Result ℕ (OrNoMemory StreamFault)) (e : OrNoMemory StreamFault) → IsErr r × IsErrAnd r (λ f. f ≡ e)
+    → Sends P w0 w1 n0 n1 (Err e) → Sends P w0 w1 n0 n1 r
+sent_on P w0 w1 n0 n1 (Ok s) e is h = absurd cc
+sent_on P w0 w1 n0 n1 (Err f) e is h = subst (λ z. Sends P w0 w1 n0 n1 (Err z)) (sym is.1) h
+
 -- ---- what a command leaves
 
+-- the input couldn't be read
+pub unread_ends : (P : Answering) (u0 u1 w : Option (List ℕ)) (m0 m1 n : ℕ) (e : OrNoMemory StreamFault) → CountsReadOrNone e m0 m1
+    → Serves P (streams u0 w m0 n) (streams u1 w m1 n) (Err e)
+unread_ends P u0 u1 w m0 m1 n NoMemory h = ((h, refl), refl)
+unread_ends P u0 u1 w m0 m1 n (Fault (Read e)) h = (h, refl, refl)
+unread_ends P u0 u1 w m0 m1 n (Fault (Write e)) h = absurd h
+
+-- it was read, and its answer goes out
 module _ (P : Answering) (bytes : List ℕ) (u0 u1 w0 w1 : Option (List ℕ)) (m0 m1 n0 n1 : ℕ) (read : IfSome u0 (λ input. bytes ≡ take MOST_BYTES input)) (same : m1 ≡ m0) where
   pub answered : (r : Result ℕ (OrNoMemory StreamFault)) → Sends (P bytes) w0 w1 n0 n1 r → IfOk r (λ s. IsAnsweredSo P (streams u0 w0 m0 n0) (streams u1 w1 m1 n1) s)
   answered (Ok s) h = (bytes, h.0, read, h.1, h.2)
   answered (Err e) h = tt
 
-  pub none_failed : (r : Result ℕ (OrNoMemory StreamFault)) → Sends (P bytes) w0 w1 n0 n1 r → OnOk r (NoneFailed (streams u0 w0 m0 n0) (streams u1 w1 m1 n1))
-  none_failed (Ok s) h = (same, h.3)
-  none_failed (Err e) h = tt
+  pub source_ends : (r : Result ℕ (OrNoMemory StreamFault)) → Sends (P bytes) w0 w1 n0 n1 r → Serves P (streams u0 w0 m0 n0) (streams u1 w1 m1 n1) r
+  source_ends (Ok s) h = ((same, h.3), (bytes, h.0, read, h.1, h.2))
+  source_ends (Err NoMemory) h = ((same, h.1), h.0)
+  source_ends (Err (Fault (Read e))) h = absurd h.4
+  source_ends (Err (Fault (Write e))) h = (same, h.4, (bytes, h.0, h.1, read, h.2, h.3))
 
-  pub leaves : (r : Result ℕ (OrNoMemory StreamFault)) → Sends (P bytes) w0 w1 n0 n1 r → IfErr r (λ e. Leaves e P (streams u0 w0 m0 n0) (streams u1 w1 m1 n1))
-  leaves (Ok s) h = tt
-  leaves (Err NoMemory) h = ((same, h.1), h.0)
-  leaves (Err (Fault (Read e))) h = absurd h.4
-  leaves (Err (Fault (Write e))) h = (same, h.4, (bytes, h.0, h.1, read, h.2, h.3))
+-- a fault is handed on
+pub handed_on_source : (P : Answering) (s t : Streams) (r : Result ℕ (OrNoMemory StreamFault)) (e : OrNoMemory StreamFault) → IsErr r × IsErrAnd r (λ f. f ≡ e) → Serves P s t (Err e) → Serves P s t r
+handed_on_source P s t (Ok status) e is h = absurd cc
+handed_on_source P s t (Err f) e is h = subst (λ z. Serves P s t (Err z)) (sym is.1) h
 
 -- ---- a run
 

@@ -53,6 +53,11 @@ Leaves NoMemory P old new = NoneFailed old new × (new.written ≡ old.written)
 Leaves (Fault (Read e)) P old new = (new.failed_reads ≡ old.failed_reads + 1) × (new.failed_writes ≡ old.failed_writes) × (new.written ≡ old.written)
 Leaves (Fault (Write e)) P old new = (new.failed_reads ≡ old.failed_reads) × (new.failed_writes ≡ old.failed_writes + 1) × AnsweredInPart P old new
 
+-- a source is answered; or a stream failed or memory ran out, and a beginning of the answer went out
+abbrev pub Serves : Answering → (old new : Streams) → Result ℕ (OrNoMemory StreamFault) → Type 0
+Serves P old new (Ok status) = NoneFailed old new × IsAnsweredSo P old new status
+Serves P old new (Err e) = Leaves e P old new
+
 -- ---- within a command
 
 -- what goes out of a text that may be printed, with its status: all of it; or a beginning, where a write failed and was

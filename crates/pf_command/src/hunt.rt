@@ -1,10 +1,10 @@
 //! What a source is answered with whose runs by many seeds are asked for.
 
-ghost use Rattle.std.specs.Prelude.{IfErr, IfOk, Ok, OnOk};
+ghost use Rattle.std.specs.Prelude.{IfOk, Ok};
 ghost use Rattle.pf_hunt.specs.Notices.{HearsSome};
 ghost use Rattle.pf_cli.specs.Args.{view_of_hunt_args};
 ghost use Rattle.pf_command.specs.Hunts.{HuntEndsAs, HuntAnswers, HuntNotifies};
-ghost use Rattle.pf_command.specs.Streams.{IsAnsweredSo, Leaves, NoneFailed, PrintsAnswer, Sends, TakesBytes, streams};
+ghost use Rattle.pf_command.specs.Streams.{IsAnsweredSo, PrintsAnswer, Sends, Serves, TakesBytes, streams};
 
 use crate::answer::refused_at;
 use crate::ending::{HuntEnd, print_end};
@@ -78,32 +78,22 @@ pub fn hunt_source<R: Read, W: Write, L: Ledger, M: Ledger, T: Threads + Sync, S
     seeds: &mut S,
     observer: &mut impl Observer,
 ) -> Result<u8, OrNoMemory<StreamFault>>
-    ensures answered { IfOk result (λ status. IsAnsweredSo (HuntAnswers (view_of_hunt_args args.now))
+    ensures served { Serves (HuntAnswers (view_of_hunt_args args.now))
         (streams (R.remaining reader.old.inner) (W.contents writer.old.inner)
         reader.old.failures.total writer.old.failures.total)
         (streams (R.remaining reader.new.inner) (W.contents writer.new.inner)
-        reader.new.failures.total writer.new.failures.total) status) }
+        reader.new.failures.total writer.new.failures.total) result }
     ensures heard { IfOk result (λ status. HearsSome S.Heard seeds.old
         (λ ns. IsAnsweredSo (HuntNotifies (view_of_hunt_args args.now) ns)
         (streams (R.remaining reader.old.inner) (W.contents writer.old.inner)
         reader.old.failures.total writer.old.failures.total)
         (streams (R.remaining reader.new.inner) (W.contents writer.new.inner)
         reader.new.failures.total writer.new.failures.total) status) seeds.new) }
-    ensures counts { OnOk result (NoneFailed
-        (streams (R.remaining reader.old.inner) (W.contents writer.old.inner)
-        reader.old.failures.total writer.old.failures.total)
-        (streams (R.remaining reader.new.inner) (W.contents writer.new.inner)
-        reader.new.failures.total writer.new.failures.total)) }
     ensures taken { TakesBytes
         (streams (R.remaining reader.old.inner) (W.contents writer.old.inner)
         reader.old.failures.total writer.old.failures.total)
         (streams (R.remaining reader.new.inner) (W.contents writer.new.inner)
         reader.new.failures.total writer.new.failures.total) }
-    ensures fault { IfErr result (λ e. Leaves e (HuntAnswers (view_of_hunt_args args.now))
-        (streams (R.remaining reader.old.inner) (W.contents writer.old.inner)
-        reader.old.failures.total writer.old.failures.total)
-        (streams (R.remaining reader.new.inner) (W.contents writer.new.inner)
-        reader.new.failures.total writer.new.failures.total)) }
 {
     let bytes = reader.take_front(alloc, MOST_BYTES)?;
     let source = ReadSource::new(alloc, bytes)?;

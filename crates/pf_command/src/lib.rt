@@ -21,4 +21,4 @@ pub use check::CheckCommand;
 pub use hunt::{hunt_source, print_hunt};
 pub use printing::{print_source, run_source};
 pub use run::Shrink;
-pub use serving::{Answering, MOST_BYTES, serve};
+pub use serving::{Answering, MOST_BYTES, answer_by, serve};

@@ -1,14 +1,14 @@
 //! The work of a run between a reader and a writer: its report goes out as the run goes, so that no more of it is held
 //! than a piece.
 
-ghost use Rattle.std.specs.Prelude.{◌≡◌, List, ℕ, zero, IfErr, IfOk, OnOk, Some};
+ghost use Rattle.std.specs.Prelude.{◌≡◌, List, ℕ, zero, IfOk, Some};
 ghost use Rattle.pf_errors.specs.Codes.{code_text, refusal_text};
 ghost use Rattle.pf_cli.specs.Args.{view_of_run_args};
 ghost use Rattle.pf_command.specs.Answers.{AnswersRun, Counts, CountsBy, IsNoMemory, ReportsJob, run_args};
 ghost use Rattle.pf_cli_messages.specs.Explained.{AsksOf};
 ghost use Rattle.pf_check.specs.Reading.{IsModuleOf};
 ghost use Rattle.pf_command.specs.Guided.{RunAnswers, RunCounts};
-ghost use Rattle.pf_command.specs.Streams.{IsAnsweredSo, IsAnswer, IsRefusedText, Leaves, NoneFailed, PrintsAnswer, Sends, TakesBytes, WentOut, streams};
+ghost use Rattle.pf_command.specs.Streams.{IsAnsweredSo, IsAnswer, IsRefusedText, PrintsAnswer, Sends, Serves, TakesBytes, WentOut, streams};
 
 use crate::answer::{Output, REFUSED, refused_at, refused_by_code, run_status};
 use crate::guided::scheduled;
@@ -224,31 +224,21 @@ pub fn run_source<R: Read, W: Write, L: Ledger, M: Ledger>(
     writer: &mut Counted<W, M>,
     waiting: &mut u32,
 ) -> Result<u8, OrNoMemory<StreamFault>>
-    ensures answered { IfOk result (λ status. IsAnsweredSo (RunAnswers (view_of_run_args args.now))
+    ensures served { Serves (RunAnswers (view_of_run_args args.now))
         (streams (R.remaining reader.old.inner) (W.contents writer.old.inner)
         reader.old.failures.total writer.old.failures.total)
         (streams (R.remaining reader.new.inner) (W.contents writer.new.inner)
-        reader.new.failures.total writer.new.failures.total) status) }
+        reader.new.failures.total writer.new.failures.total) result }
     ensures waits { IfOk result (λ status. IsAnsweredSo (RunCounts (view_of_run_args args.now) waiting.old waiting.new)
         (streams (R.remaining reader.old.inner) (W.contents writer.old.inner)
         reader.old.failures.total writer.old.failures.total)
         (streams (R.remaining reader.new.inner) (W.contents writer.new.inner)
         reader.new.failures.total writer.new.failures.total) status) }
-    ensures counts { OnOk result (NoneFailed
-        (streams (R.remaining reader.old.inner) (W.contents writer.old.inner)
-        reader.old.failures.total writer.old.failures.total)
-        (streams (R.remaining reader.new.inner) (W.contents writer.new.inner)
-        reader.new.failures.total writer.new.failures.total)) }
     ensures taken { TakesBytes
         (streams (R.remaining reader.old.inner) (W.contents writer.old.inner)
         reader.old.failures.total writer.old.failures.total)
         (streams (R.remaining reader.new.inner) (W.contents writer.new.inner)
         reader.new.failures.total writer.new.failures.total) }
-    ensures fault { IfErr result (λ e. Leaves e (RunAnswers (view_of_run_args args.now))
-        (streams (R.remaining reader.old.inner) (W.contents writer.old.inner)
-        reader.old.failures.total writer.old.failures.total)
-        (streams (R.remaining reader.new.inner) (W.contents writer.new.inner)
-        reader.new.failures.total writer.new.failures.total)) }
 {
     let bytes = reader.take_front(alloc, MOST_BYTES)?;
     let source = ReadSource::new(alloc, bytes)?;

@@ -1,7 +1,6 @@
 //! The work of a command between a reader and a writer: it reads, answers, and writes.
 
-ghost use Rattle.std.specs.Prelude.{IfErr, IfOk, OnOk};
-ghost use Rattle.pf_command.specs.Streams.{IsAnsweredSo, Leaves, NoneFailed, TakesBytes, streams};
+ghost use Rattle.pf_command.specs.Streams.{Sends, Serves, TakesBytes, streams};
 
 use crate::answer::Output;
 use pf_check::ReadSource;
@@ -26,6 +25,22 @@ pub trait Answering {
         ensures { IfOk result (λ a. answers self source.now a.text.items a.status) };
 }
 
+/// Answers a source that was read by a command.
+pub fn answer_by<W: Write, M: Ledger, C: Answering + Drop>(
+    alloc: Global,
+    command: C,
+    source: &ReadSource,
+    writer: &mut Counted<W, M>,
+) -> Result<u8, OrNoMemory<StreamFault>>
+    ensures { Sends (C.answers command source.now)
+        (W.contents writer.old.inner) (W.contents writer.new.inner)
+        writer.old.failures.total writer.new.failures.total result }
+{
+    let answer = command.answer(alloc, source)?;
+    writer.put(&answer.text)?;
+    Ok(answer.status)
+}
+
 /// Answers a source by a command: reads at most one byte more than a source may have, writes a text and gives the
 /// status.
 pub fn serve<R: Read, W: Write, L: Ledger, M: Ledger, C: Answering + Drop>(
@@ -34,30 +49,18 @@ pub fn serve<R: Read, W: Write, L: Ledger, M: Ledger, C: Answering + Drop>(
     command: C,
     writer: &mut Counted<W, M>,
 ) -> Result<u8, OrNoMemory<StreamFault>>
-    ensures answered { IfOk result (λ status. IsAnsweredSo (C.answers command)
+    ensures served { Serves (C.answers command)
         (streams (R.remaining reader.old.inner) (W.contents writer.old.inner)
         reader.old.failures.total writer.old.failures.total)
         (streams (R.remaining reader.new.inner) (W.contents writer.new.inner)
-        reader.new.failures.total writer.new.failures.total) status) }
-    ensures counts { OnOk result (NoneFailed
-        (streams (R.remaining reader.old.inner) (W.contents writer.old.inner)
-        reader.old.failures.total writer.old.failures.total)
-        (streams (R.remaining reader.new.inner) (W.contents writer.new.inner)
-        reader.new.failures.total writer.new.failures.total)) }
+        reader.new.failures.total writer.new.failures.total) result }
     ensures taken { TakesBytes
         (streams (R.remaining reader.old.inner) (W.contents writer.old.inner)
         reader.old.failures.total writer.old.failures.total)
         (streams (R.remaining reader.new.inner) (W.contents writer.new.inner)
         reader.new.failures.total writer.new.failures.total) }
-    ensures fault { IfErr result (λ e. Leaves e (C.answers command)
-        (streams (R.remaining reader.old.inner) (W.contents writer.old.inner)
-        reader.old.failures.total writer.old.failures.total)
-        (streams (R.remaining reader.new.inner) (W.contents writer.new.inner)
-        reader.new.failures.total writer.new.failures.total)) }
 {
     let bytes = reader.take_front(alloc, MOST_BYTES)?;
     let source = ReadSource::new(alloc, bytes)?;
-    let answer = command.answer(alloc, &source)?;
-    writer.put(&answer.text)?;
-    Ok(answer.status)
+    answer_by(alloc, command, &source, writer)
 }

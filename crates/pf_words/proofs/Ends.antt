@@ -3,9 +3,7 @@ use Rattle.std.proofs.Common.{◌≡◌, ℕ, Bool, true, false, List, Option, R
 use Rattle.std.specs.Prelude.{IfErr, IfOk, IfSome, IsErr, IsErrAnd, OnOk, is_some, option_map, take, ◌||◌}
 use Rattle.pf_errors.specs.declared.fault.OrNoMemory.{OrNoMemory}
 use Rattle.pf_errors.specs.declared.fault.OrNoMemory.TheVariants.{NoMemory, Fault}
-use Rattle.pf_streams.specs.Streams.{CountsReadOrNone}
 use Rattle.pf_streams.specs.declared.stream.StreamFault.{StreamFault}
-use Rattle.pf_streams.specs.declared.stream.StreamFault.TheVariants.{Read, Write}
 use Rattle.clap.specs.Words.{Text}
 use Rattle.pf_cli.specs.Args.{CommandWork, check, chart, farm, hunt, named_file, run, shrink, steps, view_of_args, view_of_hunt_args}
 use Rattle.pf_cli.specs.declared.args.Args.{Args}
@@ -13,40 +11,18 @@ use Rattle.pf_cli.specs.declared.args.Args.TheVariants.{Run, Hunt, Shrink, Chart
 use Rattle.pf_cli.specs.declared.args.FarmArgs.{FarmArgs}
 use Rattle.pf_cli.specs.declared.args.HuntArgs as hunt_code
 use Rattle.pf_files.specs.Suites.{goes_over_several}
-use Rattle.pf_command.specs.Streams.{Answering, Leaves, NoneFailed, Sends, Streams, streams}
-use Rattle.pf_command.specs.declared.serving.TheConstants.{MOST_BYTES}
-use Rattle.pf_command.proofs.Streaming.{sent_as}
+use Rattle.pf_command.specs.Streams.{Answering, Sends, Serves, Streams, streams}
+use Rattle.pf_command.proofs.Streaming.{sent_as, sent_on}
 use Rattle.pf_wire.specs.Steps.{SimulatesSteps, StepsLeaves}
 use Rattle.pf_steps.specs.Profile.{run_profile}
 use Rattle.pf_cli_messages.specs.Texts.{HasStatus, IsFailure}
-use Rattle.pf_words.specs.Words.{AnswersOf, End, FromFile, FromInput, FromNamed, FromOne, SourceEnds, StepsEnd, WorkEnds, has_source, is_farm, may_be_several, unless_several}
+use Rattle.pf_words.specs.Words.{AnswersOf, End, FromFile, FromInput, FromNamed, FromOne, StepsEnd, WorkEnds, has_source, is_farm, may_be_several, unless_several}
 
 -- ---- of a source
-
--- the input couldn't be read
-pub unread_ends : (P : Answering) (u0 u1 w : Option (List ℕ)) (m0 m1 n : ℕ) (e : OrNoMemory StreamFault) → CountsReadOrNone e m0 m1
-    → SourceEnds P (streams u0 w m0 n) (streams u1 w m1 n) (Err e)
-unread_ends P u0 u1 w m0 m1 n NoMemory h = ((h, refl), refl)
-unread_ends P u0 u1 w m0 m1 n (Fault (Read e)) h = (h, refl, refl)
-unread_ends P u0 u1 w m0 m1 n (Fault (Write e)) h = absurd h
-
--- it was read, and its answer goes out
-module _ (P : Answering) (bytes : List ℕ) (u0 u1 w0 w1 : Option (List ℕ)) (m0 m1 n0 n1 : ℕ) (read : IfSome u0 (λ input. bytes ≡ take MOST_BYTES input)) (same : m1 ≡ m0) where
-  pub source_ends : (r : End) → Sends (P bytes) w0 w1 n0 n1 r → SourceEnds P (streams u0 w0 m0 n0) (streams u1 w1 m1 n1) r
-  source_ends (Ok s) h = ((same, h.3), (bytes, h.0, read, h.1, h.2))
-  source_ends (Err NoMemory) h = ((same, h.1), h.0)
-  source_ends (Err (Fault (Read e))) h = absurd h.4
-  source_ends (Err (Fault (Write e))) h = (same, h.4, (bytes, h.0, h.1, read, h.2, h.3))
 
 pub sent_well : (P : Answering) (bytes known : List ℕ) (w0 w1 : Option (List ℕ)) (n0 n1 status : ℕ) (answered : End) → bytes ≡ known → answered ≡ Ok status
     → Sends (P bytes) w0 w1 n0 n1 answered → Sends (P known) w0 w1 n0 n1 (Ok status)
 sent_well P bytes known w0 w1 n0 n1 status answered same was h = sent_as P bytes known w0 w1 n0 n1 (Ok status) same (subst (Sends (P bytes) w0 w1 n0 n1) was h)
-
--- a fault is handed on
-pub sent_on : (P : List ℕ → ℕ → Type 0) (w0 w1 : Option (List ℕ)) (n0 n1 : ℕ) (r : End) (e : OrNoMemory StreamFault) → IsErr r × IsErrAnd r (λ f. f ≡ e)
-    → Sends P w0 w1 n0 n1 (Err e) → Sends P w0 w1 n0 n1 r
-sent_on P w0 w1 n0 n1 (Ok s) e is h = absurd cc
-sent_on P w0 w1 n0 n1 (Err f) e is h = subst (λ z. Sends P w0 w1 n0 n1 (Err z)) (sym is.1) h
 
 pub sent_back : (P : Answering) (bytes known : List ℕ) (w0 w1 : Option (List ℕ)) (n0 n1 : ℕ) (answered r : End) (e : OrNoMemory StreamFault) → bytes ≡ known
     → answered ≡ Err e → IsErr r × IsErrAnd r (λ f. f ≡ e) → Sends (P bytes) w0 w1 n0 n1 answered → Sends (P known) w0 w1 n0 n1 r
@@ -66,14 +42,10 @@ pub handed_on : (s t : Streams) (r : End) (e : OrNoMemory StreamFault) → IsErr
 handed_on s t (Ok status) e is h = absurd cc
 handed_on s t (Err f) e is h = subst (λ z. StepsEnd s t (Err z)) (sym is.1) h
 
-pub handed_on_source : (P : Answering) (s t : Streams) (r : End) (e : OrNoMemory StreamFault) → IsErr r × IsErrAnd r (λ f. f ≡ e) → SourceEnds P s t (Err e) → SourceEnds P s t r
-handed_on_source P s t (Ok status) e is h = absurd cc
-handed_on_source P s t (Err f) e is h = subst (λ z. SourceEnds P s t (Err z)) (sym is.1) h
-
 -- ---- of work
 
 module _ (s t : Streams) (r : End) where
-  pub of_source : (w : CommandWork) → has_source w ≡ true → SourceEnds (AnswersOf w) s t r → WorkEnds w s t r
+  pub of_source : (w : CommandWork) → has_source w ≡ true → Serves (AnswersOf w) s t r → WorkEnds w s t r
   of_source (run a) is h = h
   of_source (hunt a) is h = h
   of_source (chart a) is h = h

@@ -15,7 +15,7 @@ use Rattle.pf_command.specs.Answers.{AnswersRun}
 use Rattle.pf_command.specs.Checks.{Checks}
 use Rattle.pf_command.specs.Guided.{DrawnAnswers, RunAnswers}
 use Rattle.pf_command.specs.Hunts.{HuntAnswers}
-use Rattle.pf_command.specs.Streams.{IsAnsweredSo, Answering, Leaves, NoneFailed, Streams}
+use Rattle.pf_command.specs.Streams.{Answering, NoneFailed, Serves, Streams}
 use Rattle.pf_wire.specs.Steps.{SimulatesSteps, StepsLeaves}
 use Rattle.pf_steps.specs.Profile.{run_profile}
 use Rattle.pf_cli_messages.specs.Texts.{HasStatus, IsFailure, TellsText}
@@ -50,11 +50,6 @@ abbrev pub is_farm : CommandWork → Bool
 is_farm (farm a) = true
 is_farm w = false
 
--- a source is answered; or a stream failed or memory ran out, and a beginning of the answer went out
-abbrev pub SourceEnds : Answering → (old new : Streams) → End → Type 0
-SourceEnds P old new (Ok status) = NoneFailed old new × IsAnsweredSo P old new status
-SourceEnds P old new (Err e) = Leaves e P old new
-
 -- the same of commands; where the system gives no random numbers nothing is done
 abbrev pub StepsEnd : (old new : Streams) → End → Type 0
 StepsEnd old new (Ok status) = NoneFailed old new × SimulatesSteps run_profile old.unread old.written new.written status
@@ -66,7 +61,7 @@ StepsEnd old new (Err e) =
 abbrev pub WorkEnds : CommandWork → (old new : Streams) → End → Type 0
 WorkEnds steps = StepsEnd
 WorkEnds (farm a) = λ old new end. ⊥
-WorkEnds w = SourceEnds (AnswersOf w)
+WorkEnds w = Serves (AnswersOf w)
 
 -- ---- from the standard input, or from a file
 

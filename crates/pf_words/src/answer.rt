@@ -4,8 +4,8 @@ ghost use Rattle.std.specs.Prelude.{◌≡◌, false, true};
 ghost use Rattle.pf_cli.specs.Args.{view_of_args, view_of_hunt_args, view_of_run_args};
 ghost use Rattle.pf_command.specs.Guided.{RunAnswers};
 ghost use Rattle.pf_command.specs.Hunts.{HuntAnswers};
-ghost use Rattle.pf_command.specs.Streams.{Sends, streams};
-ghost use Rattle.pf_words.specs.Words.{AnswersOf, SourceEnds, WorkEnds, has_source, is_farm};
+ghost use Rattle.pf_command.specs.Streams.{Sends, Serves, streams};
+ghost use Rattle.pf_words.specs.Words.{AnswersOf, WorkEnds, has_source, is_farm};
 
 use crate::steps::answer_steps;
 use pf_check::ReadSource;
@@ -14,7 +14,7 @@ use pf_cli_messages::{
     ProgressLine, REFUSED, Runs, Seeds, WaitingProcesses, lacking_of, say, say_processes,
     say_waiting, why,
 };
-use pf_command::{Answering, Chart, CheckCommand, MOST_BYTES, Shrink, print_hunt, print_source};
+use pf_command::{Chart, CheckCommand, MOST_BYTES, Shrink, answer_by, print_hunt, print_source};
 use pf_files::{AnsweredRoot, workers_of};
 use pf_streams::Counted;
 use std::alloc::{AllocGlobal, Global};
@@ -94,22 +94,6 @@ fn answer_hunt<W: Write, M: Ledger>(
     Ok(status)
 }
 
-/// Answers a source by a command.
-fn answer_by<W: Write, M: Ledger, C: Answering + Drop>(
-    alloc: Global,
-    command: C,
-    source: &ReadSource,
-    writer: &mut Counted<W, M>,
-) -> AnsweredRoot
-    ensures { Sends (C.answers command source.now)
-        (W.contents writer.old.inner) (W.contents writer.new.inner)
-        writer.old.failures.total writer.new.failures.total result }
-{
-    let answer = command.answer(alloc, source)?;
-    writer.put(&answer.text)?;
-    Ok(answer.status)
-}
-
 /// Answers a source; the line shows the progress of a hunt or a shrinking.
 fn answer_source<W: Write, M: Ledger>(
     rt: &(impl Eprint + AllocGlobal + Clock + Threads + Sync),
@@ -184,7 +168,7 @@ fn answer_read<R: Read, W: Write, L: Ledger, M: Ledger>(
     line: &ProgressLine,
 ) -> AnsweredRoot
     requires { has_source (view_of_args asked.now.args) ≡ true }
-    ensures { SourceEnds (AnswersOf (view_of_args asked.now.args))
+    ensures { Serves (AnswersOf (view_of_args asked.now.args))
         (streams (R.remaining reader.old.inner) (W.contents writer.old.inner)
         reader.old.failures.total writer.old.failures.total)
         (streams (R.remaining reader.new.inner) (W.contents writer.new.inner)

@@ -1,4 +1,4 @@
-use Rattle.std.proofs.Common.{Ok, subst}
+use Rattle.std.proofs.Common.{Ok, refl, subst}
 use Rattle.std.specs.Prelude.{IfOk}
 use Rattle.std.proofs.lemmas.Result.{IfOk-weaker}
 use Rattle.pf_hunt.specs.Notices.{HearsSome}
@@ -6,23 +6,25 @@ use Rattle.pf_hunt.proofs.Hearing.{hears_weaker}
 use Rattle.pf_cli.specs.Args.{view_of_hunt_args}
 use Rattle.pf_command.specs.Hunts.{HuntAnswers, HuntNotifies}
 use Rattle.pf_command.specs.Streams.{IsAnsweredSo, PrintsAnswer, streams}
-use Rattle.pf_command.proofs.Streaming.{answered, leaves, none_failed, sent_as}
+use Rattle.pf_command.proofs.Streaming.{answered, handed_on_source, sent_as, source_ends, unread_ends}
+use Rattle.pf_errors.specs.declared.fault.OrNoMemory.TheVariants.{NoMemory}
 use Rattle.pf_command.proofs.hunt.hunt_source.Goals as goal
 
-pub returns-clause-answered : goal.returns-clause-answered
-returns-clause-answered g c =
-    answered (HuntAnswers (view_of_hunt_args c.args.args.now)) c.in_ok-bytes.bytes.items (g.R.Read.remaining c.args.reader.now.inner) (g.R.Read.remaining c.take_front.new.self.inner) _ _ _ _ _ _ c.in_ok-bytes.ensures.front c.in_ok-bytes.ensures.kept
-    c.print_hunt.result (sent_as (HuntAnswers (view_of_hunt_args c.args.args.now)) c.in_ok-source.source c.in_ok-bytes.bytes.items _ _ _ _ c.print_hunt.result c.in_ok-source.ensures c.print_hunt.ensures.sent)
+pub returns-in_err-bytes-clause-served : goal.returns-in_err-bytes-clause-served
+returns-in_err-bytes-clause-served g c =
+    handed_on_source (HuntAnswers (view_of_hunt_args c.args.args.now)) _ _ c.from_residual.result c.in_err-bytes.field-0.0 c.from_residual.ensures
+    (unread_ends (HuntAnswers (view_of_hunt_args c.args.args.now)) _ _ _ _ _ _ c.in_err-bytes.field-0.0 c.in_err-bytes.ensures.counted)
 
-pub returns-clause-counts : goal.returns-clause-counts
-returns-clause-counts g c =
-    none_failed (HuntAnswers (view_of_hunt_args c.args.args.now)) c.in_ok-bytes.bytes.items (g.R.Read.remaining c.args.reader.now.inner) (g.R.Read.remaining c.take_front.new.self.inner) _ _ _ _ _ _ c.in_ok-bytes.ensures.front c.in_ok-bytes.ensures.kept
-    c.print_hunt.result (sent_as (HuntAnswers (view_of_hunt_args c.args.args.now)) c.in_ok-source.source c.in_ok-bytes.bytes.items _ _ _ _ c.print_hunt.result c.in_ok-source.ensures c.print_hunt.ensures.sent)
+pub returns-in_err-source-clause-served : goal.returns-in_err-source-clause-served
+returns-in_err-source-clause-served g c =
+    handed_on_source (HuntAnswers (view_of_hunt_args c.args.args.now)) _ _ c.from_residual-in_err-source.result NoMemory c.from_residual-in_err-source.ensures
+    ((c.in_ok-bytes.ensures.kept, refl), refl)
 
-pub returns-clause-fault : goal.returns-clause-fault
-returns-clause-fault g c =
-    leaves (HuntAnswers (view_of_hunt_args c.args.args.now)) c.in_ok-bytes.bytes.items (g.R.Read.remaining c.args.reader.now.inner) (g.R.Read.remaining c.take_front.new.self.inner) _ _ _ _ _ _ c.in_ok-bytes.ensures.front c.in_ok-bytes.ensures.kept
-    c.print_hunt.result (sent_as (HuntAnswers (view_of_hunt_args c.args.args.now)) c.in_ok-source.source c.in_ok-bytes.bytes.items _ _ _ _ c.print_hunt.result c.in_ok-source.ensures c.print_hunt.ensures.sent)
+pub returns-clause-served : goal.returns-clause-served
+returns-clause-served g c =
+    source_ends (HuntAnswers (view_of_hunt_args c.args.args.now)) c.in_ok-bytes.bytes.items (g.R.Read.remaining c.args.reader.now.inner) _ _ _ _ _ _ _ c.in_ok-bytes.ensures.front c.in_ok-bytes.ensures.kept
+    c.print_hunt.result
+    (sent_as (HuntAnswers (view_of_hunt_args c.args.args.now)) c.in_ok-source.source c.in_ok-bytes.bytes.items _ _ _ _ c.print_hunt.result c.in_ok-source.ensures c.print_hunt.ensures.sent)
 
 pub returns-clause-heard : goal.returns-clause-heard
 returns-clause-heard g c =

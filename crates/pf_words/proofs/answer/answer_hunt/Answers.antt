@@ -1,6 +1,6 @@
 use Rattle.pf_cli.specs.Args.{view_of_hunt_args}
 use Rattle.pf_command.specs.Hunts.{HuntAnswers}
-use Rattle.pf_words.proofs.Ends.{sent_on}
+use Rattle.pf_command.proofs.Streaming.{sent_on}
 use Rattle.pf_words.proofs.answer.answer_hunt.Goals as goal
 
 pub returns-in_err-status : goal.returns-in_err-status

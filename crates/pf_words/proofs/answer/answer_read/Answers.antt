@@ -1,6 +1,6 @@
 use Rattle.pf_cli.specs.Args.{view_of_args}
 use Rattle.pf_words.specs.Words.{AnswersOf}
-use Rattle.pf_words.proofs.Ends.{handed_on_source, source_ends, unread_ends}
+use Rattle.pf_command.proofs.Streaming.{handed_on_source, source_ends, unread_ends}
 use Rattle.pf_words.proofs.answer.answer_read.Goals as goal
 
 pub returns-in_err-bytes : goal.returns-in_err-bytes

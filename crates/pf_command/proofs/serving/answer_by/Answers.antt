@@ -2,7 +2,7 @@ use Rattle.std.proofs.Common.{subst}
 use Rattle.std.specs.Io.KnownBytes.{Appends}
 use Rattle.pf_streams.specs.Streams.{AppendsFront}
 use Rattle.pf_command.proofs.Streaming.{sent_fault, sent_memory}
-use Rattle.pf_words.proofs.answer.answer_by.Goals as goal
+use Rattle.pf_command.proofs.serving.answer_by.Goals as goal
 
 pub returns-in_err-answer : goal.returns-in_err-answer
 returns-in_err-answer g c =
