@@ -37,7 +37,7 @@ pub(crate) struct Plan {
 impl Plan {
     /// A note and a reply alone.
     pub fn reply_alone(noted: Entry, reply: Reply, usage: Usage) -> Plan
-        ensures { result ≡ record { change = Change.Nothing; noted = noted; reply = reply; usage = usage } }
+        ensures { result ≡ record { change = DeskChange.Nothing; noted = noted; reply = reply; usage = usage } }
     {
         Plan {
             change: DeskChange::Nothing,

@@ -82,7 +82,7 @@ impl Trial {
 
     /// What it counts as, until it is given up.
     pub fn held(&self) -> Holding
-        ensures { result ≡ Held.Trial (steps_of_trial self.now.job.asked.limit self.now.job.asked.runs) }
+        ensures { result ≡ Holding.Trial (steps_of_trial self.now.job.asked.limit self.now.job.asked.runs) }
     {
         let job = self.job();
         Holding::Trial {

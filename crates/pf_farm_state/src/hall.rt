@@ -207,7 +207,7 @@ impl<N: FarmNames> Hall<N> {
         ensures file { SimulatesFile self.old.desks claim.1.project claim.1.ticket finished result self.new.desks }
         ensures was { slice_get self.old.rows claim.0 ≡ Some (row_of claim.1 None) }
         ensures row { self.new.rows
-            ≡ slice_set self.old.rows claim.0 (row_of claim.1 (Some (end_or_stray result End.Filed))) }
+            ≡ slice_set self.old.rows claim.0 (row_of claim.1 (Some (end_or_stray result ClaimEnd.Filed))) }
         ensures gone { OnFalse result (ForRight (λ p. IsGone (desk_at claim.1.project self.old.desks) claim.1.ticket)) }
         ensures ended { share.new.amount ≡ share.old.amount + 1 }
         ensures parts { share.new.parts ≡ share.old.parts }
@@ -227,7 +227,7 @@ impl<N: FarmNames> Hall<N> {
         ensures back { SimulatesHandBack self.old.desks claim.1.project claim.1.ticket result self.new.desks }
         ensures was { slice_get self.old.rows claim.0 ≡ Some (row_of claim.1 None) }
         ensures row { self.new.rows
-            ≡ slice_set self.old.rows claim.0 (row_of claim.1 (Some (end_or_stray result End.HandedBack))) }
+            ≡ slice_set self.old.rows claim.0 (row_of claim.1 (Some (end_or_stray result ClaimEnd.HandedBack))) }
         ensures gone { OnFalse result (ForRight (λ p. IsGone (desk_at claim.1.project self.old.desks) claim.1.ticket)) }
         ensures ended { share.new.amount ≡ share.old.amount + 1 }
         ensures parts { share.new.parts ≡ share.old.parts }

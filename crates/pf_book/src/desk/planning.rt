@@ -114,7 +114,7 @@ impl Desk {
     pub(super) fn fetching(&self, ticket: u64, usage: Usage) -> Result<Plan, NoMemory>
         requires charged { IsCharged self.now usage }
         ensures plan { IfOk result (λ p. IsPlan self.now (calls.fetch ticket) p) }
-        ensures nothing { IfOk result (λ p. p.change ≡ Change.Nothing) }
+        ensures nothing { IfOk result (λ p. p.change ≡ DeskChange.Nothing) }
     {
         match filed_result(&self.trials, ticket) {
             Ok(finished) => {
@@ -132,7 +132,7 @@ impl Desk {
     pub(super) fn standing(&self, ticket: u64, usage: Usage) -> Plan
         requires charged { IsCharged self.now usage }
         ensures plan { IsPlan self.now (calls.status ticket) result }
-        ensures nothing { result.change ≡ Change.Nothing }
+        ensures nothing { result.change ≡ DeskChange.Nothing }
     {
         match numbered(&self.trials, ticket) {
             Some(trial) => {
@@ -197,7 +197,7 @@ impl Desk {
     pub(super) fn using(&self, alloc: Global, usage: Usage) -> Result<Plan, NoMemory>
         requires charged { IsCharged self.now usage }
         ensures plan { IfOk result (λ p. IsPlan self.now calls.usage p) }
-        ensures nothing { IfOk result (λ p. p.change ≡ Change.Nothing) }
+        ensures nothing { IfOk result (λ p. p.change ≡ DeskChange.Nothing) }
     {
         let noted = Entry::Used(Box::new(alloc, self.usage)?);
         Ok(Plan::reply_alone(noted, Reply::Usage(self.usage), usage))
@@ -206,7 +206,7 @@ impl Desk {
     pub(super) fn counting(&self, usage: Usage) -> Plan
         requires charged { IsCharged self.now usage }
         ensures plan { IsPlan self.now calls.log result }
-        ensures nothing { result.change ≡ Change.Nothing }
+        ensures nothing { result.change ≡ DeskChange.Nothing }
     {
         let calls = self.usage.calls;
         Plan::reply_alone(Entry::Counted(calls), Reply::Logged(calls), usage)
@@ -249,7 +249,7 @@ fn filed_result(trials: &[Option<Trial>], ticket: u64) -> Result<Finished, OrNoM
 /// A source that is refused.
 fn source_refused(source: Source, refusal: CallRefusal, usage: Usage) -> Plan
     ensures { result ≡ record {
-      change = Change.Nothing;
+      change = DeskChange.Nothing;
       noted = Entry.SubmitRefused source refusal;
       reply = Reply.Refused refusal;
       usage = usage;
@@ -262,7 +262,7 @@ fn source_refused(source: Source, refusal: CallRefusal, usage: Usage) -> Plan
 /// To withdraw a module is refused.
 fn withdrawal_refused(number: u64, refusal: CallRefusal, usage: Usage) -> Plan
     ensures { result ≡ record {
-      change = Change.Nothing;
+      change = DeskChange.Nothing;
       noted = Entry.WithdrawRefused number refusal;
       reply = Reply.Refused refusal;
       usage = usage;
@@ -282,7 +282,7 @@ fn is_edition(edition: u32) -> bool
 /// An edition is refused.
 fn move_refused(edition: u32, refusal: CallRefusal, usage: Usage) -> Plan
     ensures { result ≡ record {
-      change = Change.Nothing;
+      change = DeskChange.Nothing;
       noted = Entry.MoveRefused edition refusal;
       reply = Reply.Refused refusal;
       usage = usage;
