@@ -91,7 +91,7 @@ impl Plays {
     ) -> Result<(), Missed> {
         for _ in 0..6_000u32 {
             let reply = floor.call(alloc, rt, seat, Call::Log)?;
-            if let Reply::Refused(CallRefusal::PastLimit(LimitRefusal::Calls)) = reply {
+            if let Reply::Refused(CallRefusal::PastLimit(Limit::Calls)) = reply {
                 self.refused.set();
             }
         }
