@@ -179,26 +179,15 @@ one(From, To, {#{text := Text} = All, Asked, _}, Root) ->
     case plain_farm:with_file(Text, fun(File) -> plain_hunt:least(From, To, File, Asked, Translation) end) of
         none -> {holds, To - From};
         {found, Seed, Report, Verdict} ->
-            Told = iolist_to_binary([unicode:characters_to_binary(plain_answer:tell(Report, Asked, Translation))]),
-            Why = why(Told),
+            Lines = plain_answer:lines(Report, Asked, Translation),
+            {Said, _} = plain_answer:why(Lines),
+            Why = unicode:characters_to_binary(Said),
             case Verdict of
                 refused -> {refused, Why};
-                _ -> {fails, Seed, Why, Told}
+                _ -> {fails, Seed, Why, plain_answer:text(Lines)}
             end;
         {answer, missing} -> {refused, "the program pulsefarm is not on the path"};
         {answer, {Said, _}} -> {refused, string:trim(Said)}
-    end.
-
-%% The line that tells why a run fails.
--spec why(binary()) -> iodata().
-why(Told) ->
-    case re:run(Told, <<"^(?:crash|refused) .*$">>, [multiline, {capture, first, binary}]) of
-        {match, [Line]} -> Line;
-        nomatch ->
-            case re:run(Told, <<"^(?:waits|limit|ended|deadlock).*$">>, [multiline, {capture, first, binary}]) of
-                {match, [Line]} -> Line;
-                nomatch -> <<"fails">>
-            end
     end.
 
 %% A line for each test, told as soon as it is known.

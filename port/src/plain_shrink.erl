@@ -63,10 +63,10 @@ told(Head, Schedule, Text, {_, Asked, Translation} = Place) ->
                     #{schedule := Choices, text := Report} = Best,
                     Written = case Choices of [] -> "none"; _ -> lists:join(",", [integer_to_list(C) || C <- Choices]) end,
                     Whole = iolist_to_binary([Head, "schedule ", Written, "\n", Word, "\n", Report]),
-                    plain_out:put(plain_answer:tell(Whole, Asked, Translation)),
+                    plain_json:put(plain_answer:lines(Whole, Asked, Translation), Asked),
                     1;
                 {other, Report} ->
-                    plain_out:put(["S1\n", plain_answer:tell(Report, Asked, Translation)]),
+                    plain_json:put([{"S1", plain_json:of_line(<<"S1">>)} | plain_answer:lines(Report, Asked, Translation)], Asked),
                     2;
                 {answer, Answer} -> plain_command:told(Answer, Asked, Translation)
             end;

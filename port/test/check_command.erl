@@ -215,7 +215,6 @@ refused() ->
     Expect("a patience", ["run", File, "--patience", "much"], [], "^pulsefarm-erl: --patience wants a number"),
     Expect("a word that would be ignored", ["check", File, "--limit", "5"], [], "^pulsefarm-erl: check has no word --limit"),
     Expect("another", ["run", File, "--seeds", "0..5"], [], "^pulsefarm-erl: run has no word --seeds"),
-    Expect("leaks", ["hunt", File, "--leaks"], [], "^pulsefarm-erl: hunt has no word --leaks; "),
     Expect("all outcomes by a property of this part", ["hunt", File, "--all", "--property", "sound"], [], "^pulsefarm-erl: --all goes with "),
     Expect("a strategy that there isn't", ["hunt", File, "--property", "supervised", "--strategy", "nonsense"], [], "."),
     Expect("words of pulsefarm", ["run", File, "--seed", "x"], [], "."),
