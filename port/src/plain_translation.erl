@@ -9,7 +9,7 @@
 -define(LARGE, 24576).
 -type options() :: #{includes := [file:filename()], defines := [atom() | {atom(), term()}], library_defines := [atom() | {atom(), term()}],
                      root := atom() | none | {all, [atom()]}, never := non_neg_integer() | infinity, lax := boolean(), calls := [{module(), atom()}], traced := boolean(),
-                     arguments := boolean()}.
+                     arguments := boolean(), cuts := plain_cut:cuts()}.
 %% What a pass begins with: the services that are used, the atoms that are made, and whether names are short, whether tags name no functions, and whether names are monitored.
 -type plan() :: #{services := map(), known := map() | all, short := boolean(), narrow := boolean(), named := boolean()}.
 -type refusal() :: {file:filename(), non_neg_integer(), string()}.
@@ -21,7 +21,9 @@
 
 %% @doc The options where none is given.
 -spec defaults() -> options().
-defaults() -> #{includes => [], defines => [], library_defines => [], root => none, never => infinity, lax => false, calls => [], traced => false, arguments => false}.
+defaults() ->
+    #{includes => [], defines => [], library_defines => [], root => none, never => infinity, lax => false, calls => [], traced => false, arguments => false,
+      cuts => #{}}.
 
 %% @doc Translates in a process of its own, since what a translation knows belongs to its process.
 -spec translate([file:filename()], options()) -> {ok, translation()} | {refused, [refusal()]}.
@@ -102,14 +104,24 @@ begin_with(Files, #{root := Root}) ->
     Roots = case {Root, lists:member(main, Entries)} of
         {{all, Names}, _} -> Names;
         {none, true} -> [main];
-        {none, false} -> Entries;
+        {none, false} -> without_main(hd(Files), Entries);
         {_, _} -> [Root]
     end,
     [throw({refuse, hd(Files), 1, io_lib:format("the module exports no function ~w/0; export it, or name another by --root", [Missing])}) || Missing <- Roots -- Entries],
+    [throw({refuse, hd(Files), 1, io_lib:format("~w/0 makes tests and runs none of them; pulsefarm-erl eunit FOLDER hunts each", [Maker])})
+     || Maker <- Roots, plain_cut:is_generator(Maker)],
     plain_state:put(roots, Roots),
     [root(Main, Name) || Name <- Roots],
     [plain_reach:need({function, Service, start, 0, plain}) || Service <- plain_services:begun()],
     Roots.
+
+%% All functions that may be a root, where none is named; but EUnit's header exports what runs all tests.
+-spec without_main(file:filename(), [atom()]) -> [atom()].
+without_main(File, Entries) ->
+    case lists:member(test, Entries) andalso lists:any(fun plain_cut:is_test/1, Entries) of
+        true -> throw({refuse, File, 1, "the module has tests of EUnit and no main; pulsefarm-erl eunit FOLDER hunts each, or name one by --root"});
+        false -> Entries
+    end.
 
 -spec root(module(), atom()) -> ok.
 root(Main, Name) ->

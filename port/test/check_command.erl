@@ -211,6 +211,8 @@ refused() ->
     Expect("a word", ["walk", File], [], "^pulsefarm-erl: no command walk"),
     Expect("no file", ["hunt"], [], "^pulsefarm-erl: no file"),
     Expect("a file that isn't there", ["hunt", "nothing.erl"], [], "^nothing\\.erl:1: there is no such file"),
+    Expect("a folder", ["check", checks:folder("commands")], [], "^commands:1: this is a folder; name its files"),
+    Expect("a compiled file", ["check", code:which(plain_cut)], [], "^plain_cut\\.beam:1: this is compiled; name its source"),
     Expect("a root that isn't there", ["run", File, "--root", "nothing"], [], "^bank\\.erl:1: the module exports no function nothing/0"),
     Expect("a patience", ["run", File, "--patience", "much"], [], "^pulsefarm-erl: --patience wants a number"),
     Expect("a word that would be ignored", ["check", File, "--limit", "5"], [], "^pulsefarm-erl: check has no word --limit"),
