@@ -195,10 +195,13 @@ rounds(From, End, Ready, Done) ->
     end.
 
 -spec one(non_neg_integer(), pos_integer(), group(), atom()) -> {holds, non_neg_integer()} | {fails, non_neg_integer(), iodata(), iodata()} | {refused, iodata()}.
-one(From, To, {#{text := Text} = All, Asked, _}, Root) ->
+one(From, To, {#{text := Text} = All, Asked, Roots}, Root) ->
     Translation = All#{roots := [Root]},
     case plain_farm:with_file(Text, fun(File) -> plain_hunt:least(From, To, File, Asked, Translation) end) of
-        none -> {holds, To - From};
+        {none, Early} ->
+            {#{name := Name}, Root} = lists:keyfind(Root, 2, Roots),
+            plain_hunt:left_out([Name, ": "], Early),
+            {holds, To - From};
         {found, Seed, Report, Verdict} ->
             Lines = plain_answer:lines(Report, Asked, Translation),
             {Said, _} = plain_answer:why(Lines),
