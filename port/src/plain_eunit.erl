@@ -17,7 +17,7 @@
 -spec run(asked()) -> 0..255.
 run(#{files := [Folder]} = Asked) ->
     case plain_application:read(Folder) of
-        {ok, Application} -> with_room(fun(Room) -> tests(Application, Room, with(Application, Asked)) end);
+        {ok, Project} -> with_room(fun(Room) -> tests(Project, Room, with(Project, Asked)) end);
         {error, Sentence} -> complained(Sentence)
     end;
 run(_) -> complained("eunit wants one folder, that of an application").
@@ -28,7 +28,7 @@ complained(Sentence) ->
     2.
 
 %% The options of the application beside those that were given.
--spec with(plain_application:application(), asked()) -> asked().
+-spec with(plain_application:project(), asked()) -> asked().
 with(#{includes := Includes, defines := Defines}, #{options := #{includes := Own, defines := Given} = Options} = Asked) ->
     Asked#{options := Options#{includes := Own ++ Includes, defines := Given ++ Defines}}.
 
@@ -42,11 +42,12 @@ with_room(Use) ->
     after file:del_dir_r(Room)
     end.
 
--spec tests(plain_application:application(), file:filename(), asked()) -> 0..255.
-tests(#{sources := Sources, tests := Tests} = Application, Room, #{words := Words} = Asked) ->
+-spec tests(plain_application:project(), file:filename(), asked()) -> 0..255.
+tests(#{sources := Sources, tests := Tests, compiled := Compiled} = Project, Room, #{words := Words} = Asked) ->
+    ok = code:add_pathsz(Compiled), % for parse transforms
     Known = filename:join(Room, "pf_application.erl"),
-    ok = file:write_file(Known, unicode:characters_to_binary(plain_application:module_text(Application))),
-    Files = Sources ++ Tests ++ [Known],
+    ok = file:write_file(Known, unicode:characters_to_binary(plain_application:module_text(Project))),
+    Files = Sources ++ Tests ++ plain_application:needed(Project) ++ [Known],
     try
         Functions = [{Module, Name} || File <- Sources ++ Tests, {Module, Name} <- functions(File, Asked)],
         All = listed(Functions, Files, Room, Asked),
