@@ -1,13 +1,15 @@
-%% @doc A project as it stands in a folder: its applications, one in the folder itself or several in `apps', and the sources of what they depend
-%% on; their files, their options, and what their descriptions tell of them.
+%% @doc A project as it stands in a folder: its applications, one in the folder itself or several in `apps', and the
+%% sources of what they depend on; their files, their options, and what their descriptions tell of them.
 -module(plain_application).
 -export([read/1, needed/1, module_text/1]).
 -export_type([project/0]).
 
 %% What the description of an application tells.
--type application() :: #{name := atom(), folder := file:filename(), mod := {module(), term()} | none, env := [{atom(), term()}], needs := [atom()]}.
--type project() :: #{own := [atom()], known := [application()], sources := [file:filename()], tests := [file:filename()], others := [file:filename()],
-                     includes := [file:filename()], defines := [atom() | {atom(), term()}], compiled := [file:filename()]}.
+-type application() :: #{name := atom(), folder := file:filename(), mod := {module(), term()} | none,
+                         env := [{atom(), term()}], needs := [atom()]}.
+-type project() :: #{own := [atom()], known := [application()], sources := [file:filename()],
+                     tests := [file:filename()], others := [file:filename()], includes := [file:filename()],
+                     defines := [atom() | {atom(), term()}], compiled := [file:filename()]}.
 
 %% @doc Reads the applications of a folder, those that they depend on, and the options of rebar.config.
 -spec read(file:filename()) -> {ok, project()} | {error, iodata()}.
@@ -40,9 +42,11 @@ described(Folder, Own, Given, Options) ->
             Names = [Name || #{name := Name} <- Applications],
             Dependencies = once(Others, Names),
             Known = Applications ++ Dependencies,
-            Defines = [case D of {d, Macro} -> Macro; {d, Macro, Value} -> {Macro, Value} end || D <- Options, is_tuple(D), element(1, D) =:= d],
-            {ok, #{own => Names, known => Known, sources => sources(Applications), tests => lists:append([files(Place, "test/*.erl") || Place <- Own]),
-                   others => sources(Dependencies), includes => includes(Folder, Known, Options), defines => Defines ++ ['TEST', 'EUNIT'],
+            {ok, #{own => Names, known => Known, sources => sources(Applications),
+                   tests => lists:append([files(Place, "test/*.erl") || Place <- Own]),
+                   others => sources(Dependencies), includes => includes(Folder, Known, Options),
+                   defines => [Macro || {d, Macro} <- Options] ++ [{Macro, Value} || {d, Macro, Value} <- Options]
+                              ++ ['TEST', 'EUNIT'],
                    compiled => [filename:join(Place, "ebin") || Place <- Given]}};
         {{error, Sentence}, _} -> {error, Sentence};
         {_, {error, Sentence}} -> {error, Sentence}
@@ -58,13 +62,15 @@ once([#{name := Name} = First | Rest], Before) ->
 once([], _) -> [].
 
 -spec sources([application()]) -> [file:filename()].
-sources(Applications) -> lists:append([files(Folder, "src/*.erl") ++ files(Folder, "src/*/*.erl") || #{folder := Folder} <- Applications]).
+sources(Applications) ->
+    lists:append([files(Folder, "src/*.erl") ++ files(Folder, "src/*/*.erl") || #{folder := Folder} <- Applications]).
 
 %% Where headers are looked for; `NAME/include/HEADER.hrl' is below the folder that the application is in.
 -spec includes(file:filename(), [application()], [term()]) -> [file:filename()].
 includes(Folder, Known, Options) ->
     Own = [filename:join(Place, Dir) || #{folder := Place} <- Known, Dir <- ["include", "src", "test"]],
-    Own ++ [filename:join(Folder, Dir) || {i, Dir} <- Options] ++ lists:usort([filename:dirname(Place) || #{folder := Place} <- Known, Place =/= Folder]).
+    Own ++ [filename:join(Folder, Dir) || {i, Dir} <- Options]
+        ++ lists:usort([filename:dirname(Place) || #{folder := Place} <- Known, Place =/= Folder]).
 
 -spec applications([file:filename()]) -> {ok, [application()]} | {error, iodata()}.
 applications([]) -> {ok, []};
@@ -72,8 +78,8 @@ applications([Folder | Folders]) ->
     [Description | _] = descriptions(Folder),
     case {file:consult(Description), applications(Folders)} of
         {{ok, [{application, Name, Told} | _]}, {ok, Others}} ->
-            First = #{name => Name, folder => Folder, mod => proplists:get_value(mod, Told, none), env => proplists:get_value(env, Told, []),
-                      needs => proplists:get_value(applications, Told, [])},
+            First = #{name => Name, folder => Folder, mod => proplists:get_value(mod, Told, none),
+                      env => proplists:get_value(env, Told, []), needs => proplists:get_value(applications, Told, [])},
             {ok, [First | Others]};
         {{ok, [{application, _, _} | _]}, Error} -> Error;
         {{ok, _}, _} -> {error, [Description, ": there is no {application, Name, ..} in it"]};
@@ -93,7 +99,8 @@ options([File | Files]) ->
         {_, Error} -> Error
     end.
 
-%% @doc The sources of dependencies whose modules are named by an atom in the project, or in such a source; the others aren't read.
+%% @doc The sources of dependencies whose modules are named by an atom in the project, or in such a source; the others
+%% aren't read.
 -spec needed(project()) -> [file:filename()].
 needed(#{known := Known, sources := Sources, tests := Tests, others := Others, includes := Includes}) ->
     Headers = [Header || Folder <- Includes, Header <- files(Folder, "*.hrl")],
@@ -108,16 +115,23 @@ closed(Atoms, Files) ->
 
 -spec atoms([file:filename()]) -> [atom()].
 atoms(Files) ->
-    [Atom || File <- Files, {ok, Text} <- [file:read_file(File)], {ok, Tokens, _} <- [erl_scan:string(binary_to_list(Text))], {atom, _, Atom} <- Tokens].
+    [Atom || File <- Files, {ok, Text} <- [file:read_file(File)],
+             {ok, Tokens, _} <- [erl_scan:string(binary_to_list(Text))], {atom, _, Atom} <- Tokens].
 
-%% @doc The module by which the library knows the applications. Where there are several, a process isn't known to be of one.
+%% @doc The module by which the library knows the applications. Where there are several, a process isn't known to be of
+%% one.
 -spec module_text(project()) -> iodata().
 module_text(#{own := Own, known := Known}) ->
-    One = case Own of [Name] -> io_lib:format("~p", [Name]); _ -> "prim:raw(exit, {refused, application, get_env, 1})" end,
+    One = case Own of
+        [Name] -> io_lib:format("~p", [Name]);
+        _ -> "prim:raw(exit, {refused, application, get_env, 1})"
+    end,
     ["-module(pf_application).\n-export([own/0, env/1, mod/1, needs/1]).\nown() -> ", One, ".\n",
      function("env", [{Name, Env} || #{name := Name, env := Env} <- Known], []),
      function("mod", [{Name, Mod} || #{name := Name, mod := Mod} <- Known], none),
      function("needs", [{Name, Needs} || #{name := Name, needs := Needs} <- Known], [])].
 
 -spec function(string(), [{atom(), term()}], term()) -> iodata().
-function(Name, Clauses, Else) -> [[io_lib:format("~s(~p) -> ~p;~n", [Name, Application, Value]) || {Application, Value} <- Clauses], io_lib:format("~s(_) -> ~p.~n", [Name, Else])].
+function(Name, Clauses, Else) ->
+    [[io_lib:format("~s(~p) -> ~p;~n", [Name, Application, Value]) || {Application, Value} <- Clauses],
+     io_lib:format("~s(_) -> ~p.~n", [Name, Else])].

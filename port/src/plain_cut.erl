@@ -1,5 +1,5 @@
-%% @doc Generators of EUnit with some of their tests alone, or with their tests left empty, so that what only the others need isn't reached. What
-%% makes tests is followed where it stands as a term; tests that are made in another way stay as they are.
+%% @doc Generators of EUnit with some of their tests alone, or with their tests left empty, so that what only the others
+%% need isn't reached. What makes tests is followed where it stands as a term; tests that are made in another way stay.
 -module(plain_cut).
 -export([forms/2, is_test/1, is_generator/1]).
 -export_type([cuts/0, path/0]).
@@ -39,7 +39,8 @@ form(Form, _, _) -> Form.
 %% What a function answers stands at the end of each of its clauses.
 -spec clauses([erl_parse:abstract_clause()], wanted()) -> [erl_parse:abstract_clause()].
 clauses(Clauses, Wanted) ->
-    [{clause, Line, Patterns, Guard, lists:droplast(Body) ++ [tests(lists:last(Body), Wanted)]} || {clause, Line, Patterns, Guard, Body} <- Clauses].
+    [{clause, Line, Patterns, Guard, lists:droplast(Body) ++ [tests(lists:last(Body), Wanted)]}
+     || {clause, Line, Patterns, Guard, Body} <- Clauses].
 
 %% A test set: it has the shapes that the library's pf_eunit knows.
 -spec tests(expr(), wanted()) -> expr().
@@ -50,9 +51,11 @@ tests({tuple, Line, [{atom, _, with} = Kind, Value, Functions]}, Wanted) when Wa
     {tuple, Line, [Kind, Value, listed(Functions, fun(Function, _) -> Function end, Wanted)]};
 tests({tuple, Line, [{atom, _, generator} = Kind, {'fun', At, {clauses, Clauses}}]}, Wanted) ->
     {tuple, Line, [Kind, {'fun', At, {clauses, clauses(Clauses, Wanted)}}]};
-tests({tuple, Line, [{atom, _, Kind} | _] = Elements}, Wanted) when Kind =:= setup; Kind =:= foreach -> last(Line, Elements, fun made/2, Wanted);
+tests({tuple, Line, [{atom, _, Kind} | _] = Elements}, Wanted) when Kind =:= setup; Kind =:= foreach ->
+    last(Line, Elements, fun made/2, Wanted);
 tests({tuple, Line, [{atom, _, Kind} | _] = Elements}, Wanted)
-  when Kind =:= spawn; Kind =:= inorder; Kind =:= inparallel; Kind =:= timeout -> last(Line, Elements, fun tests/2, Wanted);
+  when Kind =:= spawn; Kind =:= inorder; Kind =:= inparallel; Kind =:= timeout ->
+    last(Line, Elements, fun tests/2, Wanted);
 tests({tuple, Line, [{Title, _, _}, _] = Elements}, Wanted) when Title =:= integer; Title =:= string; Title =:= bin ->
     last(Line, Elements, fun tests/2, Wanted);
 tests({cons, _, _, _} = List, Wanted) -> listed(List, fun tests/2, Wanted);
@@ -63,8 +66,10 @@ last(Line, Elements, Cut, Wanted) -> {tuple, Line, lists:droplast(Elements) ++ [
 
 %% What makes tests of the value of a setup, or tests, or several of these.
 -spec made(expr(), wanted()) -> expr().
-made({'fun', Line, {clauses, [{clause, _, [_], _, _} | _] = Clauses}}, Wanted) -> {'fun', Line, {clauses, clauses(Clauses, Wanted)}};
-made({tuple, Line, [{Title, _, _}, _] = Elements}, Wanted) when Title =:= string; Title =:= bin -> last(Line, Elements, fun made/2, Wanted);
+made({'fun', Line, {clauses, [{clause, _, [_], _, _} | _] = Clauses}}, Wanted) ->
+    {'fun', Line, {clauses, clauses(Clauses, Wanted)}};
+made({tuple, Line, [{Title, _, _}, _] = Elements}, Wanted) when Title =:= string; Title =:= bin ->
+    last(Line, Elements, fun made/2, Wanted);
 made({cons, _, _, _} = List, Wanted) -> listed(List, fun made/2, Wanted);
 made(Tests, Wanted) -> tests(Tests, Wanted).
 

@@ -1,14 +1,15 @@
-%% @doc Times that pass too early. The clock of a run may be as fast as it likes, but a time of a second or more doesn't pass in practice while
-%% a process can still go on: so a run in which that happens shows no failure of the program.
+%% @doc Times that pass too early. The clock of a run may be as fast as it likes, but a time of a second or more doesn't
+%% pass in practice while a process can still go on: so a run in which that happens shows no failure of the program.
 -module(plain_time).
 -export([early/1]).
 
 %% A time of at least so many milliseconds passes where nobody else can go.
 -define(LONG, 1000).
 -type event() :: plain_report:event().
-%% The clock; whether nobody else could go when it took its last tick; the long times that are set, by the message that tells of each; what
-%% passed early and isn't received yet; and whose waiting is given up.
--type state() :: #{clock := non_neg_integer(), ticks := boolean(), quiet := boolean(), set := #{binary() => pos_integer()}, open := [binary()], given_up := [binary()],
+%% The clock; whether it took a tick last, and whether nobody else could go then; the long times that are set, by the
+%% message that tells of each; what passed early and isn't received yet; and whose waiting is given up.
+-type state() :: #{clock := non_neg_integer(), ticks := boolean(), quiet := boolean(),
+                   set := #{binary() => pos_integer()}, open := [binary()], given_up := [binary()],
                    early := [{pos_integer(), pos_integer()}]}.
 
 %% @doc The events at which a long time passed while somebody else could go, each with its milliseconds.
@@ -18,14 +19,17 @@ early(Events) ->
         [] -> [];
         [P | _] ->
             {Clock, _} = string:to_integer(P),
-            First = #{clock => Clock, ticks => false, quiet => true, set => #{}, open => [], given_up => [], early => []},
+            First = #{clock => Clock, ticks => false, quiet => true, set => #{}, open => [], given_up => [],
+                      early => []},
             #{early := Early} = lists:foldl(fun event/2, First, lists:zip(lists:seq(1, length(Events)), Events)),
             lists:reverse(Early)
     end.
 
 -spec event({pos_integer(), event()}, state()) -> state().
-event({Number, #{subject := {turn, Clock}, label := Label, among := Among}}, #{clock := Clock} = State) -> clock(Label, Among, Number, State);
-event({Number, #{subject := {turn, _}, label := <<"receive {'after',", _/binary>> = Label}}, State) -> received(Label, Number, State);
+event({Number, #{subject := {turn, Clock}, label := Label, among := Among}}, #{clock := Clock} = State) ->
+    clock(Label, Among, Number, State);
+event({Number, #{subject := {turn, _}, label := <<"receive {'after',", _/binary>> = Label}}, State) ->
+    received(Label, Number, State);
 event({_, #{subject := {turn, _}, label := Label}}, State) -> given_up(Label, State);
 event(_, State) -> State.
 
@@ -38,7 +42,8 @@ clock(<<"receive {", _/binary>> = Label, _, _, #{set := Set} = State) ->
         {Message, _} -> State#{ticks := false, set := maps:remove(Message, Set)};
         no -> State#{ticks := false}
     end;
-clock(<<"send <", Rest/binary>>, _, Number, #{ticks := true, quiet := false, set := Set, open := Open, early := Early} = State) ->
+clock(<<"send <", Rest/binary>>, _, Number, #{ticks := true, quiet := false, set := Set} = State) ->
+    #{open := Open, early := Early} = State,
     [_, Message] = binary:split(Rest, <<"> ">>),
     case {Set, Message} of
         {#{Message := _}, <<"{'after',", _/binary>>} -> State#{open := [Message | Open]};
@@ -50,10 +55,11 @@ clock(_, _, _, State) -> State.
 %% The message that tells of a time, and the time.
 -spec told(binary()) -> {binary(), non_neg_integer()} | no.
 told(Label) ->
-    case re:run(Label, <<"^receive \\{arm,<[0-9]+>,(#Ref<[0-9]+>),([0-9]+)\\}$">>, [{capture, all_but_first, binary}]) of
+    Parts = [{capture, all_but_first, binary}, dotall],
+    case re:run(Label, <<"^receive \\{arm,<[0-9]+>,(#Ref<[0-9]+>),([0-9]+)\\}$">>, Parts) of
         {match, [Ref, Time]} -> {<<"{'after',", Ref/binary, "}">>, binary_to_integer(Time)};
         nomatch ->
-            case re:run(Label, <<"^receive \\{send,[^,]*,#Ref<[0-9]+>,([0-9]+),(.*)\\}$">>, [{capture, all_but_first, binary}, dotall]) of
+            case re:run(Label, <<"^receive \\{send,[^,]*,#Ref<[0-9]+>,([0-9]+),(.*)\\}$">>, Parts) of
                 {match, [Time, Message]} -> {Message, binary_to_integer(Time)};
                 nomatch -> no
             end
@@ -68,7 +74,8 @@ given_up(Label, #{given_up := Before} = State) ->
     end.
 
 -spec received(binary(), pos_integer(), state()) -> state().
-received(<<"receive ", Message/binary>>, Number, #{open := Open, given_up := GivenUp, set := Set, early := Early} = State) ->
+received(<<"receive ", Message/binary>>, Number, #{open := Open, given_up := GivenUp} = State) ->
+    #{set := Set, early := Early} = State,
     case lists:member(Message, Open) andalso not lists:member(Message, GivenUp) of
         true -> State#{early := [{Number, maps:get(Message, Set)} | Early]};
         false -> State

@@ -3,7 +3,7 @@
 
 %% The generator `g' of a module `m', cut.
 cut(Body, Wanted) ->
-    [Form] = plain_cut:forms([{attribute, 1, module, m}, function("g() -> " ++ Body ++ ".")], #{{m, g} => Wanted}) -- [{attribute, 1, module, m}],
+    [_, Form] = plain_cut:forms([{attribute, 1, module, m}, function("g() -> " ++ Body ++ ".")], #{{m, g} => Wanted}),
     Form.
 
 function(Text) ->
@@ -17,7 +17,8 @@ list_test() -> is("[other, fun b/0, other]", "[fun a/0, fun b/0, fun c/0]", [[2]
 
 two_test() -> is("[fun a/0, other, fun c/0]", "[fun a/0, fun b/0, fun c/0]", [[3], [1]]).
 
-titled_test() -> is("[{\"x\", [other, fun b/0]}, other]", "[{\"x\", [fun a/0, fun b/0]}, {<<\"y\">>, fun c/0}]", [[1, 2]]).
+titled_test() ->
+    is("[{\"x\", [other, fun b/0]}, other]", "[{\"x\", [fun a/0, fun b/0]}, {<<\"y\">>, fun c/0}]", [[1, 2]]).
 
 setup_test() ->
     is("{setup, fun s/0, fun c/1, fun(X) -> f(X), [other, {7, fun() -> X end}] end}",
@@ -25,7 +26,8 @@ setup_test() ->
 
 foreach_test() ->
     is("{timeout, 9, {foreach, fun s/0, [other, fun(X) -> {\"x\", [fun a/0, other]} end]}}",
-       "{timeout, 9, {foreach, fun s/0, [fun(X) -> fun b/0 end, fun(X) -> {\"x\", [fun a/0, fun b/0]} end]}}", [[2, 1]]).
+       "{timeout, 9, {foreach, fun s/0, [fun(X) -> fun b/0 end, fun(X) -> {\"x\", [fun a/0, fun b/0]} end]}}",
+       [[2, 1]]).
 
 with_test() -> is("{with, 3, [other, fun b/1]}", "{with, 3, [fun a/1, fun b/1]}", [[2]]).
 
