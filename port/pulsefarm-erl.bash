@@ -5,10 +5,10 @@ _pulsefarm_erl_words() {
   all='-I -D --root --never --patience --calls --lax'
   case $1 in
     translate) echo "$all -o" ;;
-    check) echo "$all --explain" ;;
-    run) echo "$all --property --limit --seed --schedule --strategy --weights --edition --verbose" ;;
-    hunt) echo "$all --property --limit --seeds --for --strategy --weights --edition --workers --shrink --all --verbose" ;;
-    shrink) echo "$all --property --limit --schedule --runs --edition --verbose" ;;
+    check) echo "$all --explain --format" ;;
+    run) echo "$all --property --limit --seed --schedule --strategy --weights --edition --verbose --explain --format" ;;
+    hunt) echo "$all --property --limit --seeds --for --strategy --weights --edition --workers --shrink --all --leaks --all-roots --fail-fast --verbose --format" ;;
+    shrink) echo "$all --property --limit --schedule --runs --edition --verbose --format" ;;
     chart) echo "$all --property --limit --seed --schedule --strategy --weights --edition --page --compact" ;;
     eunit) echo "$all --property --limit --seeds --for --strategy --weights --edition --workers --test --junit" ;;
     *) echo 'translate check run hunt shrink chart eunit --help --version' ;;
@@ -20,6 +20,7 @@ _pulsefarm_erl() {
   [ "$COMP_CWORD" -gt 1 ] && command=${COMP_WORDS[1]}
   case $before in
     --property) mapfile -t COMPREPLY < <(compgen -W 'sound supervised returns true nocrash nodeadlock withinlimit never:' -- "$word") ;;
+    --format) mapfile -t COMPREPLY < <(compgen -W 'text json' -- "$word") ;;
     --strategy) mapfile -t COMPREPLY < <(compgen -W 'pos uniform' -- "$word") ;;
     -I) mapfile -t COMPREPLY < <(compgen -d -- "$word") ;;
     *)

@@ -1,7 +1,7 @@
 %% @doc Answers of pulsefarm in the words of the source: each event with its place, each process with the function that it runs, and
 %% each crash with file, line and function.
 -module(plain_answer).
--export([tell/3, report/1, ends/1, orderly/1, replayed/3, role/2, where/5, event_place/2, starts_report/1]).
+-export([lines/3, text/1, why/1, report/1, ends/1, orderly/1, replayed/3, role/2, where/5, reason/2, event_place/2, last_places/2, starts_report/1]).
 -export_type([told/0]).
 
 -type asked() :: plain_words:asked().
@@ -9,17 +9,32 @@
 %% The places of a run, or that they can't be told.
 -type told() :: {ok, plain_replay:told(), translation()} | unknown.
 
-%% @doc An answer as text.
--spec tell(binary(), asked(), translation()) -> iodata().
-tell(Answer, Asked, #{names := Names} = Translation) ->
+%% @doc An answer, line by line.
+-spec lines(binary(), asked(), translation()) -> [plain_json:line()].
+lines(Answer, Asked, #{names := Names} = Translation) ->
     Lines = binary:split(Answer, <<"\n">>, [global, trim]),
     {Before, Report} = lists:splitwith(fun(Line) -> not starts_report(Line) end, Lines),
+    Own = fun(Line) -> {plain_words_back:line(Line, Names), plain_json:of_line(plain_words_back:line(Line, Names))} end,
     case plain_report:read(Report) of
-        #{events := []} -> [[plain_words_back:line(Line, Names), "\n"] || Line <- Lines];
+        #{events := []} -> [Own(Line) || Line <- Lines];
         #{events := Events, rest := Rest} ->
             Told = replayed(Asked, Translation, Events),
-            [[[Line, "\n"] || Line <- Before], events(Events, Told, Names, maps:get(verbose, Asked, false)), [[plain_words_back:line(Line, Names), "\n"] || Line <- Rest],
-             processes(Events, Told, #{verbose => maps:get(verbose, Asked, false)}), waits(Events, Rest, Told), crashes(Events, Told, Translation)]
+            Verbose = maps:get(verbose, Asked, false),
+            [{Line, plain_json:of_line(Line)} || Line <- Before] ++ events(Events, Told, Names, Verbose) ++ [Own(Line) || Line <- Rest]
+                ++ processes(Events, Told, #{verbose => Verbose}) ++ waits(Events, Rest, Told, Asked) ++ crashes(Events, Told, Translation)
+    end.
+
+%% @doc Lines as one text.
+-spec text([plain_json:line()]) -> binary().
+text(Lines) -> unicode:characters_to_binary([[Text, "\n"] || {Text, _} <- Lines]).
+
+%% @doc The line that says why a run fails.
+-spec why([plain_json:line()]) -> plain_json:line().
+why(Lines) ->
+    Of = fun(Keys) -> [Line || {_, [{Key, _} | _]} = Line <- Lines, lists:member(Key, Keys)] end,
+    case Of([crash, refused]) ++ Of([waits]) ++ Of([<<"limit">>, <<"ended">>, ended, <<"deadlock">>]) of
+        [First | _] -> First;
+        [] -> {"fails", [{fails, true}]}
     end.
 
 %% @doc The report in an answer.
@@ -38,7 +53,7 @@ replayed(#{files := Files, options := Options}, #{roots := [Root | _]}, Events) 
     plain_replay:places(Files, Options, atom_to_list(Root), Events).
 
 %% All events with their places where that was asked for, or where places can't be told; else the story.
--spec events([plain_report:event()], told(), #{atom() => plain_translation:place()}, boolean()) -> iodata().
+-spec events([plain_report:event()], told(), #{atom() => plain_translation:place()}, boolean()) -> [plain_json:line()].
 events(Events, unknown, Names, _) -> [event(Event, none, Names) || Event <- Events];
 events(Events, {ok, #{events := Known}, #{marks := Places}} = Told, Names, Verbose) ->
     Marks = [place_of(Mark, Places) || Mark <- Known],
@@ -47,17 +62,15 @@ events(Events, {ok, #{events := Known}, #{marks := Places}} = Told, Names, Verbo
         false -> plain_story:tell(Events, Marks, {Told, Names})
     end.
 
--spec event(plain_report:event(), plain_translation:place() | none, #{atom() => plain_translation:place()}) -> iodata().
+-spec event(plain_report:event(), plain_translation:place() | none, #{atom() => plain_translation:place()}) -> plain_json:line().
 event(#{choice := Choice, among := Among, subject := Subject, label := Label}, Place, Names) ->
     Who = case Subject of
         {turn, P} -> io_lib:format("<~w>", [P]);
         {delivery, A, B} -> io_lib:format("<~w>-><~w>", [A, B])
     end,
-    Line = io_lib:format("~w/~w ~ts ~ts", [Choice, Among, Who, plain_words_back:line(Label, Names)]),
-    case Place of
-        none -> [Line, "\n"];
-        _ -> [Line, "  % ", plain_words_back:place(Place), "\n"]
-    end.
+    Said = plain_words_back:line(Label, Names),
+    {[io_lib:format("~w/~w ~ts ", [Choice, Among, Who]), Said, case Place of none -> []; _ -> ["  % ", plain_words_back:place(Place)] end],
+     [{choice, Choice}, {count, Among}, {actor, Who}, {label, Said} | plain_json:place(Place)]}.
 
 %% The place that a mark means.
 -spec place_of(binary() | none, #{pos_integer() => plain_translation:place()}) -> plain_translation:place() | none.
@@ -68,12 +81,15 @@ place_of(<<"'@", Rest/binary>>, Places) ->
     end;
 place_of(_, _) -> none.
 
--spec processes([plain_report:event()], told(), #{verbose := boolean()}) -> iodata().
-processes(_, unknown, _) -> "the places of this run can't be told\n";
+-spec processes([plain_report:event()], told(), #{verbose := boolean()}) -> [plain_json:line()].
+processes(_, unknown, _) -> [{"the places of this run can't be told", [{places, false}]}];
 processes(Events, Told, #{verbose := Verbose}) ->
     Pids = lists:usort([P || #{subject := {turn, P}} <- Events]),
     Roles = [{P, lists:flatten(io_lib:format("~ts", [role(P, Told)]))} || P <- Pids],
-    [io_lib:format("<~w> ~ts~n", [P, Role]) || {P, Role} <- Roles, Verbose orelse not lists:prefix("the service", Role)].
+    [{io_lib:format("<~w> ~ts", [P, Role]), [{process, pid(P)}, {runs, Role}]} || {P, Role} <- Roles, Verbose orelse not lists:prefix("the service", Role)].
+
+-spec pid(non_neg_integer()) -> string().
+pid(P) -> lists:flatten(io_lib:format("<~w>", [P])).
 
 %% @doc What a process runs.
 -spec role(non_neg_integer() | none, told()) -> iodata() | unknown.
@@ -121,30 +137,53 @@ ending(Number, #{subject := {turn, P}, label := <<"end ", Reason/binary>>}) -> [
 ending(Number, #{subject := {delivery, A, B}, label := <<"deliver exit ends ", Reason/binary>>}) -> [{Number, B, Reason, {by, A}}];
 ending(_, _) -> [].
 
-%% Where the processes of a deadlock wait.
--spec waits([plain_report:event()], [binary()], told()) -> iodata().
-waits(Events, [<<"deadlock ", Pids/binary>> | _], {ok, #{events := Marks}, #{marks := Places}} = Told) ->
-    Last = maps:from_list([{P, place_of(Mark, Places)} || {#{subject := {turn, P}, label := <<"wait">>}, Mark} <- lists:zip(Events, Marks), Mark =/= none]),
-    [wait(P, maps:get(P, Last, none), Told) || Pid <- binary:split(Pids, <<" ">>, [global, trim]), {P, _} <- [string:to_integer(binary:part(Pid, 1, byte_size(Pid) - 2))]];
-waits(_, _, _) -> [].
+%% Where the processes of a deadlock wait, and, where leaks are looked for, those that the root left.
+-spec waits([plain_report:event()], [binary()], told(), asked()) -> [plain_json:line()].
+waits(Events, [<<"deadlock ", Pids/binary>> | _], Told, _) ->
+    waiting([P || Pid <- binary:split(Pids, <<" ">>, [global, trim]), {P, _} <- [string:to_integer(binary:part(Pid, 1, byte_size(Pid) - 2))]], Events, Told);
+waits(Events, Rest, Told, #{words := Words}) ->
+    waiting(case lists:member("--leaks", Words) of true -> plain_verdict:left(Events, Rest); false -> [] end, Events, Told).
 
--spec wait(non_neg_integer(), plain_translation:place() | none, told()) -> iodata().
-wait(P, {user, _, _, _} = Place, _) -> io_lib:format("waits <~w> at ~ts~n", [P, plain_words_back:place(Place)]);
-wait(P, _, Told) -> io_lib:format("waits <~w> in ~ts~n", [P, role(P, Told)]).
+-spec waiting([non_neg_integer()], [plain_report:event()], told()) -> [plain_json:line()].
+waiting(_, _, unknown) -> [];
+waiting(Pids, Events, Told) ->
+    Last = last_places(Events, Told),
+    [wait(P, maps:get(P, Last, none), Told) || P <- Pids].
 
--spec crashes([plain_report:event()], told(), translation()) -> iodata().
+%% @doc The place at which each process waited last.
+-spec last_places([plain_report:event()], told()) -> #{non_neg_integer() => plain_translation:place() | none}.
+last_places(_, unknown) -> #{};
+last_places(Events, {ok, #{events := Marks}, #{marks := Places}}) ->
+    maps:from_list([{P, place_of(Mark, Places)} || {#{subject := {turn, P}, label := <<"wait">>}, Mark} <- lists:zip(Events, Marks), Mark =/= none]).
+
+-spec wait(non_neg_integer(), plain_translation:place() | none, told()) -> plain_json:line().
+wait(P, {user, _, _, _} = Place, _) -> {io_lib:format("waits <~w> at ~ts", [P, plain_words_back:place(Place)]), [{waits, pid(P)} | plain_json:place(Place)]};
+wait(P, _, Told) -> {io_lib:format("waits <~w> in ~ts", [P, role(P, Told)]), [{waits, pid(P)}, {runs, role(P, Told)}]}.
+
+-spec crashes([plain_report:event()], told(), translation()) -> [plain_json:line()].
 crashes(Events, Told, #{names := Names}) ->
     [crash(End, Events, Told, Names) || {_, _, Reason, _} = End <- ends(Events), Reason =/= <<"normal">>].
 
--spec crash({non_neg_integer(), non_neg_integer(), binary(), own | {by, non_neg_integer()}}, [plain_report:event()], told(), map()) -> iodata().
-crash({_, P, Reason, {by, A}}, _, _, Names) -> io_lib:format("ended <~w> by a signal of <~w>: ~ts~n", [P, A, plain_words_back:line(Reason, Names)]);
+-spec crash({non_neg_integer(), non_neg_integer(), binary(), own | {by, non_neg_integer()}}, [plain_report:event()], told(), map()) -> plain_json:line().
+crash({_, P, Reason, {by, A}}, _, _, Names) ->
+    Said = plain_words_back:line(Reason, Names),
+    {io_lib:format("ended <~w> by a signal of <~w>: ~ts", [P, A, Said]), [{ended, pid(P)}, {by, pid(A)}, {reason, Said}]};
 crash({Number, P, Reason, own}, Events, Told, Names) ->
-    Where = where(Number, P, Reason, Events, Told),
+    {Where, Keys} = standing(Number, P, Reason, Events, Told),
+    {Class, Said} = reason(Reason, Names),
     case {[Lacked || {N, _, Lacked} <- plain_verdict:gaps(Events), N =:= Number], orderly(Reason)} of
-        {[Lacked], _} -> io_lib:format("refused <~w> ~ts~ts ~s~n", [P, Where, Lacked, cure(Lacked, Told)]);
-        {[], true} -> io_lib:format("ended <~w> ~ts~ts~n", [P, Where, reason(Reason, Names)]);
-        {[], false} -> io_lib:format("crash <~w> ~ts~ts~n", [P, Where, reason(Reason, Names)])
+        {[Lacked], _} -> {io_lib:format("refused <~w> ~ts~ts ~s", [P, Where, Lacked, cure(Lacked, Told)]), [{refused, pid(P)} | Keys] ++ [{lacks, Lacked}, {cure, cure(Lacked, Told)}]};
+        {[], true} -> {io_lib:format("ended <~w> ~ts~s ~ts", [P, Where, Class, Said]), [{ended, pid(P)} | Keys] ++ [{class, Class}, {reason, Said}]};
+        {[], false} ->
+            Given = arguments(Number, Told, Names),
+            {[io_lib:format("crash <~w> ~ts~s ~ts", [P, Where, Class, Said]), [[" for (", A, ")"] || A <- Given]],
+             [{crash, pid(P)} | Keys] ++ [{class, Class}, {reason, Said}] ++ [{arguments, A} || A <- Given]}
     end.
+
+%% The arguments for which a function had no clause, where the run tells them.
+-spec arguments(pos_integer(), told(), map()) -> [binary()].
+arguments(Number, {ok, #{arguments := #{} = Known}, _}, Names) when is_map_key(Number, Known) -> [plain_words_back:line(maps:get(Number, Known), Names)];
+arguments(_, _, _) -> [].
 
 %% What to do about what is lacking.
 -spec cure(binary(), told()) -> string().
@@ -168,16 +207,20 @@ orderly(_) -> false.
 
 %% @doc The place of an end: its own mark; or that of the action that raised; else the last place of the source that the process came by.
 -spec where(pos_integer(), non_neg_integer(), binary(), [plain_report:event()], told()) -> iodata().
-where(_, _, _, _, unknown) -> "";
-where(Number, P, Reason, Events, {ok, #{events := Marks}, #{marks := Places, atoms := Atoms}} = Told) ->
+where(Number, P, Reason, Events, Told) -> element(1, standing(Number, P, Reason, Events, Told)).
+
+%% The place of an end as text, and as the keys of an object.
+-spec standing(pos_integer(), non_neg_integer(), binary(), [plain_report:event()], told()) -> plain_json:line().
+standing(_, _, _, _, unknown) -> {"", []};
+standing(Number, P, Reason, Events, {ok, #{events := Marks}, #{marks := Places, atoms := Atoms}} = Told) ->
     Own = [{N, Label, place_of(Mark, Places)} || {N, {#{subject := {turn, Q}, label := Label}, Mark}} <- lists:zip(lists:seq(1, length(Events)), lists:zip(Events, Marks)),
                                                  Q =:= P, N =< Number],
     Placed = [{N, Label, Place} || {N, Label, {user, _, _, _} = Place} <- lists:reverse(Own)],
     Raised = case lists:reverse(Own) of [_, {N1, <<"raise ", _/binary>>, _} | _] -> N1; _ -> Number end,
     case Placed of
-        [{N, _, Place} | _] when N =:= Number; N =:= Raised -> ["at ", plain_words_back:place(Place), ": "];
-        [{_, _, Place} | _] -> ["behind ", plain_words_back:place(Place), ": "];
-        [] -> ["in ", role(P, Told), stands(Reason, Atoms), ": "]
+        [{N, _, Place} | _] when N =:= Number; N =:= Raised -> {["at ", plain_words_back:place(Place), ": "], plain_json:place(Place)};
+        [{_, _, Place} | _] -> {["behind ", plain_words_back:place(Place), ": "], plain_json:place(Place) ++ [{behind, true}]};
+        [] -> {["in ", role(P, Told), stands(Reason, Atoms), ": "], [{runs, role(P, Told)}]}
     end.
 
 %% Where the first word of a reason stands in the sources, which a callback returned.
@@ -192,12 +235,12 @@ stands(Reason, Atoms) ->
         [] -> ""
     end.
 
-%% A reason with its class.
--spec reason(binary(), map()) -> iodata().
+%% @doc The class of an end, and what was raised.
+-spec reason(binary(), map()) -> {string(), binary()}.
 reason(Reason, Names) ->
     Known = plain_words_back:line(Reason, Names),
-    case {re:run(Known, <<"^\\{\\{nocatch,(.*)\\},\\[\\]\\}$">>, [{capture, [1], binary}]), re:run(Known, <<"^\\{(.*),\\[\\]\\}$">>, [{capture, [1], binary}])} of
-        {{match, [Thrown]}, _} -> ["throw ", Thrown];
-        {nomatch, {match, [Error]}} -> ["error ", Error];
-        {nomatch, nomatch} -> ["exit ", Known]
+    case {re:run(Known, <<"^\\{\\{nocatch,(.*)\\},\\[\\]\\}$">>, [{capture, [1], binary}, dotall]), re:run(Known, <<"^\\{(.*),\\[\\]\\}$">>, [{capture, [1], binary}, dotall])} of
+        {{match, [Thrown]}, _} -> {"throw", Thrown};
+        {nomatch, {match, [Error]}} -> {"error", Error};
+        {nomatch, nomatch} -> {"exit", Known}
     end.

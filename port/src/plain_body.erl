@@ -148,12 +148,12 @@ safe(Tree) -> plain_tree:simple(Tree).
 -spec primitive(atom(), [tree()], plain_tree:line(), environment(), mode()) -> plain_text:body().
 primitive(match_fail, [Reason], Line, Env, Mode) ->
     at(Line),
-    Told = case Reason of
-        {tup, [{lit, function_clause, _} | _]} -> {atom, function_clause};
-        {lit, {function_clause}, _} -> {atom, function_clause};
-        _ -> plain_value:value(Reason, Env)
-    end,
-    [failure(error, Told, Mode)];
+    case {Reason, Mode =/= plain andalso plain_trace:with_arguments()} of
+        {{tup, [{lit, function_clause, _} | Arguments]}, true} -> [plain_trace:no_clause(plain_value:values(Arguments, Env))];
+        {{tup, [{lit, function_clause, _} | _]}, false} -> [failure(error, {atom, function_clause}, Mode)];
+        {{lit, {function_clause}, _}, _} -> [failure(error, {atom, function_clause}, Mode)];
+        _ -> [failure(error, plain_value:value(Reason, Env), Mode)]
+    end;
 primitive(raise, [Raw, Reason], _, Env, Mode) ->
     {Class, Stack} = plain_trace:raw_parts(plain_value:value(Raw, Env)),
     raised(Class, Reason, Stack, Env, Mode);

@@ -58,6 +58,7 @@ call(demonitor, 2, [_, {lit, Options, _}] = Arguments, Env, Mode) when Options =
 call(setelement, 3, [{lit, Index, _}, {v, _} = Tuple, Value], Env, Mode) when is_integer(Index) -> setelement(Index, Tuple, Value, Env, Mode);
 call(Function, Arity, Arguments, Env, Mode) ->
     note(Function),
+    lacks(Function, Arity, Arguments),
     operation(Function, Arity, plain_value:values(Arguments, Env), Mode).
 
 -spec raised([plain_text:expression()], mode()) -> plain_text:body().
@@ -157,6 +158,14 @@ library(Function, Arity, Arguments, Mode) ->
         _ -> [plain_call:function(erlang, Function, Arity, Arguments, Mode)]
     end.
 
+%% Refuses arguments that a function of the library is seen to lack.
+-spec lacks(atom(), arity(), [tree()]) -> ok.
+lacks(Function, Arity, Arguments) ->
+    case plain_modules:find(erlang, Function, Arity) of
+        {lib, Core, _} -> plain_lacks:refuse(erlang, Function, Core, Arguments);
+        _ -> ok
+    end.
+
 %% Notes on the encodings behind functions of erlang.
 -spec note(atom()) -> ok.
 note(Function) when Function =:= put; Function =:= get; Function =:= erase ->
@@ -168,4 +177,5 @@ note(process_flag) -> plain_refusal:note_once(flags, "of the flags of a process 
 note(Function) when Function =:= nodes; Function =:= is_alive -> plain_refusal:note_once(nodes, "there is one node; nothing tells of others");
 note(Function) when Function =:= garbage_collect; Function =:= yield; Function =:= display ->
     plain_refusal:note_once(machine, "garbage_collect, yield and display do nothing");
+note(group_leader) -> plain_refusal:note_once(leader, "the group leader is one process for all, which drops output");
 note(_) -> ok.

@@ -1,21 +1,32 @@
 %% @doc The commands: translate, then call pulsefarm and tell its answer.
 -module(plain_command).
--export([run/1, complain/1, told/3]).
+-export([run/1, complain/1, told/3, refusals/1]).
 
 -spec complain(iodata()) -> ok.
 complain(Text) -> io:put_chars(standard_error, unicode:characters_to_list(Text)).
 
 -spec run(plain_words:asked()) -> 0..255.
 run(#{command := eunit} = Asked) -> plain_eunit:run(Asked);
-run(#{files := Files, options := Options} = Asked) ->
+run(#{files := Files, options := Options, words := Words} = Asked) ->
+    case lists:member("--all-roots", Words) of
+        true -> plain_roots:hunt(Asked);
+        false -> one_root(Files, Options, Asked)
+    end.
+
+-spec one_root([file:filename()], plain_translation:options(), plain_words:asked()) -> 0..255.
+one_root(Files, Options, Asked) ->
     case plain_translation:translate(Files, Options) of
         {refused, Refusals} ->
-            [complain(io_lib:format("~ts: ~ts~n", [plain_refusal:place(File, Line), Sentence])) || {File, Line, Sentence} <- Refusals],
+            refusals(Refusals),
             2;
         {ok, #{notes := Notes} = Translation} ->
             [complain(["note: ", Note, "\n"]) || Note <- Notes],
             translated(Asked, Translation)
     end.
+
+%% @doc Tells why something can't be translated.
+-spec refusals([plain_translation:refusal()]) -> ok.
+refusals(Refusals) -> lists:foreach(fun({File, Line, Sentence}) -> complain(io_lib:format("~ts: ~ts~n", [plain_refusal:place(File, Line), Sentence])) end, Refusals).
 
 -spec translated(plain_words:asked(), plain_translation:translation()) -> 0..255.
 translated(#{command := translate, out := none}, #{text := Text}) ->
@@ -64,8 +75,8 @@ run_of_chart(Asked, #{text := Text} = Translation) ->
 told(missing, _, _) ->
     complain("pulsefarm-erl: the program pulsefarm is not on the path; sh install.sh puts it there, or PULSEFARM names it\n"),
     2;
-told({Text, Status}, #{command := Command}, _) when Command =:= check; Status >= 2 ->
-    plain_out:put(Text),
+told({Text, Status}, #{command := Command} = Asked, _) when Command =:= check; Status >= 2 ->
+    plain_json:put([{Line, plain_json:of_line(Line)} || Line <- binary:split(Text, <<"\n">>, [global, trim])], Asked),
     Status;
 told({Text, Status}, #{command := chart} = Asked, Translation) ->
     plain_out:put(plain_chart:tell(Text, run_of_chart(Asked, Translation), Translation)),
@@ -77,5 +88,6 @@ told({Text, Status}, Asked, Translation) ->
         {[], {match, _}} -> {re:replace(Text, <<"^(holds|fails)( .*: ended \\{refused,.*)$">>, <<"refused\\2">>, [multiline, global, {return, binary}]), 2};
         {[], nomatch} -> {Text, Status}
     end,
-    plain_out:put(plain_answer:tell(Told, Asked, Translation)),
+    plain_json:put(plain_answer:lines(Told, Asked, Translation), Asked),
+    plain_standing:explain(Told, Asked, Translation),
     Judged.

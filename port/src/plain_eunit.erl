@@ -7,8 +7,8 @@
 %% How many seeds of a test are hunted in a round, where a time is set.
 -define(BLOCK, 50).
 -type asked() :: plain_words:asked().
-%% A test: its module, its name with its title, and the body of its root.
--type test() :: #{module := module(), name := string(), body := iodata()}.
+%% A test: its module, its name with its title, the body of its root, and of which generator it is wanted.
+-type test() :: #{module := module(), name := string(), body := iodata(), cut := none | {{module(), atom()}, plain_cut:path() | all}}.
 %% Tests with the translation that has their roots.
 -type group() :: {plain_translation:translation(), asked(), [{test(), atom()}]}.
 -type result() :: {test(), {holds, non_neg_integer()} | {fails, non_neg_integer(), iodata(), iodata()} | {refused, iodata()}}.
@@ -17,7 +17,7 @@
 -spec run(asked()) -> 0..255.
 run(#{files := [Folder]} = Asked) ->
     case plain_application:read(Folder) of
-        {ok, Application} -> with_room(fun(Room) -> tests(Application, Room, with(Application, Asked)) end);
+        {ok, Project} -> with_room(fun(Room) -> tests(Project, Room, with(Project, Asked)) end);
         {error, Sentence} -> complained(Sentence)
     end;
 run(_) -> complained("eunit wants one folder, that of an application").
@@ -28,7 +28,7 @@ complained(Sentence) ->
     2.
 
 %% The options of the application beside those that were given.
--spec with(plain_application:application(), asked()) -> asked().
+-spec with(plain_application:project(), asked()) -> asked().
 with(#{includes := Includes, defines := Defines}, #{options := #{includes := Own, defines := Given} = Options} = Asked) ->
     Asked#{options := Options#{includes := Own ++ Includes, defines := Given ++ Defines}}.
 
@@ -42,11 +42,12 @@ with_room(Use) ->
     after file:del_dir_r(Room)
     end.
 
--spec tests(plain_application:application(), file:filename(), asked()) -> 0..255.
-tests(#{sources := Sources, tests := Tests} = Application, Room, #{words := Words} = Asked) ->
+-spec tests(plain_application:project(), file:filename(), asked()) -> 0..255.
+tests(#{sources := Sources, tests := Tests, compiled := Compiled} = Project, Room, #{words := Words} = Asked) ->
+    ok = code:add_pathsz(Compiled), % for parse transforms
     Known = filename:join(Room, "pf_application.erl"),
-    ok = file:write_file(Known, unicode:characters_to_binary(plain_application:module_text(Application))),
-    Files = Sources ++ Tests ++ [Known],
+    ok = file:write_file(Known, unicode:characters_to_binary(plain_application:module_text(Project))),
+    Files = Sources ++ Tests ++ plain_application:needed(Project) ++ [Known],
     try
         Functions = [{Module, Name} || File <- Sources ++ Tests, {Module, Name} <- functions(File, Asked)],
         All = listed(Functions, Files, Room, Asked),
@@ -69,22 +70,26 @@ functions(File, #{options := #{includes := Includes, defines := Defines}}) ->
     case epp:parse_file(File, [{includes, [filename:dirname(File) | Includes]}, {macros, Defines}]) of
         {ok, Forms} ->
             [Module | _] = [M || {attribute, _, module, M} <- Forms] ++ [list_to_atom(filename:basename(File, ".erl"))],
-            [{Module, Name} || {function, _, Name, 0, _} <- Forms, is_test(atom_to_list(Name))];
+            [{Module, Name} || {function, _, Name, 0, _} <- Forms, plain_cut:is_test(Name)];
         {error, Reason} -> throw({refuse, File, 1, file:format_error(Reason)})
     end.
-
--spec is_test(string()) -> boolean().
-is_test(Name) -> lists:suffix("_test", Name) orelse lists:suffix("_test_", Name).
 
 %% Tests as they stand, and those of generators, which runs tell.
 -spec listed([{module(), atom()}], [file:filename()], file:filename(), asked()) -> [test()].
 listed(Functions, Files, Room, Asked) ->
-    Generators = [{MF, #{module => M, name => named(MF), body => ["pf_eunit:tests(", generator(MF), ")"]}} || {M, _} = MF <- Functions, is_generator(MF)],
-    Told = [{Name, Listed} || Group <- [translated([Test || {_, Test} <- Generators], Files, Room, Asked) || Generators =/= []], Part <- Group, {Name, Listed} <- lists_of(Part, Asked)],
+    Generators = [listing(MF) || MF <- Functions, is_generator(MF)],
+    Told = [{Name, Listed} || Group <- [translated(Generators, Files, Room, Asked) || Generators =/= []], Part <- Group, {Name, Listed} <- lists_of(Part, Asked)],
     lists:append([case proplists:get_value(named(MF), Told, no) of
         no -> [whole(MF)];
-        {ok, Found} -> [#{module => M, name => titled(named(MF), Path, Title), body => ["pf_eunit:run(", generator(MF), ", ", io_lib:format("~w", [Path]), ")"]} || {Path, Title} <- Found]
-    end || {M, _} = MF <- Functions]).
+        {ok, Found} -> [of_set(MF, Path, Title) || {Path, Title} <- Found]
+    end || MF <- Functions]).
+
+-spec listing({module(), atom()}) -> test().
+listing({Module, _} = MF) -> #{module => Module, name => named(MF), body => ["pf_eunit:tests(", generator(MF), ")"], cut => {MF, all}}.
+
+-spec of_set({module(), atom()}, plain_cut:path(), term()) -> test().
+of_set({Module, _} = MF, Path, Title) ->
+    #{module => Module, name => titled(named(MF), Path, Title), body => ["pf_eunit:run(", generator(MF), ", ", io_lib:format("~w", [Path]), ")"], cut => {MF, Path}}.
 
 -spec named({module(), atom()}) -> string().
 named({Module, Function}) -> lists:concat([Module, ":", Function]).
@@ -93,16 +98,15 @@ named({Module, Function}) -> lists:concat([Module, ":", Function]).
 generator({Module, Function}) -> io_lib:format("fun() -> ~p:~p() end", [Module, Function]).
 
 -spec is_generator({module(), atom()}) -> boolean().
-is_generator({_, Function}) -> lists:suffix("_", atom_to_list(Function)).
+is_generator({_, Function}) -> plain_cut:is_generator(Function).
 
 %% A test that is run whole; of a generator that can't be listed its listing, which fails.
 -spec whole({module(), atom()}) -> test().
 whole({Module, Function} = MF) ->
-    Body = case is_generator(MF) of
-        true -> ["pf_eunit:tests(", generator(MF), ")"];
-        false -> io_lib:format("~p:~p(), ok", [Module, Function])
-    end,
-    #{module => Module, name => named(MF), body => Body}.
+    case is_generator(MF) of
+        true -> listing(MF);
+        false -> #{module => Module, name => named(MF), body => io_lib:format("~p:~p(), ok", [Module, Function]), cut => none}
+    end.
 
 %% The tests of each generator of a translation, by a run.
 -spec lists_of({ok, group()} | {refused, test(), iodata()}, asked()) -> [{string(), {ok, [{[pos_integer()], term()}]} | no}].
@@ -131,24 +135,42 @@ titled(Name, Path, Title) ->
     end,
     Name ++ ["[" || Place =/= ""] ++ Place ++ ["]" || Place =/= ""] ++ Text.
 
-%% Tests in one translation where they fit, else in halves.
+%% Tests in one translation where they fit, else in halves; and each alone where something is refused.
 -spec translated([test()], [file:filename()], file:filename(), asked()) -> [{ok, group()} | {refused, test(), iodata()}].
 translated(Tests, Files, Room, #{options := Options} = Asked) ->
+    {File, Roots} = with_roots(Tests, Room),
+    All = [File | Files],
+    Own = Options#{cuts := cuts(Tests)},
+    case {plain_translation:translate(All, Own), Tests} of
+        {{ok, Translation}, _} -> [{ok, {Translation, Asked#{files := All, options := Own}, lists:zip(Tests, Roots)}}];
+        {{refused, Refusals}, [Test]} ->
+            [{refused, Test, lists:join("; ", [[plain_refusal:place(Named, Line), ": ", Sentence] || {Named, Line, Sentence} <- Refusals])}];
+        {{refused, Refusals}, _} ->
+            lists:append([translated(Part, Files, Room, Asked) || Part <- parts(Tests, plain_size:is_too_large(Refusals))])
+    end.
+
+-spec parts([test()], boolean()) -> [[test()]].
+parts(Tests, true) -> tuple_to_list(lists:split(length(Tests) div 2, Tests));
+parts(Tests, false) -> [[Test] || Test <- Tests].
+
+%% A module with a root for each test.
+-spec with_roots([test()], file:filename()) -> {file:filename(), [atom()]}.
+with_roots(Tests, Room) ->
     Module = lists:concat(["pf_tests_", erlang:unique_integer([positive])]),
     File = filename:join(Room, Module ++ ".erl"),
     Roots = [list_to_atom("t" ++ integer_to_list(I)) || I <- lists:seq(1, length(Tests))],
     Exports = lists:join(", ", [[atom_to_list(Root), "/0"] || Root <- Roots]),
-    Text = [["-module(", Module, ").\n-export([", Exports, "]).\n"], [[atom_to_list(Root), "() -> ", Body, ".\n"] || {Root, #{body := Body}} <- lists:zip(Roots, Tests)]],
-    ok = file:write_file(File, Text),
-    All = [File | Files],
-    case {plain_translation:translate(All, Options), Tests} of
-        {{ok, Translation}, _} -> [{ok, {Translation, Asked#{files := All}, lists:zip(Tests, Roots)}}];
-        {{refused, Refusals}, [Test]} ->
-            [{refused, Test, lists:join("; ", [[plain_refusal:place(Named, Line), ": ", Sentence] || {Named, Line, Sentence} <- Refusals])}];
-        {{refused, _}, _} ->
-            {First, Second} = lists:split(length(Tests) div 2, Tests),
-            translated(First, Files, Room, Asked) ++ translated(Second, Files, Room, Asked)
-    end.
+    Functions = [[atom_to_list(Root), "() -> ", Body, ".\n"] || {Root, #{body := Body}} <- lists:zip(Roots, Tests)],
+    ok = file:write_file(File, ["-module(", Module, ").\n-export([", Exports, "]).\n", Functions]),
+    {File, Roots}.
+
+%% What tests need of their generators.
+-spec cuts([test()]) -> plain_cut:cuts().
+cuts(Tests) ->
+    lists:foldl(fun
+        ({MF, all}, Cuts) -> Cuts#{MF => all};
+        ({MF, Path}, Cuts) -> Cuts#{MF => [Path | maps:get(MF, Cuts, [])]}
+    end, #{}, [Cut || #{cut := Cut} <- Tests, Cut =/= none]).
 
 %% All tests, one after the other; or, where a time is set, round by round.
 -spec hunted([test()], [file:filename()], file:filename(), asked()) -> [result()].
@@ -174,31 +196,23 @@ rounds(From, End, Ready, Done) ->
     end.
 
 -spec one(non_neg_integer(), pos_integer(), group(), atom()) -> {holds, non_neg_integer()} | {fails, non_neg_integer(), iodata(), iodata()} | {refused, iodata()}.
-one(From, To, {#{text := Text} = All, Asked, _}, Root) ->
+one(From, To, {#{text := Text} = All, Asked, Roots}, Root) ->
     Translation = All#{roots := [Root]},
     case plain_farm:with_file(Text, fun(File) -> plain_hunt:least(From, To, File, Asked, Translation) end) of
-        none -> {holds, To - From};
+        {none, Early} ->
+            {#{name := Name}, Root} = lists:keyfind(Root, 2, Roots),
+            plain_hunt:left_out([Name, ": "], Early),
+            {holds, To - From};
         {found, Seed, Report, Verdict} ->
-            Told = iolist_to_binary([unicode:characters_to_binary(plain_answer:tell(Report, Asked, Translation))]),
-            Why = why(Told),
+            Lines = plain_answer:lines(Report, Asked, Translation),
+            {Said, _} = plain_answer:why(Lines),
+            Why = unicode:characters_to_binary(Said),
             case Verdict of
                 refused -> {refused, Why};
-                _ -> {fails, Seed, Why, Told}
+                _ -> {fails, Seed, Why, plain_answer:text(Lines)}
             end;
         {answer, missing} -> {refused, "the program pulsefarm is not on the path"};
         {answer, {Said, _}} -> {refused, string:trim(Said)}
-    end.
-
-%% The line that tells why a run fails.
--spec why(binary()) -> iodata().
-why(Told) ->
-    case re:run(Told, <<"^(?:crash|refused) .*$">>, [multiline, {capture, first, binary}]) of
-        {match, [Line]} -> Line;
-        nomatch ->
-            case re:run(Told, <<"^(?:waits|limit|ended|deadlock).*$">>, [multiline, {capture, first, binary}]) of
-                {match, [Line]} -> Line;
-                nomatch -> <<"fails">>
-            end
     end.
 
 %% A line for each test, told as soon as it is known.

@@ -12,12 +12,21 @@ refuse(Module, Function, Core, Arguments) ->
     case plain_state:get(kind) =:= user andalso lists:any(fun told/1, Arguments) andalso lacking(Core, Arguments) of
         true when not Lax ->
             plain_refusal:record(plain_state:get(file), plain_state:get(line),
-                                 io_lib:format("~w:~w/~w is known, but not with these arguments (port/ENCODINGS.md); write what you need of it yourself",
-                                               [Module, Function, length(Arguments)]));
-        true -> plain_refusal:note("~w:~w/~w is not known with these arguments; a process that comes here ends with {refused,..}",
-                                   [Module, Function, length(Arguments)]);
+                                 [call(Module, Function, Arguments), " is not translated, other arguments are (port/ENCODINGS.md); write what you need of it yourself"]);
+        true -> plain_refusal:note("~ts is not translated; a process that comes here ends with {refused,..}", [call(Module, Function, Arguments)]);
         false -> ok
     end.
+
+%% A call as its source has it, as far as it is known.
+-spec call(module(), atom(), [tree()]) -> iodata().
+call(Module, Function, Arguments) -> io_lib:format("~w:~w(~ts)", [Module, Function, lists:join(", ", [shown(Argument) || Argument <- Arguments])]).
+
+-spec shown(tree()) -> iodata().
+shown({lit, Term, _}) -> io_lib:format("~0tp", [Term]);
+shown({tup, Elements}) -> ["{", lists:join(", ", [shown(Element) || Element <- Elements]), "}"];
+shown({cons, Head, {lit, [], _}}) -> ["[", shown(Head), "]"];
+shown({cons, Head, _}) -> ["[", shown(Head), " | _]"];
+shown(_) -> "_".
 
 -spec told(tree()) -> boolean().
 told({v, _}) -> false;

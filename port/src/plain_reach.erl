@@ -251,6 +251,6 @@ exporting(Function, Arity) ->
 %% @doc The functions by whose use a service is seen to be used.
 -spec client(atom()) -> [atom()].
 client(pf_clock) -> [now_ms, send, unsend];
-client(pf_names) -> [register];
+client(pf_names) -> [register, register_global, name_of];
 client(rand) -> [flip];
 client(_) -> [ask].

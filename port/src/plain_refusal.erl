@@ -69,6 +69,7 @@ why(Module, _) when Module =:= code; Module =:= erl_eval; Module =:= erl_scan; M
     "loads or makes code at run time, which the profile can't; call the function by its module";
 why(Module, _) when Module =:= io_lib; Module =:= unicode; Module =:= binary; Module =:= re; Module =:= base64 ->
     "makes or reads text or binaries, which is not translated; keep terms, or put a module of that name among the files";
+why(eunit, _) -> "runs tests of EUnit; pulsefarm-erl eunit FOLDER hunts each of them";
 why(math, _) -> "is for floats, and the profile has none; count in integers";
 why(ets, _) -> "is not among the functions of ets that the library has (port/ENCODINGS.md); take insert, lookup, delete, match_object, select";
 why(sys, _) -> "looks into a server from outside, which is not translated; add a call to the server that answers it";

@@ -5,8 +5,8 @@
 -export([places/4, steps/2, same/3]).
 
 -type place() :: plain_translation:place().
-%% For each event the mark before it; for each process the mark at its beginning.
--type told() :: #{events := [binary() | none], begins := #{non_neg_integer() => binary()}}.
+%% For each event the mark before it; for each process the mark at its beginning; for ends of functions without a clause their arguments.
+-type told() :: #{events := [binary() | none], begins := #{non_neg_integer() => binary()}, arguments := #{pos_integer() => binary()}}.
 -type step() :: {mark | start | event, plain_report:event(), boolean()}.
 -export_type([told/0, place/0]).
 
@@ -14,6 +14,18 @@
 -spec places([file:filename()], plain_translation:options(), string(), [plain_report:event()]) ->
     {ok, told(), plain_translation:translation()} | unknown.
 places(Files, Options, Root, Events) ->
+    case lists:any(fun(#{label := Label}) -> binary:match(Label, <<"end {function_clause,[]">>) =/= nomatch end, Events) of
+        true ->
+            case placed(Files, Options#{arguments := true}, Root, Events) of
+                unknown -> placed(Files, Options, Root, Events); % with their arguments values may be too large
+                Told -> Told
+            end;
+        false -> placed(Files, Options, Root, Events)
+    end.
+
+-spec placed([file:filename()], plain_translation:options(), string(), [plain_report:event()]) ->
+    {ok, told(), plain_translation:translation()} | unknown.
+placed(Files, Options, Root, Events) ->
     case traced(Files, Options) of
         {ok, #{text := Text} = Traced} ->
             case plain_farm:with_file(Text, fun(File) -> replay(File, Root, Events, [], 8) end) of
@@ -43,8 +55,8 @@ replay(File, Root, Events, Unmarked, Tries) ->
     case run(File, Root, Schedule) of
         {ok, Seen, Limited} ->
             case compare(Steps, Seen, 0) of
-                {differ, _, end_of_run} when Limited -> {ok, told(Steps, Seen, #{events => [], begins => #{}}, none)};
-                same -> {ok, told(Steps, Seen, #{events => [], begins => #{}}, none)};
+                {differ, _, end_of_run} when Limited -> {ok, told(Steps, Seen, nothing(), none)};
+                same -> {ok, told(Steps, Seen, nothing(), none)};
                 {differ, Number, _} when is_integer(Number) ->
                     case lists:member(Number, Unmarked) of
                         true -> unknown;
@@ -123,8 +135,24 @@ same(_, #{choice := Choice, among := Among, subject := Subject}, #{choice := See
 %% A label without stack traces, which are places in the traced form, and without the names of funs, which are numbered in each form.
 -spec bare(binary()) -> binary().
 bare(Label) ->
-    Empty = re:replace(Label, <<"\\['@[0-9]+'\\]">>, <<"[]">>, [global, {return, binary}]),
+    Empty = without_arguments(re:replace(Label, <<"\\['@[0-9]+'\\]">>, <<"[]">>, [global, {return, binary}])),
     re:replace(Empty, <<"{'#fun',([0-9]+),('[^']*'|[A-Za-z0-9_@]+)">>, <<"{'#fun',\\1,f">>, [global, {return, binary}]).
+
+%% A label without the stack traces that have arguments behind the place.
+-spec without_arguments(binary()) -> binary().
+without_arguments(Label) ->
+    case re:run(Label, <<"\\['@[0-9]+',">>, [{capture, first, index}]) of
+        {match, [{At, Length}]} ->
+            <<Before:At/binary, _:Length/binary, Rest/binary>> = Label,
+            case plain_words_back:behind_term(Rest) of
+                {ok, <<"]", Behind/binary>>} -> <<Before/binary, "[]", (without_arguments(Behind))/binary>>;
+                _ -> Label
+            end;
+        nomatch -> Label
+    end.
+
+-spec nothing() -> told().
+nothing() -> #{events => [], begins => #{}, arguments => #{}}.
 
 -spec told([step()], [plain_report:event()], told(), binary() | none) -> told().
 told([], _, #{events := Events} = Told, _) -> Told#{events := lists:reverse(Events)};
@@ -132,9 +160,13 @@ told(Steps, [], #{events := Events} = Told, _) -> Told#{events := lists:reverse(
 told([{start, #{subject := {turn, Process}}, _} | Steps], [#{label := <<"whereis ", Mark/binary>>} | Seen], #{begins := Begins} = Told, Last) ->
     told(Steps, Seen, Told#{begins := Begins#{Process => Mark}}, Last);
 told([{mark, _, _} | Steps], [#{label := <<"whereis ", Mark/binary>>} | Seen], Told, _) -> told(Steps, Seen, Told, Mark);
-told([{event, _, End} | Steps], [#{label := Label} | Seen], #{events := Events} = Told, Last) ->
-    Mark = case End andalso re:run(Label, <<"\\[('@[0-9]+')\\]">>, [{capture, [1], binary}]) of
+told([{event, _, End} | Steps], [#{label := Label} | Seen], #{events := Events, arguments := Arguments} = Told, Last) ->
+    Mark = case End andalso re:run(Label, <<"\\[('@[0-9]+')[],]">>, [{capture, [1], binary}]) of
         {match, [Place]} -> Place;
         _ -> Last
     end,
-    told(Steps, Seen, Told#{events := [Mark | Events]}, none).
+    Known = case End andalso re:run(Label, <<"^end \\{function_clause,\\['@[0-9]+',\\{(.*)\\}\\]\\}$">>, [{capture, [1], binary}]) of
+        {match, [Found]} -> Arguments#{length(Events) + 1 => Found};
+        _ -> Arguments
+    end,
+    told(Steps, Seen, Told#{events := [Mark | Events], arguments := Known}, none).

@@ -4,7 +4,7 @@
 
 %% @doc All services, in the order in which they start.
 -spec all() -> [atom()].
-all() -> [pf_names, ets, pf_clock, pf_dictionary, rand, pf_cells].
+all() -> [pf_names, ets, pf_clock, pf_dictionary, rand, pf_cells, pf_leader].
 
 %% @doc Whether the pass before found one to be used.
 -spec any() -> boolean().

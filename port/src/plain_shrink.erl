@@ -8,8 +8,10 @@
 -type translation() :: plain_translation:translation().
 %% A failing run: its schedule, its report as text, and how it fails.
 -type run() :: #{schedule := [non_neg_integer()], text := binary(), failure := failure(), size := {non_neg_integer(), non_neg_integer()}}.
-%% The kind of the outcome and the reason of the first crash, and its place, which is asked for where all else is the same.
--type failure() :: {binary(), binary() | none, fun(() -> binary())}.
+%% The kind of the outcome, with whether a time passes early, and the reason of the first crash, and its place, which is asked for where all
+%% else is the same.
+-type failure() :: {kind(), binary() | none, fun(() -> binary())}.
+-type kind() :: {binary(), boolean()}.
 -type place() :: {file:filename(), asked(), translation()}.
 
 %% @doc Shrinks what a hunt found, and tells it.
@@ -63,10 +65,10 @@ told(Head, Schedule, Text, {_, Asked, Translation} = Place) ->
                     #{schedule := Choices, text := Report} = Best,
                     Written = case Choices of [] -> "none"; _ -> lists:join(",", [integer_to_list(C) || C <- Choices]) end,
                     Whole = iolist_to_binary([Head, "schedule ", Written, "\n", Word, "\n", Report]),
-                    plain_out:put(plain_answer:tell(Whole, Asked, Translation)),
+                    plain_json:put(plain_answer:lines(Whole, Asked, Translation), Asked),
                     1;
                 {other, Report} ->
-                    plain_out:put(["S1\n", plain_answer:tell(Report, Asked, Translation)]),
+                    plain_json:put([{"S1", plain_json:of_line(<<"S1">>)} | plain_answer:lines(Report, Asked, Translation)], Asked),
                     2;
                 {answer, Answer} -> plain_command:told(Answer, Asked, Translation)
             end;
@@ -93,7 +95,7 @@ run(Schedule, {File, #{words := Words} = Asked, Translation}) ->
                 {false, [], 0} -> holds
             end,
             case Verdict of
-                fails ->
+                Failing when Failing =:= fails; Failing =:= early ->
                     Told = re:replace(Report, <<"^property (holds|fails)$">>, <<"property fails">>, [multiline, {return, binary}]),
                     {fails, #{schedule => plain_report:choices(Events), text => Told, failure => failure(Read, Asked, Translation),
                               size => {plain_order:switches(Events), length(Events)}}};
@@ -105,7 +107,8 @@ run(Schedule, {File, #{words := Words} = Asked, Translation}) ->
 %% How a run fails.
 -spec failure(plain_report:report(), asked(), translation()) -> failure().
 failure(#{events := Events, rest := Rest}, Asked, Translation) ->
-    [Kind | _] = binary:split(plain_verdict:outcome(Rest), <<" ">>),
+    [Word | _] = binary:split(plain_verdict:outcome(Rest), <<" ">>),
+    Kind = {Word, plain_verdict:early(Events, Asked) =/= []},
     Crashes = [End || {_, _, Reason, own} = End <- plain_answer:ends(Events), not plain_answer:orderly(Reason)],
     case Crashes of
         [{Number, P, Reason, own} | _] ->
@@ -128,7 +131,7 @@ begin_with(#{failure := {Kind, Reason, Where}, size := {_, Most}} = First, Runs,
     pieces(max(1, length(maps:get(schedule, Best)) div 2), Best, {Failure, Most}, Left, Place).
 
 %% The same run with fewer switches, where it is one that fails so.
--spec smoother(run(), {binary(), binary() | none, binary()}, non_neg_integer(), non_neg_integer(), place()) -> {run(), non_neg_integer()}.
+-spec smoother(run(), {kind(), binary() | none, binary()}, non_neg_integer(), non_neg_integer(), place()) -> {run(), non_neg_integer()}.
 smoother(Best, _, _, 0, _) -> {Best, 0};
 smoother(#{text := Text} = Best, Failure, Most, Left, Place) ->
     #{events := Events} = plain_answer:report(Text),
@@ -138,7 +141,7 @@ smoother(#{text := Text} = Best, Failure, Most, Left, Place) ->
     end.
 
 %% The new run where it fails in the same way and is smaller, else the one before.
--spec better({fails, run()} | {other, binary()} | {answer, term()}, run(), {binary(), binary() | none, binary()}, non_neg_integer()) -> run().
+-spec better({fails, run()} | {other, binary()} | {answer, term()}, run(), {kind(), binary() | none, binary()}, non_neg_integer()) -> run().
 better({fails, #{failure := {Kind, Reason, Where}, size := {_, Events} = Size} = New}, #{size := Known} = Best, {Kind, Reason, Place}, Most) when Events =< Most, Size < Known ->
     case Where() of
         Place -> New;
@@ -147,7 +150,7 @@ better({fails, #{failure := {Kind, Reason, Where}, size := {_, Events} = Size} =
 better(_, Best, _, _) -> Best.
 
 %% Pieces of a length are left out, from the front; then pieces of half of it.
--spec pieces(pos_integer(), run(), {{binary(), binary() | none, binary()}, non_neg_integer()}, non_neg_integer(), place()) -> {run(), string()}.
+-spec pieces(pos_integer(), run(), {{kind(), binary() | none, binary()}, non_neg_integer()}, non_neg_integer(), place()) -> {run(), string()}.
 pieces(_, Best, _, 0, _) -> {Best, "partial"};
 pieces(Length, #{schedule := Schedule} = Best, Wanted, Left, Place) ->
     case without_pieces(0, Length, Best, Wanted, Left, Place) of
@@ -157,7 +160,7 @@ pieces(Length, #{schedule := Schedule} = Best, Wanted, Left, Place) ->
         {Last, Other} -> pieces(max(1, min(Length, length(maps:get(schedule, Last)) div 2)), Last, Wanted, Other, Place)
     end.
 
--spec without_pieces(non_neg_integer(), pos_integer(), run(), {{binary(), binary() | none, binary()}, non_neg_integer()}, non_neg_integer(), place()) -> {run(), non_neg_integer()}.
+-spec without_pieces(non_neg_integer(), pos_integer(), run(), {{kind(), binary() | none, binary()}, non_neg_integer()}, non_neg_integer(), place()) -> {run(), non_neg_integer()}.
 without_pieces(_, _, Best, _, 0, _) -> {Best, 0};
 without_pieces(At, Length, #{schedule := Schedule} = Best, {Failure, Most} = Wanted, Left, Place) ->
     case At >= length(Schedule) of

@@ -1,6 +1,6 @@
 %% @doc What takes the room of a translation: bytes by module, and the largest functions.
 -module(plain_size).
--export([too_large/2, by_module/1]).
+-export([too_large/2, is_too_large/1, by_module/1]).
 
 %% @doc The sentence that refuses a text which is too large.
 -spec too_large(plain_translation:translation(), pos_integer()) -> string().
@@ -8,6 +8,10 @@ too_large(#{text := Text} = Translation, Most) ->
     Modules = [io_lib:format("~ts ~w", [Name, Bytes]) || {Bytes, Name} <- lists:sublist(by_module(Translation), 8)],
     lists:flatten(io_lib:format("the module would have ~w bytes, over ~w (~ts); hunt from a root that reaches less, or put a smaller module in the place of one",
                                 [byte_size(Text), Most, lists:join(", ", Modules)])).
+
+%% @doc Whether a translation is refused by such a sentence.
+-spec is_too_large([plain_translation:refusal()]) -> boolean().
+is_too_large(Refusals) -> [x || {_, _, "the module would have " ++ _} <- Refusals] =/= [].
 
 %% @doc The bytes of each module, and of what binds them, the largest first.
 -spec by_module(plain_translation:translation()) -> [{pos_integer(), string()}].

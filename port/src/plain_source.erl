@@ -9,14 +9,23 @@
 %% @doc A file as Core Erlang. What the compiler refuses is refused in its words.
 -spec read(file:filename(), [term()]) -> source().
 read(File, Defines) ->
-    filelib:is_regular(File) orelse throw({refuse, File, 1, "there is no such file"}),
-    Forms = forms(File, Defines),
+    [throw({refuse, File, 1, Sentence}) || {no, Sentence} <- [readable(File)]],
+    Forms = plain_cut:forms(forms(File, Defines), maps:get(cuts, plain_state:get(options))),
     [throw({refuse, File, line(Location), Module:format_error(What)}) || {error, {Location, Module, What}} <- Forms],
     Core = core(File, Forms),
     #{name => cerl:concrete(cerl:module_name(Core)),
       functions => maps:from_list([{cerl:var_name(Name), Function} || {Name, Function} <- cerl:module_defs(Core)]),
       exports => [cerl:var_name(Name) || Name <- cerl:module_exports(Core)],
       forms => Forms}.
+
+-spec readable(file:filename()) -> yes | {no, string()}.
+readable(File) ->
+    case {filelib:is_dir(File), filelib:is_regular(File), filename:extension(File)} of
+        {true, _, _} -> {no, "this is a folder; name its files, or hunt its tests by pulsefarm-erl eunit"};
+        {false, false, _} -> {no, "there is no such file"};
+        {false, true, ".beam"} -> {no, "this is compiled; name its source"};
+        _ -> yes
+    end.
 
 %% @doc A file of the library or of OTP, which doesn't change while this program runs, and so is read once for all passes.
 -spec read_library(file:filename(), [term()]) -> source().
@@ -35,14 +44,27 @@ forms(File, Defines) ->
     #{includes := Includes} = plain_state:get(options),
     Path = Includes ++ [filename:dirname(File), code:lib_dir(kernel) ++ "/include", code:lib_dir(stdlib) ++ "/include"],
     case epp:parse_file(File, [{includes, Path}, {macros, Defines}]) of
-        {ok, Forms} -> Forms;
+        {ok, Forms} -> case lists:any(fun is_alive/1, Forms) of true -> Forms; false -> alive(Forms) end;
         {error, Reason} -> throw({refuse, File, 1, file:format_error(Reason)})
     end.
+
+-spec is_alive(term()) -> boolean().
+is_alive({function, _, is_process_alive, 1, _}) -> true;
+is_alive(_) -> false.
+
+%% A process that asks whether it is alive itself is: by that the macros of EUnit hide a `true' from the compiler.
+-spec alive(term()) -> term().
+alive({call, Line, {atom, _, is_process_alive}, [{call, _, {atom, _, self}, []}]}) -> {atom, Line, true};
+alive(Form) when is_tuple(Form) -> list_to_tuple(alive(tuple_to_list(Form)));
+alive([Head | Tail]) -> [alive(Head) | alive(Tail)];
+alive(Other) -> Other.
 
 -spec core(file:filename(), [term()]) -> cerl:c_module().
 core(File, Forms) ->
     case compiled(Forms, [to_core0, binary, return, {error_location, line}, nowarn_deprecated_function]) of
         {ok, _, Core, _} -> Core;
+        {error, [{_, [{none, compile, {undef_parse_transform, Name}} | _]} | _], _} ->
+            throw({refuse, File, 1, io_lib:format("the parse transform ~w isn't on the path; name its folder by ERL_LIBS", [Name])});
         {error, [{Named, [{Location, Module, What} | _]} | _], _} -> throw({refuse, Named, line(Location), Module:format_error(What)});
         _ -> throw({refuse, File, 1, "the compiler makes no Core Erlang of it"})
     end.

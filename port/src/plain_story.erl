@@ -4,7 +4,7 @@
 -export([tell/3]).
 
 %% @doc The lines of a story, each with the number of its event.
--spec tell([plain_report:event()], [plain_translation:place() | none], {plain_answer:told(), #{atom() => plain_translation:place()}}) -> iodata().
+-spec tell([plain_report:event()], [plain_translation:place() | none], {plain_answer:told(), #{atom() => plain_translation:place()}}) -> [plain_json:line()].
 tell(Events, Places, {Told, Names}) ->
     Pids = lists:usort([P || #{subject := {turn, P}} <- Events]),
     Services = [P || P <- Pids, is_service(plain_answer:role(P, Told))],
@@ -14,7 +14,7 @@ tell(Events, Places, {Told, Names}) ->
             _ -> {line(Number, Event, Place, Services, Names), asking(Event, Services, Asking)}
         end
     end, #{}, lists:zip3(lists:seq(1, length(Events)), Events, Places)),
-    Lines.
+    lists:append(Lines).
 
 %% Who waits for the answer of a service, which is the next that it receives.
 -spec asking(plain_report:event(), [non_neg_integer()], #{non_neg_integer() => true}) -> #{non_neg_integer() => true}.
@@ -31,15 +31,27 @@ asking(_, _, Asking) -> Asking.
 is_service(unknown) -> false;
 is_service(Role) -> lists:prefix("the service", lists:flatten(io_lib:format("~ts", [Role]))).
 
--spec line(pos_integer(), plain_report:event(), plain_translation:place() | none, [non_neg_integer()], map()) -> iodata().
-line(Number, #{subject := {turn, P}, label := Label}, Place, Services, Names) ->
+-spec line(pos_integer(), plain_report:event(), plain_translation:place() | none, [non_neg_integer()], map()) -> [plain_json:line()].
+line(Number, #{subject := {turn, P}, label := Label} = Event, Place, Services, Names) ->
     case lists:member(P, Services) orelse not is_told(Label, Place, Services) of
         true -> [];
-        false -> io_lib:format("~w <~w> ~ts~ts~n", [Number, P, plain_words_back:line(said(Label), Names), stands(Place)])
+        false ->
+            Said = plain_words_back:line(said(Label), Names),
+            [{io_lib:format("~w <~w> ~ts~ts", [Number, P, Said, stands(Place)]), object(Number, P, Said, Event) ++ place(Place)}]
     end;
-line(Number, #{subject := {delivery, A, B}, label := <<"deliver exit ends ", Reason/binary>>}, _, _, Names) ->
-    io_lib:format("~w <~w> is ended by <~w>: ~ts~n", [Number, B, A, plain_words_back:line(Reason, Names)]);
+line(Number, #{subject := {delivery, A, B}, label := <<"deliver exit ends ", Reason/binary>>} = Event, _, _, Names) ->
+    Said = io_lib:format("is ended by <~w>: ~ts", [A, plain_words_back:line(Reason, Names)]),
+    [{io_lib:format("~w <~w> ~ts", [Number, B, Said]), object(Number, B, Said, Event)}];
 line(_, _, _, _, _) -> [].
+
+%% What an object has of an event: its number in the run, its choice, who goes, and what it does.
+-spec object(pos_integer(), non_neg_integer(), unicode:chardata(), plain_report:event()) -> plain_json:object().
+object(Number, P, Said, #{choice := Choice, among := Among}) ->
+    [{event, Number}, {choice, Choice}, {count, Among}, {actor, io_lib:format("<~w>", [P])}, {label, Said}].
+
+-spec place(plain_translation:place() | none) -> plain_json:object().
+place({user, File, Line, _} = Place) -> plain_json:place(Place) ++ [{source, Text} || Text <- [source(File, Line)], Text =/= none];
+place(_) -> [].
 
 %% Whether an event is one of the story: what the source does itself, and of the library what goes between processes of the source.
 -spec is_told(binary(), plain_translation:place() | none, [non_neg_integer()]) -> boolean().

@@ -1,12 +1,21 @@
 %% @doc The traced form of a module, by which a run is told in the words of its source. It does what the plain one does, by the same
 %% choices, with two things more: before each action stands a look for a name that nobody has, which tells the place as an event
-%% of its own; and an error carries its place as its stack trace.
+%% of its own; and an error carries its place as its stack trace. Where that is asked for, the error of a function that has no clause for its
+%% arguments carries them too.
 -module(plain_trace).
--export([traced/0, action/2, mark/0, marked/1, here/0, thrown/2, thrown/3, is_thrown/1, caught/3, stack_of/1, raw/2, raw_parts/1, begin_clause/3, begun/3]).
+-export([traced/0, with_arguments/0, action/2, mark/0, marked/1, here/0, no_clause/1, thrown/2, thrown/3, is_thrown/1, caught/3, stack_of/1, raw/2, raw_parts/1, begin_clause/3, begun/3]).
 
 %% @doc Whether the traced form is written.
 -spec traced() -> boolean().
 traced() -> maps:get(traced, plain_state:get(options)).
+
+%% @doc Whether the error of a function without a clause carries its arguments here.
+-spec with_arguments() -> boolean().
+with_arguments() -> traced() andalso plain_state:get(kind) =:= user andalso maps:get(arguments, plain_state:get(options)).
+
+%% @doc The error of a function that has no clause for these arguments: behind the mark of its place stand the arguments.
+-spec no_clause([plain_text:expression()]) -> plain_text:expression().
+no_clause(Arguments) -> thrown({atom, error}, {atom, function_clause}, {cons, mark(), {cons, {tuple, Arguments}, nil}}).
 
 %% @doc An action of the profile: a call, or `!'.
 -spec action(atom(), [plain_text:expression()]) -> plain_text:expression().

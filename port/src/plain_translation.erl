@@ -1,6 +1,6 @@
 %% @doc One translation: files of plain Erlang in, a module of the profile and its map out.
 -module(plain_translation).
--export([translate/2, defaults/0]).
+-export([translate/2, roots/2, defaults/0]).
 
 -define(MOST_BYTES, 65536).
 %% Above this the names inside are short.
@@ -8,7 +8,8 @@
 %% Above this the tags of messages aren't taken for names of functions.
 -define(LARGE, 24576).
 -type options() :: #{includes := [file:filename()], defines := [atom() | {atom(), term()}], library_defines := [atom() | {atom(), term()}],
-                     root := atom() | none, never := non_neg_integer() | infinity, lax := boolean(), calls := [{module(), atom()}], traced := boolean()}.
+                     root := atom() | none | {all, [atom()]}, never := non_neg_integer() | infinity, lax := boolean(), calls := [{module(), atom()}], traced := boolean(),
+                     arguments := boolean(), cuts := plain_cut:cuts()}.
 %% What a pass begins with: the services that are used, the atoms that are made, and whether names are short, whether tags name no functions, and whether names are monitored.
 -type plan() :: #{services := map(), known := map() | all, short := boolean(), narrow := boolean(), named := boolean()}.
 -type refusal() :: {file:filename(), non_neg_integer(), string()}.
@@ -20,12 +21,34 @@
 
 %% @doc The options where none is given.
 -spec defaults() -> options().
-defaults() -> #{includes => [], defines => [], library_defines => [], root => none, never => infinity, lax => false, calls => [], traced => false}.
+defaults() ->
+    #{includes => [], defines => [], library_defines => [], root => none, never => infinity, lax => false, calls => [], traced => false, arguments => false,
+      cuts => #{}}.
 
 %% @doc Translates in a process of its own, since what a translation knows belongs to its process.
 -spec translate([file:filename()], options()) -> {ok, translation()} | {refused, [refusal()]}.
-translate(Files, Options) ->
-    {Pid, Monitor} = spawn_monitor(fun() -> exit({answer, attempt(Files, Options)}) end),
+translate(Files, Options) -> apart(fun() -> attempt(Files, Options) end).
+
+%% @doc All functions that may be a root: those without arguments that the first file exports.
+-spec roots([file:filename()], options()) -> {ok, [atom()]} | {refused, [refusal()]}.
+roots([File | _], Options) ->
+    apart(fun() ->
+        plain_state:start(Options, first_plan()),
+        try entries(File, plain_modules:give(File)) of
+            Entries -> {ok, Entries}
+        catch throw:{refuse, Refused, Line, Sentence} -> {refused, [{Refused, Line, lists:flatten(Sentence)}]}
+        end
+    end).
+
+-spec entries(file:filename(), module()) -> [atom()].
+entries(File, Module) ->
+    Entries = [Name || {Name, 0} <- plain_modules:exported(Module, user)],
+    Entries =:= [] andalso throw({refuse, File, 1, "the first module exports no function without arguments; export one to begin with"}),
+    Entries.
+
+-spec apart(fun(() -> Answer)) -> Answer.
+apart(Make) ->
+    {Pid, Monitor} = spawn_monitor(fun() -> exit({answer, Make()}) end),
     receive
         {'DOWN', Monitor, process, Pid, {answer, Answer}} -> Answer;
         {'DOWN', Monitor, process, Pid, Reason} -> error({translation, Reason})
@@ -33,9 +56,12 @@ translate(Files, Options) ->
 
 -spec attempt([file:filename()], options()) -> {ok, translation()} | {refused, [refusal()]}.
 attempt(Files, Options) ->
-    try pass(Files, Options, #{services => #{}, known => plain_prune:given(), short => false, narrow => false, named => false})
+    try pass(Files, Options, first_plan())
     catch throw:{refuse, File, Line, Sentence} -> {refused, [{File, Line, lists:flatten(Sentence)}]}
     end.
+
+-spec first_plan() -> plan().
+first_plan() -> #{services => #{}, known => plain_prune:given(), short => false, narrow => false, named => false}.
 
 %% Passes go on until the services that are used are those that are started, nothing more is found to be made, and the text is short enough.
 -spec pass([file:filename()], options(), plan()) -> {ok, translation()} | {refused, [refusal()]}.
@@ -74,19 +100,28 @@ begin_with(Files, #{root := Root}) ->
     [Main | _] = Modules = [plain_modules:give(File) || File <- Files],
     plain_state:put(main, Main),
     plain_state:put(users, Modules),
-    Entries = [Name || {Name, 0} <- plain_modules:exported(Main, user)],
+    Entries = entries(hd(Files), Main),
     Roots = case {Root, lists:member(main, Entries)} of
+        {{all, Names}, _} -> Names;
         {none, true} -> [main];
-        {none, false} -> Entries;
+        {none, false} -> without_main(hd(Files), Entries);
         {_, _} -> [Root]
     end,
-    Roots =:= [] andalso throw({refuse, hd(Files), 1, "the first module exports no function without arguments; export one to begin with"}),
-    Root =:= none orelse lists:member(Root, Entries)
-        orelse throw({refuse, hd(Files), 1, io_lib:format("the module exports no function ~w/0; export it, or name another by --root", [Root])}),
+    [throw({refuse, hd(Files), 1, io_lib:format("the module exports no function ~w/0; export it, or name another by --root", [Missing])}) || Missing <- Roots -- Entries],
+    [throw({refuse, hd(Files), 1, io_lib:format("~w/0 makes tests and runs none of them; pulsefarm-erl eunit FOLDER hunts each", [Maker])})
+     || Maker <- Roots, plain_cut:is_generator(Maker)],
     plain_state:put(roots, Roots),
     [root(Main, Name) || Name <- Roots],
     [plain_reach:need({function, Service, start, 0, plain}) || Service <- plain_services:begun()],
     Roots.
+
+%% All functions that may be a root, where none is named; but EUnit's header exports what runs all tests.
+-spec without_main(file:filename(), [atom()]) -> [atom()].
+without_main(File, Entries) ->
+    case lists:member(test, Entries) andalso lists:any(fun plain_cut:is_test/1, Entries) of
+        true -> throw({refuse, File, 1, "the module has tests of EUnit and no main; pulsefarm-erl eunit FOLDER hunts each, or name one by --root"});
+        false -> Entries
+    end.
 
 -spec root(module(), atom()) -> ok.
 root(Main, Name) ->
@@ -97,7 +132,7 @@ root(Main, Name) ->
 written(Roots) ->
     Main = plain_state:get(main),
     Dispatchers = plain_dispatch:texts(),
-    Extra = [{none, 0, Label, Text} || {Label, Text} <- Dispatchers ++ roots(Main, Roots) ++ plain_start:texts() ++ [{"prelude", Text} || Text <- plain_prelude:texts()]],
+    Extra = [{none, 0, Label, Text} || {Label, Text} <- Dispatchers ++ entry_texts(Main, Roots) ++ plain_start:texts() ++ [{"prelude", Text} || Text <- plain_prelude:texts()]],
     Exports = [[plain_text:atom(Name), "/", integer_to_list(Arity)] || {Name, Arity} <- plain_start:exports()],
     Head = ["-module(", plain_text:atom(Main), ").\n-export([", lists:join(",", Exports), "]).\n"],
     {Texts, Rows} = plain_map:number(lists:reverse(plain_state:get(functions)) ++ Extra, 3),
@@ -118,8 +153,8 @@ names() ->
 kind(Module, Function, Arity) -> element(1, plain_modules:find(Module, Function, Arity)).
 
 %% A root starts the services first.
--spec roots(module(), [atom()]) -> [{string(), iodata()}].
-roots(Main, Roots) ->
+-spec entry_texts(module(), [atom()]) -> [{string(), iodata()}].
+entry_texts(Main, Roots) ->
     Starts = [[plain_text:atom(plain_reach:name(Service, start, 0)), "(),"] || Service <- plain_services:begun()],
     Own = fun(Root) -> [plain_text:atom(plain_reach:name(Main, Root, 0)), "()"] end,
     case {plain_trace:traced(), Starts} of

@@ -2,12 +2,13 @@
 %%
 %% `sound' holds where the root returns and no process crashes. `supervised' holds where no process crashes, whatever becomes of the root. A
 %% crash is an end by an error, or by a reason other than normal, shutdown, {shutdown, _}, or killed by a supervisor. Where a process
-%% came to what the translator lacks, there is no verdict: the run is refused.
+%% came to what the translator lacks, there is no verdict: the run is refused. With `--leaks' a run fails too whose root returns and leaves
+%% processes of the source that wait. Where a run fails in which a long time passes early, that is no failure, unless `--patience' asks for it.
 -module(plain_verdict).
--export([own/1, asked/1, of_run/4, gaps/1, outcome/1]).
+-export([own/1, asked/1, of_run/4, early/2, gaps/1, left/2, spawned/1, services/1, outcome/1]).
 -export_type([verdict/0]).
 
--type verdict() :: holds | fails | refused.
+-type verdict() :: holds | fails | early | refused.
 
 %% @doc Whether a property is one that is judged here.
 -spec own(string()) -> boolean().
@@ -21,11 +22,41 @@ asked(#{property := Property}) -> Property.
 %% @doc The verdict of a report by one of these properties.
 -spec of_run(string(), plain_report:report(), plain_words:asked(), plain_translation:translation()) -> verdict().
 of_run(Property, #{events := Events, rest := Rest}, Asked, Translation) ->
-    case {gaps(Events), Property =:= "sound" andalso not returned(outcome(Rest))} of
+    Hangs = Property =:= "sound" andalso not returned(outcome(Rest)),
+    Leaks = lists:member("--leaks", maps:get(words, Asked)) andalso left(Events, Rest) =/= [],
+    case {gaps(Events), Hangs orelse Leaks} of
         {[_ | _], _} -> refused;
-        {[], true} -> fails;
-        {[], false} -> case crashed(Events, Asked, Translation) of true -> fails; false -> holds end
+        {[], true} -> failing(Events, Asked);
+        {[], false} -> case crashed(Events, Asked, Translation) of true -> failing(Events, Asked); false -> holds end
     end.
+
+-spec failing([plain_report:event()], plain_words:asked()) -> fails | early.
+failing(Events, Asked) -> case early(Events, Asked) of [] -> fails; _ -> early end.
+
+%% @doc Where a long time passes early, with its milliseconds; nowhere where that was asked for.
+-spec early([plain_report:event()], plain_words:asked()) -> [{pos_integer(), pos_integer()}].
+early(Events, #{options := #{library_defines := Own}}) ->
+    case lists:keymember('PATIENCE', 1, Own) of true -> []; false -> plain_time:early(Events) end.
+
+%% @doc The processes that wait where the root has returned, but for the services of the translation. Nobody else may go then.
+-spec left([plain_report:event()], [binary()]) -> [non_neg_integer()].
+left(Events, Rest) ->
+    case returned(outcome(Rest)) of
+        true -> (spawned(Events) -- [P || {_, P, _, _} <- plain_answer:ends(Events)]) -- services(Events);
+        false -> []
+    end.
+
+%% @doc The processes of a run but for its root.
+-spec spawned([plain_report:event()]) -> [pos_integer()].
+spawned(Events) ->
+    [binary_to_integer(P) || #{subject := {turn, _}, label := Label} <- Events,
+                             {match, [P]} <- [re:run(Label, <<"^spawn(?:_link|_monitor)? <([0-9]+)>">>, [{capture, [1], binary}])]].
+
+%% @doc The services, which have names that no source may have.
+-spec services([plain_report:event()]) -> [non_neg_integer()].
+services(Events) ->
+    [binary_to_integer(P) || #{subject := {turn, _}, label := Label} <- Events,
+                             {match, [P]} <- [re:run(Label, <<"^register port@[a-z]+ <([0-9]+)>">>, [{capture, [1], binary}])]].
 
 %% @doc The line of a report that tells the outcome.
 -spec outcome([binary()]) -> binary().

@@ -2,9 +2,11 @@
 -module(plain_words).
 -export([read/1, of_farm/3, base/5, limit/1, value/3, without/2, with_choice/2]).
 
+-define(FLAGS, ["--all", "--explain", "--compact", "--leaks", "--all-roots", "--fail-fast"]).
+
 -type asked() :: #{command := translate | check | run | hunt | shrink | chart | eunit, files := [file:filename()], out := file:filename() | none,
                    options := plain_translation:options(), words := [string()], property := string() | none, limit := string() | none,
-                   verbose => boolean()}.
+                   verbose => boolean(), format => text | json}.
 -export_type([asked/0]).
 
 %% @doc What is asked for.
@@ -27,7 +29,7 @@ read([Word | Rest]) ->
 complete({ok, #{command := eunit, files := []}}) -> {refused, "no folder; name that of an application"};
 complete({ok, #{files := []}}) -> {refused, "no file; name one or more .erl files"};
 complete({ok, #{command := Command, words := Words, out := Out, property := Property, limit := Limit} = Asked}) ->
-    Given = words_in(Words) ++ ["-o" || Out =/= none] ++ ["--property" || Property =/= none] ++ ["--limit" || Limit =/= none],
+    Given = words_in(Words) ++ ["-o" || Out =/= none] ++ ["--property" || Property =/= none] ++ ["--limit" || Limit =/= none] ++ ["--format" || is_map_key(format, Asked)],
     case {[Word || Word <- Given, not lists:member(Word, of_command(Command))], together(Asked)} of
         {[Word | _], _} -> {refused, [atom_to_list(Command), " has no word ", Word, other(Word)]};
         {[], {no, Sentence}} -> {refused, Sentence};
@@ -38,32 +40,41 @@ complete(Answer) -> Answer.
 %% The words that a command has beside those of every translation. Each has its effect; what a command lacks is refused.
 -spec of_command(atom()) -> [string()].
 of_command(translate) -> ["-o"];
-of_command(check) -> ["--explain"];
-of_command(run) -> ["--property", "--limit", "--seed", "--schedule", "--strategy", "--weights", "--edition"];
-of_command(hunt) -> ["--property", "--limit", "--seeds", "--for", "--strategy", "--weights", "--edition", "--workers", "--shrink", "--all"];
+of_command(check) -> ["--explain", "--format"];
+of_command(run) -> ["--property", "--limit", "--seed", "--schedule", "--strategy", "--weights", "--edition", "--explain", "--format"];
+of_command(hunt) ->
+    ["--property", "--limit", "--seeds", "--for", "--strategy", "--weights", "--edition", "--workers", "--shrink", "--all", "--leaks", "--all-roots", "--fail-fast", "--format"];
 of_command(eunit) -> ["--property", "--limit", "--seeds", "--for", "--strategy", "--weights", "--edition", "--workers", "--test", "--junit"];
-of_command(shrink) -> ["--property", "--limit", "--schedule", "--runs", "--edition"];
+of_command(shrink) -> ["--property", "--limit", "--schedule", "--runs", "--edition", "--format"];
 of_command(chart) -> ["--property", "--limit", "--seed", "--schedule", "--strategy", "--weights", "--edition", "--page", "--compact"].
 
-%% Why some words of pulsefarm are no words here.
+%% Which commands some words are of.
 -spec other(string()) -> string().
-other("--leaks") -> "; it would count the services of the translation";
-other("--all-roots") -> "; name one root by --root, or hunt the tests of an application by eunit";
-other("--fail-fast") -> "; it is for several roots";
+other("--leaks") -> "; it is of hunt";
+other("--all-roots") -> "; it is of hunt, and eunit hunts the tests of an application";
+other("--fail-fast") -> "; it is of hunt with --all-roots";
+other("--compact") -> "; it is of chart";
+other("--explain") -> "; it is of run and check";
+other("--format") -> "; it is of hunt, run, shrink and check; eunit has --junit";
 other(_) -> "".
 
 %% Words that don't go together.
 -spec together(asked()) -> yes | {no, string()}.
-together(#{command := hunt, words := Words, property := Property}) ->
+together(#{command := hunt, words := Words, property := Property, options := #{root := Root}}) ->
     Given = words_in(Words),
-    case lists:member("--all", Given) of
-        true when Property =:= "sound"; Property =:= "supervised" -> {no, "--all goes with the properties of pulsefarm; take --property nocrash"};
-        true ->
-            case lists:member("--shrink", Given) of
-                true -> {no, "--all and --shrink don't go together"};
-                false -> yes
-            end;
-        false -> yes
+    Has = fun(Word) -> lists:member(Word, Given) end,
+    Own = Property =:= none orelse Property =:= "sound" orelse Property =:= "supervised",
+    Pairs = [{"--all", "--shrink"}, {"--all", "--leaks"}, {"--shrink", "--leaks"}, {"--all-roots", "--all"}, {"--all-roots", "--shrink"}],
+    case {Has("--all") andalso Property =/= none andalso Own, [Pair || {A, B} = Pair <- Pairs, Has(A), Has(B)]} of
+        {true, _} -> {no, "--all goes with the properties of pulsefarm; take --property nocrash"};
+        {false, [{A, B} | _]} -> {no, A ++ " and " ++ B ++ " don't go together"};
+        {false, []} ->
+            case {Has("--all-roots"), Root, Own} of
+                {true, Named, _} when Named =/= none -> {no, "--all-roots and --root don't go together"};
+                {true, _, false} -> {no, "--all-roots goes with --property sound, or supervised"};
+                {false, _, _} -> one_root(Has, Own);
+                {true, _, true} -> yes
+            end
     end;
 together(#{command := eunit, property := Property}) when Property =/= none, Property =/= "sound", Property =/= "supervised" ->
     {no, "eunit goes by --property sound, or supervised"};
@@ -75,10 +86,20 @@ together(#{command := eunit, words := Words}) ->
     end;
 together(_) -> yes.
 
+-spec one_root(fun((string()) -> boolean()), boolean()) -> yes | {no, string()}.
+one_root(Has, Own) ->
+    case {Has("--fail-fast"), Has("--leaks") andalso not Own} of
+        {true, _} -> {no, "--fail-fast goes with --all-roots"};
+        {false, true} -> {no, "--leaks goes with --property sound, or supervised"};
+        {false, false} -> yes
+    end.
+
 -spec words_in([string()]) -> [string()].
-words_in([Flag | Rest]) when Flag =:= "--all"; Flag =:= "--explain"; Flag =:= "--compact"; Flag =:= "--leaks"; Flag =:= "--all-roots"; Flag =:= "--fail-fast" ->
-    [Flag | words_in(Rest)];
-words_in([Word, _ | Rest]) -> [Word | words_in(Rest)];
+words_in([Word | Rest]) ->
+    case {lists:member(Word, ?FLAGS), Rest} of
+        {true, _} -> [Word | words_in(Rest)];
+        {false, [_ | Others]} -> [Word | words_in(Others)]
+    end;
 words_in([]) -> [].
 
 -spec words([string()], asked()) -> {ok, asked()} | {help, iodata()} | {refused, iodata()}.
@@ -103,12 +124,23 @@ words(["--verbose" | Rest], Asked) -> words(Rest, Asked#{verbose => true});
 words(["--lax" | Rest], Asked) -> words(Rest, with(lax, true, Asked));
 words(["--property", Text | Rest], Asked) -> words(Rest, Asked#{property := Text});
 words(["--limit", Number | Rest], Asked) -> words(Rest, Asked#{limit := Number});
-words([Flag | Rest], #{words := Before} = Asked) when Flag =:= "--all"; Flag =:= "--explain"; Flag =:= "--compact"; Flag =:= "--leaks";
-                                                      Flag =:= "--all-roots"; Flag =:= "--fail-fast" ->
-    words(Rest, Asked#{words := Before ++ [Flag]});
-words(["--" ++ _ = Name, Value | Rest], #{words := Before} = Asked) -> words(Rest, Asked#{words := Before ++ [Name, Value]});
-words(["-" ++ _ = Name | _], _) -> {refused, ["the word ", Name, " wants a value, or isn't known"]};
-words([File | Rest], #{files := Files} = Asked) -> words(Rest, Asked#{files := Files ++ [File]}).
+words(["--format", Format | Rest], Asked) ->
+    case Format of
+        "json" -> words(Rest, Asked#{format => json});
+        "text" -> words(Rest, Asked#{format => text});
+        _ -> {refused, ["--format wants text or json, and not ", Format]}
+    end;
+words([Word | Rest] = All, #{words := Before} = Asked) ->
+    case lists:member(Word, ?FLAGS) of
+        true -> words(Rest, Asked#{words := Before ++ [Word]});
+        false -> valued(All, Asked)
+    end.
+
+%% Words with a value, and files.
+-spec valued([string()], asked()) -> {ok, asked()} | {help, iodata()} | {refused, iodata()}.
+valued(["--" ++ _ = Name, Value | Rest], #{words := Before} = Asked) -> words(Rest, Asked#{words := Before ++ [Name, Value]});
+valued(["-" ++ _ = Name | _], _) -> {refused, ["the word ", Name, " wants a value, or isn't known"]};
+valued([File | Rest], #{files := Files} = Asked) -> words(Rest, Asked#{files := Files ++ [File]}).
 
 -spec with(atom(), term(), asked()) -> asked().
 with(Option, Value, #{options := Options} = Asked) -> Asked#{options := Options#{Option := Value}}.
@@ -144,7 +176,7 @@ of_farm(File, #{command := check, words := Words}, _) -> ["check", File | Words]
 of_farm(File, #{command := Command, words := Words} = Asked, Translation) ->
     Property = plain_verdict:asked(Asked),
     Judged = case plain_verdict:own(Property) of true -> "returns"; false -> Property end,
-    base(atom_to_list(Command), File, Asked, Translation, Judged) ++ with_choice(Command, Words).
+    base(atom_to_list(Command), File, Asked, Translation, Judged) ++ with_choice(Command, without(["--explain"], Words)).
 
 %% @doc The words that all runs have.
 -spec base(string(), file:filename(), asked(), plain_translation:translation(), string()) -> [string()].
@@ -171,12 +203,13 @@ value(_, [], Default) -> Default.
 
 %% @doc The words without these and their values.
 -spec without([string()], [string()]) -> [string()].
-without(Names, [Word, Value | Rest]) when Word =/= "--all", Word =/= "--explain", Word =/= "--compact" ->
-    case lists:member(Word, Names) of
-        true -> without(Names, Rest);
-        false -> [Word, Value | without(Names, Rest)]
+without(Names, [Word | Rest]) ->
+    case {lists:member(Word, Names), lists:member(Word, ?FLAGS), Rest} of
+        {true, true, _} -> without(Names, Rest);
+        {false, true, _} -> [Word | without(Names, Rest)];
+        {true, false, [_ | Others]} -> without(Names, Others);
+        {false, false, [Value | Others]} -> [Word, Value | without(Names, Others)]
     end;
-without(Names, [Flag | Rest]) -> [Flag | without(Names, Rest)];
 without(_, []) -> [].
 
 -spec help() -> iodata().
@@ -189,7 +222,8 @@ help() ->
     "  pulsefarm-erl run FILE.. [WORDS]        one run, by --seed S or --schedule L (0,1,2 or @FILE)\n"
     "  pulsefarm-erl shrink FILE.. [WORDS]     makes a failing schedule smaller\n"
     "  pulsefarm-erl chart FILE.. [WORDS]      draws a run as a message sequence chart (SVG)\n"
-    "  pulsefarm-erl eunit FOLDER [WORDS]      hunts each test of an application: src, include, test, its .app.src, the erl_opts of\n"
+    "  pulsefarm-erl eunit FOLDER [WORDS]      hunts each test of an application, or of those in apps: src, include, test, its .app.src\n"
+    "                                          and what it depends on in _checkouts, _build and deps, the erl_opts of\n"
     "                                          rebar.config; --test PART takes those whose name has it, and reports the run of one that\n"
     "                                          fails; --junit FILE writes the answer as JUnit has it\n"
     "  pulsefarm-erl check FILE..              says ok, or all that is refused\n"
@@ -205,11 +239,16 @@ help() ->
     "                            a reason other than normal, shutdown, {shutdown,_}, or killed by a supervisor\n"
     "  --property supervised     the same, whatever becomes of the root; the other properties are those of pulsefarm\n"
     "  --patience N        how many turns of the run's clock a time has: N below 10 ms, 2N below 100, 3N below 1000, 4N else.\n"
-    "                      Without it a run draws this itself: of a time below 1000 ms any of three patiences, of a longer\n"
-    "                      one a patience by which it seldom passes while another process can still go\n"
+    "                      Without it a run draws this itself for times below 1000 ms, and a run that fails by a longer time\n"
+    "                      which passes while another process may go is left out of a hunt\n"
     "  --never MS          takes away the timeouts of literal times from MS milliseconds on, where a receive has clauses\n"
     "  -D CALL_TIMEOUTS    lets the 5,000 ms of gen_server:call/2 pass, which else they never do\n"
     "  --verbose           reports all events and processes, those of the library, its services and the clock too\n"
+    "  --format json       of hunt, run, shrink and check: an object on each line (docs/FROM_ERLANG.md); text is what goes out else\n"
+    "  --leaks             of hunt: a run fails too whose root returns and leaves processes that wait\n"
+    "  --all-roots         of hunt: each exported function without arguments of the first file, with a line for each and one at the\n"
+    "                      end; with --fail-fast none behind the first that fails\n"
+    "  --explain           of run: how each process stands at the end, on standard error\n"
     "  --calls M:F         says that a value names this function, where a text of over 24,576 bytes left it out\n"
     "  --lax               takes calls that aren't known; who comes to one ends with {refused,Module,Function,Arity}\n"
     "\n"

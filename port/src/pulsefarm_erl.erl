@@ -1,6 +1,6 @@
 %% @doc The program `pulsefarm-erl': plain Erlang in, and the answers of `pulsefarm' in the words of its source.
 -module(pulsefarm_erl).
--export([main/1, run/1]).
+-export([main/1, run/1, init/1]).
 
 %% @doc The escript's entry: runs the words and ends with their status.
 -spec main([string()]) -> no_return().
@@ -27,3 +27,7 @@ run(Words) ->
             2;
         {ok, Asked} -> plain_command:run(Asked)
     end.
+
+%% @doc The entry of a plugin of rebar3.
+-spec init(term()) -> {ok, term()}.
+init(State) -> plain_rebar:init(State).

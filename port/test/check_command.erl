@@ -18,6 +18,7 @@ check() ->
     refused(),
     into_a_file(),
     timed(),
+    early(),
     unread(),
     ok.
 
@@ -211,11 +212,12 @@ refused() ->
     Expect("a word", ["walk", File], [], "^pulsefarm-erl: no command walk"),
     Expect("no file", ["hunt"], [], "^pulsefarm-erl: no file"),
     Expect("a file that isn't there", ["hunt", "nothing.erl"], [], "^nothing\\.erl:1: there is no such file"),
+    Expect("a folder", ["check", checks:folder("commands")], [], "^commands:1: this is a folder; name its files"),
+    Expect("a compiled file", ["check", code:which(plain_cut)], [], "^plain_cut\\.beam:1: this is compiled; name its source"),
     Expect("a root that isn't there", ["run", File, "--root", "nothing"], [], "^bank\\.erl:1: the module exports no function nothing/0"),
     Expect("a patience", ["run", File, "--patience", "much"], [], "^pulsefarm-erl: --patience wants a number"),
     Expect("a word that would be ignored", ["check", File, "--limit", "5"], [], "^pulsefarm-erl: check has no word --limit"),
     Expect("another", ["run", File, "--seeds", "0..5"], [], "^pulsefarm-erl: run has no word --seeds"),
-    Expect("leaks", ["hunt", File, "--leaks"], [], "^pulsefarm-erl: hunt has no word --leaks; "),
     Expect("all outcomes by a property of this part", ["hunt", File, "--all", "--property", "sound"], [], "^pulsefarm-erl: --all goes with "),
     Expect("a strategy that there isn't", ["hunt", File, "--property", "supervised", "--strategy", "nonsense"], [], "."),
     Expect("words of pulsefarm", ["run", File, "--seed", "x"], [], "."),
@@ -241,6 +243,19 @@ timed() ->
     checks:expect("without patience some pass", Early > 50),
     {ok, Never, _} = checks:translate([File], #{never => 1000}),
     checks:expect("and with --never none of the receive", true, is_list(checks:hunt(Never, "main", "nocrash", "0..10"))).
+
+%% A run that fails by a time of seconds which passes while others may go is left out, unless a patience is given.
+-spec early() -> boolean().
+early() ->
+    File = checks:folder("commands/seconds.erl"),
+    {Answered, 0} = checks:command(["hunt", File, "--root", "answered", "--seeds", "0..40"]),
+    has("a time that passes early", "^pulsefarm-erl: [0-9]+ of these seeds fail by a time of a second or more that passes while others may go, and are left out", Answered),
+    has("and no other failure", "^no failure in 40 seeds$", Answered),
+    {Eager, 1} = checks:command(["hunt", File, "--root", "answered", "--seeds", "0..40", "--patience", "0"]),
+    has("with a patience it is one", "^crash <0> at seconds\\.erl:9 seconds:answered/0: exit too_late$", Eager),
+    {Lost, 1} = checks:command(["hunt", File, "--root", "lost", "--seeds", "0..40"]),
+    has("a time that passes where nobody else may go", "^crash <0> at seconds\\.erl:14 seconds:lost/0: exit too_late$", Lost),
+    checks:expect("and that is told without a word", nomatch, string:find(Lost, "left out")).
 
 %% Where nobody reads its answer it ends as pulsefarm does, with 141, and where its output is full it says so.
 -spec unread() -> boolean().

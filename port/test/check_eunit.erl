@@ -20,8 +20,31 @@ check() ->
     checks:expect("two failures", 2, length(binary:matches(Junit, <<"<failure ">>))),
     {Timed, 0} = checks:command(["eunit", Folder, "--test", "bill", "--for", "1s"]),
     told("shop_tests:bill_test", "no failure in [0-9]+ seeds", Timed),
+    alone(),
+    several(),
     {None, 2} = checks:command(["eunit", checks:folder("commands")]),
     told("pulsefarm-erl", ".*there is no src/NAME.app.src", None),
+    ok.
+
+%% Tests of one generator, of which some are refused: the others are hunted.
+-spec alone() -> ok.
+alone() ->
+    {Answer, 2} = checks:command(["eunit", checks:folder("alone"), "--seeds", "0..40"]),
+    [checks:expect(["a test alone: ", Line], match, re:run(Answer, ["^alone_tests:set_test_", Line], [multiline, {capture, none}])) || Line <-
+        ["\\[1\\] answers: no failure in 40 seeds$", "\\[2\\] lives: refused: alone_tests\\.erl:7: erlang:is_process_alive/1 can't be asked in the profile; .*$",
+         "\\[3\\.1\\]: no failure in 40 seeds$", "\\[3\\.2\\] is watched: refused: alone_tests\\.erl:12: erlang:process_info\\(_, monitors\\) is not translated.*$"]],
+    told("4 tests", "0 fail, 2 refused", Answer),
+    ok.
+
+%% A project of two applications and one that they depend on, of which a file that nothing names couldn't be read.
+-spec several() -> ok.
+several() ->
+    {Answer, 1} = checks:command(["eunit", checks:folder("projects"), "--seeds", "0..40"]),
+    [checks:expect(["several applications: ", Line], match, re:run(Answer, ["^", Line], [multiline, {capture, none}])) || Line <-
+        ["desk_tests:desk_test_\\[1\\] one: no failure in 40 seeds$",
+         "desk_tests:desk_test_\\[2\\] two: seed [0-9]+ fails: crash <0> at desk_tests\\.erl:7 .*\\{expected,\\[3300,3600\\]\\},\\{value,\\[3300,3300\\]\\}",
+         "ledger_tests:price_test: no failure in 40 seeds$"]],
+    told("3 tests", "1 fails, 0 refused", Answer),
     ok.
 
 %% A line of the answer.

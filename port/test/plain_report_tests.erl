@@ -41,3 +41,17 @@ same_but_for_places_test() ->
     ?assert(plain_replay:same(event, Event(<<"send <1> {'#fun',0,f@3,1}">>), Event(<<"send <1> {'#fun',0,f@9,1}">>))),
     ?assertNot(plain_replay:same(event, Event(<<"send <1> 1">>), Event(<<"send <1> 2">>))),
     ?assert(plain_replay:same(mark, Event(<<"send <1> 1">>), Event(<<"whereis '@3'">>))).
+
+same_but_for_arguments_test() ->
+    Event = fun(Label) -> #{choice => 0, among => 1, subject => {turn, 0}, label => Label} end,
+    ?assert(plain_replay:same(event, Event(<<"end {function_clause,[]}">>), Event(<<"end {function_clause,['@12',{[97,']'],#Ref<3>,'x]'}]}">>))),
+    ?assert(plain_replay:same(event, Event(<<"send <1> {{a,[]},{b,[]},c}">>), Event(<<"send <1> {{a,['@1',{}]},{b,['@2']},c}">>))),
+    ?assertNot(plain_replay:same(event, Event(<<"send <1> {{a,[]},d}">>), Event(<<"send <1> {{a,['@1',{}]},c}">>))).
+
+%% Who is left: neither the root, nor who ended, nor a service.
+left_test() ->
+    Lines = [<<"0/1 <0> spawn <1>">>, <<"0/1 <0> register port@clock <1>">>, <<"0/1 <0> spawn_link <2>">>, <<"0/1 <0> spawn_monitor <3> #Ref<4>">>, <<"0/1 <0> spawn <5>">>,
+             <<"0/1 <3> end normal">>, <<"0/1 <0>-><5> deliver exit ends killed">>, <<"0/1 <2> wait">>, <<"0/1 <0> end normal">>],
+    #{events := Events} = plain_report:read(Lines),
+    ?assertEqual([2], plain_verdict:left(Events, [<<"finished ok">>])),
+    ?assertEqual([], plain_verdict:left(Events, [<<"ended killed">>])).

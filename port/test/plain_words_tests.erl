@@ -32,3 +32,19 @@ defaults_test() ->
 value_test() ->
     ?assertEqual("7", plain_words:value("--seed", ["--x", "y", "--seed", "7"], none)),
     ?assertEqual(none, plain_words:value("--seed", ["--x", "y"], none)).
+
+format_test() ->
+    #{format := json, words := []} = asked(["hunt", "a.erl", "--format", "json"]),
+    ?assertEqual(false, is_map_key(format, asked(["run", "a.erl"]))).
+
+without_test() ->
+    ?assertEqual(["--all", "--x", "1"], plain_words:without(["--leaks", "--seeds", "--fail-fast"], ["--leaks", "--all", "--seeds", "0..3", "--x", "1", "--fail-fast"])).
+
+flags_test() ->
+    #{files := ["a.erl", "b.erl"], words := ["--leaks", "--all-roots", "--fail-fast"]} = asked(["hunt", "--leaks", "a.erl", "--all-roots", "--fail-fast", "b.erl"]),
+    #{words := ["--explain", "--seed", "3"]} = asked(["run", "--explain", "a.erl", "--seed", "3"]).
+
+not_together_test_() ->
+    [?_assertMatch({refused, _}, plain_words:read(["hunt", "a.erl" | Words])) ||
+        Words <- [["--compact"], ["--explain"], ["--fail-fast"], ["--all-roots", "--root", "f"], ["--all-roots", "--all"], ["--all-roots", "--shrink", "3"],
+                  ["--leaks", "--all"], ["--leaks", "--shrink", "3"], ["--leaks", "--property", "nocrash"], ["--format", "xml"]]].

@@ -11,7 +11,11 @@ main() ->
     Units = [erlang:convert_time_unit(T, A, B) || {T, A, B} <- [{1500, millisecond, second}, {-1, millisecond, second}, {2, second, native}, {7, 3, 2}, {-7, 3, 2}, {5, native, microsecond}]],
     {Units, tried(fun() -> erlang:convert_time_unit(1, parsec, second) end), tried(fun() -> erlang:nif_error(not_loaded) end), timers(), started(), servers(),
      {timer:hms(1, 2, 3), timer:hours(2), timer:now_diff({1, 2, 3}, {1, 1, 5}), element(2, timer:tc(fun(X) -> X end, [3]))}, erlang:system_info(wordsize),
-     length(erlang:system_info(otp_release)), os:getenv("SURELY_NOT_SET_HERE"), os:getenv("SURELY_NOT_SET_HERE", other)}.
+     length(erlang:system_info(otp_release)), os:getenv("SURELY_NOT_SET_HERE"), os:getenv("SURELY_NOT_SET_HERE", other), left_out()}.
+
+left_out() ->
+    [error_logger:tty(false), error_logger:format("~w", [a]), error_logger:info_report(b), logger:alert("c", [], #{}), logger:log(info, "d"),
+     logger:set_module_level(?MODULE, none), io:put_chars(standard_error, ""), io:setopts([])].
 
 tried(F) -> try F() catch error:Reason -> {error, Reason} end.
 
