@@ -1,0 +1,11 @@
+//! The values of one run as words, over a heap of pairs and tuples.
+#![tactic(auto)]
+
+mod build;
+mod heap;
+mod lifting;
+mod lowering;
+mod word;
+
+pub use heap::Heap;
+pub use word::Word;
