@@ -1,8 +1,9 @@
 //! The heap of a run: pairs and tuples, each after its parts.
 
-ghost use Rattle.std.specs.Prelude.{◌≡◌, ◌≤◌, ◌++◌, ◌∷◌, [], length, IfOk, IfSome, MatchOption, OnErr, OnOk};
+ghost use Rattle.std.specs.Prelude.{◌≡◌, ◌<◌, ◌≤◌, ◌++◌, ◌∷◌, [], length, IfOk, IfSome, MatchOption, OnErr, OnOk};
 ghost use Rattle.pf_terms.specs.Value.{depth, nodes, none};
 ghost use Rattle.pf_heap.specs.Heap.{block, block_value, cell_at, cell_value, cell_values, elements, pair, pair_value, word_value, ArePartsBelow, IsInOrder, IsList, IsSplit, IsWordOf};
+ghost use Rattle.pf_heap.specs.Marks.{Names};
 ghost use Rattle.pf_heap.specs.View.{IsSizeOf};
 
 use crate::word::Word;
@@ -137,6 +138,18 @@ impl Heap {
         match self.entries[at as usize].parts {
             Parts::Pair(_, _) => &self.items[..0],
             Parts::Block(start, len) => &self.items[start..start + len],
+        }
+    }
+
+    /// The word that names the cell of an index.
+    pub(crate) fn word_at(&self, at: usize) -> Word
+        requires { at < length self.now }
+        ensures word { IsWordOf self.now result }
+        ensures names { Names at result }
+    {
+        match self.entries[at].parts {
+            Parts::Pair(_, _) => Word::Cons(at as u64),
+            Parts::Block(_, _) => Word::Tuple(at as u64),
         }
     }
 

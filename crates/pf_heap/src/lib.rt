@@ -2,9 +2,12 @@
 #![tactic(auto)]
 
 mod build;
+mod collection;
 mod heap;
 mod lifting;
 mod lowering;
+mod marking;
+mod sameness;
 mod word;
 
 pub use heap::Heap;
