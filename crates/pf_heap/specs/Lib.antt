@@ -1,0 +1,3 @@
+pub mod Heap
+pub mod Marks
+pub mod View
