@@ -36,6 +36,9 @@ note() {
   fi
 }
 
+# The text $1, so many times.
+repeated() { awk -v text="$1" -v count="$2" 'BEGIN { for (i = 0; i < count; i++) printf "%s", text }'; }
+
 # Prints the counts, and says whether something ran and nothing failed.
 tell_counts() {
   echo "$passed passed, $failed failed"

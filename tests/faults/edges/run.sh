@@ -7,6 +7,7 @@ set -u
 edges=$(cd "$(dirname "$0")" && pwd)
 top=$edges/../../..
 . "$top/tests/compare.sh"
+. "$top/tests/rows.sh"
 program=$(realpath "$program")
 cd "$room" || exit 2
 chmod 755 "$room"
@@ -38,9 +39,6 @@ ended() {
   check "$1" cmp -s err wanted_errors
 }
 
-# The text $1, so many times.
-repeated() { awk -v text="$1" -v count="$2" 'BEGIN { for (i = 0; i < count; i++) printf "%s", text }'; }
-
 module='-module(m).\n-export([main/0]).\nmain() -> 1 + 2 * 3.\n'
 report='0/1 <0> end normal\nfinished 7\nsteps 4\nproperty holds\n'
 asked='--root main --limit 1000 --schedule none'
@@ -56,8 +54,9 @@ files() {
   ended 'run of a file' 0 "$report" ''
   run steps commands
   ended 'steps of a file' 0 'p0 usage 0 0 0 0 0\n' ''
-  run run "$top/tests/golden/rows/run_quotient_by_zero/input" $asked
-  ended 'run of a file whose root does not return' 1 "$(cat "$top/tests/golden/rows/run_quotient_by_zero/output")\n" ''
+  take_apart "$top/tests/golden/rows/run_quotient_by_zero.row" row
+  run run row/stdin $asked
+  ended 'run of a file whose root does not return' 1 "$(cat row/stdout)\n" ''
   odd=$(printf 'm\377\001.erl')
   cp m.erl "$odd"
   run run "$odd" $asked

@@ -42,9 +42,6 @@ module() {
   printf '%s\n' "$@" >> in
 }
 
-# The text $1, so many times.
-repeated() { awk -v text="$1" -v count="$2" 'BEGIN { for (i = 0; i < count; i++) printf "%s", text }'; }
-
 # The last lines of the report of a run that its limit ended.
 limit_reached() { printf 'limit\nsteps %s\nproperty fails\n' "$1"; }
 

@@ -26,9 +26,6 @@ cut_after() { printf '0/1 <0> cut\nlimit\nsteps %s\nproperty fails\n' "$1" > "$r
 # Says in `$room/wanted` that this line goes out.
 says() { printf '%s\n' "$1" > "$room/wanted"; }
 
-# The text $1, so many times.
-repeated() { awk -v text="$1" -v count="$2" 'BEGIN { for (i = 0; i < count; i++) printf "%s", text }'; }
-
 # Puts a module into `$room/in` whose `main` has this body, which begins at byte 41. More functions may follow the dot.
 main_is() { printf -- '-module(m).\n-export([main/0]).\nmain() -> %s.\n' "$1" > "$room/in"; }
 

@@ -16,6 +16,7 @@
 # Then it runs a loop by tail calls within 1,000 and within 100,000 steps: both have to take the same memory at most.
 set -u
 top=$(cd "$(dirname "$0")/../../.." && pwd)
+. "$top/tests/rows.sh"
 room=$(mktemp -d)
 trap 'rm -rf "$room"' EXIT
 cc -O2 -shared -fPIC -o "$room/refuse.so" "$top/tests/faults/refused/refuse.c" -ldl || exit 1
@@ -140,11 +141,11 @@ all_refused() {
 
 # Sets the words, the input, the whole text and the status to those of the row $1.
 some_row() {
-  row=$top/tests/golden/rows/$1
-  tr '\n' ' ' < "$row/words" > "$room/words"
-  cp "$row/input" "$room/in"
-  whole=$row/output
-  wanted=$(cat "$row/status" 2> /dev/null || echo 0)
+  take_apart "$top/tests/golden/rows/$1.row" "$room/row"
+  tr '\n' ' ' < "$room/row/words" > "$room/words"
+  cp "$room/row/stdin" "$room/in"
+  whole=$room/row/stdout
+  wanted=$(cat "$room/row/status")
 }
 
 # Fails each allocation of the row $1 in turn; $2 says whether a run ended as it may.

@@ -7,12 +7,13 @@
 set -u
 top=$(cd "$(dirname "$0")/../../.." && pwd)
 . "$top/tests/compare.sh"
+. "$top/tests/rows.sh"
 
-cp "$top/tests/golden/rows/flush_takes_the_oldest_that_tells/input" "$room/in"
+take_apart "$top/tests/golden/rows/flush_takes_the_oldest_that_tells.row" "$room/row"
 
 # Runs the program by a schedule; the root has to return z.
 flushed() {
-  timeout 120 "$program" run --root main --limit 1000 --schedule "$1" < "$room/in" > "$room/out" 2> "$room/err"
+  timeout 120 "$program" run --root main --limit 1000 --schedule "$1" < "$room/row/stdin" > "$room/out" 2> "$room/err"
   status=$?
   if [ "$status" = 0 ] && grep -q -x 'finished z' "$room/out"; then
     passed=$((passed + 1))

@@ -7,6 +7,7 @@
 set -u
 top=$(cd "$(dirname "$0")/../../.." && pwd)
 . "$top/tests/compare.sh"
+. "$top/tests/rows.sh"
 program=$(realpath "$program")
 room=${room:?}
 lines=$top/tests/golden/json/lines.py
@@ -207,8 +208,9 @@ checks() {
   sed -n 3p objects | cut -d '"' -f 2,4 > out
   [ "$(cat out)" = 'source"line 3, column 4' ]
   note 'a line of the source that could be another' $?
-  for source in "$top"/tests/golden/explain/*.erl; do
-    agrees "what is said of $(basename "$source")" check --explain "$source"
+  for row in "$top"/tests/golden/explain/*.row; do
+    take_apart "$row" row
+    agrees "what is said of $(basename "$row" .row)" check --explain row/stdin
   done
 }
 

@@ -10,9 +10,6 @@ top=$words/../../..
 program=$(realpath "$program")
 cd "${room:?}" || exit 2
 
-# The word $2, so many times.
-repeated() { awk -v count="$1" -v word="$2" 'BEGIN { for (i = 0; i < count; i++) print word }'; }
-
 # Runs the program under these words; leaves `out`, `err` and `status`.
 run() {
   timeout 60 "$program" "$@" < /dev/null > out 2> err
