@@ -1,7 +1,7 @@
 #!/bin/sh
-# The tests of the built programs, of `tests/mutants/mutants.sh`, and of mutants of the farm's threads: each folder below
-# tests/ with a `run.sh`, whose last line is `N passed, M failed`. As many run at once as there are processors, first
-# those that take long; those that build the Erlang part run one after another.
+# The tests of the built programs, of `tests/mutants/mutants.sh`, and of mutants of the farm's threads: each folder
+# below tests/ with a `run.sh`, whose last line is `N passed, M failed`. As many run at once as there are processors,
+# first those that take long; those that build the Erlang part run one after another.
 set -u
 cd "$(dirname "$0")/.." || exit 2
 room=$(mktemp -d) || exit 2
@@ -26,8 +26,6 @@ lines() {
 }
 
 # What each says is in the room, and its status with the seconds that it took.
-# (the words of `sh -c` are its own)
-# shellcheck disable=SC2016
 lines | xargs -P "$(nproc)" -L 1 sh -c 'room=$0
   for name; do
     start=$(date +%s)

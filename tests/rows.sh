@@ -1,7 +1,8 @@
 # shellcheck shell=sh
-# Sourced behind compare.sh by the scripts that read rows. A row is a text file, NAME.row:
+# Sourced by the tests that read rows, behind checks.sh, or behind compare.sh to run them. A row is a text file,
+# NAME.row:
 #
-#   $ WORDS           the program's words, as a shell reads them; `repeated` is there, and a line that ends in a backslash
+#   $ WORDS           the program's words, as a shell reads them, which has `repeated`; a line that ends in a backslash
 #                     goes on in the next
 #   --- stdin         behind it what is on standard input; without it there is nothing
 #   --- stdout        behind it what has to go out; without it there is nothing
@@ -45,8 +46,8 @@ take_apart() {
   [ -z "$beside" ] || cp "$(dirname "$1")/$beside" "$2/stdin"
 }
 
-# Runs the program under the words of the row that is taken apart in the folder $2, and compares; $1 names the run, $3 is
-# the input, and $4 has to go out.
+# Runs the program under the words of the row that is taken apart in the folder $2, and compares; $1 names the run, $3
+# is the input, and $4 has to go out.
 compare_words() {
   name=$1 row=$2 input=$3 output=$4
   set --
@@ -59,7 +60,7 @@ compare_words() {
 # The same for each front of the input that the row $1 names; the row is taken apart in the folder $2.
 compare_fronts() {
   while read -r count last text; do
-    printf '%s\n' "$text" > "$room/wanted"
+    printf '%s\n' "$text" > "${room:?}/wanted"
     while [ "$count" -le "$last" ]; do
       head -c "$count" "$2/stdin" > "$room/front"
       compare_words "$1, $count bytes" "$2" "$room/front" "$room/wanted"

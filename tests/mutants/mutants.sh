@@ -2,15 +2,15 @@
 # Tries mutants: each edit of crates/NAME/mutants/ changes what a function means, and the prover has to refuse the
 # crate with it. (One in crates/NAME/must-fail/ is tried by each `rt ci` too, which costs that crate a second proof.)
 #
-#   tests/mutants/mutants.sh apply       prints the edits that can't be applied, and fails where there are any
-#   tests/mutants/mutants.sh due         prints which mutants are due, and why; tries nothing
-#   tests/mutants/mutants.sh             tries those that are due
-#   tests/mutants/mutants.sh all         tries those of every crate
-#   tests/mutants/mutants.sh NAME..      tries those of these crates
-#   tests/mutants/mutants.sh lay FOLDER  makes a clone in FOLDER in which those that are due are in must-fail/, for `rt ci`
-#   tests/mutants/mutants.sh read LOG [FOLDER]
-#                                takes from the output of `rt ci` in such a clone what was refused: of those that were
-#                                laid in FOLDER, or else of those that are due now
+#   mutants.sh apply       prints the edits that can't be applied, and fails where there are any
+#   mutants.sh due         prints which mutants are due, and why; tries nothing
+#   mutants.sh             tries those that are due
+#   mutants.sh all         tries those of every crate
+#   mutants.sh NAME..      tries those of these crates
+#   mutants.sh lay FOLDER  makes a clone in FOLDER in which those that are due are in must-fail/, for `rt ci`
+#   mutants.sh read LOG [FOLDER]
+#                          takes from the output of `rt ci` in such a clone what was refused: of those that were laid in
+#                          FOLDER, or else of those that are due now
 #
 # A crate has a sum: of its sources, specs and proofs without comments and layout, its edits, the flags of its line of
 # crates.txt, and the kit's logic. Each edit has one too, of what decides below its crate whether it is refused: of what
@@ -122,8 +122,6 @@ build_below() {
 }
 
 # Tries the mutants of the plan $1, the longest work first, and notes what was refused.
-# The name goes to the shells that xargs starts.
-# shellcheck disable=SC2016
 try_all() {
   mapfile -t chosen < <(to_try "$1" | cut -d' ' -f1 | uniq)
   if [ "${#chosen[@]}" -gt 0 ]; then

@@ -1,14 +1,12 @@
 #!/usr/bin/env bash
-# Tests tests/mutants/mutants.sh over three small crates, of which nothing is proved: an `rt` that stands in for the prover
-# refuses each mutant but those that `$stand_in/passing` names, and those that `$stand_in/by_form` names only by the
-# form of a proof.
+# Tests tests/mutants/mutants.sh over three small crates, of which nothing is proved: an `rt` that stands in for the
+# prover refuses each mutant but those that `$stand_in/passing` names, and those that `$stand_in/by_form` names only by
+# the form of a proof.
 set -u
 export LC_ALL=C
 here=$(cd "$(dirname "$0")" && pwd)
-room=$(mktemp -d) || exit 2
-trap 'rm -rf "$room"' EXIT
-passed=0
-failed=0
+# shellcheck source=tests/checks.sh
+. "$here/../checks.sh"
 # What was seen refused is noted beside the kit.
 store=$room/rattle-kept-pulsefarm
 mkdir -p "$room/kit/bin" "$room/farm"
@@ -192,16 +190,6 @@ start_anew() {
   if [ -e "$room/seen" ]; then
     mkdir "$store"
     cp "$room/seen" "$store/refused"
-  fi
-}
-
-# Compares the text $2 with the text $3, under the name $1.
-same() {
-  if [ "$2" = "$3" ]; then
-    passed=$((passed + 1))
-  else
-    failed=$((failed + 1))
-    printf 'FAILED: %s\n  wanted: %s\n  got:    %s\n' "$1" "$3" "$2"
   fi
 }
 
@@ -429,5 +417,4 @@ start_anew
 sed -i 's/^new: n$/new: two(two(n))/' crates/top/mutants/four_is_none.edit
 apply_fails "an edit that changes nothing" "top/four_is_none.edit: BAD EDIT: it changes nothing"
 
-echo "$passed passed, $failed failed"
-[ "$failed" = 0 ]
+tell_counts

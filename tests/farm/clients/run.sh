@@ -1,22 +1,14 @@
 #!/bin/sh
-# Runs `farm`, whose clients and workers are threads, and compares what each client is answered: with texts that follow from the rules (docs/LANGUAGE.md), and with what
-# `steps` answers the same project alone. A worker of `steps` claims, slices and files there where the client of the farm awaits its trial.
+# Runs `farm`, whose clients and workers are threads, and compares what each client is answered: with texts that follow
+# from the rules (docs/LANGUAGE.md), and with what `steps` answers the same project alone. A worker of `steps` claims,
+# slices and files there where the client of the farm awaits its trial.
 #
 # Usage: run.sh [BINARY]; the program is that of the crate `pulsefarm` where none is named.
 set -u
 top=$(cd "$(dirname "$0")/../../.." && pwd)
+# shellcheck source=tests/compare.sh
 . "$top/tests/compare.sh"
-program=$(realpath "$program")
-room=${room:?}
 cd "$room" || exit 2
-
-# Puts a module into the file $1, which exports $2 and has the functions from $3 on.
-module() {
-  file=$1
-  printf -- '-module(m).\n-export([%s]).\n' "$2" > "$file"
-  shift 2
-  printf '%s\n' "$@" >> "$file"
-}
 
 # Begins the file of project $1, which submits the source in the file $2.
 begin() {
@@ -40,12 +32,13 @@ farm() {
   note "farm of $workers over $* (status $status)" $?
 }
 
-module one.erl main/0 'main() -> 1 + 2 * 3.'
-module loop.erl main/0 'main() -> main().'
-module senders.erl main/0,s/2 \
+write_module one.erl main/0 'main() -> 1 + 2 * 3.'
+write_module loop.erl main/0 'main() -> main().'
+write_module senders.erl main/0,s/2 \
   'main() -> S = self(), spawn(m, s, [S, a]), spawn(m, s, [S, b]), {take(), take(), take(), take()}.' \
   's(P, T) -> P ! {T, 1}, P ! {T, 2}.' 'take() -> receive M -> M end.'
-module spawning.erl main/0,kid/0 'main() -> loop().' 'loop() -> spawn(m, kid, []), loop().' 'kid() -> receive go -> ok end.'
+write_module spawning.erl main/0,kid/0 'main() -> loop().' 'loop() -> spawn(m, kid, []), loop().' \
+  'kid() -> receive go -> ok end.'
 
 two_files() {
   for p in 1 2; do
@@ -53,7 +46,8 @@ two_files() {
     printf 'order %s 1 main returns none 100\nawait %s 1\nfetch %s 1\n' $p $p $p >> c$p
   done
   for p in 1 2; do
-    printf 'p%s module 1\np%s ticket 1\np%s report 4\n0/1 <0> end normal\nfinished 7\nsteps 4\nproperty holds\n' $p $p $p
+    printf 'p%s module 1\np%s ticket 1\np%s report 4\n0/1 <0> end normal\nfinished 7\nsteps 4\nproperty holds\n' $p $p \
+      $p
   done > wanted
   for workers in 1 2 3 64; do farm 0 $workers c1 c2; done
   head -n 7 wanted > wanted1
@@ -69,9 +63,11 @@ lines_that_are_none() {
   printf 'log 2\n' >> c2
   printf 'p1 module 1\ncommand 2 refused C1\np2 module 1\np2 log 1\n' > wanted
   farm 2 2 c1 c2
-  [ "$(cat err)" = 'pulsefarm: a line of a file is no command there: those before it were answered, and nothing behind it was read' ]
+  [ "$(cat err)" = \
+    'pulsefarm: a line of a file is no command there: those before it were answered, and nothing behind it was read' ]
   note 'what is said of a line that is none' $?
-  for line in 'claim 0 1 1' 'slice 0 1 1 5' 'park 0 1 1' 'await 2 1' 'await 1' 'await 1 1 1' 'await  1 1' 'await 1 01' 'await 1 -1' 'await 1 4294967296' \
+  for line in 'claim 0 1 1' 'slice 0 1 1 5' 'park 0 1 1' 'await 2 1' 'await 1' 'await 1 1 1' 'await  1 1' 'await 1 01' \
+    'await 1 -1' 'await 1 4294967296' \
     'once 1 1' 'AWAIT 1 1' 'await' '' 'fetch 2 1' 'submit 2 3' 'submit 1 500'; do
     printf 'await 1 7\nlog 1\n%s\nlog 1\n' "$line" > c1
     printf 'p1 log 0\ncommand 3 refused C1\n' > wanted
@@ -104,8 +100,7 @@ files() {
   timeout 20 "$program" farm --workers 1 nosuch empty > out 2> err
   [ $? = 2 ] && [ ! -s out ] && grep -q '^pulsefarm: nosuch: ' err
   note 'a file that is none' $?
-  printf 'log 2\n' | timeout 20 "$program" farm --workers 1 empty - > out 2> err
-  [ $? = 0 ] && [ "$(cat out)" = 'p2 log 0' ]
+  printf 'log 2\n' | timeout 20 "$program" farm --workers 1 empty - > out 2> err && [ "$(cat out)" = 'p2 log 0' ]
   note 'the standard input' $?
   timeout 20 "$program" farm --workers 1 - - > out 2> err < empty
   [ $? = 2 ] && [ ! -s out ] && [ "$(cat err)" = 'pulsefarm: the standard input can be the file of one client only' ]
@@ -156,8 +151,8 @@ many_lines() {
   done
 }
 
-# Runs of more than a slice are parked, and go on: each ends as it does alone. What the workers did is reported at the end: each run has two slices, so it is parked once, and
-# one worker has nobody to steal from.
+# Runs of more than a slice are parked, and go on: each ends as it does alone. What the workers did is reported at the
+# end: each run has two slices, so it is parked once, and one worker has nobody to steal from.
 parked_runs() {
   names=''
   : > wanted
@@ -183,10 +178,12 @@ parked_runs() {
   done
 }
 
-# How far the trials are is shown on standard error where that is a terminal, in one line that is written over, and makes no difference to the output.
+# How far the trials are is shown on standard error where that is a terminal, in one line that is written over, and
+# makes no difference to the output.
 on_a_terminal() {
   begin 1 spawning.erl
-  awk 'BEGIN { for (t = 1; t <= 3000; t++) print "order 1 1 main true seed:" t " 2000\nawait 1 " t "\ndrop 1 " t }' >> c1
+  awk 'BEGIN { for (t = 1; t <= 3000; t++) print "order 1 1 main true seed:" t " 2000\nawait 1 " t "\ndrop 1 " t }' \
+    >> c1
   : > c2
   alone 1 > wanted
   script -qec "timeout 60 '$program' farm --workers 2 c1 c2 > out" /dev/null < /dev/null > err

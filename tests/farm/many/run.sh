@@ -1,25 +1,24 @@
 #!/bin/sh
-# Hunts in shards, by each engine of examples/many/, against one program over the same seeds; and commands of many projects, sharded by
-# project, against one program over them all.
+# Hunts in shards, by each engine of examples/many/, against one program over the same seeds; and commands of many
+# projects, sharded by project, against one program over them all.
 #
 # Usage: run.sh [BINARY]; the program is that of the crate `pulsefarm` where none is named.
 set -u
 top=$(cd "$(dirname "$0")/../../.." && pwd)
+# shellcheck source=tests/compare.sh
 . "$top/tests/compare.sh"
-program=$(realpath "$program")
-room=${room:?}
 many=$top/examples/many
 export PARALLEL='--jobs 4' PYTHONDONTWRITEBYTECODE=1
 "$top/tests/debian.sh" parallel python3-yaml
 
-# Runs the words from $3 on; $1 names it, and $2 is the status that is wanted, with the output in `wanted` and what is said in `said`. (Each shard
-# says by itself where processes still wait although the root returned.)
+# Runs the words from $3 on; $1 names it, and $2 is the status that is wanted, with the output in `wanted` and what is
+# said in `said`. (Each shard says by itself where processes still wait although the root returned.)
 told() {
   name=$1 wanted_status=$2
   shift 2
   timeout 120 "$@" > "$room/out" 2> "$room/all_said" < /dev/null
   status=$?
-  grep -v 'still waits* although the root returned' "$room/all_said" > "$room/err"
+  grep -v 'still waits\{0,1\} although the root returned' "$room/all_said" > "$room/err"
   [ "$status" = "$wanted_status" ] && cmp -s "$room/out" "$room/wanted" && cmp -s "$room/err" "$room/said"
   note "$name (status $status)" $?
 }
@@ -42,7 +41,8 @@ one_tells() {
   : > "$room/said"
 }
 
-# Notes which seeds the program is asked for, in `ran`, and runs it; the hunt of the seeds in `dying` dies with half its answer.
+# Notes which seeds the program is asked for, in `ran`, and runs it; the hunt of the seeds in `dying` dies with half its
+# answer.
 watched() {
   cat > "$room/watched" << 'END'
 #!/bin/sh
@@ -89,7 +89,8 @@ hunts() {
   }
 }
 
-# The parts $1 of a hunt in 4 are lost, cut or never came: it is reported which seeds are to be run again, and only these are, by the words from $2 on.
+# The parts $1 of a hunt in 4 are lost, cut or never came: it is reported which seeds are to be run again, and only
+# these are, by the words from $2 on.
 mended() {
   damage=$1
   shift
@@ -177,13 +178,12 @@ deaths() {
 
 # On two machines that share the folder, whose shells see each word as it was given.
 over_ssh() {
-  # (the dollar is the pattern's)
-  # shellcheck disable=SC2016
   pattern='never:{reply,"a $b",_}'
   one_tells 0..2000 "$top/examples/wrong_reply.erl" --root main --limit 2000 --property "$pattern"
   rm -rf "$room/parts"
   : > "$room/hosts"
-  PARALLEL="--ssh $top/tests/farm/many/ssh --sshlogin 1/alpha,1/beta" told "two machines" "$one" sh "$many/parallel.sh" "$room/parts" 0..2000 4 \
+  PARALLEL="--ssh $top/tests/farm/many/ssh --sshlogin 1/alpha,1/beta" told "two machines" "$one" sh \
+    "$many/parallel.sh" "$room/parts" 0..2000 4 \
     "$top/examples/wrong_reply.erl" --root main --limit 2000 --property "$pattern"
   printf '%s\n' alpha beta > "$room/wanted"
   sort -u "$room/hosts" | cmp -s - "$room/wanted"
@@ -197,7 +197,8 @@ slurm() {
   rm -rf "$room/parts"
   for index in 3 0 1 2; do
     # shellcheck disable=SC2086
-    MANY=$many SLURM_ARRAY_TASK_ID=$index SLURM_CPUS_PER_TASK=2 sh "$many/array.sbatch" "$room/parts" 40000..50000 4 $rare || echo "task $index: $?"
+    MANY=$many SLURM_ARRAY_TASK_ID=$index SLURM_CPUS_PER_TASK=2 sh "$many/array.sbatch" "$room/parts" 40000..50000 4 \
+      $rare || echo "task $index: $?"
   done
   told "a Slurm array" "$one" python3 "$many/merge.py" 40000..50000 "$room/parts"
 }
@@ -211,7 +212,8 @@ kubernetes() {
   # (Debian's own Python has Debian's packages)
   python=python3
   "$python" -c 'import yaml' 2> /dev/null || python=/usr/bin/python3
-  PATH=$room/bin:$PATH PULSEFARM='' MANY=$many SEEDS=0..2000 "$python" "$top/tests/farm/many/job.py" "$many/job.yaml" "$room/hunt" > "$room/out" 2> "$room/err"
+  PATH=$room/bin:$PATH PULSEFARM='' MANY=$many SEEDS=0..2000 "$python" "$top/tests/farm/many/job.py" "$many/job.yaml" \
+    "$room/hunt" > "$room/out" 2> "$room/err"
   note "the Job's manifest, and its container for each index" $?
   told "a Kubernetes Job" "$one" python3 "$many/merge.py" 0..2000 "$room/hunt/parts"
   [ "$(find "$room/hunt/parts" -type f | wc -l)" = 16 ]
@@ -235,14 +237,17 @@ refusals() {
   refused "$shards" "shards.py: seeds are A..B, and no '5'" 5 1
   refused "$shards" "shards.py: a seed is a number without leading zeros, and no '05'" 0..05 1
   refused "$shards" "shards.py: of seeds A..B, A is below B and B at most 18446744073709551615: '5..5' isn't so" 5..5 1
-  refused "$shards" "shards.py: of seeds A..B, A is below B and B at most 18446744073709551615: '0..18446744073709551616' isn't so" 0..18446744073709551616 1
+  refused "$shards" \
+    "shards.py: of seeds A..B, A is below B and B at most 18446744073709551615: '0..18446744073709551616' isn't so" \
+    0..18446744073709551616 1
   refused "$shards" "shards.py: 5 seeds make from 1 to 5 shards, and no 6" 0..5 6
   refused "$shards" "shards.py: the last of 4 shards is 3: there is no 4" 0..10 4 4
   refused "$many/shard.sh" "usage: shard.sh FOLDER A..B WORDS.." parts 0..5
   refused "$many/indexed.sh" "usage: indexed.sh K FOLDER A..B N WORDS.." 0 parts 0..5 2
   refused "$many/indexed.sh" "shards.py: 5 seeds make from 1 to 5 shards, and no 9" 0 parts 0..5 9 race.erl
   refused "$many/parallel.sh" "usage: parallel.sh FOLDER A..B N WORDS.." parts 0..5 2
-  refused "$many/array.sbatch" "array.sbatch: sbatch gives each task its number, SLURM_ARRAY_TASK_ID, and there is none" parts 0..5 2 race.erl
+  refused "$many/array.sbatch" \
+    "array.sbatch: sbatch gives each task its number, SLURM_ARRAY_TASK_ID, and there is none" parts 0..5 2 race.erl
   refused "$merge" "merge.py: usage: merge.py A..B FOLDER" 0..5
   refused "$merge" "merge.py: there is no folder $room/none" 0..5 "$room/none"
   rm -rf "$room/parts"
@@ -253,7 +258,8 @@ refusals() {
   refused "$merge" "merge.py: $room/parts/0..5 and $room/parts/4..9 have seeds in common" 0..9 "$room/parts"
   mv "$room/parts/4..9" "$room/parts/5..9"
   echo 'holds 4 seeds, least 5: finished ok' > "$room/parts/5..9"
-  refused "$merge" "merge.py: $room/parts has parts that tell each outcome and parts that tell the least seed that fails: they aren't of one hunt" 0..9 "$room/parts"
+  refused "$merge" \
+    "merge.py: $room/parts has parts that tell each outcome and parts that tell the least seed that fails: they aren't of one hunt" 0..9 "$room/parts"
   rm -rf "$room/parts"
   no_root='pulsefarm: the module exports no function `none` without arguments: name one that it exports, `main`, `doubler`, `squarer`'
   refused "$many/shard.sh" "$no_root
@@ -300,7 +306,8 @@ projects() {
   printf 'the commands of project %s are to be run again\n' 3 92 > "$room/said"
   rm "$room/projects/3.told"
   head -c -2 "$room/projects/92.told" > "$room/part" && cp "$room/part" "$room/projects/92.told"
-  told "two projects' answers that are missing and cut" 2 python3 "$many/projects.py" join "$room/commands" "$room/projects"
+  told "two projects' answers that are missing and cut" 2 python3 "$many/projects.py" join "$room/commands" \
+    "$room/projects"
   for project in 3 92; do "$program" steps "$room/projects/$project.steps" > "$room/projects/$project.told"; done
   cp "$room/whole" "$room/wanted"
   : > "$room/said"
@@ -308,7 +315,8 @@ projects() {
   printf 'log 1\nlgo 1\n' > "$room/commands"
   refused "$many/projects.py" "projects.py: $room/commands: command 2 is none" split "$room/commands" "$room/projects"
   printf 'log 1\nsubmit 1 9\nshort\n' > "$room/commands"
-  refused "$many/projects.py" "projects.py: $room/commands: the source of command 2 doesn't end where its length says" split "$room/commands" "$room/projects"
+  refused "$many/projects.py" "projects.py: $room/commands: the source of command 2 doesn't end where its length says" \
+    split "$room/commands" "$room/projects"
   refused "$many/projects.py" "projects.py: $room/none: No such file or directory" split "$room/none" "$room/projects"
   refused "$many/projects.py" "projects.py: usage: projects.py split|join FILE FOLDER" split "$room/commands"
 }

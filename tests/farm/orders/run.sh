@@ -1,10 +1,12 @@
 #!/bin/sh
-# Runs `steps` on orders and shrinkings of one module: their properties and choices, what they are refused for, and what is no command.
+# Runs `steps` on orders and shrinkings of one module: their properties and choices, what they are refused for, and what
+# is no command.
 #
 # Usage: run.sh [BINARY]; the program is that of the crate `pulsefarm` where none is named.
 set -u
 orders=$(cd "$(dirname "$0")" && pwd)
 top=$orders/../../..
+# shellcheck source=tests/compare.sh
 . "$top/tests/compare.sh"
 
 # Submits the module, gives the commands $1 after it, and compares with the status $2 and the replies $3.
@@ -37,7 +39,7 @@ ticketed 'withinlimit 4294967295,0'
 ticketed 'never:{error,_} seed:1'
 ticketed 'never:_ 7'
 
-for choices in seed:18446744073709551616 seed: seed:01 seed:1:2 seed:x seed:-1 seed:1,2 seed Seed:1 4294967296 1,; do
+for choices in seed:18446744073709551616 seed: seed:01 seed:1:2 seed:x seed:-1 seed:1,2 seed Seed:1 4294967296 '1,'; do
   no_command "order 1 1 main returns $choices 100"
 done
 
@@ -60,11 +62,13 @@ for words in 'seed:1 3 100' '0,1 3' '0,1 3 100 1' '0,1 4294967296 100' '0,1 03 1
 done
 
 # A worker's line has its numbers and no more, and a slice has a turn at least.
-for line in 'once 1 1' 'claim 0 1' 'claim 0 1 1 1' 'slice 0 1 1' 'slice 0 1 1 0' 'slice 0 1 1 01' 'park 0 1' 'take 0 1 4294967296' 'steal 0 1 1' \
+for line in 'once 1 1' 'claim 0 1' 'claim 0 1 1 1' 'slice 0 1 1' 'slice 0 1 1 0' 'slice 0 1 1 01' 'park 0 1' \
+  'take 0 1 4294967296' 'steal 0 1 1' \
   'steal 0 1 1 1 1' 'file 0 1 x' 'back -1 1 1' 'Claim 0 1 1' 'claim  0 1 1' 'park 0 1 1 '; do
   no_command "$line"
 done
-answered 'claim 4294967295 1 1\nslice 0 1 1 4294967295\nsteal 0 4294967295 1 1\n' 0 'w4294967295 not now N2\nw0 not now N2\nw0 not now N2\n'
+answered 'claim 4294967295 1 1\nslice 0 1 1 4294967295\nsteal 0 4294967295 1 1\n' 0 \
+  'w4294967295 not now N2\nw0 not now N2\nw0 not now N2\n'
 
 # A shrinking has from 1 to 1,000 runs.
 answered 'shrink 1 1 main returns none 0 100\n' 0 'p1 refused B6\n'

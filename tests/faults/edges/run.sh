@@ -1,14 +1,16 @@
 #!/bin/sh
 # Runs the program at its edges: files and their names, words, streams that are closed, full or end, a client on a pipe
-# that waits for each reply, a terminal, the deepest sources on 1 MiB of stack, a quarter of what the program takes, and long inputs.
+# that waits for each reply, a terminal, the deepest sources on 1 MiB of stack, a quarter of what the program takes, and
+# long inputs.
 #
 # Usage: run.sh [BINARY]; the program is that of the crate `pulsefarm` where none is named.
 set -u
 edges=$(cd "$(dirname "$0")" && pwd)
 top=$edges/../../..
+# shellcheck source=tests/compare.sh
 . "$top/tests/compare.sh"
+# shellcheck source=tests/rows.sh
 . "$top/tests/rows.sh"
-program=$(realpath "$program")
 cd "$room" || exit 2
 chmod 755 "$room"
 
@@ -17,10 +19,9 @@ check() {
   name=$1
   shift
   if "$@"; then
-    passed=$((passed + 1))
+    pass
   else
-    failed=$((failed + 1))
-    echo "$name: not so: $*; status ${status:-none}, output: $(head -c 200 out), errors: $(head -c 400 err)"
+    fail "$name: not so: $*; status ${status:-none}, output: $(head -c 200 out), errors: $(head -c 400 err)"
   fi
 }
 
@@ -30,7 +31,8 @@ run() {
   status=$?
 }
 
-# Checks that the run before ended with status $2, the output $3 and the errors $4, each with its line ends; $1 is its name.
+# Checks that the run before ended with status $2, the output $3 and the errors $4, each with its line ends; $1 is its
+# name.
 ended() {
   printf -- "$3" > wanted
   printf -- "$4" > wanted_errors
@@ -73,7 +75,7 @@ files() {
   cp commands in
   run steps -
   ended 'standard input of steps by -' 0 'p0 usage 0 0 0 0 0\n' ''
-  cp m.erl -
+  cp m.erl ./-
   : > in
   run steps ./-
   ended 'file that is named -' 2 'command 1 refused C1\n' \
@@ -100,11 +102,14 @@ lines_that_are_no_command() {
   no_command 'fetch 0 x' "\`x\` is no \`T\` of \`fetch\`: $small"
   no_command 'fetch 0 01' "\`01\` is no \`T\` of \`fetch\`: $small"
   no_command 'fetch 0 1 2' 'it has too many words: `fetch` wants `P T` behind it'
-  no_command 'slice 0 0 1 0' '`0` is no `TURNS` of `slice`: it wants a number from 1 to 4294967295 without leading zeros'
+  no_command 'slice 0 0 1 0' \
+    '`0` is no `TURNS` of `slice`: it wants a number from 1 to 4294967295 without leading zeros'
   no_command 'order 0 1 main true seed:1:2 9' \
     '`seed:1:2` is no `CHOICES` of `order`: it wants `seed:N`, `seed:N:R:D`, `none` or numbers with commas between them'
-  no_command 'shrink 0 1 main true 1,,2 9 9' '`1,,2` is no `LIST` of `shrink`: it wants `none` or numbers with commas between them'
-  no_command 'order 0 1  true none 9' '`` is no `ROOT` of `order`: it wants a word without tabulators and carriage returns'
+  no_command 'shrink 0 1 main true 1,,2 9 9' \
+    '`1,,2` is no `LIST` of `shrink`: it wants `none` or numbers with commas between them'
+  no_command 'order 0 1  true none 9' \
+    '`` is no `ROOT` of `order`: it wants a word without tabulators and carriage returns'
   no_command 'submit 0 99' 'the source of as many bytes, and a line end, don'\''t follow `submit`'
 }
 
@@ -112,7 +117,8 @@ lines_that_are_no_command() {
 more_than_is_read() {
   { printf 'submit 0 67108846\n'; head -c 67108846 /dev/zero; printf '\nusage 0\n'; } > in
   run steps
-  ended 'more than is read' 0 'p0 refused Q2\n' "pulsefarm: 67,108,864 bytes of commands were read, and what follows them isn't\n"
+  ended 'more than is read' 0 'p0 refused Q2\n' \
+    "pulsefarm: 67,108,864 bytes of commands were read, and what follows them isn't\n"
 }
 
 missing='No such file or directory (os error 2)\n'
@@ -157,7 +163,8 @@ more="\nFor more information, try '--help'.\n"
 words() {
   : > in
   run run --root main --limit 5 --seed 7 --property
-  ended 'property without a value' 2 '' "pulsefarm: a value is required for '--property <P>' but none was supplied\n$more"
+  ended 'property without a value' 2 '' \
+    "pulsefarm: a value is required for '--property <P>' but none was supplied\n$more"
   run steps "$(printf -- '--\033[1m\377')"
   check 'odd bytes in a word' test "$status" = 2
   check 'odd bytes in a word' grep -qF -e '--\x1b[1m\xff' err
@@ -246,7 +253,8 @@ client_that_waits() {
   ended 'the last line, once the input has ended' 0 'p2 usage 0 0 0 0 1\n' ''
 }
 
-# The progress of a shrinking is shown on standard error where that is a terminal, and makes no difference to the output.
+# The progress of a shrinking is shown on standard error where that is a terminal, and makes no difference to the
+# output.
 # shellcheck disable=SC2086
 progress() {
   : > in
@@ -372,7 +380,8 @@ reasons() {
   run run m.erl --root main --limit 100001 --schedule none
   ended 'limit out of range' 2 'B6\n' 'pulsefarm: the limit 100001 is out of range: it is from 1 to 100,000 steps\n'
   run hunt m.erl --root main --limit 9 --property true --seeds 0..9 --shrink 1001
-  ended 'runs of a hunt out of range' 2 'B6\n' 'pulsefarm: the number of runs 1001 is out of range: it is from 1 to 1,000\n'
+  ended 'runs of a hunt out of range' 2 'B6\n' \
+    'pulsefarm: the number of runs 1001 is out of range: it is from 1 to 1,000\n'
   run shrink m.erl --root main --limit 9 --property returns --schedule none --runs 9
   ended 'nothing to shrink' 2 'S1\n' \
     "pulsefarm: the property doesn't fail by this schedule, so there is nothing to shrink: give a schedule by which it fails\n"
@@ -447,7 +456,8 @@ nest() {
 
 no_rule="No rule of the grammar goes on like this: mend what is missing, too much or too deep here, or isn't in this language."
 
-# Runs the words from $2 on, on `in`, where the system gives $1 KiB of stack, and a thread gets a quarter of what is asked for.
+# Runs the words from $2 on, on `in`, where the system gives $1 KiB of stack, and a thread gets a quarter of what is
+# asked for.
 run_on() {
   (
     ulimit -s "$1"
@@ -468,7 +478,8 @@ deep_sources() {
     ended "255 cases on $kilobytes KiB" 0 '0/1 <0> end normal\nfinished 1\nsteps 257\nproperty holds\n' ''
     nest 256
     run_on "$kilobytes" run $asked
-    ended "256 cases on $kilobytes KiB" 2 'E5 at 41\n' "pulsefarm: the source is refused at line 3, column 11: $no_rule\n"
+    ended "256 cases on $kilobytes KiB" 2 'E5 at 41\n' \
+      "pulsefarm: the source is refused at line 3, column 11: $no_rule\n"
     nest 4000
     { printf 'submit 0 '; wc -c < in; cat in; } > commands
     mv commands in
@@ -482,8 +493,8 @@ deep_sources() {
   done
 }
 
-# Checks, on 1 MiB of stack, a body that nests $1 and $4 around $3, $2 times: it is read, and with one level more it is refused at $7.
-# $5 and $6 come before and after the nesting.
+# Checks, on 1 MiB of stack, a body that nests $1 and $4 around $3, $2 times: it is read, and with one level more it is
+# refused at $7. $5 and $6 come before and after the nesting.
 deepest() {
   for more in 0 1; do
     {
@@ -564,7 +575,7 @@ progress_of_a_hunt
 schedules_in_files
 reasons
 completions
-cc -O2 -shared -fPIC -o lessen.so "$edges/lessen.c" -ldl || exit 1
+build_library lessen.so "$edges/lessen.c"
 deep_sources
 deepest_of_each_form
 long_inputs

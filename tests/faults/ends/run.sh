@@ -1,14 +1,15 @@
 #!/bin/sh
-# Has each call of the program's streams fail in turn: the k-th read of its input, and the k-th write of its output, for each k until no call fails;
-# under every command, on the standard input and on files. Each such run ends with status 2 and one line on standard error, and what it wrote is a
-# beginning of what it writes else. With calls of one byte each all is as without. A report longer than a piece goes out while its run goes on.
+# Has each call of the program's streams fail in turn: the k-th read of its input, and the k-th write of its output, for
+# each k until no call fails; under every command, on the standard input and on files. Each such run ends with status 2
+# and one line on standard error, and what it wrote is a beginning of what it writes else. With calls of one byte each
+# all is as without. A report longer than a piece goes out while its run goes on.
 #
 # Usage: run.sh [BINARY]; the program is that of the crate `pulsefarm` where none is named.
 set -u
 top=$(cd "$(dirname "$0")/../../.." && pwd)
+# shellcheck source=tests/compare.sh
 . "$top/tests/compare.sh"
-program=$(realpath "$program")
-cc -O2 -shared -fPIC -o "$room/ends.so" "$top/tests/faults/ends/ends.c" -ldl || exit 1
+build_library "$room/ends.so" "$top/tests/faults/ends/ends.c"
 cd "$room" || exit 2
 
 # Runs the program under its words with the variables of $1 on the input `in`; leaves `out`, `err`, `told` and `status`.
@@ -25,7 +26,8 @@ ending() {
 is_front() { head -c "$(wc -c < out)" whole | cmp -s - out; }
 
 # Whether the run before ended as one does whose call failed.
-failed_well() { [ "$status" = 2 ] && [ "$(wc -l < err)" = 1 ] && grep -q '^pulsefarm: .*Input/output error' err && is_front; }
+failed_well() { [ "$status" = 2 ] && [ "$(wc -l < err)" = 1 ] && grep -q '^pulsefarm: .*Input/output error' err &&
+  is_front; }
 
 # Each read, or each write, fails in turn; $1 names the run, $2 the variable, and the words follow.
 each_fails() {
@@ -76,7 +78,9 @@ g(0) -> [];
 g(N) -> [N | g(N - 1)].
 END
 printf 'submit 1 %s\n%s\norder 1 1 main returns none 100\nclaim 0 1 1\nslice 0 1 1 9\nfile 0 1 1\nfetch 1 1\nlog 1\nusage 1\n' "$(printf -- '-module(m).\n-export([main/0]).\nmain() -> 7.\n' | wc -c)" "$(printf -- '-module(m).\n-export([main/0]).\nmain() -> 7.\n')" > commands
-printf 'submit 1 %s\n%s\norder 1 1 main returns none 100\nawait 1 1\nfetch 1 1\n' "$(printf -- '-module(m).\n-export([main/0]).\nmain() -> 7.\n' | wc -c)" "$(printf -- '-module(m).\n-export([main/0]).\nmain() -> 7.\n')" > client1
+printf 'submit 1 %s\n%s\norder 1 1 main returns none 100\nawait 1 1\nfetch 1 1\n' \
+  "$(printf -- '-module(m).\n-export([main/0]).\nmain() -> 7.\n' | wc -c)" \
+  "$(printf -- '-module(m).\n-export([main/0]).\nmain() -> 7.\n')" > client1
 sed 's/ 1 / 2 /; s/ 1$/ 2/' client1 > client2
 : > in
 

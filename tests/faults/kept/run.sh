@@ -1,15 +1,18 @@
 #!/bin/sh
-# What a worker keeps between runs is bounded: of a stack, a mailbox or a queue that grew large no more than some 64 KiB stay. For each source
-# below `steps` makes a run within 100,000 steps that takes megabytes, drops it, and then reads sources that take more than that run did. The
-# most bytes that are in blocks may be 300,000 more than in the same script whose run is cut after 100 steps.
+# What a worker keeps between runs is bounded: of a stack, a mailbox or a queue that grew large no more than some 64 KiB
+# stay. For each source below `steps` makes a run within 100,000 steps that takes megabytes, drops it, and then reads
+# sources that take more than that run did. The most bytes that are in blocks may be 300,000 more than in the same
+# script whose run is cut after 100 steps.
 #
 # Usage: run.sh [BINARY]; the program is that of the crate `pulsefarm` where none is named.
 set -u
 top=$(cd "$(dirname "$0")/../../.." && pwd)
+# shellcheck source=tests/compare.sh
 . "$top/tests/compare.sh"
-cc -O2 -shared -fPIC -o "$room/blocks.so" "$top/tests/faults/refused/refuse.c" -ldl || exit 1
+build_library "$room/blocks.so" "$top/tests/faults/refused/refuse.c"
 
-# Eight sources of some 60,000 bytes, each of a project of its own. A checked module of such strings takes some 50 bytes for each of its own.
+# Eight sources of some 60,000 bytes, each of a project of its own. A checked module of such strings takes some 50 bytes
+# for each of its own.
 awk 'BEGIN {
   for (k = 1; k < 200; k++) letters = letters "a"
   for (p = 2; p <= 9; p++) {
@@ -19,15 +22,16 @@ awk 'BEGIN {
   }
 }' > "$room/sources"
 
-# Sets `most` to the bytes that are in blocks at most where project 1 has a run of the source $1 within $2 steps made and dropped, and
-# then the script $3 goes on.
+# Sets `most` to the bytes that are in blocks at most where project 1 has a run of the source $1 within $2 steps made
+# and dropped, and then the script $3 goes on.
 measure() {
   {
     printf 'submit 1 %d\n%s\n' "${#1}" "$1"
     printf 'order 1 1 main withinlimit none %d\nclaim 0 1 1\nslice 0 1 1 100000\nfile 0 1 1\ndrop 1 1\n' "$2"
     cat "$3"
   } > "$room/in"
-  timeout 120 env LD_PRELOAD="$room/blocks.so" BLOCKS_TOLD="$room/blocks" "$program" steps "$room/in" > "$room/out" 2> "$room/err"
+  timeout 120 env LD_PRELOAD="$room/blocks.so" BLOCKS_TOLD="$room/blocks" "$program" steps "$room/in" > "$room/out" \
+    2> "$room/err"
   most=$(sed -n 's/.*, \([0-9]*\) bytes at most$/\1/p' "$room/blocks")
   grep -q '^w0 done$' "$room/out" && ! grep -q refused "$room/out" || most=
 }
@@ -54,7 +58,8 @@ main() -> f(45000).
 f(0) -> exit(deep);
 f(N) -> {N, f(N - 1)}.'
 
-# 8,000 messages to oneself wait in their queue and then in the mailbox, since the last is taken first; then all are taken.
+# 8,000 messages to oneself wait in their queue and then in the mailbox, since the last is taken first; then all are
+# taken.
 is_given_back 'a queue and a mailbox' '-module(m).
 -export([main/0]).
 main() -> flood(8000).

@@ -1,13 +1,16 @@
 #!/bin/sh
-# Runs the program at the limits of its inputs, and just past them, with all the memory that there is: each answer is compared whole,
-# so that none may be `NoMemory` without a cause. What is wanted follows from the rules (docs/LANGUAGE.md), and is worked out here.
+# Runs the program at the limits of its inputs, and just past them, with all the memory that there is: each answer is
+# compared whole, so that none may be `NoMemory` without a cause. What is wanted follows from the rules
+# (docs/LANGUAGE.md), and is worked out here.
 #
 # Usage: run.sh [BINARY]; the program is that of the crate `pulsefarm` where none is named.
 set -u
 top=$(cd "$(dirname "$0")/../../.." && pwd)
+# shellcheck source=tests/compare.sh
 . "$top/tests/compare.sh"
 
-# Runs the program on `$room/in` under the words from $3 on; $1 names the run, $2 is the status. What has to go out is `$room/wanted`.
+# Runs the program on `$room/in` under the words from $3 on; $1 names the run, $2 is the status. What has to go out is
+# `$room/wanted`.
 expect() {
   name=$1 wanted=$2
   shift 2
@@ -30,11 +33,7 @@ says() { printf '%s\n' "$1" > "$room/wanted"; }
 main_is() { printf -- '-module(m).\n-export([main/0]).\nmain() -> %s.\n' "$1" > "$room/in"; }
 
 # Puts a module into `$room/in` that exports $1 and has the functions from $2 on.
-module_is() {
-  printf -- '-module(m).\n-export([%s]).\n' "$1" > "$room/in"
-  shift
-  printf '%s\n' "$@" >> "$room/in"
-}
+module_is() { write_module "$room/in" "$@"; }
 
 # Pads `$room/in` with blanks, up to so many bytes.
 pad_to() {
@@ -61,7 +60,8 @@ lengths_of_sources() {
   printf ' ' >> "$room/in"
   says 'E11 at 0'
   run_within 'source of 65,537 bytes' 2 1000
-  { echo 'submit 0 65536'; cat "$room/source"; echo; echo 'submit 0 65537'; cat "$room/source"; echo ' '; echo 'usage 0'; } > "$room/in"
+  { echo 'submit 0 65536'; cat "$room/source"; echo
+    echo 'submit 0 65537'; cat "$room/source"; echo ' '; echo 'usage 0'; } > "$room/in"
   printf '%s\n' 'p0 module 1' 'p0 refused E11' 'p0 usage 1 65536 0 0 2' > "$room/wanted"
   expect 'submissions of 65,536 and 65,537 bytes' 0 steps
 }
@@ -121,7 +121,8 @@ deep_sends_and_receives() {
     repeated '0/2 <0> send <0> 1\n' 254
     echo '0/2 <0> wait'
     repeated '0/1 <0>-><0> deliver message\n0/2 <0> receive 1\n0/2 <0> wait\n' 254
-    printf '%s\n' '0/1 <0>-><0> deliver message' '0/1 <0> receive 1' '0/1 <0> end normal' 'finished 1' 'steps 1026' 'property holds'
+    printf '%s\n' '0/1 <0>-><0> deliver message' '0/1 <0> receive 1' '0/1 <0> end normal' 'finished 1' 'steps 1026' \
+      'property holds'
   } > "$room/wanted"
   run_within '255 sends and receives' 0 2000
 }
@@ -147,15 +148,20 @@ schedules() {
   expect 'number 4294967296' 2 run --root main --limit 1000 --schedule 0,4294967296
   cp "$room/in" "$room/source"
   size=$(($(wc -c < "$room/source")))
-  { echo "submit 3 $size"; cat "$room/source"; echo; echo "order 3 1 main returns 0$(repeated ,4294967295 99999) 100000"; printf 'claim 0 3 1\nslice 0 3 1 100000\nfile 0 3 1\n'; echo 'fetch 3 1'
-    echo "order 3 1 main returns 0$(repeated ,1 100000) 100000"; echo 'order 3 1 main returns 4294967296 1'; } > "$room/in"
-  printf '%s\n' 'p3 module 1' 'p3 ticket 1' 'w0 done' 'w0 done' 'w0 done' 'p3 report 4' '0/1 <0> end normal' 'finished 7' 'steps 4' 'property holds' \
+  { echo "submit 3 $size"; cat "$room/source"; echo
+    echo "order 3 1 main returns 0$(repeated ,4294967295 99999) 100000"
+    printf 'claim 0 3 1\nslice 0 3 1 100000\nfile 0 3 1\n'; echo 'fetch 3 1'
+    echo "order 3 1 main returns 0$(repeated ,1 100000) 100000"
+    echo 'order 3 1 main returns 4294967296 1'; } > "$room/in"
+  printf '%s\n' 'p3 module 1' 'p3 ticket 1' 'w0 done' 'w0 done' 'w0 done' 'p3 report 4' '0/1 <0> end normal' \
+    'finished 7' 'steps 4' 'property holds' \
     'p3 refused B6' 'command 8 refused C1' > "$room/wanted"
   expect 'schedules of 100,000 and 100,001 numbers' 2 steps
 }
 
 # Numbers from 1 to $1 after the text $2, with commas between them.
-numbered() { awk -v count="$1" -v text="$2" 'BEGIN { for (i = 1; i <= count; i++) printf "%s%s%d", (i > 1 ? ", " : ""), text, i }'; }
+numbered() { awk -v count="$1" -v text="$2" \
+  'BEGIN { for (i = 1; i <= count; i++) printf "%s%s%d", (i > 1 ? ", " : ""), text, i }'; }
 
 sizes_of_modules() {
   main_is "f($(numbered 256 '')).
@@ -180,8 +186,8 @@ f(N) -> case N of 0 -> 0; _ -> 1 + f(N - 1) end'
   run_within '20,000 calls that wait' 0 100000
 }
 
-# Says in `$room/wanted` that the root began 255 processes, then the events from $4 on, then that each process waits; $1 is the
-# outcome, $2 the steps and $3 the verdict.
+# Says in `$room/wanted` that the root began 255 processes, then the events from $4 on, then that each process waits; $1
+# is the outcome, $2 the steps and $3 the verdict.
 began_255() {
   outcome=$1 steps=$2 verdict=$3
   shift 3
@@ -207,7 +213,8 @@ processes_that_wait() {
 
 # Processes that ended are counted too. Each takes 12 steps up to the root's `receive`, and what follows the last one 6.
 processes_that_ended() {
-  module_is 'main/0, kid/1' 'main() -> all(256).' 'all(N) -> spawn(m, kid, [self()]), receive done -> all(N - 1) end.' 'kid(P) -> P ! done.'
+  module_is 'main/0, kid/1' 'main() -> all(256).' 'all(N) -> spawn(m, kid, [self()]), receive done -> all(N - 1) end.' \
+    'kid(P) -> P ! done.'
   {
     awk 'BEGIN {
       for (n = 1; n <= 255; n++) {
@@ -215,7 +222,8 @@ processes_that_ended() {
         printf "0/1 <%d>-><0> deliver message\n0/1 <0> receive done\n", n
       }
     }'
-    printf '%s\n' '0/1 <0> raise system_limit' '0/1 <0> end {system_limit,[]}' 'ended {system_limit,[]}' 'steps 3066' 'property fails'
+    printf '%s\n' '0/1 <0> raise system_limit' '0/1 <0> end {system_limit,[]}' 'ended {system_limit,[]}' 'steps 3066' \
+      'property fails'
   } > "$room/wanted"
   run_within '257 processes one after another' 1 100000
 }
@@ -248,10 +256,12 @@ trials_keep_their_editions() {
   {
     echo "submit 1 $(($(wc -c < "$room/source")))"; cat "$room/source"; echo
     printf '%s\n' 'order 1 1 main returns none 6000' 'edition 1 2' 'order 1 1 main returns none 6000' \
-      'claim 0 1 1' 'claim 1 1 2' 'slice 1 1 2 3000' 'slice 0 1 1 3000' 'file 0 1 1' 'file 1 1 2' 'fetch 1 1' 'fetch 1 2'
+      'claim 0 1 1' 'claim 1 1 2' 'slice 1 1 2 3000' 'slice 0 1 1 3000' 'file 0 1 1' 'file 1 1 2' 'fetch 1 1' \
+      'fetch 1 2'
   } > "$room/in"
   {
-    printf '%s\n' 'p1 module 1' 'p1 ticket 1' 'p1 done' 'p1 ticket 2' 'w0 done' 'w1 done' 'w1 done' 'w0 done' 'w0 done' 'w1 done' 'p1 report 515'
+    printf '%s\n' 'p1 module 1' 'p1 ticket 1' 'p1 done' 'p1 ticket 2' 'w0 done' 'w1 done' 'w1 done' 'w0 done' \
+      'w0 done' 'w1 done' 'p1 report 515'
     spawned_on 256 1279
     echo 'p1 report 2051'
     spawned_on 1024 5119
@@ -283,7 +293,8 @@ codes() { printf '[97%s]' "$(repeated ,97 $(($1 - 1)))"; }
 sizes_of_messages() {
   letters=$(repeated a 4095)
   main_is "self() ! \"$letters\", receive L -> length(L) end"
-  printf '%s\n' "0/1 <0> send <0> $(codes 4095)" '0/2 <0> wait' '0/1 <0>-><0> deliver message' "0/1 <0> receive $(codes 4095)" \
+  printf '%s\n' "0/1 <0> send <0> $(codes 4095)" '0/2 <0> wait' '0/1 <0>-><0> deliver message' \
+    "0/1 <0> receive $(codes 4095)" \
     '0/1 <0> end normal' 'finished 4095' 'steps 9' 'property holds' > "$room/wanted"
   run_within 'message of 4,096 nodes' 0 1000
   main_is "self() ! [97 | \"$letters\"], receive L -> length(L) end"
@@ -291,19 +302,26 @@ sizes_of_messages() {
   run_within 'message of 4,097 nodes' 1 1000
 }
 
-# A linked process ends with the reason $2, which prints as $3 and takes $4 steps to build: who traps exits gets $5 in its place.
+# A linked process ends with the reason $2, which prints as $3 and takes $4 steps to build: who traps exits gets $5 in
+# its place.
 exit_reason() {
-  module_is 'main/0, kid/0' 'main() -> process_flag(trap_exit, true), spawn_link(m, kid, []), receive {_, _, _} -> ok end.' "kid() -> exit($2)."
-  printf '%s\n' '0/1 <0> process_flag true' '0/1 <0> spawn_link <1>' '0/2 <0> wait' "0/1 <1> end $3" '0/1 <1>-><0> deliver exit message' \
-    "0/1 <0> receive {'EXIT',<1>,$5}" '0/1 <0> end normal' 'finished ok' "steps $((12 + $4))" 'property holds' > "$room/wanted"
+  module_is 'main/0, kid/0' \
+    'main() -> process_flag(trap_exit, true), spawn_link(m, kid, []), receive {_, _, _} -> ok end.' "kid() -> exit($2)."
+  printf '%s\n' '0/1 <0> process_flag true' '0/1 <0> spawn_link <1>' '0/2 <0> wait' "0/1 <1> end $3" \
+    '0/1 <1>-><0> deliver exit message' \
+    "0/1 <0> receive {'EXIT',<1>,$5}" '0/1 <0> end normal' 'finished ok' "steps $((12 + $4))" 'property holds' \
+    > "$room/wanted"
   run_within "$1" 0 1000
 }
 
 # The same of a process that is watched, for a reason that takes no step.
 down_reason() {
-  module_is 'main/0, kid/0' 'main() -> monitor(process, spawn(m, kid, [])), receive {_, _, _, _, _} -> ok end.' "kid() -> exit($2)."
-  printf '%s\n' '0/1 <0> spawn <1>' '0/2 <0> monitor #Ref<0> <1>' '0/3 <0> wait' '1/2 <0>-><1> deliver monitor' "0/1 <1> end $3" \
-    '0/1 <1>-><0> deliver down' "0/1 <0> receive {'DOWN',#Ref<0>,process,<1>,$4}" '0/1 <0> end normal' 'finished ok' 'steps 12' \
+  module_is 'main/0, kid/0' 'main() -> monitor(process, spawn(m, kid, [])), receive {_, _, _, _, _} -> ok end.' \
+    "kid() -> exit($2)."
+  printf '%s\n' '0/1 <0> spawn <1>' '0/2 <0> monitor #Ref<0> <1>' '0/3 <0> wait' '1/2 <0>-><1> deliver monitor' \
+    "0/1 <1> end $3" \
+    '0/1 <1>-><0> deliver down' "0/1 <0> receive {'DOWN',#Ref<0>,process,<1>,$4}" '0/1 <0> end normal' 'finished ok' \
+    'steps 12' \
     'property holds' > "$room/wanted"
   expect "$1" 0 run --root main --limit 1000 --schedule 0,0,0,1
 }
@@ -336,8 +354,9 @@ long_mailboxes() {
   run_within '1,000 messages from the last on' 0 100000
 }
 
-# Projects that submit, order, run, fetch and ask for their usage in turns, so many rounds of all of them: each is answered what it is answered
-# alone. A project holds the modules and trials of its last 16 rounds, and gives up what is older.
+# Projects that submit, order, run, fetch and ask for their usage in turns, so many rounds of all of them: each is
+# answered what it is answered alone. A project holds the modules and trials of its last 16 rounds, and gives up what is
+# older.
 projects_in_turns() {
   awk -v rounds="$1" -v room="$room" 'BEGIN {
     most = split("0 1 2 3 7 4294967295", projects, " ")
@@ -389,7 +408,8 @@ bytes_of_a_project() {
     cat "$room/source"
     printf '\nsubmit 0 2\n  \nsubmit 0 1\n \nusage 0\n'
   } > "$room/in"
-  printf '%s\n' 'p0 module 1' 'p0 module 2' 'p0 module 3' 'p0 module 4' 'p0 refused Q2' 'p1 refused E4' 'p0 usage 4 262144 0 0 5' 'p0 done' \
+  printf '%s\n' 'p0 module 1' 'p0 module 2' 'p0 module 3' 'p0 module 4' 'p0 refused Q2' 'p1 refused E4' \
+    'p0 usage 4 262144 0 0 5' 'p0 done' \
     'p0 module 5' 'p0 refused Q2' 'p0 refused E4' 'p0 usage 4 262143 0 0 10' > "$room/wanted"
   expect '262,144 bytes of a project' 0 steps
 }

@@ -1,32 +1,29 @@
 #!/bin/sh
 # Fails each allocation of two built programs in turn, until a run meets no failure: of `pf_refused`, and
-# of `pulsefarm run` on its stored run and on rows with several processes: three that race by messages, three with links, monitors
-# and names, and one that is killed though it traps exits, and one that watches, stops watching and flushes; by schedules, and one of them by a seed with a property. Each run has to end
-# with the whole text and its status; or with `NoMemory` alone on a line and status 2; or, where the allocation failed within a run of
-# `pulsefarm run`, or of a shrinking after a hunt, with the report of a run that memory stopped, and status 2 (`pulsefarm shrink` writes
-# `NoMemory` there too); an allocation that fails before `main` has begun may end the program with a message on standard error and
-# status 1 or 2. Anything else, a signal or a hang fails. Each run of the program itself, failing or not, has to give back each
-# block that it asked for.
+# of `pulsefarm run` on its stored run and on rows with several processes: three that race by messages, three with
+# links, monitors and names, and one that is killed though it traps exits, and one that watches, stops watching and
+# flushes; by schedules, and one of them by a seed with a property. Each run has to end with the whole text and its
+# status; or with `NoMemory` alone on a line and status 2; or, where the allocation failed within a run of `pulsefarm
+# run`, or of a shrinking after a hunt, with the report of a run that memory stopped, and status 2 (`pulsefarm shrink`
+# writes `NoMemory` there too); an allocation that fails before `main` has begun may end the program with a message on
+# standard error and status 1 or 2. Anything else, a signal or a hang fails. Each run of the program itself, failing or
+# not, has to give back each block that it asked for.
 #
-# It does the same with `pulsefarm steps`, whose runs may go on after a failed allocation and say so in a line; and with `pulsefarm farm` over two files with two workers.
-# There the allocations of all threads are counted, in an order that differs from run to run. So which allocation fails isn't known, but each text that may follow is.
+# It does the same with `pulsefarm steps`, whose runs may go on after a failed allocation and say so in a line; and with
+# `pulsefarm farm` over two files with two workers. There the allocations of all threads are counted, in an order that
+# differs from run to run. So which allocation fails isn't known, but each text that may follow is.
 #
-# It does so with a check of a module and of a refused one, and with hunts: once a run that fails was found its seed and its schedule are reported.
+# It does so with a check of a module and of a refused one, and with hunts: once a run that fails was found its seed and
+# its schedule are reported.
 #
 # Then it runs a loop by tail calls within 1,000 and within 100,000 steps: both have to take the same memory at most.
 set -u
 top=$(cd "$(dirname "$0")/../../.." && pwd)
+# shellcheck source=tests/checks.sh
+. "$top/tests/checks.sh"
+# shellcheck source=tests/rows.sh
 . "$top/tests/rows.sh"
-room=$(mktemp -d)
-trap 'rm -rf "$room"' EXIT
-cc -O2 -shared -fPIC -o "$room/refuse.so" "$top/tests/faults/refused/refuse.c" -ldl || exit 1
-passed=0
-failed=0
-
-failure() {
-  echo "$*"
-  failed=$((failed + 1))
-}
+build_library "$room/refuse.so" "$top/tests/faults/refused/refuse.c"
 
 # Builds the program of the crate, where the gate has left none that is newer than the sources.
 built() {
@@ -37,12 +34,14 @@ built() {
   if [ -e "$crate/args" ]; then tr '\n' ' ' < "$crate/args" > "$room/words"; else : > "$room/words"; fi
   if [ -e "$crate/stdin" ]; then cp "$crate/stdin" "$room/in"; else : > "$room/in"; fi
   words=$(cat "$room/words")
-  if [ -x "$program" ] && [ -z "$(find "$top/crates" -name out -prune -o -name '*.rt' -newer "$program" -print -quit)" ]; then
-    return
-  fi
+  newer=$(find "$top/crates" -name out -prune -o -name '*.rt' -newer "$program" -print -quit)
+  if [ -x "$program" ] && [ -z "$newer" ]; then return; fi
   # The words have no blanks in them.
   # shellcheck disable=SC2086
-  (cd "$crate" && rt run ${words:+-- $words} < "$room/in") > "$room/build.log" 2>&1 || { tail -n 20 "$room/build.log"; exit 1; }
+  (cd "$crate" && rt run ${words:+-- $words} < "$room/in") > "$room/build.log" 2>&1 || {
+    tail -n 20 "$room/build.log"
+    exit 1
+  }
 }
 
 # Runs the program with allocation number $1 failing; none does where it is 0.
@@ -73,7 +72,7 @@ run_refused() {
   stopped=0
   all_refused "$1" run_ended_well
   echo "$1: $stopped of them within the run"
-  [ "$stopped" != 0 ] || failure "$1: no growth was refused within the run"
+  [ "$stopped" != 0 ] || fail "$1: no growth was refused within the run"
 }
 
 # Whether the run ended as it may.
@@ -83,8 +82,8 @@ ended_well() {
     || { { [ "$status" = 1 ] || [ "$status" = 2 ]; } && [ ! -s "$room/out" ] && [ -s "$room/err" ]; }
 }
 
-# Whether a run of commands ended as it may: so too with a line that says where memory ran out; or with status 2 and a message on
-# standard error, after which nothing more went out. Until then all answers are those of the run without it.
+# Whether a run of commands ended as it may: so too with a line that says where memory ran out; or with status 2 and a
+# message on standard error, after which nothing more went out. Until then all answers are those of the run without it.
 commands_ended_well() {
   ended_well && return
   sed '/^p[0-9]* refused NoMemory$/,$d; /^w[0-3] no memory$/,$d' "$room/out" > "$room/before"
@@ -93,7 +92,8 @@ commands_ended_well() {
     || { [ "$status" = 2 ] && ! grep -q -x NoMemory "$room/out" && grep -q 'NoMemory$' "$room/err"; }
 }
 
-# Whether a hunt ended as it may: with its seed and schedule, too, and that memory ran out after them; once a run was found these are reported.
+# Whether a hunt ended as it may: with its seed and schedule, too, and that memory ran out after them; once a run was
+# found these are reported.
 hunt_ended_well() {
   if [ "$status" = 2 ] && cmp -s "$room/out" "$room/stopped"; then
     stopped=$((stopped + 1))
@@ -109,7 +109,7 @@ hunt_refused() {
   stopped=0
   all_refused "$1" hunt_ended_well
   echo "$1: $stopped of them behind what was found"
-  [ "$stopped" != 0 ] || failure "$1: no growth was refused behind what was found"
+  [ "$stopped" != 0 ] || fail "$1: no growth was refused behind what was found"
 }
 
 # Fails each allocation of the program in turn: $1 names the run, and $2 says whether it ended as it may.
@@ -121,20 +121,20 @@ all_refused() {
       break
     fi
     if { [ "$status" = 0 ] || [ -s "$room/out" ]; } && ! gave_all_back; then
-      failure "$1: growth $k refused: $(cat "$room/blocks")"
+      fail "$1: growth $k refused: $(cat "$room/blocks")"
     elif "$2"; then
-      passed=$((passed + 1))
+      pass
     else
-      failure "$1: growth $k refused: status $status, output: $(head -c 200 "$room/out")"
+      fail "$1: growth $k refused: status $status, output: $(head -c 200 "$room/out")"
     fi
     k=$((k + 1))
   done
-  gave_all_back || failure "$1: with no growth refused: $(cat "$room/blocks")"
+  gave_all_back || fail "$1: with no growth refused: $(cat "$room/blocks")"
   if [ "$status" != "$wanted" ] || ! cmp -s "$room/out" "$whole"; then
-    failure "$1: with no growth refused: status $status"
+    fail "$1: with no growth refused: status $status"
   fi
   if [ "$k" -lt 5 ]; then
-    failure "$1: only $((k - 1)) growths were refused: the library does not reach the program"
+    fail "$1: only $((k - 1)) growths were refused: the library does not reach the program"
   fi
   echo "$1: $((k - 1)) growths refused"
 }
@@ -160,7 +160,8 @@ row_run_refused() {
   run_refused "$1"
 }
 
-# Fails each allocation of a chart in turn, of a race of two senders; the whole chart is the one that comes where none fails.
+# Fails each allocation of a chart in turn, of a race of two senders; the whole chart is the one that comes where none
+# fails.
 chart_refused() {
   some_row race_of_two_senders_right_first
   sed -i 's/^run /chart /' "$room/words"
@@ -170,7 +171,8 @@ chart_refused() {
   all_refused chart ended_well
 }
 
-# Sets the words and the input of `pulsefarm steps`, over the calls of two projects and a worker's work, and what it writes.
+# Sets the words and the input of `pulsefarm steps`, over the calls of two projects and a worker's work, and what it
+# writes.
 some_commands() {
   echo steps > "$room/words"
   source='-module(m).\n-export([main/0]).\nmain() -> 1 + 2 * 3.\n'
@@ -178,12 +180,15 @@ some_commands() {
   printf "submit 1 52\n$source\nsubmit 2 52\n$source\norder 1 1 $order\norder 2 1 $order\nclaim 0 1 1\npark 0 1 1\nsteal 3 0 1 1\nslice 3 1 1 9\nfile 3 1 1\nfetch 1 1\nfetch 2 1\nusage 2\n" > "$room/in"
   whole=$room/whole
   wanted=0
-  printf '%s\n' 'p1 module 1' 'p2 module 1' 'p1 ticket 1' 'p2 ticket 1' 'w0 done' 'w0 done' 'w3 done' 'w3 done' 'w3 done' 'p1 report 4' '0/1 <0> end normal' 'finished 7' \
+  printf '%s\n' 'p1 module 1' 'p2 module 1' 'p1 ticket 1' 'p2 ticket 1' 'w0 done' 'w0 done' 'w3 done' 'w3 done' \
+    'w3 done' 'p1 report 4' '0/1 <0> end normal' 'finished 7' \
     'steps 4' 'property holds' 'p2 refused B5' 'p2 usage 1 52 1 100 3' > "$whole"
 }
 
-# What the client of project $1 is answered where an allocation failed in the call $2, or in the run $2 of one of its trials; by any other word no allocation failed.
-# A call that is refused so isn't logged, and uses up no number. Then comes what follows from it: without its module there is no order, and the second order has the first ticket if the first was refused.
+# What the client of project $1 is answered where an allocation failed in the call $2, or in the run $2 of one of its
+# trials; by any other word no allocation failed. A call that is refused so isn't logged, and uses up no number. Then
+# comes what follows from it: without its module there is no order, and the second order has the first ticket if the
+# first was refused.
 told_where() {
   no="p$1 refused"
   ticket="p$1 ticket"
@@ -205,16 +210,19 @@ told_where() {
 # Says in `allowed` that a run may end with the status $1 and the output in the file $2.
 allow() { echo "$1 $(cksum < "$2")" >> "$room/allowed"; }
 
-# Sets the words and the files of `pulsefarm farm`, and says how a run may end: with what both clients are answered where one allocation at most failed; or
-# with status 2 and what was answered up to some reply, file by file. Each client orders a run of 601 events, which a worker parks twice, and a short one. The long
-# one takes 5 steps for each of 300 sends, 3 beside them, and one for each delivery, to who has ended.
+# Sets the words and the files of `pulsefarm farm`, and says how a run may end: with what both clients are answered
+# where one allocation at most failed; or with status 2 and what was answered up to some reply, file by file. Each
+# client orders a run of 601 events, which a worker parks twice, and a short one. The long one takes 5 steps for each of
+# 300 sends, 3 beside them, and one for each delivery, to who has ended.
 some_farm() {
   echo "farm --workers 2 $room/c1 $room/c2" > "$room/words"
   : > "$room/in"
-  printf '%s\n' '-module(m).' '-export([main/0, one/0]).' 'main() -> f(300).' 'f(0) -> ok; f(N) -> self() ! N, f(N - 1).' 'one() -> 1 + 2 * 3.' > "$room/source"
+  printf '%s\n' '-module(m).' '-export([main/0, one/0]).' 'main() -> f(300).' \
+    'f(0) -> ok; f(N) -> self() ! N, f(N - 1).' 'one() -> 1 + 2 * 3.' > "$room/source"
   size=$(($(wc -c < "$room/source")))
   for p in 1 2; do
-    { echo "submit $p $size"; cat "$room/source"; echo; echo "order $p 1 main returns none 2000"; echo "order $p 1 one returns none 100"
+    { echo "submit $p $size"; cat "$room/source"; echo; echo "order $p 1 main returns none 2000"
+      echo "order $p 1 one returns none 100"
       for t in 1 2; do printf 'await %s %s\nfetch %s %s\n' $p $t $p $t; done; echo "usage $p"; } > "$room/c$p"
   done
   long=$(echo 'report 604'; awk 'BEGIN {
@@ -243,7 +251,8 @@ some_farm() {
   done
 }
 
-# Whether a run of the farm ended as it may, with a message where its status isn't 0. While the words are read nobody knows that they ask for a farm: `NoMemory` goes out.
+# Whether a run of the farm ended as it may, with a message where its status isn't 0. While the words are read nobody
+# knows that they ask for a farm: `NoMemory` goes out.
 farm_ended_well() {
   if [ "$status" != 0 ] && [ ! -s "$room/err" ]; then return 1; fi
   grep -q -x -e "$status $(cksum < "$room/out")" "$room/allowed" || ended_well
@@ -253,7 +262,7 @@ farm_ended_well() {
 most_within() {
   echo "run --root main --limit $1 --schedule none" > "$room/words"
   refusing 0
-  [ "$status" = 1 ] || failure "a loop within $1 steps: status $status"
+  [ "$status" = 1 ] || fail "a loop within $1 steps: status $status"
   most=$(sed -n 's/.*, \([0-9]*\) bytes at most$/\1/p' "$room/blocks")
 }
 
@@ -286,15 +295,15 @@ row_refused check_explain_unsafe ended_well
 some_farm
 all_refused farm farm_ended_well
 
-printf '%s\n' '-module(m).' '-export([main/0]).' 'main() -> loop(50000).' 'loop(N) -> case N of 0 -> done; _ -> loop(N - 1) end.' > "$room/in"
+printf '%s\n' '-module(m).' '-export([main/0]).' 'main() -> loop(50000).' \
+  'loop(N) -> case N of 0 -> done; _ -> loop(N - 1) end.' > "$room/in"
 most_within 1000
 few=$most
 most_within 100000
 many=$most
 if [ -n "$few" ] && [ "$few" = "$many" ]; then
-  passed=$((passed + 1))
+  pass
 else
-  failure "a loop takes $few bytes within 1,000 steps and $many within 100,000"
+  fail "a loop takes $few bytes within 1,000 steps and $many within 100,000"
 fi
-echo "$passed passed, $failed failed"
-[ "$failed" = 0 ]
+tell_counts

@@ -1,12 +1,14 @@
 #!/bin/bash
-# Draws the race of each module of examples/ by the seed that the table there names, and compares the chart with the report of that run: heads for
-# each process, a row for each event, a star for each choice above 0, an arrow for each signal and each spawn; and the same run in a compact chart, and a long
-# run page by page. Where a browser is there, or can be installed from the system's packages,
-# the chart is opened in it, and what is checked is what the browser made of it; else it is the file. A source whose atoms have all that markup has stays text.
+# Draws the race of each module of examples/ by the seed that the table there names, and compares the chart with the
+# report of that run: heads for each process, a row for each event, a star for each choice above 0, an arrow for each
+# signal and each spawn; and the same run in a compact chart, and a long run page by page. Where a browser is there, or
+# can be installed from the system's packages, the chart is opened in it, and what is checked is what the browser made
+# of it; else it is the file. A source whose atoms have all that markup has stays text.
 #
 # Usage: run.sh [BINARY]; the program is that of the crate `pulsefarm` where none is named.
 set -u
 top=$(cd "$(dirname "$0")/../../.." && pwd)
+# shellcheck source=tests/compare.sh
 . "$top/tests/compare.sh"
 
 # A browser, where there is one.
@@ -30,20 +32,11 @@ opened() {
   fi
 }
 
-# Counts whether $3 is $2; $1 names it.
-same() {
-  if [ "$2" = "$3" ]; then
-    passed=$((passed + 1))
-  else
-    failed=$((failed + 1))
-    echo "$1: $3 in place of $2"
-  fi
-}
-
 # How often the pattern $1 occurs in what was opened.
 times() { grep -oE "$1" "$room/opened" | wc -l; }
 
-# Draws the module $1 by the words from $2 on into `chart.svg`, opens it, and leaves its report in `report`; `manner` has words of the chart alone.
+# Draws the module $1 by the words from $2 on into `chart.svg`, opens it, and leaves its report in `report`; `manner`
+# has words of the chart alone.
 manner=
 draw() {
   source=$1
@@ -53,7 +46,7 @@ draw() {
   # The words in `$manner` have no blanks in them.
   # shellcheck disable=SC2086
   timeout 60 "$program" chart "$source" --limit 2000 $manner "$@" > "$room/chart.svg" 2> "$room/err" < /dev/null
-  same "status of ${source##*/}" "$wanted" "$?"
+  same "status of ${source##*/}" "$?" "$wanted"
   opened "$room/chart.svg" > "$room/opened"
 }
 
@@ -64,29 +57,32 @@ matches() {
   delivered=$(grep -cE '^[0-9]+/[0-9]+ <[0-9]+>-><[0-9]+> ' "$room/report")
   dropped=$(grep -cE '^[0-9]+/[0-9]+ <[0-9]+>-><[0-9]+> deliver [a-z]+ dropped$' "$room/report")
   waiting=$(sed -n 's/^deadlock//p' "$room/report" | wc -w)
-  same "documents of $1" 1 "$(times '<svg ')"
-  same "faults of $1" 0 "$(times 'parsererror')"
-  same "heads of $1" $((spawns + 1)) "$(times '<g class="process[ "]')"
-  same "heads above, between and below the rows of $1" $(((spawns + 1) * ((events - 1) / 40 + 2))) "$(times '<text class="pid"')"
-  same "choices above 0 of $1" "$(grep -cE '^[1-9][0-9]*/' "$room/report")" "$(times '<text class="choice"[^>]*>\*[1-9][0-9]*/[0-9]+<')"
-  same "numbers in bold of $1" "$(grep -cE '^[1-9][0-9]*/' "$room/report")" "$(times '<text class="number chosen"')"
-  same "processes in a deadlock of $1" "$waiting" "$(times '<g class="process deadlocked"')"
-  same "events of $1" "$events" "$(times '<g class="event[ "]')"
-  same "spawns of $1" "$spawns" "$(times '<g class="arrow spawn[ "]')"
-  same "signals of $1 that arrive" "$delivered" $(($(times '<g class="arrow [a-z]+( dropped)?"') - spawns))
-  same "signals of $1 that are dropped" "$dropped" "$(times '<g class="arrow [a-z]+ dropped"')"
-  same "text of $1" yes "$([ "$(times '<text')" -ge "$events" ] && echo yes)"
+  same "documents of $1" "$(times '<svg ')" 1
+  same "faults of $1" "$(times 'parsererror')" 0
+  same "heads of $1" "$(times '<g class="process[ "]')" $((spawns + 1))
+  same "heads above, between and below the rows of $1" "$(times '<text class="pid"')" \
+    $(((spawns + 1) * ((events - 1) / 40 + 2)))
+  same "choices above 0 of $1" "$(times '<text class="choice"[^>]*>\*[1-9][0-9]*/[0-9]+<')" \
+    "$(grep -cE '^[1-9][0-9]*/' "$room/report")"
+  same "numbers in bold of $1" "$(times '<text class="number chosen"')" "$(grep -cE '^[1-9][0-9]*/' "$room/report")"
+  same "processes in a deadlock of $1" "$(times '<g class="process deadlocked"')" "$waiting"
+  same "events of $1" "$(times '<g class="event[ "]')" "$events"
+  same "spawns of $1" "$(times '<g class="arrow spawn[ "]')" "$spawns"
+  same "signals of $1 that arrive" $(($(times '<g class="arrow [a-z]+( dropped)?"') - spawns)) "$delivered"
+  same "signals of $1 that are dropped" "$(times '<g class="arrow [a-z]+ dropped"')" "$dropped"
+  same "text of $1" "$([ "$(times '<text')" -ge "$events" ] && echo yes)" yes
 }
 
-# Compares a compact chart with the report, by counts; $1 names it. A message that some exit or monitor made has no send.
+# Compares a compact chart with the report, by counts; $1 names it. A message that some exit or monitor made has no
+# send.
 matches_compact() {
   quiet=$(grep -cE '^[0-9]+/[0-9]+ (<[0-9]+> wait|<[0-9]+>-><[0-9]+> deliver message)$' "$room/report")
   received=$(grep -E '^[0-9]+/[0-9]+ <[0-9]+> receive ' "$room/report" | grep -cvE " receive \\{'(EXIT|DOWN)',")
   sent=$(grep -cE '^[0-9]+/[0-9]+ <[0-9]+> send ' "$room/report")
   dropped=$(grep -cE '^[0-9]+/[0-9]+ <[0-9]+>-><[0-9]+> deliver message dropped$' "$room/report")
-  same "rows of $1" $(($(grep -cE '^[0-9]+/[0-9]+ ' "$room/report") - quiet)) "$(times '<g class="event[ "]')"
-  same "receives of $1" "$received" "$(times '<g class="arrow message[^>]* data-receive=')"
-  same "messages of $1 without a receive" $((sent - received - dropped)) "$(times '<g class="arrow message lost')"
+  same "rows of $1" "$(times '<g class="event[ "]')" $(($(grep -cE '^[0-9]+/[0-9]+ ' "$room/report") - quiet))
+  same "receives of $1" "$(times '<g class="arrow message[^>]* data-receive=')" "$received"
+  same "messages of $1 without a receive" "$(times '<g class="arrow message lost')" $((sent - received - dropped))
 }
 
 while read -r module property seed; do
@@ -98,7 +94,7 @@ while read -r module property seed; do
   manner=
   draw "$top/examples/${module}_mended.erl" --seed "$seed" --property "$property"
   matches "${module}_mended"
-done < <(sed -n 's/^| `\([a-z_]*\)` | `\([a-z]*\)` | \([0-9]*\) |.*/\1 \2 \3/p' "$top/examples/README.md")
+done < <(races)
 
 # An atom and a reason of markup.
 cat > "$room/markup.erl" << 'SOURCE'
@@ -108,7 +104,7 @@ main() -> self() ! {'</text><script>alert(1)</script>', '&amp;<g class="event">'
 SOURCE
 draw "$room/markup.erl" --seed 0
 matches markup
-same 'scripts' 0 "$(times '<script')"
+same 'scripts' "$(times '<script')" 0
 
 # A run of 1,203 events is on three pages; the first is drawn where none is named, and the last where there are fewer.
 cat > "$room/long.erl" << 'SOURCE'
@@ -119,7 +115,7 @@ make(0) -> ok;
 make(N) -> make_ref(), make(N - 1).
 SOURCE
 timeout 60 "$program" run "$room/long.erl" --root main --limit 100000 --seed 0 > "$room/report" 2> "$room/err"
-same 'events of a long run' 1203 "$(grep -cE '^[0-9]+/[0-9]+ ' "$room/report")"
+same 'events of a long run' "$(grep -cE '^[0-9]+/[0-9]+ ' "$room/report")" 1203
 for page in ' 500 1 500 1' '1 500 1 500 1' '2 500 501 1000 2' '3 203 1001 1203 3' '4 203 1001 1203 3'; do
   IFS=' ' read -r -a wanted <<< "$page"
   words=()
@@ -128,13 +124,13 @@ for page in ' 500 1 500 1' '1 500 1 500 1' '2 500 501 1000 2' '3 203 1001 1203 3
     wanted=("${wanted[@]:1}")
   fi
   timeout 60 "$program" chart "$room/long.erl" --seed 0 "${words[@]}" > "$room/chart.svg" 2> "$room/err"
-  same "status of page ${words[1]:-}" 0 "$?"
+  same "status of page ${words[1]:-}" "$?" 0
   opened "$room/chart.svg" > "$room/opened"
-  same "faults of page ${words[1]:-}" 0 "$(times 'parsererror')"
-  same "rows of page ${words[1]:-}" "${wanted[0]}" "$(times '<g class="event[ "]')"
-  same "first row of page ${words[1]:-}" 1 "$(times "<g class=\"event[^>]* data-event=\"${wanted[1]}\"")"
-  same "last row of page ${words[1]:-}" 1 "$(times "<g class=\"event[^>]* data-event=\"${wanted[2]}\"")"
-  same "line of page ${words[1]:-}" 1 "$(times ">Page ${wanted[3]} of 3: rows ${wanted[1]} to ${wanted[2]} of 1203<")"
+  same "faults of page ${words[1]:-}" "$(times 'parsererror')" 0
+  same "rows of page ${words[1]:-}" "$(times '<g class="event[ "]')" "${wanted[0]}"
+  same "first row of page ${words[1]:-}" "$(times "<g class=\"event[^>]* data-event=\"${wanted[1]}\"")" 1
+  same "last row of page ${words[1]:-}" "$(times "<g class=\"event[^>]* data-event=\"${wanted[2]}\"")" 1
+  same "line of page ${words[1]:-}" "$(times ">Page ${wanted[3]} of 3: rows ${wanted[1]} to ${wanted[2]} of 1203<")" 1
 done
 
 # What is refused is reported in its words, and no document goes out.

@@ -6,7 +6,9 @@
 set -u
 here=$(cd "$(dirname "$0")" && pwd)
 top=$here/../../..
+# shellcheck source=tests/compare.sh
 . "$top/tests/compare.sh"
+# shellcheck source=tests/rows.sh
 . "$top/tests/rows.sh"
 compare_rows "$here"
 tell_counts

@@ -1,12 +1,14 @@
 #!/bin/sh
-# A flush takes out the message that names its reference, however the signals came: a run of three processes, in which a flush after
-# the end of a watched process has to leave the message of the third for the receive after it, by every schedule of up to six numbers
-# from 0 to 2.
+# A flush takes out the message that names its reference, however the signals came: a run of three processes, in which a
+# flush after the end of a watched process has to leave the message of the third for the receive after it, by every
+# schedule of up to six numbers from 0 to 2.
 #
 # Usage: run.sh [BINARY]; the program is that of the crate `pulsefarm` where none is named.
 set -u
 top=$(cd "$(dirname "$0")/../../.." && pwd)
+# shellcheck source=tests/compare.sh
 . "$top/tests/compare.sh"
+# shellcheck source=tests/rows.sh
 . "$top/tests/rows.sh"
 
 take_apart "$top/tests/golden/rows/flush_takes_the_oldest_that_tells.row" "$room/row"
@@ -16,10 +18,9 @@ flushed() {
   timeout 120 "$program" run --root main --limit 1000 --schedule "$1" < "$room/row/stdin" > "$room/out" 2> "$room/err"
   status=$?
   if [ "$status" = 0 ] && grep -q -x 'finished z' "$room/out"; then
-    passed=$((passed + 1))
+    pass
   else
-    failed=$((failed + 1))
-    echo "schedule $1: status $status, output: $(tail -n 3 "$room/out")"
+    fail "schedule $1: status $status, output: $(tail -n 3 "$room/out")"
   fi
 }
 

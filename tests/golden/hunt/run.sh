@@ -1,11 +1,12 @@
 #!/bin/sh
-# Hunts over the modules of examples/ and compares what is reported with `run` and `shrink` of the same seeds: the least seed that fails, its
-# choices and its report; each outcome with its seeds; and that the number of workers makes no difference. All of it by both strategies; the
-# schedule of each seed that is found runs so again.
+# Hunts over the modules of examples/ and compares what is reported with `run` and `shrink` of the same seeds: the least
+# seed that fails, its choices and its report; each outcome with its seeds; and that the number of workers makes no
+# difference. All of it by both strategies; the schedule of each seed that is found runs so again.
 #
 # Usage: run.sh [BINARY]; the program is that of the crate `pulsefarm` where none is named.
 set -u
 top=$(cd "$(dirname "$0")/../../.." && pwd)
+# shellcheck source=tests/compare.sh
 . "$top/tests/compare.sh"
 examples=$top/examples
 
@@ -17,19 +18,18 @@ told() {
   status=$?
 }
 
-# The choices of the report $1, as a schedule.
-choices_of() { sed -n 's|^\([0-9]*\)/[0-9]* <.*|\1|p' "$1" | paste -s -d , -; }
-
 # The verdict and the outcome of the report $1, on one line.
 outcome_of() {
   awk '/^(finished|ended|deadlock|limit|memory)/ { outcome = $0 } /^property/ { verdict = $2 } END { print verdict " " outcome }' "$1"
 }
 
-# The least of the seeds from $3 to before $4 by which the property $2 of the module $1 fails, one run after another; nothing where none does.
+# The least of the seeds from $3 to before $4 by which the property $2 of the module $1 fails, one run after another;
+# nothing where none does.
 least_by_runs() {
   seed=$3
   while [ "$seed" -lt "$4" ]; do
-    told "$room/report" run "$examples/$1.erl" --root main --limit 2000 --property "$2" --seed "$seed" --strategy "$strategy"
+    told "$room/report" run "$examples/$1.erl" --root main --limit 2000 --property "$2" --seed "$seed" \
+      --strategy "$strategy"
     if [ "$status" = 1 ]; then
       echo "$seed"
       return
@@ -52,14 +52,17 @@ first() {
     least=$(least_by_runs "$1" "$2" "$start" 200)
     { failure "$1" "$2" "$least"; cat "$room/report"; } > "$room/wanted"
     cp "$room/report" "$room/by_seed"
-    told "$room/again" run "$examples/$1.erl" --root main --limit 2000 --property "$2" --schedule "$(choices_of "$room/by_seed")"
-    if cmp -s "$room/by_seed" "$room/again"; then passed=$((passed + 1)); else failed=$((failed + 1)); echo "$1: the schedule of seed $least runs otherwise"; fi
+    told "$room/again" run "$examples/$1.erl" --root main --limit 2000 --property "$2" \
+      --schedule "$(choices_of "$room/by_seed")"
+    if cmp -s "$room/by_seed" "$room/again"; then pass; else fail "$1: the schedule of seed $least runs otherwise"; fi
     for workers in 1 2 3 4 64; do
       compare "$1 from $start by $workers" 1 /dev/null "$room/wanted" \
-        hunt "$examples/$1.erl" --root main --limit 2000 --property "$2" --seeds "$start..200" --workers "$workers" --strategy "$strategy"
+        hunt "$examples/$1.erl" --root main --limit 2000 --property "$2" --seeds "$start..200" --workers "$workers" \
+        --strategy "$strategy"
     done
     compare "$1 from $start to its seed" 1 /dev/null "$room/wanted" \
-      hunt "$examples/$1.erl" --root main --limit 2000 --property "$2" --seeds "$start..$((least + 1))" --strategy "$strategy"
+      hunt "$examples/$1.erl" --root main --limit 2000 --property "$2" --seeds "$start..$((least + 1))" \
+      --strategy "$strategy"
     if [ "$start" -lt "$least" ]; then
       echo "no failure in $((least - start)) seeds" > "$room/wanted"
       compare "$1 from $start to before its seed" 0 /dev/null "$room/wanted" \
@@ -73,7 +76,8 @@ shrunk() {
   least=$(least_by_runs "$1" "$2" 0 200)
   failure "$1" "$2" "$least" > "$room/wanted"
   schedule=$(choices_of "$room/report")
-  told "$room/shrunk" shrink "$examples/$1.erl" --root main --limit 2000 --property "$2" --schedule "$schedule" --runs "$3"
+  told "$room/shrunk" shrink "$examples/$1.erl" --root main --limit 2000 --property "$2" --schedule "$schedule" \
+    --runs "$3"
   cat "$room/shrunk" >> "$room/wanted"
   compare "$1, shrunk within $3 runs" 1 /dev/null "$room/wanted" \
     hunt "$examples/$1.erl" --root main --limit 2000 --property "$2" --seeds 0..200 --shrink "$3" --strategy "$strategy"
@@ -84,7 +88,8 @@ outcomes() {
   seed=3
   : > "$room/outcomes"
   while [ "$seed" -lt 63 ]; do
-    told "$room/report" run "$examples/$1.erl" --root main --limit 2000 --property "$2" --seed "$seed" --strategy "$strategy"
+    told "$room/report" run "$examples/$1.erl" --root main --limit 2000 --property "$2" --seed "$seed" \
+      --strategy "$strategy"
     echo "$seed $(outcome_of "$room/report")" >> "$room/outcomes"
     seed=$((seed + 1))
   done
@@ -100,14 +105,16 @@ outcomes() {
   ! grep -q '^fails' "$room/wanted" || wanted_status=1
   for workers in 1 2 3 4 64; do
     compare "outcomes of $1 by $workers" "$wanted_status" /dev/null "$room/wanted" \
-      hunt "$examples/$1.erl" --root main --limit 2000 --property "$2" --seeds 3..63 --all --workers "$workers" --strategy "$strategy"
+      hunt "$examples/$1.erl" --root main --limit 2000 --property "$2" --seeds 3..63 --all --workers "$workers" \
+      --strategy "$strategy"
   done
 }
 
 # The number in the line that says that a hunt stopped; nothing where the first line of the output says something else.
 stopped_behind() { sed -n '1s/^stopped behind \([1-9][0-9]*\) seeds$/\1/p' "$room/out"; }
 
-# Hunts of the module $1 for a time: each stops soon, and reports of the seeds that it ran what a hunt over these seeds reports.
+# Hunts of the module $1 for a time: each stops soon, and reports of the seeds that it ran what a hunt over these seeds
+# reports.
 for_a_time() {
   asked="$examples/$1.erl --root main --limit 2000"
   # The words in `$asked` have no blanks in them.
@@ -117,7 +124,8 @@ for_a_time() {
     told "$room/out" hunt $asked --property withinlimit --for 1s
     number=$(stopped_behind)
     printf 'stopped behind %s seeds\nno failure in %s seeds\n' "$number" "$number" > "$room/wanted"
-    note "$1 for a second, from seed 0" "$([ -n "$number" ] && [ "$status" = 0 ] && cmp -s "$room/out" "$room/wanted"; echo $?)"
+    note "$1 for a second, from seed 0" \
+      "$([ -n "$number" ] && [ "$status" = 0 ] && cmp -s "$room/out" "$room/wanted"; echo $?)"
     note "$1 for a second takes no ten" "$([ $(($(date +%s) - began)) -lt 10 ]; echo $?)"
     told "$room/out" hunt $asked --property "$2" --seeds 7..1000000000 --for 1s --all --strategy "$strategy"
     number=$(stopped_behind)
@@ -127,10 +135,13 @@ for_a_time() {
     compare "$1, the outcomes of as many seeds" "$wanted_status" /dev/null "$room/wanted" \
       hunt $asked --property "$2" --seeds "7..$((7 + ${number:-1}))" --all --strategy "$strategy"
     echo 'no failure in 40 seeds' > "$room/wanted"
-    compare "$1 over 40 seeds, for an hour" 0 /dev/null "$room/wanted" hunt $asked --property withinlimit --seeds 5..45 --for 1h
+    compare "$1 over 40 seeds, for an hour" 0 /dev/null "$room/wanted" hunt $asked --property withinlimit \
+      --seeds 5..45 --for 1h
     told "$room/wanted" hunt $asked --property "$2" --seeds 0..200 --strategy "$strategy"
-    compare "$1 fails within a time" 1 /dev/null "$room/wanted" hunt $asked --property "$2" --seeds 0..200 --for 60m --strategy "$strategy"
-    compare "$1 fails within a time, without seeds" 1 /dev/null "$room/wanted" hunt $asked --property "$2" --for 60m --strategy "$strategy"
+    compare "$1 fails within a time" 1 /dev/null "$room/wanted" hunt $asked --property "$2" --seeds 0..200 --for 60m \
+      --strategy "$strategy"
+    compare "$1 fails within a time, without seeds" 1 /dev/null "$room/wanted" hunt $asked --property "$2" --for 60m \
+      --strategy "$strategy"
   }
 }
 
@@ -146,11 +157,13 @@ times_refused() {
       note "a time of $time is named" "$(grep -q "invalid value '$time' for '--for <T>'" "$room/err"; echo $?)"
     done
     echo 'no failure in 10000 seeds' > "$room/wanted"
-    compare 'no seeds and no time' 0 /dev/null "$room/wanted" hunt "$examples/lost_update_mended.erl" --root main --limit 2000 --property true
+    compare 'no seeds and no time' 0 /dev/null "$room/wanted" hunt "$examples/lost_update_mended.erl" --root main \
+      --limit 2000 --property true
   }
 }
 
-# Properties with an atom that occurs nowhere in the module: the same goes out, and standard error says so. $1 is the module, $2 an atom that it has.
+# Properties with an atom that occurs nowhere in the module: the same goes out, and standard error says so. $1 is the
+# module, $2 an atom that it has.
 lacking() {
   echo 'no failure in 5 seeds' > "$room/wanted"
   : > "$room/silent"
@@ -159,10 +172,12 @@ lacking() {
   # The words in `$asked` have no blanks in them.
   # shellcheck disable=SC2086
   {
-    compare 'an atom that the module lacks' 0 /dev/null "$room/wanted" hunt $asked --seeds 0..5 --property 'never:{X,nowhere_at_all,other}'
+    compare 'an atom that the module lacks' 0 /dev/null "$room/wanted" hunt $asked --seeds 0..5 \
+      --property 'never:{X,nowhere_at_all,other}'
     note 'the atom is named' "$([ "$(cat "$room/err")" = "$said" ]; echo $?)"
     told "$room/out" run $asked --seed 1 --property 'never:nowhere_at_all'
-    note 'a run names it too' "$([ "$(cat "$room/err")" = "$said" ] && [ "$(tail -n 1 "$room/out")" = 'property holds' ]; echo $?)"
+    note 'a run names it too' \
+      "$([ "$(cat "$room/err")" = "$said" ] && [ "$(tail -n 1 "$room/out")" = 'property holds' ]; echo $?)"
     told "$room/out" chart $asked --seed 1 --property 'never:nowhere_at_all'
     note 'a chart names it too' "$([ "$(cat "$room/err")" = "$said" ]; echo $?)"
     told "$room/out" shrink $asked --schedule none --runs 2 --property 'never:nowhere_at_all'
@@ -198,8 +213,8 @@ refusals() {
   }
 }
 
-sed -n 's/^| `\([a-z_]*\)` | `\([a-z]*\)` |.*/\1 \2/p' "$examples/README.md" > "$room/table"
-while read -r module property; do
+races > "$room/table"
+while read -r module property _; do
   for strategy in uniform pos; do
     first "$module" "$property"
     shrunk "$module" "$property" 1

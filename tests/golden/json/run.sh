@@ -1,15 +1,15 @@
 #!/bin/sh
-# Answers as JSON: the object of each shape of line against one that was written by hand; and of whole answers that each object is valid by
-# docs/json.schema.json, that there are as many as lines of text, each of them its line in another form, and that status and standard error are the
-# same.
+# Answers as JSON: the object of each shape of line against one that was written by hand; and of whole answers that each
+# object is valid by docs/json.schema.json, that there are as many as lines of text, each of them its line in another
+# form, and that status and standard error are the same.
 #
 # Usage: run.sh [BINARY]; the program is that of the crate `pulsefarm` where none is named.
 set -u
 top=$(cd "$(dirname "$0")/../../.." && pwd)
+# shellcheck source=tests/compare.sh
 . "$top/tests/compare.sh"
+# shellcheck source=tests/rows.sh
 . "$top/tests/rows.sh"
-program=$(realpath "$program")
-room=${room:?}
 lines=$top/tests/golden/json/lines.py
 export PYTHONDONTWRITEBYTECODE=1
 cd "$room" || exit 1
@@ -39,7 +39,8 @@ agrees() {
   note "$name: the form \`text\`" $?
 }
 
-# The output under the words from $4 on has the status $2 and the objects $3; $1 names the check. It agrees with the text too.
+# The output under the words from $4 on has the status $2 and the objects $3; $1 names the check. It agrees with the
+# text too.
 objects() {
   name=$1 wanted=$2
   printf '%s\n' "$3" > wanted
@@ -105,14 +106,16 @@ examples() {
     agrees "a shrinking of $module" shrink "$file" --root main --limit 100000 --property true --schedule @found --runs 9
   done
   agrees 'a hunt by more workers' hunt "$top/examples/wrong_reply.erl" --property true --seeds 40 --workers 4
-  agrees 'a run of many events' run "$top/examples/rare/two_acting.erl" --root main --limit 100000 --property true --seed 3 --strategy pos
+  agrees 'a run of many events' run "$top/examples/rare/two_acting.erl" --root main --limit 100000 --property true \
+    --seed 3 --strategy pos
 }
 
 # A module whose seed 0 finds nothing to choose, one that fails by no seed, and one that waits for ever beside its root.
 hunts() {
   printf -- '-module(e).\n-export([main/0]).\nmain() -> false.\n' > e.erl
   printf -- '-module(t).\n-export([main/0]).\nmain() -> true.\n' > t.erl
-  printf -- '-module(w).\n-export([main/0, server/1]).\nmain() -> spawn(?MODULE, server, [stop]), true.\nserver(M) -> receive M -> ok end.\n' > w.erl
+  printf '%s\n' '-module(w).' '-export([main/0, server/1]).' 'main() -> spawn(?MODULE, server, [stop]), true.' \
+    'server(M) -> receive M -> ok end.' > w.erl
   objects 'a seed that fails' 1 '{"seed":0}
 {"strategy":"pos"}
 {"schedule":"0"}
@@ -145,7 +148,8 @@ hunts() {
 {"finished":"false"}
 {"steps":2}
 {"property":"fails"}' shrink e.erl --root main --limit 9 --property true --schedule 3,4 --runs 1
-  objects 'nothing to shrink' 2 '{"refusal":"S1"}' shrink t.erl --root main --limit 9 --property true --schedule none --runs 1
+  objects 'nothing to shrink' 2 '{"refusal":"S1"}' shrink t.erl --root main --limit 9 --property true --schedule none \
+    --runs 1
   agrees 'a leak' hunt w.erl --property true --seeds 5 --leaks
   agrees 'no leak' hunt t.erl --property true --seeds 5 --leaks
   told hunt t.erl --property true --for 1s
@@ -163,7 +167,8 @@ suites() {
   mv "folder/it's: a 'b" "folder/it's: a 'b.erl"
   printf -- '-module(c).\n-export([main/0]).\nmain() -> X.\n' > folder/c.erl
   printf -- '-module(lib).\n-export([f/1]).\nf(X) -> X.\n' > 'folder/seed 3 fails.erl'
-  printf -- "-module(m).\n-export(['Go now'/0, ' '/0, 'a: b'/0, plain/0, 'it\\\\'s'/0]).\n'Go now'() -> true.\n' '() -> true.\n'a: b'() -> true.\nplain() -> true.\n'it\\\\'s'() -> true.\n" > m.erl
+  printf -- \
+    "-module(m).\n-export(['Go now'/0, ' '/0, 'a: b'/0, plain/0, 'it\\\\'s'/0]).\n'Go now'() -> true.\n' '() -> true.\n'a: b'() -> true.\nplain() -> true.\n'it\\\\'s'() -> true.\n" > m.erl
   objects 'a folder' 2 '{"file":"folder/c.erl","refusal":"E6","at":41}
 {"file":"folder/e.erl","root":"main","failure":true,"seed":0}
 {"file":"folder/it'"'s: a 'b"'.erl","root":"main","failure":false,"seeds":5}
@@ -193,8 +198,6 @@ checks() {
   objects 'a module' 0 '{"ok":true}' check t.erl
   objects 'a refusal' 2 '{"refusal":"E6","at":41}' check folder/c.erl
   printf -- '-module(m).\n-export([main/0]).\nmain() -> true and false.\n' > and.erl
-  # (the quotes are of the text)
-  # shellcheck disable=SC2016
   objects 'a refusal that is explained' 2 '{"refusal":"E5","at":46}
 {"line":3,"column":16}
 {"source":"main() -> true and false."}
@@ -222,7 +225,8 @@ words() {
     note "$word has no form" $?
   done
   timeout 60 "$program" check t.erl --format xml > out 2> err
-  [ $? = 2 ] && [ ! -s out ] && grep -q "^pulsefarm: invalid value 'xml' for '--format <FORM>': it wants .text. or .json.$" err
+  [ $? = 2 ] && [ ! -s out ] &&
+    grep -q "^pulsefarm: invalid value 'xml' for '--format <FORM>': it wants .text. or .json.$" err
   note 'a form that is none' $?
   timeout 60 "$program" run --help --format json > out 2> err
   note 'help ends well' $?

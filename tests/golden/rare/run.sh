@@ -1,21 +1,21 @@
 #!/bin/sh
-# Hunts by priorities over each module of examples/rare/: its property has to fail by a seed below ten times the number of runs that the
-# table of examples/rare/README.md names; the choices of that run have to mean the same report; and by each of the first 10,000 seeds the property of its fixed
-# form has to hold. Of two modules the least seed has to be the same by 1, 3 and 64 workers.
+# Hunts by priorities over each module of examples/rare/: its property has to fail by a seed below ten times the number
+# of runs that the table of examples/rare/README.md names; the choices of that run have to mean the same report; and by
+# each of the first 10,000 seeds the property of its fixed form has to hold. Of two modules the least seed has to be the
+# same by 1, 3 and 64 workers.
 #
 # Usage: run.sh [BINARY]; the program is that of the crate `pulsefarm` where none is named.
 set -u
 top=$(cd "$(dirname "$0")/../../.." && pwd)
+# shellcheck source=tests/compare.sh
 . "$top/tests/compare.sh"
 examples=$top/examples/rare
 
-# Hunts over the module $1 by the seeds $2, with the words from $3 on; leaves `out` and the status.
+# Hunts over the module $1 by the seeds $2, with the words from $3 on.
 hunts() {
-  module=$1 seeds=$2
-  shift 2
-  timeout 300 "$program" hunt "$examples/$module.erl" --root main --limit 5000 --property true --seeds "$seeds" "$@" \
-    > "$room/out" 2> "$room/err" < /dev/null
-  status=$?
+  module=$1
+  shift
+  hunt_over "$examples/$module.erl" 5000 true "$@"
 }
 
 # The report of the schedule that the hunt of the module $1 reported, against the one that it reported with it.

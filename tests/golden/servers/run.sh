@@ -1,20 +1,22 @@
 #!/bin/sh
-# Five servers, from plain Erlang to a first hunt: each round of a server follows what `check --explain` said of the round before, and nothing else.
-# `told` has by hand what is said of each round: here it is compared with the answer, place by place, and each place has to come with its rewrite. The
-# first round has to be Erlang that `erlc` takes without a word, and the last one too; that is taken by the language, and a hunt finds its race.
+# Five servers, from plain Erlang to a first hunt: each round of a server follows what `check --explain` said of the
+# round before, and nothing else. `told` has by hand what is said of each round: here it is compared with the answer,
+# place by place, and each place has to come with its rewrite. The first round has to be Erlang that `erlc` takes
+# without a word, and the last one too; that is taken by the language, and a hunt finds its race.
 #
 # Usage: run.sh [BINARY]; the program is that of the crate `pulsefarm` where none is named.
 set -u
 here=$(cd "$(dirname "$0")" && pwd)
 top=$here/../../..
+# shellcheck source=tests/compare.sh
 . "$top/tests/compare.sh"
-room=${room:?}
 "$top/tests/port/erlang.sh"
 
 # The places of round $2 of the server $1 by `told`: where each text occurs first in its line.
 places() {
   sed -n "s/^$1 $2 //p" "$here/told" | while read -r line word; do
-    sed -n "${line}p" "$here/$1/$2.erl" | awk -v line="$line" -v word="$word" '{ print "line " line ", column " index($0, word) }'
+    sed -n "${line}p" "$here/$1/$2.erl" | awk -v line="$line" -v word="$word" \
+      '{ print "line " line ", column " index($0, word) }'
   done
 }
 

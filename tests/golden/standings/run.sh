@@ -1,15 +1,17 @@
 #!/bin/sh
-# Checks what `run --explain` says of the processes of runs, against the lines of `told`, which were written by hand; by a seed, by a strategy and by a
-# schedule. Standard output is that of the run without the word.
+# Checks what `run --explain` says of the processes of runs, against the lines of `told`, which were written by hand; by
+# a seed, by a strategy and by a schedule. Standard output is that of the run without the word.
 #
 # Usage: run.sh [BINARY]; the program is that of the crate `pulsefarm` where none is named.
 set -u
 here=$(cd "$(dirname "$0")" && pwd)
 top=$here/../../..
+# shellcheck source=tests/compare.sh
 . "$top/tests/compare.sh"
 cd "$room" || exit 2
 
-# Runs a root of a source by the words from $3 on, with the word and without, and compares what is said with what is wanted.
+# Runs a root of a source by the words from $3 on, with the word and without, and compares what is said with what is
+# wanted.
 check() {
   file=$here/$1.erl name=$2
   shift 2
@@ -55,7 +57,8 @@ done
 
 # The heads of a chart have the functions in whose calls processes began, and a tooltip says who spawned them.
 timeout 60 "$program" chart --root main --limit 1000 --seed 0 "$here/counter.erl" > out 2> err < /dev/null
-for words in '>main/0</text>' '>counter/1</text>' '>asks/1</text>' '<title>&lt;1&gt; counter/1 spawned by &lt;0&gt; in event 1</title>'; do
+for words in '>main/0</text>' '>counter/1</text>' '>asks/1</text>' \
+  '<title>&lt;1&gt; counter/1 spawned by &lt;0&gt; in event 1</title>'; do
   grep -qF "$words" out
   note "the chart has $words" $?
 done

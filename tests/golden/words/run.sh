@@ -1,14 +1,14 @@
 #!/bin/sh
-# Gives the program the words of `cases`, beside this script, and compares the status and the whole standard error: how words are refused, and at which
-# values of an option that begins and ends. Nothing goes out with a refusal.
+# Gives the program the words of `cases`, beside this script, and compares the status and the whole standard error: how
+# words are refused, and at which values of an option that begins and ends. Nothing goes out with a refusal.
 #
 # Usage: run.sh [BINARY]; the program is that of the crate `pulsefarm` where none is named.
 set -u
 words=$(cd "$(dirname "$0")" && pwd)
 top=$words/../../..
+# shellcheck source=tests/compare.sh
 . "$top/tests/compare.sh"
-program=$(realpath "$program")
-cd "${room:?}" || exit 2
+cd "$room" || exit 2
 
 # Runs the program under these words; leaves `out`, `err` and `status`.
 run() {
@@ -25,7 +25,8 @@ taken() {
   note "$name: status $status for 0" $?
 }
 
-# Checks that the words from $3 on are refused with the usage of their command, where the first line says $2; $1 names them.
+# Checks that the words from $3 on are refused with the usage of their command, where the first line says $2; $1 names
+# them.
 refused() {
   printf "pulsefarm: %b\n\nUsage: pulsefarm %s\n\nFor more information, try '--help'.\n" "$2" "$usage" > wanted
   name=$1

@@ -1,15 +1,16 @@
 #!/bin/sh
-# Installs from a small tree by a `rt` of its own (tests/release/install/rt): what is proved and in which copy, what is printed, and that a run which was stopped
-# goes on where it was, one that fails says why, and nothing is left behind. Then the order in which crates are proved (lanes.py). Where
-# no BINARY is named, as at the gate, the tree itself is installed too, from what the gate has proved, and previewed.
+# Installs from a small tree by a `rt` of its own (tests/release/install/rt): what is proved and in which copy, what is
+# printed, and that a run which was stopped goes on where it was, one that fails says why, and nothing is left behind.
+# Then the order in which crates are proved (lanes.py). Where no BINARY is named, as at the gate, the tree itself is
+# installed too, from what the gate has proved, and previewed.
 #
 # Usage: run.sh [BINARY]; the program is that of the crate `pulsefarm` where none is named.
 set -u
 top=$(cd "$(dirname "$0")/../../.." && pwd)
 at_gate=$(($# == 0))
+# shellcheck source=tests/compare.sh
 . "$top/tests/compare.sh"
-program=$(realpath "$program")
-export FAKE="${room:?}/fake" TMPDIR="$room/tmp" PYTHONDONTWRITEBYTECODE=1
+export FAKE="$room/fake" TMPDIR="$room/tmp" PYTHONDONTWRITEBYTECODE=1
 unset RT_JOBS MOMENT CI
 main_job=$(printf '%s\n' '0/1 <0> end normal' 'finished 7' 'steps 4' 'property holds')
 
@@ -18,7 +19,8 @@ lay() {
   rm -rf "$room/tree" "$room/kit" "$room/rattle-kept" "$FAKE" "$room/prefix" "$TMPDIR"
   mkdir -p "$room/tree/port" "$room/kit/bin" "$FAKE" "$TMPDIR"
   cp -r "$top/install.sh" "$top/install" "$room/tree"
-  printf '%s\n' '# A line that names no crate.' 'low:' 'left: low' 'right may_abort=1: low indexmap' 'high: left right' 'beside: low' \
+  printf '%s\n' '# A line that names no crate.' 'low:' 'left: low' 'right may_abort=1: low indexmap' \
+    'high: left right' 'beside: low' \
     'pulsefarm: high indexmap' > "$room/tree/crates.txt"
   echo 'Handles allowed: none.' > "$room/tree/HANDLES"
   for crate in low left right high beside pulsefarm; do
@@ -37,7 +39,8 @@ lay() {
 
 # Runs install.sh over the small tree, in so many lanes.
 install_in() {
-  RT_JOBS=$1 PATH=$room/kit/bin:$PATH PREFIX=$room/prefix timeout 60 sh "$room/tree/install.sh" > "$room/out" 2> "$room/err"
+  RT_JOBS=$1 PATH=$room/kit/bin:$PATH PREFIX=$room/prefix timeout 60 sh "$room/tree/install.sh" > "$room/out" \
+    2> "$room/err"
   status=$?
 }
 
@@ -45,6 +48,12 @@ install_in() {
 were_begun() {
   [ "$(cut -d' ' -f1 "$FAKE/begun" | tr '\n' ' ')" = "$1 " ]
 }
+
+# Whether at least $1 crates were begun.
+has_begun() { [ "$(wc -l < "$FAKE/begun")" -ge "$1" ]; }
+
+# Waits until the words $@ hold.
+wait_for() { until "$@"; do sleep 0.1; done; }
 
 # Whether nothing is left of the copy, and no `rt` runs on.
 is_tidy() {
@@ -63,7 +72,8 @@ whole() {
   note "the main job is run (status $status)" $?
   cmp -s "$room/tree/crates/pulsefarm/out/pulsefarm" "$program" && cmp -s "$room/prefix/bin/pulsefarm" "$program"
   note "the program stands in the tree, and a link leads to it" $?
-  printf '%s\n' 'low:' 'left: low' 'right may_abort=1: low indexmap' 'high: left right' 'pulsefarm: high indexmap' | cmp -s - "$FAKE/crates.txt"
+  printf '%s\n' 'low:' 'left: low' 'right may_abort=1: low indexmap' 'high: left right' 'pulsefarm: high indexmap' |
+    cmp -s - "$FAKE/crates.txt"
   note "the copy has the lines of the program's crates" $?
   ! grep -q 'beside\|must-fail\|^out' "$FAKE/copy" && grep -qx .git "$FAKE/copy" && grep -qx HANDLES "$FAKE/copy"
   note "the copy has these crates alone, and is a repository" $?
@@ -84,7 +94,8 @@ END
   : > "$FAKE/begun"
   : > "$FAKE/pid"
   install_in 1
-  [ "$status" = 0 ] && [ ! -s "$FAKE/begun" ] && grep -qx 'high is kept; 4 of 5 crates, 0 minutes so far, some 10 more' "$room/err"
+  [ "$status" = 0 ] && [ ! -s "$FAKE/begun" ] &&
+    grep -qx 'high is kept; 4 of 5 crates, 0 minutes so far, some 10 more' "$room/err"
   note "what is kept isn't proved again" $?
   [ "$(wc -l < "$FAKE/pid")" = 1 ]
   note "where all is kept there is one run" $?
@@ -141,9 +152,10 @@ nameless() {
 # The group of a run gets the signal $1, as by Ctrl-C, while its third crate is proved.
 stopped() {
   lay
-  RT_JOBS=1 PATH=$room/kit/bin:$PATH PREFIX=$room/prefix MOMENT=1 setsid sh "$room/tree/install.sh" > "$room/out" 2> "$room/err" &
+  RT_JOBS=1 PATH=$room/kit/bin:$PATH PREFIX=$room/prefix MOMENT=1 setsid sh "$room/tree/install.sh" > "$room/out" \
+    2> "$room/err" &
   group=$!
-  while [ "$(wc -l < "$FAKE/begun")" -lt 3 ]; do sleep 0.1; done
+  wait_for has_begun 3
   kill -s "$1" -- "-$group"
   wait "$group"
   status=$?
@@ -164,20 +176,22 @@ told_to_stop() {
   lay
   PATH=$room/kit/bin:$PATH MOMENT=30 python3 "$room/tree/install/prove.py" "$room/tree" > "$room/out" 2> "$room/err" &
   driver=$!
-  while [ ! -s "$FAKE/begun" ]; do sleep 0.1; done
+  wait_for test -s "$FAKE/begun"
   kill -INT "$driver"
   wait "$driver"
   status=$?
-  [ "$status" = 130 ] && [ "$(tail -n 1 "$room/err")" = 'stopped; what is proved is kept, and the same command goes on from there' ]
+  [ "$status" = 130 ] && [ "$(tail -n 1 "$room/err")" \
+    = 'stopped; what is proved is kept, and the same command goes on from there' ]
   note "the driver tells that it was stopped (status $status)" $?
 }
 
 # Under nohup it goes on where its terminal is closed.
 hung_up() {
   lay
-  PATH=$room/kit/bin:$PATH MOMENT=0.5 nohup python3 "$room/tree/install/prove.py" "$room/tree" > "$room/out" 2> "$room/err" < /dev/null &
+  PATH=$room/kit/bin:$PATH MOMENT=0.5 nohup python3 "$room/tree/install/prove.py" "$room/tree" > "$room/out" \
+    2> "$room/err" < /dev/null &
   driver=$!
-  while [ ! -s "$FAKE/begun" ]; do sleep 0.1; done
+  wait_for test -s "$FAKE/begun"
   kill -HUP "$driver"
   wait "$driver"
   status=$?
@@ -208,18 +222,21 @@ fails() {
 # On a terminal one line is written again and again.
 terminal() {
   lay
-  PATH=$room/kit/bin:$PATH script -qec "python3 $room/tree/install/prove.py $room/tree" /dev/null > "$room/out" 2> "$room/err" < /dev/null
+  PATH=$room/kit/bin:$PATH script -qec "python3 $room/tree/install/prove.py $room/tree" /dev/null > "$room/out" \
+    2> "$room/err" < /dev/null
   status=$?
   [ "$status" = 0 ] && [ "$(tr -cd '\r' < "$room/out" | wc -c)" -ge 6 ]
   note "a line on a terminal is written anew" $?
-  [ "$(wc -l < "$room/out")" = 1 ] && grep -q 'pulsefarm proved; 5 of 5 crates, 0 minutes so far, some 0 more' "$room/out"
+  [ "$(wc -l < "$room/out")" = 1 ] && grep -q 'pulsefarm proved; 5 of 5 crates, 0 minutes so far, some 0 more' \
+    "$room/out"
   note "there is one line on a terminal" $?
 }
 
 # What the words or the machine lack.
 refusals() {
   lay
-  PATH=$(dirname "$(command -v python3)"):/usr/bin:/bin python3 "$room/tree/install/prove.py" "$room/tree" > "$room/out" 2> "$room/err"
+  PATH=$(dirname "$(command -v python3)"):/usr/bin:/bin python3 "$room/tree/install/prove.py" "$room/tree" \
+    > "$room/out" 2> "$room/err"
   [ $? = 1 ] && [ "$(cat "$room/err")" = 'there is no rt on the path: the kit rattle-kit-13b has it' ]
   note "no rt" $?
   python3 "$room/tree/install/prove.py" > "$room/out" 2> "$room/err"
@@ -231,7 +248,8 @@ refusals() {
   note "no program" $?
 }
 
-# What preview.sh asks of `rt try`: each file that a word names, in a folder of its own, then the words, which name them there.
+# What preview.sh asks of `rt try`: each file that a word names, in a folder of its own, then the words, which name them
+# there.
 previews() {
   lay
   cp "$top/preview.sh" "$room/tree"
@@ -239,23 +257,28 @@ previews() {
   echo 'main() -> ok.' > "$room/a place/race.erl"
   echo none > "$room/a place/found"
   echo input | (
-    cd "$room/a place" && PATH=$room/kit/bin:$PATH sh "$room/tree/preview.sh" run race.erl --root main --property 'never:{a,"b c",_}' \
+    cd "$room/a place" && PATH=$room/kit/bin:$PATH sh "$room/tree/preview.sh" run race.erl --root main \
+      --property 'never:{a,"b c",_}' \
       --schedule @found "../a place/race.erl" none > "$room/out" 2> "$room/err"
   )
   [ $? = 3 ] && [ "$(cat "$room/out")" = input ]
   note "the preview hands on its input and its status" $?
-  printf '%s\n' "$room/tree/crates/pulsefarm" try --data "given2/race.erl=$room/a place/race.erl" --data "given8/found=$room/a place/found" \
-    --data "given9/race.erl=$room/a place/race.erl" --seconds 600 -- run given2/race.erl --root main --property 'never:{a,"b c",_}' \
+  printf '%s\n' "$room/tree/crates/pulsefarm" try --data "given2/race.erl=$room/a place/race.erl" \
+    --data "given8/found=$room/a place/found" \
+    --data "given9/race.erl=$room/a place/race.erl" --seconds 600 -- run given2/race.erl --root main \
+    --property 'never:{a,"b c",_}' \
     --schedule @given8/found given9/race.erl none > "$room/wanted"
   cmp -s "$FAKE/tried" "$room/wanted"
   note "the preview hands on words and files" $?
-  [ "$(cat "$room/err")" = 'this is pulsefarm unproved, built by rt try in some two minutes: it is for a first look, and sh install.sh proves it' ]
+  [ "$(cat "$room/err")" \
+    = 'this is pulsefarm unproved, built by rt try in some two minutes: it is for a first look, and sh install.sh proves it' ]
   note "the preview says that it is unproved" $?
 }
 
 # Each crate of the program is in the table, and each name in it is that of a crate.
 table() {
-  python3 -c 'import sys; sys.path.insert(0, sys.argv[1]); import order; print(*order.crates_of(sys.argv[2], ["pulsefarm"]), sep="\n")' "$top/install" "$top" | sort > "$room/sorted"
+  python3 -c \
+    'import sys; sys.path.insert(0, sys.argv[1]); import order; print(*order.crates_of(sys.argv[2], ["pulsefarm"]), sep="\n")' "$top/install" "$top" | sort > "$room/sorted"
   sed -n 's/^\([a-z][a-z_]*\) [0-9][0-9]*$/\1/p' "$top/install/seconds.txt" | sort > "$room/table"
   comm -13 "$room/table" "$room/sorted" > "$room/out"
   sed -n 's/^\([a-z][a-z0-9_]*\).*:.*/\1/p' "$top/crates.txt" | sort | comm -23 "$room/table" - >> "$room/out"
@@ -270,7 +293,8 @@ lanes() {
 
 # The tree itself, from what the gate has proved: the program is that of the gate, byte by byte.
 real_install() {
-  if ! python3 -c 'import os, sys; sys.path.insert(0, sys.argv[1]); import prove; sys.exit(not (prove.keeps() and os.path.exists(prove.store())))' "$top/install"; then
+  if ! python3 -c \
+    'import os, sys; sys.path.insert(0, sys.argv[1]); import prove; sys.exit(not (prove.keeps() and os.path.exists(prove.store())))' "$top/install"; then
     echo "the kit kept nothing of what the gate proved, so the tree itself isn't installed"
     return
   fi
@@ -287,7 +311,8 @@ real_install() {
 preview() {
   cp "$top/examples/wrong_reply.erl" "$room/race.erl"
   mkdir -p "$room/preview_tmp"
-  (cd "$room" && TMPDIR=$room/preview_tmp timeout 900 sh "$top/preview.sh" hunt race.erl --root main --limit 2000 --property true --seeds 0..9 > "$room/preview" 2> "$room/preview_err"; echo $? > "$room/preview_status")
+  (cd "$room" && TMPDIR=$room/preview_tmp timeout 900 sh "$top/preview.sh" hunt race.erl --root main --limit 2000 \
+    --property true --seeds 0..9 > "$room/preview" 2> "$room/preview_err"; echo $? > "$room/preview_status")
 }
 
 previewed() {
@@ -295,7 +320,8 @@ previewed() {
   "$program" hunt "$top/examples/wrong_reply.erl" --root main --limit 2000 --property true --seeds 0..9 > "$room/wanted"
   cp "$room/preview_err" "$room/err"
   cp "$room/preview" "$room/out"
-  [ "$(cat "$room/preview_status")" = 1 ] && cmp -s "$room/preview" "$room/wanted" && head -n 1 "$room/err" | grep -q unproved
+  [ "$(cat "$room/preview_status")" = 1 ] && cmp -s "$room/preview" "$room/wanted" && head -n 1 "$room/err" |
+    grep -q unproved
   note "the preview finds what the program does, and says that it is unproved" $?
 }
 

@@ -1,24 +1,25 @@
 #!/bin/sh
-# Makes the packages twice, in two places and under two settings, and compares their bytes; compares what is in them with the tree; installs the one
-# for Debian in a root with the C library alone, and runs it there. Compares the page for `man` and the completions with what the program's help says.
+# Makes the packages twice, in two places and under two settings, and compares their bytes; compares what is in them
+# with the tree; installs the one for Debian in a root with the C library alone, and runs it there. Compares the page
+# for `man` and the completions with what the program's help says.
 #
 # Usage: run.sh [BINARY]; the program is that of the crate `pulsefarm` where none is named.
 set -u
 top=$(cd "$(dirname "$0")/../../.." && pwd)
+# shellcheck source=tests/compare.sh
 . "$top/tests/compare.sh"
-program=$(realpath "$program")
 export PROGRAM="$program" PATH="$PATH:/usr/sbin:/sbin"
-room=${room:?}
 commands='run hunt shrink chart check steps farm'
 main_job=$(printf '%s\n' '0/1 <0> end normal' 'finished 7' 'steps 4' 'property holds')
 "$top/tests/debian.sh" zsh fish man-db
 "$top/tests/port/erlang.sh" && has_erlang=1 || has_erlang=0
 
-# A repository of what the tree holds now, with one commit; and a clone of it elsewhere. (What the tree holds are the files that git doesn't
-# ignore: in the gate's tree none was added.)
+# A repository of what the tree holds now, with one commit; and a clone of it elsewhere. (What the tree holds are the
+# files that git doesn't ignore: in the gate's tree none was added.)
 lay() {
   mkdir -p "$room/one"
-  (cd "$top" && git ls-files -co --exclude-standard -z | tar --null --ignore-failed-read -T - -c 2> /dev/null) | tar -C "$room/one" -x
+  (cd "$top" && git ls-files -co --exclude-standard -z | tar --null --ignore-failed-read -T - -c 2> /dev/null) |
+    tar -C "$room/one" -x
   (
     cd "$room/one" && git init -q && git add -A &&
       GIT_AUTHOR_DATE='@1700000000 +0000' GIT_COMMITTER_DATE='@1700000000 +0000' \
@@ -29,7 +30,8 @@ lay() {
 }
 
 made_twice() {
-  (umask 077 && TZ=Asia/Tokyo LC_ALL=C.UTF-8 sh "$room/place with blanks/package.sh" "$room/other") > "$room/out" 2> "$room/err"
+  (umask 077 && TZ=Asia/Tokyo LC_ALL=C.UTF-8 sh "$room/place with blanks/package.sh" "$room/other") > "$room/out" \
+    2> "$room/err"
   note "packages are made in a place with blanks" $?
   sh "$room/one/package.sh" "$room/made" > "$room/out" 2> "$room/err"
   note "packages are made" $?
@@ -54,12 +56,14 @@ proved_first() {
   cp "$program" "$FAKE/program"
   echo none > "$FAKE/broken"
   : > "$FAKE/begun"
-  (unset PROGRAM && PATH=$room/kit/bin:$PATH MOMENT=0 sh "$room/one/package.sh" "$room/proved") > "$room/out" 2> "$room/err"
+  (unset PROGRAM && PATH=$room/kit/bin:$PATH MOMENT=0 sh "$room/one/package.sh" "$room/proved") > "$room/out" \
+    2> "$room/err"
   note "the program is proved and packed" $?
   [ "$(tail -n 1 "$FAKE/begun" | cut -d' ' -f1)" = pulsefarm ]
   note "it is proved first" $?
   tar -xOf "$(echo "$room"/proved/pulsefarm-*.tar.gz)" --wildcards '*/doc/pulsefarm/BUILD' > "$room/out" 2> "$room/err"
-  grep -qx 'proof by rt ci, of this commit' "$room/out" && grep -qx "program $(sha256sum < "$program" | cut -d' ' -f1)" "$room/out"
+  grep -qx 'proof by rt ci, of this commit' "$room/out" &&
+    grep -qx "program $(sha256sum < "$program" | cut -d' ' -f1)" "$room/out"
   note "the build tells of the proof and the program" $?
   ! git -C "$room/one" status --porcelain | grep -q .
   note "the tree is as it was" $?
@@ -101,7 +105,8 @@ unpacked() {
     cmp "$prefix/share/pulsefarm/$file" "$room/one/examples/$file" > "$room/out" 2>&1
     note "$file" $?
   done
-  grep -qx 'License: Apache-2.0' "$docs/copyright" && sed -n 's/^ //; s/^\.$//; 7,$p' "$docs/copyright" | cmp -s - "$room/one/LICENSE"
+  grep -qx 'License: Apache-2.0' "$docs/copyright" && sed -n 's/^ //; s/^\.$//; 7,$p' "$docs/copyright" |
+    cmp -s - "$room/one/LICENSE"
   note "the licence, with its whole text" $?
   cmp -s "$prefix/bin/pulsefarm" "$program"
   note "the program is the one that was built" $?
@@ -109,7 +114,8 @@ unpacked() {
   note "the build tells that no proof was seen" $?
   grep -qx "commit $commit" "$docs/BUILD" && grep -qx "kit $(rt version | head -n 1)" "$docs/BUILD"
   note "the build tells its commit and its kit" $?
-  [ "$("$prefix/bin/pulsefarm" run --root main --limit 1000 --schedule none < "$top/crates/pulsefarm/stdin")" = "$main_job" ]
+  [ "$("$prefix/bin/pulsefarm" run --root main --limit 1000 --schedule none < "$top/crates/pulsefarm/stdin")" \
+    = "$main_job" ]
   note "the archive's program runs" $?
   ! tar -tvf "$archive" --numeric-owner | grep -qv ' 0/0 '
   note "all of the archive is root's" $?
@@ -128,7 +134,8 @@ erlang() {
   for bank in "$top/port/examples/bank.erl" "$docs/port/examples/bank.erl"; do
     cp "$bank" "$room/bank.erl"
     case $bank in "$top"/*) erl=$room/one/port/pulsefarm-erl ;; *) erl=$prefix/bin/pulsefarm-erl ;; esac
-    (cd "$room" && PULSEFARM=$program "$erl" hunt bank.erl --shrink 300) > "$room/told.$(basename "$(dirname "$erl")")" 2> "$room/err"
+    (cd "$room" && PULSEFARM=$program "$erl" hunt bank.erl --shrink 300) \
+      > "$room/told.$(basename "$(dirname "$erl")")" 2> "$room/err"
     [ $? = 1 ]
     note "$(basename "$(dirname "$erl")")/pulsefarm-erl finds the race" $?
   done
@@ -159,17 +166,21 @@ clean_root() {
   note "the package is installed there" $?
   [ "$(in_root /usr/bin/pulsefarm run --root main --limit 1000 --schedule none < "$top/crates/pulsefarm/stdin" 2> "$room/err")" = "$main_job" ]
   note "its program runs there" $?
-  "$program" hunt "$top/examples/two_locks.erl" --root main --limit 2000 --property nodeadlock --seeds 0..1000 --shrink 300 > "$room/wanted"
-  in_root /usr/bin/pulsefarm hunt /usr/share/doc/pulsefarm/examples/two_locks.erl --root main --limit 2000 --property nodeadlock \
+  "$program" hunt "$top/examples/two_locks.erl" --root main --limit 2000 --property nodeadlock --seeds 0..1000 \
+    --shrink 300 > "$room/wanted"
+  in_root /usr/bin/pulsefarm hunt /usr/share/doc/pulsefarm/examples/two_locks.erl --root main --limit 2000 \
+    --property nodeadlock \
     --seeds 0..1000 --shrink 300 > "$room/out" 2> "$room/err"
   [ $? = 1 ] && cmp -s "$room/out" "$room/wanted"
   note "it hunts there, by all processors" $?
   (cd "$root/usr" && sha256sum -c --quiet share/doc/pulsefarm/SHA256SUMS) > "$room/out" 2>&1
   note "what is installed has its sums" $?
-  dpkg --root="$root" --force-not-root -r pulsefarm > "$room/out" 2> "$room/err" && [ ! -e "$root/usr/bin" ] && [ ! -e "$root/usr/share/pulsefarm" ]
+  dpkg --root="$root" --force-not-root -r pulsefarm > "$room/out" 2> "$room/err" && [ ! -e "$root/usr/bin" ] &&
+    [ ! -e "$root/usr/share/pulsefarm" ]
   note "it goes away again" $?
   lay_root 2.33-1
-  ! dpkg --root="$root" --force-not-root -i "$package" > "$room/out" 2> "$room/err" && grep -q 'libc6 (>= 2.34)' "$room/err"
+  ! dpkg --root="$root" --force-not-root -i "$package" > "$room/out" 2> "$room/err" &&
+    grep -q 'libc6 (>= 2.34)' "$room/err"
   note "an older C library isn't enough" $?
 }
 
@@ -190,7 +201,8 @@ page() {
   done | sort -u > "$room/wanted"
   [ "$(wc -l < "$room/wanted")" -ge 14 ]
   note "help has options" $?
-  sed -n '/^OPTIONS/,/^EXIT/p' "$room/page" | grep -o '^ \{7\}\(-., \)\?--[a-z-]*' | grep -o -- '--[a-z-]*' | sort > "$room/out"
+  sed -n '/^OPTIONS/,/^EXIT/p' "$room/page" | grep -o '^ \{7\}\(-., \)\?--[a-z-]*' | grep -o -- '--[a-z-]*' |
+    sort > "$room/out"
   cmp -s "$room/out" "$room/wanted"
   note "the page has the options of help" $?
   for command in $commands; do
@@ -209,13 +221,13 @@ page() {
 # What zsh and fish offer for the end of the line $2; $1 is what is wanted, with blanks between.
 offers() {
   echo "$1" | tr ' ' '\n' | sort > "$room/wanted"
-  (cd "$room" && timeout 60 zsh -f "$top/tests/release/package/offers.zsh" "$top/docs/pulsefarm.zsh" "$2") > "$room/out" 2> "$room/err"
+  (cd "$room" && timeout 60 zsh -f "$top/tests/release/package/offers.zsh" "$top/docs/pulsefarm.zsh" "$2") \
+    > "$room/out" 2> "$room/err"
   cmp -s "$room/out" "$room/wanted"
   note "zsh, $2" $?
   # (fish shows folders with a slash, and options of one letter after one dash only)
-  # (the arguments are fish's)
-  # shellcheck disable=SC2016
-  (cd "$room" && fish --no-config -c 'source $argv[1]; complete -C $argv[2]' "$top/docs/pulsefarm.fish" "$2" | cut -f1 | sort) > "$room/out" 2> "$room/err"
+  (cd "$room" && fish --no-config -c 'source $argv[1]; complete -C $argv[2]' "$top/docs/pulsefarm.fish" "$2" |
+    cut -f1 | sort) > "$room/out" 2> "$room/err"
   cmp -s "$room/out" "$room/wanted"
   note "fish, $2" $?
 }
@@ -226,7 +238,8 @@ completions() {
   offers 'nocrash nodeadlock' 'pulsefarm run --property no'
   offers '1 2' 'pulsefarm run m.erl --edition '
   offers 'json text' 'pulsefarm hunt m.erl --format '
-  offers "$(grep -o '[a-z][A-Za-z0-9_@]*/0' "$room/m.erl" | cut -d/ -f1 | sort -u | tr '\n' ' ' | sed 's/ $//')" 'pulsefarm chart m.erl --root '
+  offers "$(grep -o '[a-z][A-Za-z0-9_@]*/0' "$room/m.erl" | cut -d/ -f1 | sort -u | tr '\n' ' ' | sed 's/ $//')" \
+    'pulsefarm chart m.erl --root '
   for command in $commands; do
     offers "$(options_of "$command" | tr '\n' ' ' | sed 's/ $//')" "pulsefarm $command --"
   done
