@@ -25,7 +25,7 @@ note() {
     pass
   else
     fail "$1:"
-    head -qc 300 "$room/out" "$room/err"
+    printf '%s\n' "$(head -qc 300 "$room/out" "$room/err")"
   fi
 }
 

@@ -46,8 +46,8 @@ two_files() {
     printf 'order %s 1 main returns none 100\nawait %s 1\nfetch %s 1\n' $p $p $p >> c$p
   done
   for p in 1 2; do
-    printf 'p%s module 1\np%s ticket 1\np%s report 4\n0/1 <0> end normal\nfinished 7\nsteps 4\nproperty holds\n' $p $p \
-      $p
+    printf 'p%s module 1\np%s ticket 1\np%s report 4\n' $p $p $p
+    printf '%s\n' '0/1 <0> end normal' 'finished 7' 'steps 4' 'property holds'
   done > wanted
   for workers in 1 2 3 64; do farm 0 $workers c1 c2; done
   head -n 7 wanted > wanted1

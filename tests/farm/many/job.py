@@ -1,6 +1,7 @@
 #!/usr/bin/env python3
-"""job.py MANIFEST FOLDER: reads the manifest of a Kubernetes Job, and runs its container for each index in FOLDER, as the cluster does: each time with the
-container's own command, arguments and environment, and with the index. Variables of this environment go before those of the manifest."""
+"""job.py MANIFEST FOLDER: reads the manifest of a Kubernetes Job, and runs its container for each index in FOLDER, as
+the cluster does: each time with the container's own command, arguments and environment, and with the index. Variables
+of this environment go before those of the manifest."""
 import os
 import re
 import subprocess

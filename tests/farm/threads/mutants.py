@@ -1,6 +1,9 @@
-"""mutants.py TREE: puts the mutants of the running farm into TREE, which has the sources of this repository, each as a crate of its own beside `pf_farm`; and has `pf_tests_farm` hold each
-of them to the tests that keep runs at the gate, in modules that have the names of the mutants. It shortens the waits of these tests, so that one that waits in vain fails soon.
-mutants.py names: lists the tests of the farm as it is and of each mutant, with what has to become of each: `ok` or `FAILED`."""
+"""mutants.py TREE: puts the mutants of the running farm into TREE, which has the sources of this repository, each as a
+crate of its own beside `pf_farm`; and has `pf_tests_farm` hold each of them to the tests that keep runs at the gate, in
+modules that have the names of the mutants. It shortens the waits of these tests, so that one that waits in vain fails
+soon.
+mutants.py names: lists the tests of the farm as it is and of each mutant, with what has to become of each: `ok` or
+`FAILED`."""
 import os
 import shutil
 import sys
@@ -46,7 +49,8 @@ MUTANTS = {
 MODULES = ("calls", "scene", "stolen", "together")
 TESTS = {"gate_steal": "stolen", "gate_two_trials": "together"}
 OTHERS = ("closed", "seats")
-# How many turns a wait has at most, fewer by as much as lets the real farm pass still: more than a second of a processor that has no other work.
+# How many turns a wait has at most, fewer by as much as lets the real farm pass still: more than a second of a
+# processor that has no other work.
 WAITS = ("waiting.rt", "MOST_TURNS: u64 = 100_000_000;", "MOST_TURNS: u64 = 3_000_000;")
 
 
@@ -92,7 +96,8 @@ def add_tests(tree, name):
     os.mkdir(f"{src}/{name}")
     for module in MODULES:
         put(f"{src}/{name}/{module}.rt", of_mutant(text_of(f"{src}/{module}.rt"), name))
-    put(f"{src}/{name}.rt", f"//! A mutant: {MUTANTS[name][0]}.\n\n" + "".join(f"mod {module};\n" for module in MODULES))
+    modules = "".join(f"mod {module};\n" for module in MODULES)
+    put(f"{src}/{name}.rt", f"//! A mutant: {MUTANTS[name][0]}.\n\n{modules}")
     lib = f"{src}/lib.rt"
     put(lib, text_of(lib) + f"#[cfg(test)]\nmod {name};\n")
 

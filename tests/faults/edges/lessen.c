@@ -1,5 +1,5 @@
-// Gives each thread a quarter of the stack that the program asks for, and writes what was asked for into the file that STACK_TOLD names.
-// Loaded by LD_PRELOAD; no part of any program.
+// Gives each thread a quarter of the stack that the program asks for, and writes what was asked for into the file that
+// STACK_TOLD names. Loaded by LD_PRELOAD; no part of any program.
 #define _GNU_SOURCE
 #include <dlfcn.h>
 #include <pthread.h>

@@ -1,6 +1,6 @@
-// Has the call of a stream that ENDS_READ or ENDS_WRITE numbers fail, counted from 1 over reads, or over writes to the standard output,
-// and where ENDS_SHORT is set each call takes one byte. Where ENDS_TOLD names a file, it is made when a call failed.
-// Loaded by LD_PRELOAD; no part of any program.
+// Has the call of a stream that ENDS_READ or ENDS_WRITE numbers fail, counted from 1 over reads, or over writes to the
+// standard output, and where ENDS_SHORT is set each call takes one byte. Where ENDS_TOLD names a file, it is made when
+// a call failed. Loaded by LD_PRELOAD; no part of any program.
 #define _GNU_SOURCE
 #include <dlfcn.h>
 #include <errno.h>

@@ -1,5 +1,6 @@
-// Runs the command from the second word on, and writes into the file that the first word names: how many milliseconds of processors it took, and how many KiB it had
-// resident at most. It ends with the command's status, or 128 and the signal that ended it.
+// Runs the command from the second word on, and writes into the file that the first word names: how many milliseconds
+// of processors it took, and how many KiB it had resident at most. It ends with the command's status, or 128 and the
+// signal that ended it.
 #include <stdio.h>
 #include <sys/resource.h>
 #include <sys/wait.h>

@@ -1,7 +1,7 @@
-// Refuses the growth that the variable REFUSE_GROWTH numbers, counted from 1 over malloc and realloc of all threads, and no other.
-// Where REFUSE_TOLD names a file, it is made when a growth was refused. Where BLOCKS_TOLD names a file, it is given, at the
-// program's end, how many blocks were asked for, how many were given back, and how many bytes stood in blocks at most.
-// Loaded by LD_PRELOAD; no part of any program.
+// Refuses the growth that the variable REFUSE_GROWTH numbers, counted from 1 over malloc and realloc of all threads,
+// and no other. Where REFUSE_TOLD names a file, it is made when a growth was refused. Where BLOCKS_TOLD names a file,
+// it is given, at the program's end, how many blocks were asked for, how many were given back, and how many bytes stood
+// in blocks at most. Loaded by LD_PRELOAD; no part of any program.
 #define _GNU_SOURCE
 #include <dlfcn.h>
 #include <errno.h>
@@ -97,7 +97,8 @@ __attribute__((destructor)) static void tell(void) {
     int file = told ? open(told, O_WRONLY | O_CREAT | O_TRUNC, 0600) : -1;
     if (file >= 0) {
         char line[128];
-        int length = snprintf(line, sizeof line, "%ld asked for, %ld given back, %ld bytes at most\n", asked, given_back, most);
+        int length =
+            snprintf(line, sizeof line, "%ld asked for, %ld given back, %ld bytes at most\n", asked, given_back, most);
         if (write(file, line, (size_t)length) != length) {
             abort();
         }

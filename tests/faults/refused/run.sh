@@ -34,8 +34,10 @@ built() {
   if [ -e "$crate/args" ]; then tr '\n' ' ' < "$crate/args" > "$room/words"; else : > "$room/words"; fi
   if [ -e "$crate/stdin" ]; then cp "$crate/stdin" "$room/in"; else : > "$room/in"; fi
   words=$(cat "$room/words")
-  newer=$(find "$top/crates" -name out -prune -o -name '*.rt' -newer "$program" -print -quit)
-  if [ -x "$program" ] && [ -z "$newer" ]; then return; fi
+  if [ -x "$program" ] && ! find "$top/crates" -name out -prune -o -name '*.rt' -newer "$program" -print -quit |
+    grep -q .; then
+    return
+  fi
   # The words have no blanks in them.
   # shellcheck disable=SC2086
   (cd "$crate" && rt run ${words:+-- $words} < "$room/in") > "$room/build.log" 2>&1 || {

@@ -1,6 +1,6 @@
 #!/usr/bin/env python3
-"""recipes.py CI.md: prints for each recipe, on a line, the words of the step that hunts; and sees that the recipe runs on each push and keeps the folder that
-this step writes, whatever its status."""
+"""recipes.py CI.md: prints for each recipe, on a line, the words of the step that hunts; and sees that the recipe runs
+on each push and keeps the folder that this step writes, whatever its status."""
 import re
 import sys
 

@@ -1,6 +1,7 @@
 #!/usr/bin/env python3
-"""The order of install/: that no crate begins before those that it needs, never more at once than there are lanes, first those with the longest chain of others after
-them; how many lanes there are; what is reckoned; and what is printed at a pace that isn't the table's. It prints what isn't so."""
+"""The order of install/: that no crate begins before those that it needs, never more at once than there are lanes,
+first those with the longest chain of others after them; how many lanes there are; what is reckoned; and what is printed
+at a pace that isn't the table's. It prints what isn't so."""
 import contextlib
 import io
 import os
@@ -10,13 +11,17 @@ sys.path.insert(0, f"{os.path.dirname(os.path.realpath(__file__))}/../../../inst
 import order
 import prove
 
-# By crate: those that it needs, and its seconds. The longest chain is c, e, g, h; of what then is left, that of b is longer than that of a.
-CRATES = {"a": ("", 1), "b": ("", 2), "c": ("", 3), "d": ("a", 1), "e": ("c", 9), "f": ("b", 1), "g": ("e", 9), "h": ("dfg", 9)}
+# By crate: those that it needs, and its seconds. The longest chain is c, e, g, h; of what then is left, that of b is
+# longer than that of a.
+CRATES = {
+    "a": ("", 1), "b": ("", 2), "c": ("", 3), "d": ("a", 1), "e": ("c", 9), "f": ("b", 1), "g": ("e", 9), "h": ("dfg", 9),
+}
 SECONDS = {name: seconds for name, (_, seconds) in CRATES.items()}
 
 
 def begun(count):
-    """Takes crates in so many lanes, of which each time the one that began first ends. Returns what began beside what."""
+    """Takes crates in so many lanes, of which each time the one that began first ends. Returns what began beside what.
+    """
     below = order.below_of({name: f"{name}: {' '.join(needed)}" for name, (needed, _) in CRATES.items()})
     left, running, found = order.Order(CRATES, below, SECONDS), [], []
     while left.left:
@@ -59,12 +64,14 @@ def faults():
         if order.lanes_of(processors, gigabytes * 10**9) != wanted:
             yield f"{processors} processors with {gigabytes} GB have the lanes {order.lanes_of(processors, gigabytes * 10**9)}"
     below = order.below_of({name: f"{name}: {' '.join(needed)}" for name, (needed, _) in CRATES.items()})
-    # (the chain c, e, g, h has 30 seconds, all crates have 35; in the first of two lanes with more jobs each takes 0.67 of its seconds)
+    # (the chain c, e, g, h has 30 seconds, all crates have 35; in the first of two lanes with more jobs each takes 0.67
+    # of its seconds)
     for lanes, wanted in (([1], 35), ([1, 1], 30), ([2, 1], 30 * 0.67)):
         told = order.reckoned(set(CRATES), below, SECONDS, lanes, {})
         if abs(told - wanted) > 0.01:
             yield f"in the lanes {lanes} all is said to take {told} seconds"
-    # (a and c are done, e takes 4 seconds more in the first lane, and b 1 more in the second: e, g and h are the longest)
+    # (a and c are done, e takes 4 seconds more in the first lane, and b 1 more in the second: e, g and h are the
+    # longest)
     told = order.reckoned(set("bdefgh"), below, SECONDS, [1, 1], {0: (4, "e"), 1: (1, "b")})
     if told != 4 + 9 + 9:
         yield f"what is left beside two crates that began is said to take {told} seconds"

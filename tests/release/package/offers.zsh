@@ -1,5 +1,6 @@
 #!/usr/bin/env zsh
-# offers.zsh COMPLETIONS LINE: prints what zsh offers for the end of a line, each on a line, by a shell of its own on a terminal of its own.
+# offers.zsh COMPLETIONS LINE: prints what zsh offers for the end of a line, each on a line, by a shell of its own on a
+# terminal of its own.
 zmodload zsh/zpty
 folder=$(mktemp -d)
 trap 'rm -rf "$folder"' EXIT
