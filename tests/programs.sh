@@ -6,7 +6,7 @@ set -u
 cd "$(dirname "$0")/.." || exit 2
 room=$(mktemp -d) || exit 2
 trap 'rm -rf "$room"' EXIT
-erlang='port release/install release/package'
+erlang='erlang release/install release/package'
 slow='farm/threads faults/refused golden/chart'
 
 # The names of all tests: their folders below tests/.

@@ -10,7 +10,7 @@ here=$(cd "$(dirname "$0")" && pwd)
 top=$here/../../..
 # shellcheck source=tests/compare.sh
 . "$top/tests/compare.sh"
-"$top/tests/port/erlang.sh"
+"$top/tests/erlang/erlang.sh"
 
 # The places of round $2 of the server $1 by `told`: where each text occurs first in its line.
 places() {

@@ -12,7 +12,7 @@ export PROGRAM="$program" PATH="$PATH:/usr/sbin:/sbin"
 commands='run hunt shrink chart check steps farm'
 main_job=$(printf '%s\n' '0/1 <0> end normal' 'finished 7' 'steps 4' 'property holds')
 "$top/tests/debian.sh" zsh fish man-db
-"$top/tests/port/erlang.sh" && has_erlang=1 || has_erlang=0
+"$top/tests/erlang/erlang.sh" && has_erlang=1 || has_erlang=0
 
 # A repository of what the tree holds now, with one commit; and a clone of it elsewhere. (What the tree holds are the
 # files that git doesn't ignore: in the gate's tree none was added.)

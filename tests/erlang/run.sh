@@ -6,7 +6,7 @@ set -u
 top=$(cd "$(dirname "$0")/../.." && pwd)
 program=${1:-$top/crates/pulsefarm/out/pulsefarm}
 [ $# = 0 ] || shift
-if ! "$top/tests/port/erlang.sh"; then
+if ! "$top/tests/erlang/erlang.sh"; then
   echo "there is no erl with its sources: the tests of port/ are left out"
   echo "0 passed, 0 failed"
   exit 0
