@@ -18,7 +18,7 @@ top=$(cd "$(dirname "$0")/.." && pwd)
 program=${1:-$top/crates/pulsefarm/out/pulsefarm}
 room=$(mktemp -d)
 trap 'rm -rf "$room"' EXIT
-cc -O2 -shared -fPIC -o "$room/blocks.so" "$top/tests/refused/refuse.c" -ldl
+cc -O2 -shared -fPIC -o "$room/blocks.so" "$top/tests/faults/refused/refuse.c" -ldl
 
 # The script of $1 projects with $2 modules and $3 orders each: each command for all projects before the next, so that no two in a row
 # are of one project. The modules are those of all projects, or where $4 is `own` each its project's own.

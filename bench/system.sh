@@ -12,7 +12,7 @@ room=$(mktemp -d)
 trap 'rm -rf "$room"' EXIT
 program=${1:-$room/system}
 [ $# -gt 0 ] || sh "$here/program.sh" system "$program"
-cc -O2 -shared -fPIC -o "$room/blocks.so" "$here/../tests/refused/refuse.c" -ldl
+cc -O2 -shared -fPIC -o "$room/blocks.so" "$here/../tests/faults/refused/refuse.c" -ldl
 
 bad=0
 "$program" | awk '

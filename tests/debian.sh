@@ -1,5 +1,6 @@
 #!/bin/sh
-# Sees to it that Debian's packages $@ are here: where that may be, those that aren't are installed. The status is 0 where all are there.
+# Sees to it that Debian's packages $@ are here: where that may be, those that aren't are installed. The status is 0
+# where all are there.
 #
 # Usage: debian.sh PACKAGE..
 set -u

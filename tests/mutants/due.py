@@ -1,4 +1,4 @@
-"""Says which mutants are due, whether each can be applied, and notes what was refused; tests/mutants.sh says how.
+"""Says which mutants are due, whether each can be applied, and notes what was refused; mutants.sh says how.
 
     due.py TOP apply              prints the edits that can't be applied
     due.py TOP plan PLAN [NAME..] prints what is due and why, or these crates, and writes a line for each of their edits

@@ -1,14 +1,12 @@
 #!/usr/bin/env bash
-# Tests tests/mutants.sh over three small crates, of which nothing is proved: an `rt` that stands in for the prover
-# refuses each mutant but those that `$stand_in/passing` names, and those that `$stand_in/by_form` names only by the
-# form of a proof.
+# Tests tests/mutants/mutants.sh over three small crates, of which nothing is proved: an `rt` that stands in for the
+# prover refuses each mutant but those that `$stand_in/passing` names, and those that `$stand_in/by_form` names only by
+# the form of a proof.
 set -u
 export LC_ALL=C
 here=$(cd "$(dirname "$0")" && pwd)
-room=$(mktemp -d) || exit 2
-trap 'rm -rf "$room"' EXIT
-passed=0
-failed=0
+# shellcheck source=tests/checks.sh
+. "$here/../checks.sh"
 # What was seen refused is noted beside the kit.
 store=$room/rattle-kept-pulsefarm
 mkdir -p "$room/kit/bin" "$room/farm"
@@ -195,18 +193,8 @@ start_anew() {
   fi
 }
 
-# Compares the text $2 with the text $3, under the name $1.
-same() {
-  if [ "$2" = "$3" ]; then
-    passed=$((passed + 1))
-  else
-    failed=$((failed + 1))
-    printf 'FAILED: %s\n  wanted: %s\n  got:    %s\n' "$1" "$3" "$2"
-  fi
-}
-
 due() {
-  tests/mutants.sh due | sed '$d'
+  tests/mutants/mutants.sh due | sed '$d'
 }
 
 # Has what begins with $1 in the notes seen at the second $2.
@@ -224,8 +212,7 @@ case_of() {
 }
 
 mkdir -p tests/mutants
-cp "$here/../mutants.sh" tests/
-cp "$here"/*.py tests/mutants/
+cp "$here"/mutants.sh "$here"/*.py tests/mutants/
 git init -q .
 
 below='names below changed:'
@@ -233,7 +220,7 @@ low=crates/low/src/lib.rt
 numbers=crates/low/specs/Numbers.antt
 start_anew
 same "new crates" "$(due)" "$(printf 'low 1 of 1, new\nmid 4 of 4, new\ntop 2 of 2, new')"
-tests/mutants.sh > "$room/out" && status=0 || status=$?
+tests/mutants/mutants.sh > "$room/out" && status=0 || status=$?
 same "all refused" "$status $(tail -n 1 "$room/out")" "0 3 crates passed, 0 failed"
 same "how many are noted" "$(cut -d/ -f1 "$store/refused" | uniq -c | xargs)" "1 low 4 mid 2 top"
 cp "$store/refused" "$room/seen"
@@ -279,7 +266,7 @@ same "another kit" "$(due)" "$(printf 'low 1 of 1, changed\nmid 4 of 4, changed\
 # An edit of a contract has all that its crate reaches. The two crates that were seen the longest ago are due in turn.
 start_anew
 printf 'file: src/lib.rt\nold: fn same(n: u32)\nnew: fn same(m: u32)\n' > crates/mid/mutants/a_contract.edit
-tests/mutants.sh mid > /dev/null
+tests/mutants/mutants.sh mid > /dev/null
 sed -i 's/MOST: u32 = 10/MOST: u32 = 11/' "$low"
 same "an edit of a contract" "$(due | grep mid)" "mid 2 of 5, $below a_contract most_is_less"
 start_anew
@@ -296,23 +283,23 @@ same "no room beside others" "$(TURNS=2 MOST_EDITS=2 due)" "low 1 of 1, changed"
 # Those that wait: the oldest first, and a crate keeps its line until all were tried.
 start_anew
 sed -i 's/^base = 1/base = 2/' "$numbers"
-tests/mutants.sh low > /dev/null
+tests/mutants/mutants.sh low > /dev/null
 seen_at mid/two_is_one 20
 seen_at top/four_is_none 10
-same "the oldest first" "$(MOST_EDITS=1 tests/mutants.sh due)" \
+same "the oldest first" "$(MOST_EDITS=1 tests/mutants/mutants.sh due)" \
   "$(printf 'mid 1 of 4, wait for a later gate: %s two_is_one\ntop 1 of 2, %s four_is_none\n%s' "$below" "$below" \
     "1 mutants are due, and 1 wait for a later gate")"
 before=$(grep '^mid/' "$store/refused")
-MOST_EDITS=1 tests/mutants.sh > /dev/null
+MOST_EDITS=1 tests/mutants/mutants.sh > /dev/null
 same "nothing is noted of one that waits" "$(grep '^mid/' "$store/refused")" "$before"
 same "it waits still" "$(due)" "mid 1 of 4, $below two_is_one"
-MOST_EDITS=1 tests/mutants.sh > /dev/null
-same "none waits" "$(tests/mutants.sh due)" "0 mutants are due, and 0 wait for a later gate"
+MOST_EDITS=1 tests/mutants/mutants.sh > /dev/null
+same "none waits" "$(tests/mutants/mutants.sh due)" "0 mutants are due, and 0 wait for a later gate"
 sed -i 's/^base = 2/base = 1/' "$numbers"
 same "what is as it was before is known" "$(due)" ""
 for number in $(seq 2 10); do
   sed -i "s/^base = .*/base = $number/" "$numbers"
-  tests/mutants.sh low > /dev/null
+  tests/mutants/mutants.sh low > /dev/null
 done
 same "how many states are kept" "$(grep -c '^low/step_of_two.edit ' "$store/refused")" 8
 same "the newest state is kept" "$(due | grep -c '^low ')" 0
@@ -320,12 +307,12 @@ start_anew
 for number in $(seq 19); do
   printf 'file: src/lib.rt\nold: same(n)\nnew: %s\n' "$number" > "crates/top/mutants/number_$number.edit"
 done
-tests/mutants.sh top > /dev/null
+tests/mutants/mutants.sh top > /dev/null
 sed -i '/fn same/,/^{/s/result ≡ n/n ≡ result/' crates/mid/src/lib.rt
-tests/mutants.sh mid > /dev/null
-same "at most sixteen" "$(tests/mutants.sh due | tail -n 1)" "16 mutants are due, and 4 wait for a later gate"
-tests/mutants.sh > /dev/null
-same "the rest" "$(tests/mutants.sh due | tail -n 1)" "4 mutants are due, and 0 wait for a later gate"
+tests/mutants/mutants.sh mid > /dev/null
+same "at most sixteen" "$(tests/mutants/mutants.sh due | tail -n 1)" "16 mutants are due, and 4 wait for a later gate"
+tests/mutants/mutants.sh > /dev/null
+same "the rest" "$(tests/mutants/mutants.sh due | tail -n 1)" "4 mutants are due, and 0 wait for a later gate"
 
 # Changed crates go whole, those first that were seen the longest ago; one that a gate has no time for waits.
 start_anew
@@ -334,14 +321,14 @@ seen_at mid/ 6
 seen_at low/ 7
 echo "another-kit logic two" > "$room/version"
 later="wait for a later gate: changed, beside more than a gate can try"
-same "more than a gate can try" "$(MOST_CHANGED=5 tests/mutants.sh due)" \
+same "more than a gate can try" "$(MOST_CHANGED=5 tests/mutants/mutants.sh due)" \
   "$(printf 'low 1 of 1, changed\nmid 4 of 4, %s\ntop 2 of 2, changed\n%s' "$later" \
     "3 mutants are due, and 4 wait for a later gate")"
 before=$(grep '^mid/' "$store/refused")
-MOST_CHANGED=5 tests/mutants.sh > /dev/null
+MOST_CHANGED=5 tests/mutants/mutants.sh > /dev/null
 same "nothing is noted of a crate that waits" "$(grep '^mid/' "$store/refused")" "$before"
 same "a crate that waited is due" "$(due)" "mid 4 of 4, changed"
-MOST_CHANGED=1 tests/mutants.sh > /dev/null
+MOST_CHANGED=1 tests/mutants/mutants.sh > /dev/null
 same "the first goes, however many it has" "$(due)" ""
 
 # What was seen is kept for all checkouts on the machine, beside the kit or else among what the user's programs keep.
@@ -349,46 +336,46 @@ start_anew
 cp -a "$room/farm" "$room/other"
 same "another checkout" "$(cd "$room/other" && due)" ""
 rm "$store/refused"
-tests/mutants.sh low > /dev/null &
-(cd "$room/other" && tests/mutants.sh mid > /dev/null) &
+tests/mutants/mutants.sh low > /dev/null &
+(cd "$room/other" && tests/mutants/mutants.sh mid > /dev/null) &
 wait
-tests/mutants.sh top > /dev/null
+tests/mutants/mutants.sh top > /dev/null
 same "two runs at once" "$(due) $(wc -l < "$store/refused")" " 7"
 start_anew
 rm -r "$store"
 : > "$store"
 all_new=$(printf 'low 1 of 1, new\nmid 4 of 4, new\ntop 2 of 2, new')
 same "nothing beside the kit" "$(due)" "$all_new"
-tests/mutants.sh > /dev/null
+tests/mutants/mutants.sh > /dev/null
 same "noted elsewhere" "$(due) $(wc -l < "$room/state/pulsefarm/refused")" " 7"
 rm -r "$room/state"
 : > "$room/state"
-tests/mutants.sh > "$room/out" && status=0 || status=$?
+tests/mutants/mutants.sh > "$room/out" && status=0 || status=$?
 same "noted nowhere" "$status $(grep -c '^there is no folder' "$room/out")" "0 1"
 same "all stay due" "$(due)" "$all_new"
 
 # In a clone for the gate.
 start_anew
 sed -i 's/requires { 0 < n }/requires { 1 < n }/' "$low"
-tests/mutants.sh lay "$room/clone" > /dev/null
+tests/mutants/mutants.sh lay "$room/clone" > /dev/null
 same "what is laid" "$(cd "$room/clone/crates" && echo */must-fail/*)" \
   "low/must-fail/step_of_two.edit mid/must-fail/two_is_one.edit"
 (cd "$room/clone" && rt must-fail low && rt must-fail mid) > "$room/log"
-tests/mutants.sh read "$room/log" "$room/clone" > "$room/out" && status=0 || status=$?
+tests/mutants/mutants.sh read "$room/log" "$room/clone" > "$room/out" && status=0 || status=$?
 same "what was laid is noted" "$status $(due)" "0 "
 start_anew
 sed -i 's/^base = 1/base = 2/' "$numbers"
-tests/mutants.sh read "$room/log" "$room/clone" > "$room/out" && status=0 || status=$?
+tests/mutants/mutants.sh read "$room/log" "$room/clone" > "$room/out" && status=0 || status=$?
 same "as it was laid" "$status $(due)" \
   "$(printf '0 low 1 of 1, changed\nmid 1 of 4, %s two_is_one\ntop 1 of 2, %s four_is_none' "$below" "$below")"
 start_anew
 sed -i 's/requires { 0 < n }/requires { 1 < n }/' "$low"
-tests/mutants.sh read "$room/log" > "$room/out" && status=0 || status=$?
+tests/mutants/mutants.sh read "$room/log" > "$room/out" && status=0 || status=$?
 same "what is due now is noted" "$status $(due)" "0 "
 start_anew
 sed -i 's/requires { 0 < n }/requires { 1 < n }/' "$low"
 echo mid/two_is_one.edit > "$room/passing"
-tests/mutants.sh > "$room/out" && status=0 || status=$?
+tests/mutants/mutants.sh > "$room/out" && status=0 || status=$?
 same "one is not refused" "$status $(tail -n 1 "$room/out")" "1 1 crates passed, 1 failed"
 same "it is told" "$(grep -c 'mid/two_is_one.edit: NOT REFUSED' "$room/out")" 1
 same "its crate loses its lines" "$(due)" "mid 4 of 4, new"
@@ -397,22 +384,22 @@ same "its crate loses its lines" "$(due)" "mid 4 of 4, new"
 start_anew
 sed -i 's/requires { 0 < n }/requires { 1 < n }/' "$low"
 echo mid/two_is_one.edit > "$room/by_form"
-tests/mutants.sh > "$room/out" && status=0 || status=$?
+tests/mutants/mutants.sh > "$room/out" && status=0 || status=$?
 same "an old one is refused by form alone" "$status $(tail -n 1 "$room/out")" "0 2 crates passed, 0 failed"
 same "it is reported" "$(grep -c 'no goal of a source failed: .*mid/two_is_one.edit' "$room/out")" 1
 same "it stays due" "$(due)" "mid 1 of 4, $below two_is_one"
 start_anew
 printf 'file: src/lib.rt\nold: fn same(n: u32)\nnew: fn same(m: u32)\n' > crates/mid/mutants/a_contract.edit
 echo mid/a_contract.edit > "$room/by_form"
-tests/mutants.sh mid > "$room/out" && status=0 || status=$?
+tests/mutants/mutants.sh mid > "$room/out" && status=0 || status=$?
 same "a new one is refused by form alone" "$status $(tail -n 1 "$room/out")" "1 0 crates passed, 1 failed"
 
 # Each edit must apply.
 start_anew
-tests/mutants.sh apply > "$room/out" && status=0 || status=$?
+tests/mutants/mutants.sh apply > "$room/out" && status=0 || status=$?
 same "all apply" "$status $(cat "$room/out")" "0 0 mutants can't be applied"
 apply_fails() {
-  tests/mutants.sh apply > "$room/out" && status=0 || status=$?
+  tests/mutants/mutants.sh apply > "$room/out" && status=0 || status=$?
   same "$1" "$status $(head -n 1 "$room/out")" "1 $2"
 }
 sed -i 's/^    step(step(n))/    step(step(step(n)))/' crates/mid/src/lib.rt
@@ -430,5 +417,4 @@ start_anew
 sed -i 's/^new: n$/new: two(two(n))/' crates/top/mutants/four_is_none.edit
 apply_fails "an edit that changes nothing" "top/four_is_none.edit: BAD EDIT: it changes nothing"
 
-echo "$passed passed, $failed failed"
-[ "$failed" = 0 ]
+tell_counts

@@ -1,3 +1,0 @@
--module(m).
--export([main/0]).
-main() -> receive after 100 -> ok end.

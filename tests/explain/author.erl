@@ -1,3 +1,0 @@
--module(m).
--author("me").
-main() -> ok.

@@ -1,3 +1,0 @@
--module(m).
--behaviour(gen_server).
-main() -> ok.

@@ -1,4 +1,0 @@
--module(m).
--export([main/0]).
-main() -> f(m).
-f(M) -> M:g().

@@ -1,3 +1,0 @@
--module(m).
--compile(export_all).
-main() -> ok.

@@ -1,3 +1,0 @@
--module(m).
--export([main/0]).
-main() -> [X * 2 || X <- [1, 2]].

@@ -1,3 +1,0 @@
--module(m).
--export([main/0]).
-main() -> each(fun(P) -> P ! stop end, []).

@@ -1,3 +1,0 @@
--module(m).
--export([main/0]).
-main() -> each(fun stop/1, []).

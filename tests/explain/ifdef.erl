@@ -1,3 +1,0 @@
--module(m).
--ifdef(TEST).
-main() -> ok.

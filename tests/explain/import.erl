@@ -1,3 +1,0 @@
--module(m).
--import(lists, [sum/1]).
-main() -> ok.

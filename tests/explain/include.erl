@@ -1,4 +1,0 @@
--module(m).
--include("limits.hrl").
--export([main/0]).
-main() -> ok.

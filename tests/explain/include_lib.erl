@@ -1,3 +1,0 @@
--module(m).
--include_lib("eunit/include/eunit.hrl").
-main() -> ok.

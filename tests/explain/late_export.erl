@@ -1,3 +1,0 @@
--module(m).
-main() -> ok.
--export([main/0]).

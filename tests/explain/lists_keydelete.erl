@@ -1,3 +1,0 @@
--module(m).
--export([main/0]).
-main() -> lists:keydelete(a, 1, [{a, 1}]).

@@ -1,3 +1,0 @@
--module(m).
--export([main/0]).
-main() -> lists:map(fun(X) -> X * 2 end, [1]).

@@ -1,3 +1,0 @@
--module(m).
--export([main/0]).
-main() -> case X = 1 of 1 -> X end.

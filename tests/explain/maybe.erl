@@ -1,3 +1,0 @@
--module(m).
--export([main/0]).
-main() -> maybe {ok, A} ?= f(), A else E -> E end.

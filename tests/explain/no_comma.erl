@@ -1,3 +1,0 @@
--module(m).
--export([main/0]).
-main() -> X = 1 X.

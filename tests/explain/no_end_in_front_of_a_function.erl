@@ -1,6 +1,0 @@
--module(m).
--export([main/0]).
-main() ->
-    receive hi -> ok
-
-f() -> ok.

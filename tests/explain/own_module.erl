@@ -1,4 +1,0 @@
--module(m).
--export([main/0]).
-main() -> ?MODULE:f().
-f() -> ok.

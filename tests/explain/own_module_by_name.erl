@@ -1,4 +1,0 @@
--module(m).
--export([main/0]).
-main() -> m:f().
-f() -> ok.

@@ -1,4 +1,0 @@
--module(m).
--export([main/0]).
-main() -> f("abc").
-f("ab" ++ Rest) -> Rest.

@@ -1,3 +1,0 @@
--module(m).
--module(n).
-main() -> ok.

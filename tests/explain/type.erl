@@ -1,4 +1,0 @@
--module(m).
--export([main/0]).
--type id() :: integer().
-main() -> ok.
