@@ -2,7 +2,7 @@
 use Rattle.std.proofs.Common.{◌≡◌, subst, ℕ, List, Option, Result}
 use Rattle.pf_errors.specs.declared.memory.NoMemory.{NoMemory}
 use Rattle.pf_command.specs.Streams.{Streams, streams}
-use Rattle.pulsefarm.specs.Program.{DoesGiven}
+use Rattle.pulsefarm.specs.Program.{Does, DoesGiven}
 
 module _ (x y x' y' : Option (List ℕ)) (m n m' n' : ℕ) (after : Streams) (r : Result ℕ NoMemory) where
   pub from_equal : x ≡ x' → y ≡ y' → m ≡ m' → n ≡ n' → DoesGiven (streams x y m n) after r → DoesGiven (streams x' y' m' n') after r
@@ -11,3 +11,7 @@ module _ (x y x' y' : Option (List ℕ)) (m n m' n' : ℕ) (after : Streams) (r 
       (subst (λ (it : Option (List ℕ)). DoesGiven (streams x it m' n') after r) f
       (subst (λ (it : ℕ). DoesGiven (streams x y it n') after r) g
       (subst (λ (it : ℕ). DoesGiven (streams x y m it) after r) h done)))
+
+-- what is done for words is done for the same words by another name
+pub for_words : (ws vs : List (List ℕ)) (old new : Streams) (r : Result ℕ NoMemory) → ws ≡ vs → Does ws old new r → Does vs old new r
+for_words ws vs old new r same done = subst (λ (x : List (List ℕ)). Does x old new r) same done
