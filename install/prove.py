@@ -275,7 +275,7 @@ def main(words):
     if len(words) != 1:
         sys.exit("usage: prove.py TREE")
     if not shutil.which("rt"):
-        sys.exit("there is no rt on the path: the kit rattle-kit-13b has it")
+        sys.exit("there is no rt on the path: the kit rattle-kit-13f has it")
     for number in (signal.SIGINT, signal.SIGTERM, signal.SIGHUP):
         # (under nohup it goes on where the terminal is closed)
         if number != signal.SIGHUP or signal.getsignal(number) != signal.SIG_IGN:

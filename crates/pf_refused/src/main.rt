@@ -1,6 +1,6 @@
 //! Makes values, names of atoms, a mail list and a mailbox, and says so in four lines. Where an allocation fails it
 //! says `NoMemory` and ends with status 2, once it has seen that what it failed in is as it was; else it ends with
-//! status 3. The script under tests/refused runs it with each allocation failing in turn.
+//! status 3. The script under tests/faults/refused runs it with each allocation failing in turn.
 #![tactic(auto)]
 
 mod mail;

@@ -237,7 +237,7 @@ refusals() {
   lay
   PATH=$(dirname "$(command -v python3)"):/usr/bin:/bin python3 "$room/tree/install/prove.py" "$room/tree" \
     > "$room/out" 2> "$room/err"
-  [ $? = 1 ] && [ "$(cat "$room/err")" = 'there is no rt on the path: the kit rattle-kit-13b has it' ]
+  [ $? = 1 ] && [ "$(cat "$room/err")" = 'there is no rt on the path: the kit rattle-kit-13f has it' ]
   note "no rt" $?
   python3 "$room/tree/install/prove.py" > "$room/out" 2> "$room/err"
   [ $? = 1 ] && [ "$(cat "$room/err")" = 'usage: prove.py TREE' ]
