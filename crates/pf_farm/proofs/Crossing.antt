@@ -12,8 +12,8 @@ use Rattle.std.proofs.Crossing as heap
 use Rattle.std.proofs.sync.ledger.Share.TheSendSync as share
 use Rattle.std.specs.contracts.alloc.Global as Global
 use Rattle.pf_farm_accounts.specs.declared.names.FarmNames as names
-use Rattle.pf_deques.proofs.ends.Owner.TheSendSync as owner
-use Rattle.pf_deques.proofs.ends.Thief.TheSendSync as thief
+use Rattle.pf_farm_accounts.proofs.deque.Owner.TheSendSync as owner
+use Rattle.pf_farm_accounts.proofs.deque.Thief.TheSendSync as thief
 use Rattle.pf_sched.proofs.Crossing as sched
 use Rattle.pf_farm_state.proofs.Crossing as hall
 use Rattle.pf_farm.proofs.tally.WorkTally.TheSendSync as tally

@@ -1,7 +1,7 @@
 -- Seats that are taken in, one by one from the last.
 use Rattle.std.proofs.Common.{◌≡◌, ℕ, ◌<◌, List, [], ◌∷◌, ◌++◌, length, true, true≢false, Option, Some, None, is_some, unwrap_or, refl, sym, ap, ◌∙◌, subst, arith}
-use Rattle.pf_deques.specs.Parts.{IsDealt}
-use Rattle.pf_deques.specs.Views.{DequePlace, OwnerView, ThiefView, IsThiefOf, stolen_by}
+use Rattle.pf_farm_accounts.specs.DequeParts.{IsDealt}
+use Rattle.pf_farm_accounts.specs.DequeViews.{DequePlace, OwnerView, ThiefView, IsThiefOf, stolen_by}
 use Rattle.pf_farm.specs.Seats.{WorkSeatView, thief_deque, IsIdle, AllIdle, IsChain, IsRing, Spends}
 
 pub chain_last : (from to : Option DequePlace) (ss : List WorkSeatView) (w : WorkSeatView) → IsChain from (ss ++ w ∷ []) to → IsChain from ss (Some w.own.deque) × (thief_deque w.next ≡ to)

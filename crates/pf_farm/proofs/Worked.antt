@@ -1,6 +1,6 @@
 -- Seats whose workers have worked side by side.
 use Rattle.std.proofs.Common.{◌≡◌, ℕ, zero, suc, ◌<◌, List, [], ◌∷◌, length, get_or, true≢false, Option, Some, None, is_some, refl, sym, ap, ◌∙◌, subst, arith}
-use Rattle.pf_deques.specs.Views.{DequePlace, ThiefView}
+use Rattle.pf_farm_accounts.specs.DequeViews.{DequePlace, ThiefView}
 use Rattle.pf_farm.specs.Seats.{WorkSeatView, SameEnds, thief_deque, IsChain, IsRing, IsIdle, AllIdle}
 
 pub idle_at : (ss : List WorkSeatView) (i : ℕ) (d : WorkSeatView) → AllIdle ss → i < length ss → IsIdle (get_or ss i d)

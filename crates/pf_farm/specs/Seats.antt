@@ -6,8 +6,8 @@ use Rattle.pf_farm_accounts.specs.declared.row.ClaimRow.{ClaimRow}
 use Rattle.pf_farm_accounts.specs.Rows.{row_of}
 use Rattle.pf_request.specs.Job.{Job}
 use Rattle.pf_farm_state.specs.Hall.{end_or_stray}
-use Rattle.pf_deques.specs.Parts.{IsDealt}
-use Rattle.pf_deques.specs.Views.{DequePlace, OwnerView, ThiefView, stolen_by}
+use Rattle.pf_farm_accounts.specs.DequeParts.{IsDealt}
+use Rattle.pf_farm_accounts.specs.DequeViews.{DequePlace, OwnerView, ThiefView, stolen_by}
 use Rattle.pf_farm.specs.declared.tally.WorkTally.{WorkTally}
 
 -- the end of its own deque and that of the deque of which it steals, if there is one, both by the numbers of claims;

@@ -5,7 +5,7 @@ ghost use Rattle.pf_farm_accounts.specs.Rows.{HaveEnded};
 ghost use Rattle.pf_book.specs.Profile.{ForRight};
 ghost use Rattle.pf_farm_laws.specs.Told.{AgreesWithHistories};
 ghost use Rattle.pf_farm_state.specs.Clients.{all_receipts, closed_as, empty_client, AreFull, AreTheCalls};
-ghost use Rattle.pf_deques.specs.Views.{stolen_by};
+ghost use Rattle.pf_farm_accounts.specs.DequeViews.{stolen_by};
 ghost use Rattle.pf_farm.specs.Farms.{opened_farm, LacksSeat};
 ghost use Rattle.pf_farm.specs.Seats.{IsRing, AllIdle, IsSpent, seat_at};
 
@@ -14,10 +14,10 @@ use crate::held::HeldRun;
 use crate::seat::WorkSeat;
 use crate::tally::WorkTally;
 use pf_book::Reply;
-use pf_deques::{Owner, Thief};
 use pf_errors::{NoMemory, OrNoMemory};
 use pf_farm_accounts::{
-    CallLedger, Claim, EndedLedger, FarmNames, NewRegister, OpenedLedger, Receipt,
+    CallLedger, Claim, EndedLedger, FarmNames, NewRegister, OpenedLedger, Owner, Receipt, Thief,
+    open_deque, open_deque_alone,
 };
 use pf_farm_state::{ClientSeat, ClosedSeat, Closing, Hall};
 use pf_request::Call;
@@ -210,7 +210,7 @@ fn all_seats<N: FarmNames>(
     if workers > 1 {
         return ring_of_seats(alloc, opened, ended, workers);
     }
-    let own = pf_deques::open_alone(alloc, FIRST_ROOM)?;
+    let own = open_deque_alone(alloc, FIRST_ROOM)?;
     let mut seats = Vec::new(alloc);
     seats.push(seat(opened, ended, own, None))?;
     Ok(seats)
@@ -234,9 +234,9 @@ fn ring_of_seats<N: FarmNames>(
         × (ended.new.amount ≡ ended.old.amount)) }
 {
     let mut seats = Vec::new(alloc);
-    let (mut owner, first) = pf_deques::open(alloc, FIRST_ROOM)?;
+    let (mut owner, first) = open_deque(alloc, FIRST_ROOM)?;
     for i in 1..workers {
-        let (own, next) = pf_deques::open(alloc, FIRST_ROOM)?;
+        let (own, next) = open_deque(alloc, FIRST_ROOM)?;
         seats.push(seat(opened, ended, owner, Some(next)))?;
         owner = own;
     }

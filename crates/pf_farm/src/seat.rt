@@ -2,14 +2,13 @@
 
 ghost use Rattle.std.specs.Prelude.{◌≡◌, ◌<◌, ◌∷◌, ◌++◌, [], true, false, length, is_some, IfSome, IfNone, IfOk, IfErr, OnOk, OnErr};
 ghost use Rattle.pf_farm_accounts.specs.declared.row.ClaimEnd.TheVariants.{Filed, HandedBack};
-ghost use Rattle.pf_deques.specs.Views.{FoundEmpty, TakesFirst, stolen_by};
+ghost use Rattle.pf_farm_accounts.specs.DequeViews.{FoundEmpty, TakesFirst, stolen_by};
 ghost use Rattle.pf_farm.specs.Seats.{ClaimEndsAs, HasFiled, IsAsBefore, SameEnds, saturated};
 
 use crate::held::HeldRun;
 use crate::tally::WorkTally;
-use pf_deques::{Owner, Thief};
 use pf_errors::NoMemory;
-use pf_farm_accounts::{EndedLedger, FarmNames, OpenClaim, OpenedLedger};
+use pf_farm_accounts::{EndedLedger, FarmNames, OpenClaim, OpenedLedger, Owner, Thief};
 use pf_farm_state::{ClaimedTrial, Hall};
 use pf_sched::{Finished, Job};
 use std::marker::Model;

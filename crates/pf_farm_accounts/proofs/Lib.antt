@@ -3,3 +3,4 @@ pub mod Ends
 pub mod Standing
 pub mod Numbers
 pub mod Seats
+pub mod DequeSteps

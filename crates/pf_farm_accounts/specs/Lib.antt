@@ -3,3 +3,6 @@ pub mod Knowing
 pub mod Passes
 pub mod Rows
 pub mod Receipts
+pub mod DequeParts
+pub mod DequePasses
+pub mod DequeViews

@@ -3,6 +3,7 @@
 //! The claims of all workers, in order, each with its one end.
 //! Receipts of calls: which calls were logged, in order, and the seats of clients, which keep a receipt of each call of
 //! theirs.
+//! The deque of a worker: it puts in and takes out itself, first in, first out, and one other worker steals.
 #![tactic(auto)]
 
 mod knowledge;
@@ -29,3 +30,8 @@ pub use gathering::{Gathering, SeatReceipts};
 pub use log::CallLog;
 pub use receipt::Receipt;
 pub use seat::Seat;
+
+mod deque;
+mod deque_part;
+
+pub use deque::{Owner, Thief, open_deque, open_deque_alone};

@@ -1,6 +1,6 @@
 use Rattle.std.proofs.Common.{◌≡◌, ◌+◌, List, [], ◌∷◌, ◌++◌, length, vec_len, Option, sym, ap, ◌∙◌, subst, arith, append_assoc}
-use Rattle.pf_deques.specs.Views.{OwnerView, ThiefView, IsThiefOf, stolen_by}
-use Rattle.pf_deques.proofs.Steps.{dealt_length}
+use Rattle.pf_farm_accounts.specs.DequeViews.{OwnerView, ThiefView, IsThiefOf, stolen_by}
+use Rattle.pf_farm_accounts.proofs.DequeSteps.{dealt_length}
 use Rattle.pf_farm.specs.Seats.{WorkSeatView, IsRing, AllIdle}
 use Rattle.pf_farm.proofs.Rings.{IsOpen, idle_last, opens, opens_more, steals_from, spends}
 use Rattle.pf_farm.proofs.farm.gather.Goals as goal

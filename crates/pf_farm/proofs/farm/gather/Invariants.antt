@@ -1,5 +1,5 @@
 use Rattle.std.proofs.Common.{◌≡◌, ◌+◌, true, List, ◌∷◌, ◌++◌, [], length, vec_len}
-use Rattle.pf_deques.specs.Views.{stolen_by}
+use Rattle.pf_farm_accounts.specs.DequeViews.{stolen_by}
 use Rattle.pf_farm.specs.Seats.{WorkSeatView, AllIdle, AllSpent}
 use Rattle.pf_farm.proofs.Rings.{IsOpen}
 use Rattle.pf_farm.proofs.farm.gather.Given as goal

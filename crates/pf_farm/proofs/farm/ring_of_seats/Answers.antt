@@ -1,5 +1,5 @@
 use Rattle.std.proofs.Common.{rules, ◌≡◌, true, List, [], ◌∷◌, ◌++◌, Option, Some, sym, ap, ◌∙◌, subst, arith}
-use Rattle.pf_deques.specs.Views.{DequePlace}
+use Rattle.pf_farm_accounts.specs.DequeViews.{DequePlace}
 use Rattle.pf_farm.specs.Seats.{WorkSeatView, thief_deque, IsChain, IsRing, AllIdle}
 use Rattle.pf_farm.proofs.Rings.{chain_push, idle_push, ring_back}
 use Rattle.pf_farm.proofs.farm.ring_of_seats.Goals as goal

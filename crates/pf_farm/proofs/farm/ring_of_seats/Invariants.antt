@@ -1,5 +1,5 @@
 use Rattle.std.proofs.Common.{◌≡◌, ◌+◌, false, vec_len, Some}
-use Rattle.pf_deques.specs.Views.{new_owner}
+use Rattle.pf_farm_accounts.specs.DequeViews.{new_owner}
 use Rattle.pf_farm.specs.Seats.{IsChain, AllIdle}
 use Rattle.pf_farm.proofs.farm.ring_of_seats.Given as goal
 

@@ -1,5 +1,5 @@
 use Rattle.std.proofs.Common.{◌≡◌, ℕ, ap, subst}
-use Rattle.pf_deques.specs.Views.{OwnerView, TakesFirst}
+use Rattle.pf_farm_accounts.specs.DequeViews.{OwnerView, TakesFirst}
 use Rattle.pf_farm.specs.Seats.{WorkSeatView}
 use Rattle.pf_farm.proofs.seat.WorkSeat.pop.Goals as goal
 

@@ -1,9 +1,0 @@
-use Rattle.std.proofs.Common.{rules}
-use Rattle.pf_deques.proofs.Steps.{begins, forks}
-use Rattle.pf_deques.proofs.ends.open.Goals as goal
-
-pub fifo_as-requires : goal.fifo_as-requires
-fifo_as-requires g c = begins
-
-pub another-pass-requires : goal.another-pass-requires
-another-pass-requires g c = forks _ _ (search rules) (search rules)
