@@ -5,7 +5,7 @@ use Rattle.std.proofs.lemmas.Bool.{and_parts, eqb-true}
 use Rattle.std.proofs.lemmas.List.Quantifiers.{position-Some}
 use Rattle.pf_errors.specs.declared.code.Code.TheVariants.{DefinedTwice}
 use Rattle.pf_terms.specs.Atoms.{name_of}
-use Rattle.pf_syntax.specs.Tree.{Builtin}
+use Rattle.pf_syntax.specs.declared.operator.Builtin.{Builtin}
 use Rattle.pf_syntax.specs.SyntaxTree.{Head}
 use Rattle.pf_syntax.specs.ExprModule.{Tree}
 use Rattle.pf_syntax.specs.Forms.{builtin_named}

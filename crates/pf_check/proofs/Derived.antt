@@ -3,7 +3,7 @@
 use Rattle.std.proofs.Common.{◌≡◌, inl, inr, ℕ, ◌<◌, ◌≤◌, Bool, true, false, List, [], ◌∷◌, length, refl, sym, subst, arith, IsTrue}
 use Rattle.std.proofs.lemmas.List.Elements.{All-nil, All-cons}
 use Rattle.pf_terms.specs.Value.{IsWithinLimits, nodes_in, depth_in}
-use Rattle.pf_syntax.specs.Tree.{plus, minus, times, quotient, remainder, append, equal, unequal, less, at_most, greater, at_least}
+use Rattle.pf_syntax.specs.declared.operator.Operator.TheVariants.{Plus, Minus, Times, Quotient, Remainder, Append, Equal, Unequal, Less, AtMost, Greater, AtLeast}
 use Rattle.pf_syntax.specs.ExprPattern as s
 use Rattle.pf_syntax.specs.ExprPattern.{ExprPattern, ExprPatterns, no_expr_patterns, expr_pattern}
 use Rattle.pf_syntax.specs.Expr as p
@@ -12,7 +12,11 @@ use Rattle.pf_syntax.specs.SyntaxTree.{Head}
 use Rattle.pf_syntax.specs.Naming.{characters, string}
 use Rattle.pf_tokens.specs.declared.limits.TheConstants.{MOST_TEXT_CHARACTERS}
 use Rattle.pf_tokens.specs.NumberedTokens.{NumberedToken}
-use Rattle.pf_grammar.specs.Grammar.{TokenNames, Infix, operator, and_also, or_else, send, Grouping, leftwards, rightwards, alone, binding_of, greatest_left, greatest_right, level_of, left_level, right_level, top, element, Guarded, FrontIs}
+use Rattle.pf_grammar.specs.Grammar.{TokenNames, binding_of, greatest_left, greatest_right, level_of, left_level, right_level, top, element, Guarded, FrontIs}
+use Rattle.pf_grammar.specs.declared.infix.Grouping.{Grouping}
+use Rattle.pf_grammar.specs.declared.infix.Grouping.TheVariants.{Leftwards, Rightwards, Alone}
+use Rattle.pf_grammar.specs.declared.infix.Infix.{Infix}
+use Rattle.pf_grammar.specs.declared.infix.Infix.TheVariants.{Operator, AndAlso, OrElse, Send}
 use Rattle.pf_grammar.specs.Grammar.{DerivesExprPattern, DerivesExprPatterns, Derives, DerivesAll, DerivesBody, DerivesGuard, DerivesBranches, DerivesHead, DerivesHeads, DerivesFunction, DerivesFunctions, DerivesTree}
 use Rattle.pf_syntax.specs.ExprModule.{unguarded, Tree}
 use Rattle.pf_rules.specs.Formed.{ExprPatternFormed, ExprPatternsFormed, ExprFormed, ExprsFormed, ConditionFormed, BranchesFormed, HasFirst, HasAlternative, HeadFormed, FunctionFormed, AreFormed}
@@ -35,31 +39,31 @@ text_within cs h = let many = as_many_nodes cs in let deep = flat cs in (omega (
 
 -- no infix is as loose as a match
 tight : (i : Infix) → level_of i < element
-tight (operator plus) = omega arith
-tight (operator minus) = omega arith
-tight (operator times) = omega arith
-tight (operator quotient) = omega arith
-tight (operator remainder) = omega arith
-tight (operator append) = omega arith
-tight (operator equal) = omega arith
-tight (operator unequal) = omega arith
-tight (operator less) = omega arith
-tight (operator at_most) = omega arith
-tight (operator greater) = omega arith
-tight (operator at_least) = omega arith
-tight and_also = omega arith
-tight or_else = omega arith
-tight send = omega arith
+tight (Operator Plus) = omega arith
+tight (Operator Minus) = omega arith
+tight (Operator Times) = omega arith
+tight (Operator Quotient) = omega arith
+tight (Operator Remainder) = omega arith
+tight (Operator Append) = omega arith
+tight (Operator Equal) = omega arith
+tight (Operator Unequal) = omega arith
+tight (Operator Less) = omega arith
+tight (Operator AtMost) = omega arith
+tight (Operator Greater) = omega arith
+tight (Operator AtLeast) = omega arith
+tight AndAlso = omega arith
+tight OrElse = omega arith
+tight Send = omega arith
 
 left_most : (g : Grouping) (level : ℕ) → greatest_left g level ≤ level
-left_most leftwards level = omega arith
-left_most rightwards level = omega arith
-left_most alone level = omega arith
+left_most Leftwards level = omega arith
+left_most Rightwards level = omega arith
+left_most Alone level = omega arith
 
 right_most : (g : Grouping) (level : ℕ) → greatest_right g level ≤ level
-right_most leftwards level = omega arith
-right_most rightwards level = omega arith
-right_most alone level = omega arith
+right_most Leftwards level = omega arith
+right_most Rightwards level = omega arith
+right_most Alone level = omega arith
 
 left_tight : (i : Infix) → element ≤ left_level i → IsTrue false
 left_tight i h = let most = left_most (binding_of i).grouping (level_of i) in let k = tight i in absurd (omega (arith, h, most, k))
@@ -128,15 +132,15 @@ module _ (n : TokenNames) where
         let parts = h.1.4.4 in (all_formed g es parts.0 parts.5, expr_formed false g e top parts.2 whole_tight parts.6)
     expr_formed m g (p.call f at es) level ts k h = all_formed g es h.6.4.0 h.6.4.4
     expr_formed m g (p.binary o a b) level ts k h =
-        let i = operator o in
+        let i = Operator o in
         (expr_formed false g a (left_level i) h.2.0 (left_tight i) h.2.5, expr_formed false g b (right_level i) h.2.2 (right_tight i) h.2.6)
     expr_formed m g (p.negate a) level ts k h = expr_formed false g a 0 h.1.1 zero_tight h.1.4
     expr_formed m g (p.and_also a b) level ts k h =
-        (expr_formed false g a 5 h.2.0 (left_tight and_also) h.2.5, expr_formed false g b 6 h.2.2 (right_tight and_also) h.2.6)
+        (expr_formed false g a 5 h.2.0 (left_tight AndAlso) h.2.5, expr_formed false g b 6 h.2.2 (right_tight AndAlso) h.2.6)
     expr_formed m g (p.or_else a b) level ts k h =
-        (expr_formed false g a 6 h.2.0 (left_tight or_else) h.2.5, expr_formed false g b 7 h.2.2 (right_tight or_else) h.2.6)
+        (expr_formed false g a 6 h.2.0 (left_tight OrElse) h.2.5, expr_formed false g b 7 h.2.2 (right_tight OrElse) h.2.6)
     expr_formed m g (p.send a b) level ts k h =
-        (expr_formed false g a 7 h.2.0 (left_tight send) h.2.5, expr_formed false g b 8 h.2.2 (right_tight send) h.2.6)
+        (expr_formed false g a 7 h.2.0 (left_tight Send) h.2.5, expr_formed false g b 8 h.2.2 (right_tight Send) h.2.6)
     expr_formed m g (p.match q a) level ts k h =
         (k h.0, expr_pattern_formed q h.1.0 h.1.5, expr_formed true g a element h.1.2 (λ _. refl) h.1.6)
     expr_formed m g (p.case a bs) level ts k h =

@@ -8,7 +8,9 @@ use Rattle.pf_syntax.specs.ExprPattern.{ExprPattern}
 use Rattle.pf_syntax.specs.Expr as p
 use Rattle.pf_syntax.specs.Expr.{Expr, expr_depth}
 use Rattle.pf_tokens.specs.NumberedTokens.{mark, NumberedToken}
-use Rattle.pf_grammar.specs.Grammar.{TokenNames, Joined, Infix, operator, and_also, or_else, send, infix_of, level_of, left_level, right_level, top, element as body_level, Derives}
+use Rattle.pf_grammar.specs.Grammar.{TokenNames, Joined, infix_of, level_of, left_level, right_level, top, element as body_level, Derives}
+use Rattle.pf_grammar.specs.declared.infix.Infix.{Infix}
+use Rattle.pf_grammar.specs.declared.infix.Infix.TheVariants.{Operator, AndAlso, OrElse, Send}
 use Rattle.pf_grammar.specs.Parse.{Parse, after_kind, joined_exprs, within, infix_ahead, more_step, more, unary, level_with, pattern, match_ahead, element_step, parse_expr_with, prim_with, readers, parse_expr, element}
 use Rattle.pf_grammar.proofs.Single.{bind_some, some_is, after_some, after_here, level_low, level_high, left_low, left_most, right_low, right_most, infix_here}
 use Rattle.pf_grammar.proofs.Lists.{CompleteFor, opens_front}
@@ -26,28 +28,28 @@ within_is limit e ts le = let fits = le-leb (expr_depth e) limit le in rw fits r
 
 -- the level at which the right operand of an expression is read; a part has none
 spine : Expr → ℕ
-spine (p.binary o a b) = right_level (operator o)
-spine (p.and_also a b) = right_level and_also
-spine (p.or_else a b) = right_level or_else
-spine (p.send a b) = right_level send
+spine (p.binary o a b) = right_level (Operator o)
+spine (p.and_also a b) = right_level AndAlso
+spine (p.or_else a b) = right_level OrElse
+spine (p.send a b) = right_level Send
 spine _ = 0
 
 -- an infix ends the right operand of its left operand
 spine_low : (n : TokenNames) (g : Bool) (i : Infix) (e : Expr) (front : List NumberedToken) → Derives n g e (left_level i) front → spine e < level_of i
 unfolding spine
-spine_low n g i (p.binary o a b) front h = spine_stops i (operator o) h.0
-spine_low n g i (p.and_also a b) front h = spine_stops i and_also h.0
-spine_low n g i (p.or_else a b) front h = spine_stops i or_else h.0
-spine_low n g i (p.send a b) front h = spine_stops i send h.0
+spine_low n g i (p.binary o a b) front h = spine_stops i (Operator o) h.0
+spine_low n g i (p.and_also a b) front h = spine_stops i AndAlso h.0
+spine_low n g i (p.or_else a b) front h = spine_stops i OrElse h.0
+spine_low n g i (p.send a b) front h = spine_stops i Send h.0
 spine_low n g i (p.integer z) front h = omega (arith, level_low i)
 spine_low n g i _ front h = omega (arith, level_low i)
 
 spine_most : (n : TokenNames) (g : Bool) (e : Expr) (level : ℕ) (front : List NumberedToken) → Derives n g e level front → spine e ≤ level
 unfolding spine
-spine_most n g (p.binary o a b) level front h = omega (arith, h.0, right_most (operator o))
-spine_most n g (p.and_also a b) level front h = omega (arith, h.0, right_most and_also)
-spine_most n g (p.or_else a b) level front h = omega (arith, h.0, right_most or_else)
-spine_most n g (p.send a b) level front h = omega (arith, h.0, right_most send)
+spine_most n g (p.binary o a b) level front h = omega (arith, h.0, right_most (Operator o))
+spine_most n g (p.and_also a b) level front h = omega (arith, h.0, right_most AndAlso)
+spine_most n g (p.or_else a b) level front h = omega (arith, h.0, right_most OrElse)
+spine_most n g (p.send a b) level front h = omega (arith, h.0, right_most Send)
 spine_most n g (p.integer z) level front h = omega arith
 spine_most n g _ level front h = omega arith
 
@@ -114,22 +116,22 @@ module _ (n : TokenNames) (d : ℕ) (parse_exprs : ExpressionsRead n d) (g : Boo
   reads_up_to : (level m : ℕ) (e : Expr) (front r : List NumberedToken) → 1 ≤ m → m ≤ level → level ≤ top → Derives n g e m front → expr_depth e ≤ suc d → Stops g (spine e) r → ReadsUpTo level m e front r
   unfolding spine
   reads_up_to level m (p.binary o a b) front r one le high h deep stops =
-      let i = operator o in
+      let i = Operator o in
       let q = h.2 in
       let left = reads_up_to level (left_level i) a q.0 (q.1 ∷ (q.2 ++ r)) (left_low i) (omega (arith, h.0, le, left_most i)) high q.5 (omega arith) (left_stops i a q.0 q.1 (q.2 ++ r) q.3 q.5) in
       reads_joined level m i a b front r le h deep (omega arith) stops left
   reads_up_to level m (p.and_also a b) front r one le high h deep stops =
-      let i = and_also in
+      let i = AndAlso in
       let q = h.2 in
       let left = reads_up_to level (left_level i) a q.0 (q.1 ∷ (q.2 ++ r)) (left_low i) (omega (arith, h.0, le, left_most i)) high q.5 (omega arith) (left_stops i a q.0 q.1 (q.2 ++ r) q.3 q.5) in
       reads_joined level m i a b front r le h deep (omega arith) stops left
   reads_up_to level m (p.or_else a b) front r one le high h deep stops =
-      let i = or_else in
+      let i = OrElse in
       let q = h.2 in
       let left = reads_up_to level (left_level i) a q.0 (q.1 ∷ (q.2 ++ r)) (left_low i) (omega (arith, h.0, le, left_most i)) high q.5 (omega arith) (left_stops i a q.0 q.1 (q.2 ++ r) q.3 q.5) in
       reads_joined level m i a b front r le h deep (omega arith) stops left
   reads_up_to level m (p.send a b) front r one le high h deep stops =
-      let i = send in
+      let i = Send in
       let q = h.2 in
       let left = reads_up_to level (left_level i) a q.0 (q.1 ∷ (q.2 ++ r)) (left_low i) (omega (arith, h.0, le, left_most i)) high q.5 (omega arith) (left_stops i a q.0 q.1 (q.2 ++ r) q.3 q.5) in
       reads_joined level m i a b front r le h deep (omega arith) stops left
@@ -194,10 +196,10 @@ module _ (n : TokenNames) (d : ℕ) (plain : Parse Expr) (plain_complete : Compl
     element_complete_step : (e : Expr) (front rest : List NumberedToken) → Fits n false body_level (suc d) e front → ElementEnds rest → element_step plain (element n d) (suc d) (front ++ rest) (match_ahead (pattern n d) (front ++ rest)) ≡ Some (e, rest)
     element_complete_step (p.match q a) front rest fits ends = element_match q a front rest fits ends
     element_complete_step (p.negate a) front rest fits ends = let h = fits.0 in element_plain (p.negate a) front rest (omega arith, h.1) fits.1 ends
-    element_complete_step (p.binary o a b) front rest fits ends = let h = fits.0 in element_plain (p.binary o a b) front rest (level_high (operator o), h.1, h.2) fits.1 ends
-    element_complete_step (p.and_also a b) front rest fits ends = let h = fits.0 in element_plain (p.and_also a b) front rest (level_high and_also, h.1, h.2) fits.1 ends
-    element_complete_step (p.or_else a b) front rest fits ends = let h = fits.0 in element_plain (p.or_else a b) front rest (level_high or_else, h.1, h.2) fits.1 ends
-    element_complete_step (p.send a b) front rest fits ends = let h = fits.0 in element_plain (p.send a b) front rest (level_high send, h.1, h.2) fits.1 ends
+    element_complete_step (p.binary o a b) front rest fits ends = let h = fits.0 in element_plain (p.binary o a b) front rest (level_high (Operator o), h.1, h.2) fits.1 ends
+    element_complete_step (p.and_also a b) front rest fits ends = let h = fits.0 in element_plain (p.and_also a b) front rest (level_high AndAlso, h.1, h.2) fits.1 ends
+    element_complete_step (p.or_else a b) front rest fits ends = let h = fits.0 in element_plain (p.or_else a b) front rest (level_high OrElse, h.1, h.2) fits.1 ends
+    element_complete_step (p.send a b) front rest fits ends = let h = fits.0 in element_plain (p.send a b) front rest (level_high Send, h.1, h.2) fits.1 ends
     element_complete_step (p.integer z) front rest fits ends = element_plain (p.integer z) front rest fits.0 fits.1 ends
     element_complete_step e front rest fits ends = element_plain e front rest fits.0 fits.1 ends
 

@@ -6,7 +6,8 @@ use Rattle.pf_tokens.specs.declared.words.Reserved.TheVariants as words
 use Rattle.pf_syntax.specs.Expr as p
 use Rattle.pf_syntax.specs.Expr.{Expr, Exprs, Branches, expr_depth, exprs_depth, branches_depth}
 use Rattle.pf_tokens.specs.NumberedTokens.{NumberedKind, atom, mark, reserved, NumberedToken}
-use Rattle.pf_grammar.specs.Grammar.{TokenNames, IsAtom, Between, Apart, operator, and_also, or_else, send, infix_of, top, call_stands, Derives, DerivesBranches}
+use Rattle.pf_grammar.specs.Grammar.{TokenNames, IsAtom, Between, Apart, infix_of, top, call_stands, Derives, DerivesBranches}
+use Rattle.pf_grammar.specs.declared.infix.Infix.TheVariants.{Operator, AndAlso, OrElse, Send}
 use Rattle.pf_grammar.specs.Parse.{is, after_kind, atom_in, until, listed, call_parse_step, prim_with, readers, parse_expr}
 use Rattle.pf_grammar.proofs.Single.{after_here, atom_in_is, short_is, level_low}
 use Rattle.pf_grammar.proofs.Lists.{CompleteFor, Closed, ListedIs, until_complete, listed_complete}
@@ -160,10 +161,10 @@ module _ (n : TokenNames) (d : ℕ) (parse_exprs : ExpressionsRead n d) (element
   prim_complete (p.list_on es a) front rest fits stops = list_on_complete es a front rest fits
   prim_complete (p.call f at es) front rest fits stops = call_complete f at es front rest fits
   prim_complete (p.negate a) front rest fits stops = absurd (let h = fits.0 in omega (arith, h.0))
-  prim_complete (p.binary o a b) front rest fits stops = absurd (let h = fits.0 in omega (arith, h.0, level_low (operator o)))
-  prim_complete (p.and_also a b) front rest fits stops = absurd (let h = fits.0 in omega (arith, h.0, level_low and_also))
-  prim_complete (p.or_else a b) front rest fits stops = absurd (let h = fits.0 in omega (arith, h.0, level_low or_else))
-  prim_complete (p.send a b) front rest fits stops = absurd (let h = fits.0 in omega (arith, h.0, level_low send))
+  prim_complete (p.binary o a b) front rest fits stops = absurd (let h = fits.0 in omega (arith, h.0, level_low (Operator o)))
+  prim_complete (p.and_also a b) front rest fits stops = absurd (let h = fits.0 in omega (arith, h.0, level_low AndAlso))
+  prim_complete (p.or_else a b) front rest fits stops = absurd (let h = fits.0 in omega (arith, h.0, level_low OrElse))
+  prim_complete (p.send a b) front rest fits stops = absurd (let h = fits.0 in omega (arith, h.0, level_low Send))
   prim_complete (p.match q a) front rest fits stops = absurd (let h = fits.0 in omega (arith, h.0))
   prim_complete (p.case a bs) front rest fits stops = case_complete a bs front rest fits
   prim_complete (p.if_expression bs) front rest fits stops = if_complete bs front rest fits

@@ -9,7 +9,7 @@ use Rattle.pf_tokens.specs.declared.marks.TokenMark.{TokenMark}
 use Rattle.pf_tokens.specs.declared.marks.TokenMark.TheVariants as marks
 use Rattle.pf_tokens.specs.declared.words.Reserved.{Reserved}
 use Rattle.pf_tokens.specs.declared.words.Reserved.TheVariants as words
-use Rattle.pf_syntax.specs.Tree.{plus, minus, times, quotient, remainder, append, equal, unequal, less, at_most, greater, at_least}
+use Rattle.pf_syntax.specs.declared.operator.Operator.TheVariants.{Plus, Minus, Times, Quotient, Remainder, Append, Equal, Unequal, Less, AtMost, Greater, AtLeast}
 use Rattle.pf_tokens.specs.declared.limits.TheConstants.{MOST_NAME_BYTES, MOST_TEXT_CHARACTERS}
 use Rattle.pf_tokens.specs.NumberedTokens.{NumberedKind, integer, atom, own_module, dot, mark, reserved, NumberedToken}
 use Rattle.pf_grammar.specs.Grammar.{
@@ -252,35 +252,35 @@ short_is cs le = le-leb _ _ le
 -- ---- infixes
 
 pub level_low : (i : Infix) → 2 ≤ level_of i
-level_low (operator times) = omega arith
-level_low (operator quotient) = omega arith
-level_low (operator remainder) = omega arith
-level_low (operator plus) = omega arith
-level_low (operator minus) = omega arith
-level_low (operator append) = omega arith
-level_low (operator equal) = omega arith
-level_low (operator unequal) = omega arith
-level_low (operator less) = omega arith
-level_low (operator at_most) = omega arith
-level_low (operator greater) = omega arith
-level_low (operator at_least) = omega arith
+level_low (operator Times) = omega arith
+level_low (operator Quotient) = omega arith
+level_low (operator Remainder) = omega arith
+level_low (operator Plus) = omega arith
+level_low (operator Minus) = omega arith
+level_low (operator Append) = omega arith
+level_low (operator Equal) = omega arith
+level_low (operator Unequal) = omega arith
+level_low (operator Less) = omega arith
+level_low (operator AtMost) = omega arith
+level_low (operator Greater) = omega arith
+level_low (operator AtLeast) = omega arith
 level_low and_also = omega arith
 level_low or_else = omega arith
 level_low send = omega arith
 
 pub level_high : (i : Infix) → level_of i ≤ top
-level_high (operator times) = omega arith
-level_high (operator quotient) = omega arith
-level_high (operator remainder) = omega arith
-level_high (operator plus) = omega arith
-level_high (operator minus) = omega arith
-level_high (operator append) = omega arith
-level_high (operator equal) = omega arith
-level_high (operator unequal) = omega arith
-level_high (operator less) = omega arith
-level_high (operator at_most) = omega arith
-level_high (operator greater) = omega arith
-level_high (operator at_least) = omega arith
+level_high (operator Times) = omega arith
+level_high (operator Quotient) = omega arith
+level_high (operator Remainder) = omega arith
+level_high (operator Plus) = omega arith
+level_high (operator Minus) = omega arith
+level_high (operator Append) = omega arith
+level_high (operator Equal) = omega arith
+level_high (operator Unequal) = omega arith
+level_high (operator Less) = omega arith
+level_high (operator AtMost) = omega arith
+level_high (operator Greater) = omega arith
+level_high (operator AtLeast) = omega arith
 level_high and_also = omega arith
 level_high or_else = omega arith
 level_high send = omega arith
@@ -328,18 +328,18 @@ grouping_at level = cond (nat_le level 3) leftwards (cond (nat_eq level 5) alone
 
 grouping_is : (i : Infix) → (binding_of i).grouping ≡ grouping_at (level_of i)
 unfolding grouping_at
-grouping_is (operator times) = refl
-grouping_is (operator quotient) = refl
-grouping_is (operator remainder) = refl
-grouping_is (operator plus) = refl
-grouping_is (operator minus) = refl
-grouping_is (operator append) = refl
-grouping_is (operator equal) = refl
-grouping_is (operator unequal) = refl
-grouping_is (operator less) = refl
-grouping_is (operator at_most) = refl
-grouping_is (operator greater) = refl
-grouping_is (operator at_least) = refl
+grouping_is (operator Times) = refl
+grouping_is (operator Quotient) = refl
+grouping_is (operator Remainder) = refl
+grouping_is (operator Plus) = refl
+grouping_is (operator Minus) = refl
+grouping_is (operator Append) = refl
+grouping_is (operator Equal) = refl
+grouping_is (operator Unequal) = refl
+grouping_is (operator Less) = refl
+grouping_is (operator AtMost) = refl
+grouping_is (operator Greater) = refl
+grouping_is (operator AtLeast) = refl
 grouping_is and_also = refl
 grouping_is or_else = refl
 grouping_is send = refl

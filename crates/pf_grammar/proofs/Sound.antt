@@ -11,7 +11,8 @@ use Rattle.pf_syntax.specs.ExprPattern as s
 use Rattle.pf_syntax.specs.ExprPattern.{ExprPattern}
 use Rattle.pf_syntax.specs.Expr as p
 use Rattle.pf_syntax.specs.Expr.{Expr, Condition, Branches, expr_depth, condition_depth, branches_depth}
-use Rattle.pf_syntax.specs.Forms.{deciding, choosing, receiving, may_stand}
+use Rattle.pf_syntax.specs.Forms.{may_stand}
+use Rattle.pf_syntax.specs.declared.forms.Form.TheVariants.{Deciding, Choosing, Receiving}
 use Rattle.pf_tokens.specs.NumberedTokens.{NumberedKind, integer, atom, variable, anonymous, text, own_module, dot, mark, reserved, NumberedToken}
 use Rattle.pf_grammar.specs.Grammar.{
   TokenNames,
@@ -244,7 +245,7 @@ module _ (n : TokenNames) (g : Bool) (d : ℕ) (r : Readers) (reads : Reads n d 
   marked_sound t ts marks.OpenBracket h x f = list_sound t ts h x f
   marked_sound t ts _ h x f = absurd cc
 
-  case_sound : (t : NumberedToken) (ts : List NumberedToken) → IsTrue (may_stand g deciding) → t.kind ≡ reserved words.Case → (x : Expr × List NumberedToken) → case_of r inner ts ≡ Some x → PartBehind t ts x
+  case_sound : (t : NumberedToken) (ts : List NumberedToken) → IsTrue (may_stand g Deciding) → t.kind ≡ reserved words.Case → (x : Expr × List NumberedToken) → case_of r inner ts ≡ Some x → PartBehind t ts x
   case_sound t ts may h x f =
       let a = bind_some (inner ts) (λ y. after_kind (reserved words.Of) y.1 >>= λ rest. branches r false rest >>= λ bs. Some (p.case y.0 bs.0, bs.1)) x f in
       let b = bind_some (after_kind (reserved words.Of) a.0.1) (λ rest. branches r false rest >>= λ bs. Some (p.case a.0.0 bs.0, bs.1)) x a.2 in
@@ -264,7 +265,7 @@ module _ (n : TokenNames) (g : Bool) (d : ℕ) (r : Readers) (reads : Reads n d 
         holds = ((may, (t, mid, h, refl, (i.front ++ m.0 ∷ last.0, last.1, last.2, split, (i.front, m.0, last.0, m.1, refl, i.holds.0, last.4)))), omega (arith, i.holds.1, fits.1));
       })
 
-  if_sound : (t : NumberedToken) (ts : List NumberedToken) → IsTrue (may_stand g choosing) → t.kind ≡ reserved words.If → (x : Expr × List NumberedToken) → if_of r ts ≡ Some x → PartBehind t ts x
+  if_sound : (t : NumberedToken) (ts : List NumberedToken) → IsTrue (may_stand g Choosing) → t.kind ≡ reserved words.If → (x : Expr × List NumberedToken) → if_of r ts ≡ Some x → PartBehind t ts x
   if_sound t ts may h x f =
       let c = bind_some (branches r true ts) (λ bs. Some (p.if_expression bs.0, bs.1)) x f in
       let bs = branches_sound n d r reads true ts c.0 c.1 in
@@ -272,7 +273,7 @@ module _ (n : TokenNames) (g : Bool) (d : ℕ) (r : Readers) (reads : Reads n d 
       took_is (Fits n g 0 (suc d)) (t ∷ ts) (p.if_expression c.0.0, c.0.1) x c.2
       (record { front = t ∷ bs.front; parts = ap (λ (l : List NumberedToken). t ∷ l) bs.parts; holds = ((may, (t, bs.front, h, refl, fits.0)), omega (arith, fits.1)) })
 
-  receive_sound : (t : NumberedToken) (ts : List NumberedToken) → IsTrue (may_stand g receiving) → t.kind ≡ reserved words.Receive → (x : Expr × List NumberedToken) → receive_parse r ts ≡ Some x → PartBehind t ts x
+  receive_sound : (t : NumberedToken) (ts : List NumberedToken) → IsTrue (may_stand g Receiving) → t.kind ≡ reserved words.Receive → (x : Expr × List NumberedToken) → receive_parse r ts ≡ Some x → PartBehind t ts x
   receive_sound t ts may h x f =
       let c = bind_some (branches r false ts) (λ bs. Some (p.receive bs.0, bs.1)) x f in
       let bs = branches_sound n d r reads false ts c.0 c.1 in
@@ -281,9 +282,9 @@ module _ (n : TokenNames) (g : Bool) (d : ℕ) (r : Readers) (reads : Reads n d 
       (record { front = t ∷ bs.front; parts = ap (λ (l : List NumberedToken). t ∷ l) bs.parts; holds = ((may, (t, bs.front, h, refl, fits.0)), omega (arith, fits.1)) })
 
   worded_sound : (t : NumberedToken) (ts : List NumberedToken) (w : Reserved) → t.kind ≡ reserved w → (x : Expr × List NumberedToken) → reserved_parse r g inner w ts ≡ Some x → PartBehind t ts x
-  worded_sound t ts words.Case h x f = let c = cond_some (may_stand g deciding) (case_of r inner ts) x f in case_sound t ts c.0 h x c.1
-  worded_sound t ts words.If h x f = let c = cond_some (may_stand g choosing) (if_of r ts) x f in if_sound t ts c.0 h x c.1
-  worded_sound t ts words.Receive h x f = let c = cond_some (may_stand g receiving) (receive_parse r ts) x f in receive_sound t ts c.0 h x c.1
+  worded_sound t ts words.Case h x f = let c = cond_some (may_stand g Deciding) (case_of r inner ts) x f in case_sound t ts c.0 h x c.1
+  worded_sound t ts words.If h x f = let c = cond_some (may_stand g Choosing) (if_of r ts) x f in if_sound t ts c.0 h x c.1
+  worded_sound t ts words.Receive h x f = let c = cond_some (may_stand g Receiving) (receive_parse r ts) x f in receive_sound t ts c.0 h x c.1
   worded_sound t ts _ h x f = absurd cc
 
   kind_sound : (t : NumberedToken) (ts : List NumberedToken) (kind : NumberedKind) → t.kind ≡ kind → (x : Expr × List NumberedToken) → prim_kind n r g inner kind t.at ts ≡ Some x → PartBehind t ts x

@@ -9,7 +9,9 @@ use Rattle.pf_syntax.specs.ExprPattern.{ExprPattern, ExprPatterns, no_expr_patte
 use Rattle.pf_syntax.specs.Expr as p
 use Rattle.pf_syntax.specs.Expr.{Expr, Exprs, no_exprs, expr, expr_depth, exprs_depth}
 use Rattle.pf_tokens.specs.NumberedTokens.{NumberedKind, integer, atom, variable, anonymous, text, own_module, mark, reserved, NumberedToken}
-use Rattle.pf_grammar.specs.Grammar.{TokenNames, IsAtom, IsOne, Behind, Apart, HasPattern, HasExpression, Infix, operator, and_also, or_else, send, infix_of, level_of, left_level, right_level, infix_stands, top, DerivesExprPattern, DerivesExprPatterns, Derives, DerivesAll}
+use Rattle.pf_grammar.specs.Grammar.{TokenNames, IsAtom, IsOne, Behind, Apart, HasPattern, HasExpression, infix_of, level_of, left_level, right_level, infix_stands, top, DerivesExprPattern, DerivesExprPatterns, Derives, DerivesAll}
+use Rattle.pf_grammar.specs.declared.infix.Infix.{Infix}
+use Rattle.pf_grammar.specs.declared.infix.Infix.TheVariants.{Operator, AndAlso, OrElse, Send}
 use Rattle.pf_grammar.specs.Parse.{is, after_kind, infix_fits, infix_ahead}
 use Rattle.pf_grammar.proofs.Single.{is_same, first_no, level_low, left_most, right_most, one_side, one_right, infix_after, infix_level, infix_none}
 use Rattle.pf_grammar.proofs.Lists.{Opens}
@@ -132,10 +134,10 @@ part_starts n g (p.list es) front h = starts_with false (mark marks.OpenBracket)
 part_starts n g (p.list_on es a) front h = let b = h.1 in starts_with false (mark marks.OpenBracket) b.0 b.1 front b.3 b.2 refl
 part_starts n g (p.call f at es) front h = starts_atom n false f h.0 h.1 front h.4 h.2
 part_starts n g (p.negate a) front h = absurd (omega (arith, h.0))
-part_starts n g (p.binary o a b) front h = absurd (omega (arith, h.0, level_low (operator o)))
-part_starts n g (p.and_also a b) front h = absurd (omega (arith, h.0, level_low and_also))
-part_starts n g (p.or_else a b) front h = absurd (omega (arith, h.0, level_low or_else))
-part_starts n g (p.send a b) front h = absurd (omega (arith, h.0, level_low send))
+part_starts n g (p.binary o a b) front h = absurd (omega (arith, h.0, level_low (Operator o)))
+part_starts n g (p.and_also a b) front h = absurd (omega (arith, h.0, level_low AndAlso))
+part_starts n g (p.or_else a b) front h = absurd (omega (arith, h.0, level_low OrElse))
+part_starts n g (p.send a b) front h = absurd (omega (arith, h.0, level_low Send))
 part_starts n g (p.match q a) front h = absurd (omega (arith, h.0))
 part_starts n g (p.case a bs) front h = let b = h.1 in starts_with false (reserved words.Case) b.0 b.1 front b.3 b.2 refl
 part_starts n g (p.if_expression bs) front h = let b = h.1 in starts_with false (reserved words.If) b.0 b.1 front b.3 b.2 refl
@@ -157,10 +159,10 @@ pattern_starts n (s.list_on qs q) front h = let b = h.1 in starts_with true (mar
 
 pub expression_starts : (n : TokenNames) (g : Bool) (e : Expr) (level : ℕ) (front : List NumberedToken) → Derives n g e level front → Starts true front
 expression_starts n g (p.negate a) level front h = let b = h.1 in starts_with true (mark marks.Minus) b.0 b.1 front b.3 b.2 refl
-expression_starts n g (p.binary o a b) level front h = let q = h.2 in starts_on true q.0 (q.1 ∷ q.2) front q.4 (expression_starts n g a (left_level (operator o)) q.0 q.5)
-expression_starts n g (p.and_also a b) level front h = let q = h.2 in starts_on true q.0 (q.1 ∷ q.2) front q.4 (expression_starts n g a (left_level and_also) q.0 q.5)
-expression_starts n g (p.or_else a b) level front h = let q = h.2 in starts_on true q.0 (q.1 ∷ q.2) front q.4 (expression_starts n g a (left_level or_else) q.0 q.5)
-expression_starts n g (p.send a b) level front h = let q = h.2 in starts_on true q.0 (q.1 ∷ q.2) front q.4 (expression_starts n g a (left_level send) q.0 q.5)
+expression_starts n g (p.binary o a b) level front h = let q = h.2 in starts_on true q.0 (q.1 ∷ q.2) front q.4 (expression_starts n g a (left_level (Operator o)) q.0 q.5)
+expression_starts n g (p.and_also a b) level front h = let q = h.2 in starts_on true q.0 (q.1 ∷ q.2) front q.4 (expression_starts n g a (left_level AndAlso) q.0 q.5)
+expression_starts n g (p.or_else a b) level front h = let q = h.2 in starts_on true q.0 (q.1 ∷ q.2) front q.4 (expression_starts n g a (left_level OrElse) q.0 q.5)
+expression_starts n g (p.send a b) level front h = let q = h.2 in starts_on true q.0 (q.1 ∷ q.2) front q.4 (expression_starts n g a (left_level Send) q.0 q.5)
 expression_starts n g (p.match q a) level front h = let b = h.1 in starts_on true b.0 (b.1 ∷ b.2) front b.4 (pattern_starts n q b.0 b.5)
 expression_starts n g (p.integer z) level front h = starts_more front (part_starts n g (p.integer z) front h)
 expression_starts n g e level front h = starts_more front (part_starts n g e front h)

@@ -3,17 +3,25 @@ use Rattle.std.specs.Prelude.{◌≡◌, ◌⊎◌, ℕ, ◌-◌, ◌≤◌, Boo
 use Rattle.pf_terms.specs.Atoms.{name_of}
 use Rattle.pf_tokens.specs.declared.marks.TokenMark.TheVariants as marks
 use Rattle.pf_tokens.specs.declared.words.Reserved.TheVariants as words
-use Rattle.pf_syntax.specs.Tree.{Operator, plus, minus, times, quotient, remainder, append, equal, unequal, less, at_most, greater, at_least, Builtin}
+use Rattle.pf_syntax.specs.declared.operator.Builtin.{Builtin}
+use Rattle.pf_syntax.specs.declared.operator.Operator.{Operator}
+use Rattle.pf_syntax.specs.declared.operator.Operator.TheVariants.{Plus, Minus, Times, Quotient, Remainder, Append, Equal, Unequal, Less, AtMost, Greater, AtLeast}
 use Rattle.pf_syntax.specs.ExprPattern as s
 use Rattle.pf_syntax.specs.ExprPattern.{ExprPattern, ExprPatterns, no_expr_patterns, expr_pattern, expr_patterns_depth}
 use Rattle.pf_syntax.specs.Expr as p
 use Rattle.pf_syntax.specs.Expr.{Expr, Exprs, Condition, Branches, no_exprs, expr, no_tests, tests, no_branches, branch, exprs_depth, condition_depth}
 use Rattle.pf_syntax.specs.SyntaxTree.{Export, Head}
 use Rattle.pf_syntax.specs.Naming.{arity_of}
-use Rattle.pf_syntax.specs.Forms.{builtin_named, appending, deciding, choosing, receiving, sending, calling, may_stand}
+use Rattle.pf_syntax.specs.Forms.{builtin_named, may_stand}
+use Rattle.pf_syntax.specs.declared.forms.Form.TheVariants.{Appending, Deciding, Choosing, Receiving, Sending, Calling}
 pub use Rattle.pf_syntax.specs.ExprModule.{Tree, tree_of, unguarded}
 use Rattle.pf_tokens.specs.declared.limits.TheConstants.{MOST_NAME_BYTES, MOST_TREE_DEPTH, MOST_TEXT_CHARACTERS}
 use Rattle.pf_tokens.specs.NumberedTokens.{NumberedKind, integer, atom, variable, anonymous, text, own_module, dot, mark, reserved, NumberedToken}
+use Rattle.pf_grammar.specs.declared.infix.Infix.{Infix}
+use Rattle.pf_grammar.specs.declared.infix.Infix.TheVariants as infixes
+use Rattle.pf_grammar.specs.declared.infix.Grouping.{Grouping}
+use Rattle.pf_grammar.specs.declared.infix.Grouping.TheVariants.{Leftwards, Rightwards, Alone}
+use Rattle.pf_grammar.specs.declared.infix.Binding.{Binding}
 
 -- what numbers in tokens stand for: the names of atoms, and the number of the module's own name
 pub record TokenNames : Type 0 where
@@ -58,64 +66,46 @@ IsWord n bytes t = (a : ℕ) × (t.kind ≡ atom a) × (name_of n.atoms a ≡ by
 
 -- ---- operators
 
--- what is between two operands
-pub data Infix : Type 0 where
-  operator : Operator → Infix
-  and_also : Infix
-  or_else : Infix
-  send : Infix
-
 -- the infix that a token is
 abbrev pub infix_of : NumberedKind → Option Infix
-infix_of (mark marks.Times) = Some (operator times)
-infix_of (reserved words.Div) = Some (operator quotient)
-infix_of (reserved words.Rem) = Some (operator remainder)
-infix_of (mark marks.Plus) = Some (operator plus)
-infix_of (mark marks.Minus) = Some (operator minus)
-infix_of (mark marks.Append) = Some (operator append)
-infix_of (mark marks.Equal) = Some (operator equal)
-infix_of (mark marks.ExactlyEqual) = Some (operator equal)
-infix_of (mark marks.Unequal) = Some (operator unequal)
-infix_of (mark marks.ExactlyUnequal) = Some (operator unequal)
-infix_of (mark marks.Less) = Some (operator less)
-infix_of (mark marks.AtMost) = Some (operator at_most)
-infix_of (mark marks.Greater) = Some (operator greater)
-infix_of (mark marks.AtLeast) = Some (operator at_least)
-infix_of (reserved words.Andalso) = Some and_also
-infix_of (reserved words.Orelse) = Some or_else
-infix_of (mark marks.Send) = Some send
+infix_of (mark marks.Times) = Some (infixes.Operator Times)
+infix_of (reserved words.Div) = Some (infixes.Operator Quotient)
+infix_of (reserved words.Rem) = Some (infixes.Operator Remainder)
+infix_of (mark marks.Plus) = Some (infixes.Operator Plus)
+infix_of (mark marks.Minus) = Some (infixes.Operator Minus)
+infix_of (mark marks.Append) = Some (infixes.Operator Append)
+infix_of (mark marks.Equal) = Some (infixes.Operator Equal)
+infix_of (mark marks.ExactlyEqual) = Some (infixes.Operator Equal)
+infix_of (mark marks.Unequal) = Some (infixes.Operator Unequal)
+infix_of (mark marks.ExactlyUnequal) = Some (infixes.Operator Unequal)
+infix_of (mark marks.Less) = Some (infixes.Operator Less)
+infix_of (mark marks.AtMost) = Some (infixes.Operator AtMost)
+infix_of (mark marks.Greater) = Some (infixes.Operator Greater)
+infix_of (mark marks.AtLeast) = Some (infixes.Operator AtLeast)
+infix_of (reserved words.Andalso) = Some infixes.AndAlso
+infix_of (reserved words.Orelse) = Some infixes.OrElse
+infix_of (mark marks.Send) = Some infixes.Send
 infix_of _ = None
-
--- how the infixes of a level group
-pub data Grouping : Type 0 where
-  leftwards : Grouping
-  rightwards : Grouping
-  alone : Grouping
-
--- how tightly an infix binds, and how it groups. Level 0 is a part that no infix opens, and 1 such a part after a minus
-pub record Binding : Type 0 where
-  pub level : ℕ
-  pub grouping : Grouping
 
 abbrev pub binding_at : ℕ → Grouping → Binding
 binding_at level grouping = record { level = level; grouping = grouping }
 
 abbrev pub binding_of : Infix → Binding
-binding_of (operator times) = binding_at 2 leftwards
-binding_of (operator quotient) = binding_at 2 leftwards
-binding_of (operator remainder) = binding_at 2 leftwards
-binding_of (operator plus) = binding_at 3 leftwards
-binding_of (operator minus) = binding_at 3 leftwards
-binding_of (operator append) = binding_at 4 rightwards
-binding_of (operator equal) = binding_at 5 alone
-binding_of (operator unequal) = binding_at 5 alone
-binding_of (operator less) = binding_at 5 alone
-binding_of (operator at_most) = binding_at 5 alone
-binding_of (operator greater) = binding_at 5 alone
-binding_of (operator at_least) = binding_at 5 alone
-binding_of and_also = binding_at 6 rightwards
-binding_of or_else = binding_at 7 rightwards
-binding_of send = binding_at 8 rightwards
+binding_of (infixes.Operator Times) = binding_at 2 Leftwards
+binding_of (infixes.Operator Quotient) = binding_at 2 Leftwards
+binding_of (infixes.Operator Remainder) = binding_at 2 Leftwards
+binding_of (infixes.Operator Plus) = binding_at 3 Leftwards
+binding_of (infixes.Operator Minus) = binding_at 3 Leftwards
+binding_of (infixes.Operator Append) = binding_at 4 Rightwards
+binding_of (infixes.Operator Equal) = binding_at 5 Alone
+binding_of (infixes.Operator Unequal) = binding_at 5 Alone
+binding_of (infixes.Operator Less) = binding_at 5 Alone
+binding_of (infixes.Operator AtMost) = binding_at 5 Alone
+binding_of (infixes.Operator Greater) = binding_at 5 Alone
+binding_of (infixes.Operator AtLeast) = binding_at 5 Alone
+binding_of infixes.AndAlso = binding_at 6 Rightwards
+binding_of infixes.OrElse = binding_at 7 Rightwards
+binding_of infixes.Send = binding_at 8 Rightwards
 
 abbrev pub level_of : Infix → ℕ
 level_of i = (binding_of i).level
@@ -130,11 +120,11 @@ element = 9
 
 -- the greatest level of the left operand, and of the right one: the infix's own on the side to which it groups
 abbrev pub greatest_left : Grouping → ℕ → ℕ
-greatest_left leftwards level = level
+greatest_left Leftwards level = level
 greatest_left _ level = level - 1
 
 abbrev pub greatest_right : Grouping → ℕ → ℕ
-greatest_right rightwards level = level
+greatest_right Rightwards level = level
 greatest_right _ level = level - 1
 
 abbrev pub left_level : Infix → ℕ
@@ -145,8 +135,8 @@ right_level i = greatest_right (binding_of i).grouping (level_of i)
 
 -- whether the infix is allowed, in a guard where the flag says so
 abbrev pub infix_stands : Bool → Infix → Bool
-infix_stands guard (operator append) = may_stand guard appending
-infix_stands guard send = may_stand guard sending
+infix_stands guard (infixes.Operator Append) = may_stand guard Appending
+infix_stands guard infixes.Send = may_stand guard Sending
 infix_stands guard _ = true
 
 -- the tokens are two operands with the infix between them
@@ -206,7 +196,7 @@ abbrev mutual
 -- whether a call of this name with this number of arguments is allowed: in a guard, of a pure built-in function alone
 abbrev pub named_stands : Option Builtin → Bool
 named_stands None = false
-named_stands (Some b) = may_stand true (calling b)
+named_stands (Some b) = may_stand true (Calling b)
 
 abbrev pub call_stands : TokenNames → Bool → ℕ → ℕ → Bool
 call_stands n false f arity = true
@@ -238,18 +228,18 @@ abbrev mutual
       (t : NumberedToken) × (more : List NumberedToken) × IsAtom n f t × (t.at ≡ at) × (ts ≡ t ∷ more)
       × IsTrue (call_stands n g f (arity_of es)) × Parenthesized (DerivesAll n g es) more
   Derives n g (p.negate e) level ts = (1 ≤ level) × Behind (mark marks.Minus) (Derives n g e 0) ts
-  Derives n g (p.binary o a b) level ts = Joined g (operator o) level (Derives n g a) (Derives n g b) ts
-  Derives n g (p.and_also a b) level ts = Joined g and_also level (Derives n g a) (Derives n g b) ts
-  Derives n g (p.or_else a b) level ts = Joined g or_else level (Derives n g a) (Derives n g b) ts
-  Derives n g (p.send a b) level ts = Joined g send level (Derives n g a) (Derives n g b) ts
+  Derives n g (p.binary o a b) level ts = Joined g (infixes.Operator o) level (Derives n g a) (Derives n g b) ts
+  Derives n g (p.and_also a b) level ts = Joined g infixes.AndAlso level (Derives n g a) (Derives n g b) ts
+  Derives n g (p.or_else a b) level ts = Joined g infixes.OrElse level (Derives n g a) (Derives n g b) ts
+  Derives n g (p.send a b) level ts = Joined g infixes.Send level (Derives n g a) (Derives n g b) ts
   Derives n g (p.match q e) level ts = (element ≤ level) × Apart (mark marks.Match) (DerivesExprPattern n q) (Derives n g e element) ts
   Derives n g (p.case e bs) level ts =
-      IsTrue (may_stand g deciding)
+      IsTrue (may_stand g Deciding)
       × Between (reserved words.Case) (reserved words.End) (Apart (reserved words.Of) (Derives n g e top) (DerivesBranches n false bs)) ts
   Derives n g (p.if_expression bs) level ts =
-      IsTrue (may_stand g choosing) × Between (reserved words.If) (reserved words.End) (DerivesBranches n true bs) ts
+      IsTrue (may_stand g Choosing) × Between (reserved words.If) (reserved words.End) (DerivesBranches n true bs) ts
   Derives n g (p.receive bs) level ts =
-      IsTrue (may_stand g receiving) × Between (reserved words.Receive) (reserved words.End) (DerivesBranches n false bs) ts
+      IsTrue (may_stand g Receiving) × Between (reserved words.Receive) (reserved words.End) (DerivesBranches n false bs) ts
 
   -- expressions with commas between them, or none
   pub DerivesAll : TokenNames → Bool → Exprs → List NumberedToken → Type 0

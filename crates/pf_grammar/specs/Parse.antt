@@ -13,8 +13,11 @@ use Rattle.pf_syntax.specs.Expr.{Expr, Exprs, Condition, Branches, no_exprs, exp
 use Rattle.pf_syntax.specs.SyntaxTree.{Export, Head}
 use Rattle.pf_tokens.specs.declared.limits.TheConstants.{MOST_NAME_BYTES, MOST_TREE_DEPTH, MOST_TEXT_CHARACTERS}
 use Rattle.pf_tokens.specs.NumberedTokens.{NumberedKind, integer, atom, variable, anonymous, text, own_module, dot, mark, reserved, NumberedToken}
-use Rattle.pf_syntax.specs.Forms.{deciding, choosing, receiving, may_stand}
-use Rattle.pf_grammar.specs.Grammar.{TokenNames, Infix, operator, and_also, or_else, send, infix_of, level_of, left_level, right_level, infix_stands, call_stands, top, unguarded, Tree}
+use Rattle.pf_syntax.specs.Forms.{may_stand}
+use Rattle.pf_syntax.specs.declared.forms.Form.TheVariants.{Deciding, Choosing, Receiving}
+use Rattle.pf_grammar.specs.Grammar.{TokenNames, infix_of, level_of, left_level, right_level, infix_stands, call_stands, top, unguarded, Tree}
+use Rattle.pf_grammar.specs.declared.infix.Infix.{Infix}
+use Rattle.pf_grammar.specs.declared.infix.Infix.TheVariants.{Operator, AndAlso, OrElse, Send}
 
 infixl 10 ◌>>=◌
 abbrev pub ◌>>=◌ : {A B : Type 0} → Option A → (A → Option B) → Option B
@@ -228,10 +231,10 @@ infix_ahead guard floor level [] = None
 infix_ahead guard floor level (t ∷ ts) = infix_of t.kind >>= λ i. if infix_fits guard floor level i then Some (i, ts) else None
 
 abbrev pub joined_exprs : Infix → Expr → Expr → Expr
-joined_exprs (operator o) a b = p.binary o a b
-joined_exprs and_also a b = p.and_also a b
-joined_exprs or_else a b = p.or_else a b
-joined_exprs send a b = p.send a b
+joined_exprs (Operator o) a b = p.binary o a b
+joined_exprs AndAlso a b = p.and_also a b
+joined_exprs OrElse a b = p.or_else a b
+joined_exprs Send a b = p.send a b
 
 -- a tree, where it is no deeper than the limit
 abbrev pub within : ℕ → Expr → List NumberedToken → Option (Expr × List NumberedToken)
@@ -355,9 +358,9 @@ abbrev pub receive_parse : Readers → Parse Expr
 receive_parse r ts = branches r false ts >>= λ bs. Some (p.receive bs.0, bs.1)
 
 abbrev pub reserved_parse : Readers → Bool → Parse Expr → Reserved → Parse Expr
-reserved_parse r guard inner words.Case ts = if may_stand guard deciding then case_of r inner ts else None
-reserved_parse r guard inner words.If ts = if may_stand guard choosing then if_of r ts else None
-reserved_parse r guard inner words.Receive ts = if may_stand guard receiving then receive_parse r ts else None
+reserved_parse r guard inner words.Case ts = if may_stand guard Deciding then case_of r inner ts else None
+reserved_parse r guard inner words.If ts = if may_stand guard Choosing then if_of r ts else None
+reserved_parse r guard inner words.Receive ts = if may_stand guard Receiving then receive_parse r ts else None
 reserved_parse r guard inner _ ts = None
 
 abbrev pub prim_kind : TokenNames → Readers → Bool → Parse Expr → NumberedKind → ℕ → Parse Expr

@@ -5,7 +5,6 @@ ghost use Rattle.pf_grammar.specs.Grammar.{binding_of, infix_of, infix_stands, l
 ghost use Rattle.pf_grammar.specs.Parse.{infix_fits};
 ghost use Rattle.pf_tokens.specs.NumberedTokens as NumberedTokens;
 ghost use Rattle.pf_tokens.specs.View.{kind_of};
-ghost use Rattle.pf_grammar.specs.View.{view_of_binding, view_of_infix};
 
 use pf_syntax::{Form, Operator, may_stand};
 use pf_tokens::{NumberedKind, Reserved, TokenMark};
@@ -27,7 +26,8 @@ pub enum Grouping {
     Alone,
 }
 
-/// How tightly an infix binds, and how it groups.
+/// How tightly an infix binds, and how it groups. Level 0 is a part that no infix opens, and 1 such a part after a
+/// minus.
 #[derive(Clone, Copy, Debug, PartialEq, Eq)]
 pub struct Binding {
     pub level: u32,
@@ -36,7 +36,7 @@ pub struct Binding {
 
 /// The infix that a mark is.
 fn mark_infix(mark: TokenMark) -> Option<Infix>
-    ensures { option_map view_of_infix result ≡ infix_of (NumberedTokens.mark mark) }
+    ensures { result ≡ infix_of (NumberedTokens.mark mark) }
 {
     match mark {
         TokenMark::Times => Some(Infix::Operator(Operator::Times)),
@@ -56,7 +56,7 @@ fn mark_infix(mark: TokenMark) -> Option<Infix>
 
 /// The infix that a kind of token is.
 pub fn infix_of(kind: NumberedKind<'_>) -> Option<Infix>
-    ensures { option_map view_of_infix result ≡ infix_of (kind_of kind.entry) }
+    ensures { result ≡ infix_of (kind_of kind.entry) }
 {
     match kind {
         NumberedKind::Mark(mark) => mark_infix(mark),
@@ -79,7 +79,7 @@ fn binds(level: u32, grouping: Grouping) -> Binding
 impl Infix {
     /// How tightly it binds, and how it groups. Level 1 is a part after a minus or not.
     pub fn binding(self) -> Binding
-        ensures { view_of_binding result ≡ binding_of (view_of_infix self) }
+        ensures { result ≡ binding_of self }
     {
         match self {
             Infix::Operator(Operator::Times) => binds(2, Grouping::Leftwards),
@@ -102,14 +102,14 @@ impl Infix {
 
     /// Its level.
     pub fn level(self) -> u32
-        ensures { result ≡ level_of (view_of_infix self) }
+        ensures { result ≡ level_of self }
     {
         self.binding().level
     }
 
     /// The greatest level of its left operand.
     pub fn left_level(self) -> u32
-        ensures { result ≡ left_level (view_of_infix self) }
+        ensures { result ≡ left_level self }
     {
         let binding = self.binding();
         match binding.grouping {
@@ -120,7 +120,7 @@ impl Infix {
 
     /// The greatest level of its right operand.
     pub fn right_level(self) -> u32
-        ensures { result ≡ right_level (view_of_infix self) }
+        ensures { result ≡ right_level self }
     {
         let binding = self.binding();
         match binding.grouping {
@@ -131,7 +131,7 @@ impl Infix {
 
     /// Whether it is allowed, in a guard where the flag says so.
     pub fn stands(self, guard: bool) -> bool
-        ensures { result ≡ infix_stands guard (view_of_infix self) }
+        ensures { result ≡ infix_stands guard self }
     {
         match self {
             Infix::Operator(Operator::Append) => may_stand(guard, Form::Appending),
@@ -142,7 +142,7 @@ impl Infix {
 
     /// Whether it is allowed after a left operand of the level `floor`, in an expression of this level.
     pub fn fits(self, guard: bool, floor: u32, level: u32) -> bool
-        ensures { result ≡ infix_fits guard floor level (view_of_infix self) }
+        ensures { result ≡ infix_fits guard floor level self }
     {
         self.stands(guard) && floor <= self.left_level() && self.level() <= level
     }

@@ -2,7 +2,8 @@
 use Rattle.std.proofs.Common.{◌≡◌, ℕ, ◌+◌, Some, refl, sym, ap, ◌∙◌, subst, arith}
 use Rattle.std.proofs.lemmas.Option.{slice_get_within}
 use Rattle.pf_syntax.specs.Pattern.{Pattern, Patterns, no_patterns, pattern}
-use Rattle.pf_syntax.specs.Tree.{Tree, Trees, Clauses, Guard, lit, no_trees, tree, Builtin, FunctionClause, Program}
+use Rattle.pf_syntax.specs.Tree.{Tree, Trees, Clauses, Guard, lit, no_trees, tree, FunctionClause, Program}
+use Rattle.pf_syntax.specs.declared.operator.Builtin.{Builtin}
 use Rattle.pf_syntax.specs.Expr.{Expr, Exprs, Condition, Branches}
 use Rattle.pf_syntax.specs.SyntaxTree.{Head}
 use Rattle.pf_syntax.specs.Scope.{Scope, no_scope, after_expr_pattern, after_expr_patterns, after, after_all}

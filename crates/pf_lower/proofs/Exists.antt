@@ -12,7 +12,8 @@ use Rattle.pf_syntax.specs.ExprPattern.{ExprPattern, ExprPatterns, no_expr_patte
 use Rattle.pf_syntax.specs.Expr as p
 use Rattle.pf_syntax.specs.Expr.{Expr, Exprs, Condition, Branches, no_exprs, expr, no_tests, tests, no_branches, branch}
 use Rattle.pf_syntax.specs.Tree as t
-use Rattle.pf_syntax.specs.Tree.{Builtin, Tree, Trees, Clauses, Guard, lit, var, no_trees, tree, no_clauses, clause, no_alternatives, alternative, Function, FunctionClause, Program}
+use Rattle.pf_syntax.specs.Tree.{Tree, Trees, Clauses, Guard, lit, var, no_trees, tree, no_clauses, clause, no_alternatives, alternative, Function, FunctionClause, Program}
+use Rattle.pf_syntax.specs.declared.operator.Builtin.{Builtin}
 use Rattle.pf_syntax.specs.SyntaxTree.{Export, Head}
 use Rattle.pf_syntax.specs.Scope.{Scope, no_scope, has, is_unsafe, is_new, after_expr_pattern, after_expr_patterns, after, after_all}
 use Rattle.pf_syntax.specs.Naming as w

@@ -3,8 +3,9 @@ use Rattle.std.proofs.Common.{◌≡◌, ℕ, zero, suc, Bool, true, false, List
 use Rattle.std.specs.Prelude.{ℤ, pos, ◌+ℤ◌, ◌-ℤ◌, ◌*ℤ◌, neg_ℤ, int_div, int_rem, Result, Ok, Err}
 use Rattle.pf_terms.specs.Value.{Value, Values, int, atom, tuple, list, none, more}
 use Rattle.pf_terms.specs.Fixed.{undef, badarg, badarith, system_limit}
-use Rattle.pf_syntax.specs.Tree as b
-use Rattle.pf_syntax.specs.Tree.{Operator, Builtin}
+use Rattle.pf_syntax.specs.declared.operator.Operator.{Operator}
+use Rattle.pf_syntax.specs.declared.operator.Operator.TheVariants as operators
+use Rattle.pf_syntax.specs.declared.operator.Builtin.{Builtin}
 use Rattle.pf_ops.specs.Arithmetic.{in_range, ranged, is_zero, negated}
 use Rattle.pf_ops.specs.Reasons.{fits_limits, pair, tagged}
 use Rattle.pf_ops.specs.Operations.{limited, on_integers, divided, appended, operated, values_before, consed, element_at, head_of, tail_of, list_length, element_of, tuple_length}
@@ -66,12 +67,12 @@ joined_another (list vs) (list ws) = limited_another (list (values_before vs ws)
 joined_another v w = badarg_another
 
 pub operated_another : (name : ℕ → List ℕ) (o : Operator) (v w : Value) → IsAnother (operated name o v w)
-operated_another name b.plus v w = on_integers_another _ (λ x y. ranged_another (x +ℤ y)) v w
-operated_another name b.minus v w = on_integers_another _ (λ x y. ranged_another (x -ℤ y)) v w
-operated_another name b.times v w = on_integers_another _ (λ x y. ranged_another (x *ℤ y)) v w
-operated_another name b.quotient v w = on_integers_another _ (divided_another int_div) v w
-operated_another name b.remainder v w = on_integers_another _ (divided_another int_rem) v w
-operated_another name b.append v w = joined_another v w
+operated_another name operators.Plus v w = on_integers_another _ (λ x y. ranged_another (x +ℤ y)) v w
+operated_another name operators.Minus v w = on_integers_another _ (λ x y. ranged_another (x -ℤ y)) v w
+operated_another name operators.Times v w = on_integers_another _ (λ x y. ranged_another (x *ℤ y)) v w
+operated_another name operators.Quotient v w = on_integers_another _ (divided_another int_div) v w
+operated_another name operators.Remainder v w = on_integers_another _ (divided_another int_rem) v w
+operated_another name operators.Append v w = joined_another v w
 operated_another name o v w = tt
 
 -- ---- built-in functions

@@ -3,7 +3,9 @@
 use Rattle.std.specs.Prelude.{◌≡◌, ℕ, List, [], ◌∷◌, Some}
 use Rattle.pf_terms.specs.Value.{Value, Values, none, more}
 use Rattle.pf_syntax.specs.Pattern.{Patterns}
-use Rattle.pf_syntax.specs.Tree.{Operator, Builtin, Tree, Trees, Clauses, lit, tuple, cons, op, neg, and_also, or_else, call, builtin, match, bind, case, send, no_trees, tree}
+use Rattle.pf_syntax.specs.Tree.{Tree, Trees, Clauses, lit, tuple, cons, op, neg, and_also, or_else, call, builtin, match, bind, case, send, no_trees, tree}
+use Rattle.pf_syntax.specs.declared.operator.Builtin.{Builtin}
+use Rattle.pf_syntax.specs.declared.operator.Operator.{Operator}
 use Rattle.pf_ops.specs.Reasons.{ending_reason}
 use Rattle.pf_model.specs.Module.{Module}
 use Rattle.pf_model.specs.Contraction.{Act, Change, Becomes, Raises, Exits, Asks, Awaits, contract}

@@ -8,7 +8,7 @@ use Rattle.pf_terms.specs.Fixed.{badarg}
 use Rattle.pf_terms.specs.Term.{value_of, values_of}
 use Rattle.pf_terms.specs.declared.term.Term.{Term}
 use Rattle.pf_terms.proofs.Counts.{length_count}
-use Rattle.pf_syntax.specs.Tree.{Builtin}
+use Rattle.pf_syntax.specs.declared.operator.Builtin.{Builtin}
 use Rattle.pf_ops.specs.Operations.{element_at, element_of, computed}
 
 nodes_pos : (v : Value) → 1 ≤ nodes v

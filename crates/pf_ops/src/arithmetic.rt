@@ -3,7 +3,6 @@
 ghost use Rattle.std.specs.Prelude.{◌≡◌, ℕ, List, int_div, int_rem};
 ghost use Rattle.pf_terms.specs.Value.{int};
 ghost use Rattle.pf_terms.specs.Term.{value_of};
-ghost use Rattle.pf_syntax.specs.Operators.{operator_of};
 ghost use Rattle.pf_ops.specs.Arithmetic as spec;
 ghost use Rattle.pf_ops.specs.Operations.{divided, operated};
 ghost use Rattle.pf_ops.specs.Results.{answer_of, result_of};
@@ -14,7 +13,7 @@ use pf_terms::{AtomId, Term};
 
 /// An operator on two integers. It takes no memory.
 pub fn on_integers(operator: Operator, x: i64, y: i64) -> Computed
-    ensures { (name : ℕ → List ℕ) → answer_of result ≡ operated name (operator_of operator) (int x) (int y) }
+    ensures { (name : ℕ → List ℕ) → answer_of result ≡ operated name operator (int x) (int y) }
 {
     match operator {
         Operator::Plus => match x.checked_add(y) {

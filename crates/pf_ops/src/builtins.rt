@@ -3,7 +3,6 @@
 ghost use Rattle.std.specs.Prelude.{◌≡◌, ℕ, option_map, slice_get, IfOk};
 ghost use Rattle.pf_terms.specs.Value.{count, int, more, none, tuple};
 ghost use Rattle.pf_terms.specs.Term.{elements_of, value_of, values_of};
-ghost use Rattle.pf_syntax.specs.Operators.{builtin_of};
 ghost use Rattle.pf_ops.specs.Operations as spec;
 ghost use Rattle.pf_ops.specs.Results.{answer_of};
 
@@ -110,7 +109,7 @@ fn element(number: &Term, value: &Term) -> Result<Computed, NoMemory>
 
 /// A built-in function of no argument, in the process of this pid.
 fn on_none(own: u32, builtin: Builtin) -> Option<Computed>
-    ensures { option_map answer_of result ≡ spec.computed own (builtin_of builtin) none }
+    ensures { option_map answer_of result ≡ spec.computed own builtin none }
 {
     match builtin {
         Builtin::SelfPid => Some(Ok(Term::Pid(own))),
@@ -121,7 +120,7 @@ fn on_none(own: u32, builtin: Builtin) -> Option<Computed>
 /// A built-in function of one argument.
 fn on_one(builtin: Builtin, value: &Term) -> Result<Option<Computed>, NoMemory>
     ensures { IfOk result (λ o. (own : ℕ) → option_map answer_of o
-        ≡ spec.computed own (builtin_of builtin) (more (value_of value.now) none)) }
+        ≡ spec.computed own builtin (more (value_of value.now) none)) }
 {
     match builtin {
         Builtin::Hd => Ok(Some(head(value)?)),
@@ -140,7 +139,7 @@ fn on_one(builtin: Builtin, value: &Term) -> Result<Option<Computed>, NoMemory>
 
 /// A built-in function of two arguments.
 fn on_two(builtin: Builtin, first: &Term, second: &Term) -> Result<Option<Computed>, NoMemory>
-    ensures { IfOk result (λ o. (own : ℕ) → option_map answer_of o ≡ spec.computed own (builtin_of builtin)
+    ensures { IfOk result (λ o. (own : ℕ) → option_map answer_of o ≡ spec.computed own builtin
         (more (value_of first.now) (more (value_of second.now) none))) }
 {
     match builtin {
@@ -153,7 +152,7 @@ fn on_two(builtin: Builtin, first: &Term, second: &Term) -> Result<Option<Comput
 /// the others, and for another number of arguments.
 pub fn compute(own: u32, builtin: Builtin, arguments: &[Term]) -> Result<Option<Computed>, NoMemory>
     ensures { IfOk result (λ o. option_map answer_of o
-        ≡ spec.computed own (builtin_of builtin) (values_of arguments.now)) }
+        ≡ spec.computed own builtin (values_of arguments.now)) }
 {
     match arguments {
         [] => Ok(on_none(own, builtin)),

@@ -5,7 +5,6 @@ ghost use Rattle.std.specs.Prelude.{◌≡◌, option_map, IfOk};
 ghost use Rattle.pf_terms.specs.Value.{tuple as tupled};
 ghost use Rattle.pf_terms.specs.Term.{value_of, values_of};
 ghost use Rattle.pf_terms.specs.Atoms.{name_of};
-ghost use Rattle.pf_syntax.specs.Operators.{builtin_of, operator_of};
 ghost use Rattle.pf_syntax.specs.Tree as tree;
 ghost use Rattle.pf_syntax.specs.Over.{guard_over, part_over, parts_over, tree_over};
 ghost use Rattle.pf_patterns.specs.Slots.{activation};
@@ -162,7 +161,7 @@ fn binary_worth(
     left: Operand,
     right: Operand,
 ) -> Result<Option<Term>, NoMemory>
-    ensures { IfOk result (λ o. option_map value_of o ≡ worth_in around.now (tree.op (operator_of operator)
+    ensures { IfOk result (λ o. option_map value_of o ≡ worth_in around.now (tree.op operator
         (part_over (tables_in around.now) left) (part_over (tables_in around.now) right))) }
 {
     let Some(a) = worth(alloc, around, left)? else {
@@ -224,7 +223,7 @@ fn builtin_worth(
     parts: &[Operand],
 ) -> Result<Option<Term>, NoMemory>
     ensures { IfOk result (λ o. option_map value_of o ≡ worth_in around.now
-        (tree.builtin (builtin_of builtin) (parts_over (tables_in around.now) parts.now))) }
+        (tree.builtin builtin (parts_over (tables_in around.now) parts.now))) }
 {
     match all_worth(alloc, around, parts)? {
         Some(items) => match compute(around.own, builtin, items.as_slice())? {

@@ -4,7 +4,6 @@ ghost use Rattle.std.specs.Prelude.{◌≡◌, IfOk};
 ghost use Rattle.pf_terms.specs.Term.{value_of};
 ghost use Rattle.pf_terms.specs.Atoms.{name_of};
 ghost use Rattle.pf_terms.specs.Order.{compare};
-ghost use Rattle.pf_syntax.specs.Operators.{operator_of};
 ghost use Rattle.pf_ops.specs.Operations.{is_less, operated};
 ghost use Rattle.pf_ops.specs.Results.{answer_of};
 
@@ -37,7 +36,7 @@ pub fn apply(
     atoms: &AtomTable,
 ) -> Result<Computed, NoMemory>
     ensures { IfOk result (λ r. answer_of r
-        ≡ operated (name_of atoms.now) (operator_of operator) (value_of a.now) (value_of b.now)) }
+        ≡ operated (name_of atoms.now) operator (value_of a.now) (value_of b.now)) }
 {
     match (a, b) {
         (Term::Int(x), Term::Int(y)) => Ok(on_integers(operator, *x, *y)),

@@ -3,6 +3,7 @@ use Rattle.std.specs.Prelude.{ℕ}
 use Rattle.pf_syntax.specs.Tree as t
 use Rattle.pf_positions.specs.declared.sign.Sign.{Sign}
 use Rattle.pf_positions.specs.declared.sign.Sign.TheVariants.{Receive, Case, If, AndAlso, OrElse, Send, Match, Name, Brace, Plus, Minus, Times, Quotient, Remainder, Append, Equal, Unequal, Less, AtMost, Greater, AtLeast, Unwritten}
+use Rattle.pf_syntax.specs.declared.operator.Operator.TheVariants as operators
 
 -- the number of a sign
 abbrev pub sign_number : Sign → ℕ
@@ -31,15 +32,15 @@ sign_number Unwritten = 21
 
 -- the sign of an operator
 abbrev pub operator_sign : t.Operator → Sign
-operator_sign t.plus = Plus
-operator_sign t.minus = Minus
-operator_sign t.times = Times
-operator_sign t.quotient = Quotient
-operator_sign t.remainder = Remainder
-operator_sign t.append = Append
-operator_sign t.equal = Equal
-operator_sign t.unequal = Unequal
-operator_sign t.less = Less
-operator_sign t.at_most = AtMost
-operator_sign t.greater = Greater
-operator_sign t.at_least = AtLeast
+operator_sign operators.Plus = Plus
+operator_sign operators.Minus = Minus
+operator_sign operators.Times = Times
+operator_sign operators.Quotient = Quotient
+operator_sign operators.Remainder = Remainder
+operator_sign operators.Append = Append
+operator_sign operators.Equal = Equal
+operator_sign operators.Unequal = Unequal
+operator_sign operators.Less = Less
+operator_sign operators.AtMost = AtMost
+operator_sign operators.Greater = Greater
+operator_sign operators.AtLeast = AtLeast

@@ -1,7 +1,6 @@
 //! The signs by which a source says where its nodes are.
 
 ghost use Rattle.std.specs.Prelude.{◌≡◌};
-ghost use Rattle.pf_syntax.specs.Operators.{operator_of};
 ghost use Rattle.pf_positions.specs.Signs.{sign_number, operator_sign};
 
 use pf_syntax::Operator;
@@ -77,7 +76,7 @@ impl Sign {
 
     /// The sign of an operator.
     pub(crate) fn of_operator(operator: Operator) -> Sign
-        ensures { result ≡ operator_sign (operator_of operator) }
+        ensures { result ≡ operator_sign operator }
     {
         match operator {
             Operator::Plus => Sign::Plus,

@@ -4,7 +4,8 @@ use Rattle.pf_syntax.specs.ExprPattern.{ExprPattern}
 use Rattle.pf_syntax.specs.Expr as p
 use Rattle.pf_syntax.specs.Expr.{Expr}
 use Rattle.pf_tokens.specs.NumberedTokens.{NumberedToken}
-use Rattle.pf_grammar.specs.Grammar.{Infix, TokenNames, level_of, right_level, top}
+use Rattle.pf_grammar.specs.Grammar.{TokenNames, level_of, right_level, top}
+use Rattle.pf_grammar.specs.declared.infix.Infix.{Infix}
 use Rattle.pf_grammar.specs.Parse.{Parse, infix_ahead, joined_exprs, within, more_step, more, unary, level_with, prim, parse_expr, element, element_step, match_ahead, pattern}
 
 -- ---- infixes

@@ -2,7 +2,6 @@
 
 ghost use Rattle.std.specs.Prelude.{◌≡◌, option_map};
 ghost use Rattle.pf_grammar.specs.Parse.{infix_ahead, joined_exprs};
-ghost use Rattle.pf_grammar.specs.View.{view_of_infix};
 ghost use Rattle.pf_syntax.specs.SyntaxTree.{expr_at, NodeTable};
 ghost use Rattle.pf_syntax.specs.SyntaxTreeOver.{expr_over, ExprPartsStand, ExprRepresents};
 ghost use Rattle.pf_reader.specs.View.{tokens_in};
@@ -13,7 +12,7 @@ use pf_syntax::{ExprId, ExprNode};
 
 /// The node of an infix and its operands.
 pub(crate) fn joined(joint: Infix, left: ExprId, right: ExprId) -> ExprNode
-    ensures meaning { (b : NodeTable) → expr_over b result ≡ joined_exprs (view_of_infix joint)
+    ensures meaning { (b : NodeTable) → expr_over b result ≡ joined_exprs joint
         (expr_at b left.0) (expr_at b right.0) }
     ensures stands { (b : NodeTable) → ExprRepresents b left → ExprRepresents b right
         → ExprPartsStand b result }
@@ -33,7 +32,7 @@ pub(crate) fn infix_ahead<'a, 't>(
     level: u32,
     tokens: Tokens<'a, 't>,
 ) -> Option<(Infix, Tokens<'a, 't>)>
-    ensures { option_map (λ x. (view_of_infix x.0, tokens_in x.1)) result ≡ infix_ahead guard floor level
+    ensures { option_map (λ x. (x.0, tokens_in x.1)) result ≡ infix_ahead guard floor level
         (tokens_in tokens.entry) }
 {
     let (first, rest) = tokens.first()?;

@@ -3,7 +3,6 @@
 ghost use Rattle.std.specs.Prelude.{IfOk};
 ghost use Rattle.pf_terms.specs.Atoms.{name_of};
 ghost use Rattle.pf_terms.specs.Term.{value_of};
-ghost use Rattle.pf_syntax.specs.Operators.{operator_of};
 ghost use Rattle.pf_ops.specs.Operations.{operated};
 ghost use Rattle.pf_ops.specs.Results.{answer_of, result_of};
 ghost use Rattle.pf_model.specs.Contraction.{worked_out};
@@ -50,7 +49,7 @@ fn operate(
     right: &Term,
 ) -> Result<Focus, NoMemory>
     ensures { IfOk result (λ x. IsOutcome (worked_out (operated (name_of code.now.atoms)
-        (operator_of operator) (value_of left.now) (value_of right.now))) x) }
+        operator (value_of left.now) (value_of right.now))) x) }
 {
     Ok(outcome(apply(alloc, operator, left, right, code.atoms())?))
 }

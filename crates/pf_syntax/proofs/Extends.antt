@@ -9,7 +9,6 @@ use Rattle.pf_terms.specs.Value.{Value, list, none}
 use Rattle.pf_syntax.specs.Pattern.{Pattern, any, tuple_of}
 use Rattle.pf_syntax.specs.Tree.{lit, tuple, call, builtin}
 use Rattle.pf_syntax.specs.Module.{Tables, literal_at, pattern_at, tree_at}
-use Rattle.pf_syntax.specs.Operators.{builtin_of}
 use Rattle.pf_syntax.specs.Over.{patterns_at, pattern_over, part_over, parts_over, alternatives_over, guard_from, guard_over, clauses_over, tree_over, function_clause_over, function_over, with_literal, with_pattern, with_tree}
 use Rattle.pf_syntax.specs.Within.{PatternRepresents, OperandRepresents, GuardRepresents, ClauseRepresents, PatternPartsStand, PartsStand, FunctionClauseRepresents, FunctionRepresents}
 use Rattle.pf_syntax.specs.declared.node.PatternId.{PatternId}
@@ -158,7 +157,7 @@ module _ (t u : Tables) (e : Extends t u) where
   tree_kept (does.AndAlso a b) h = let x = part_kept a h.0 in let y = part_kept b h.1 in cc
   tree_kept (does.OrElse a b) h = let x = part_kept a h.0 in let y = part_kept b h.1 in cc
   tree_kept (does.Call f ps) h = ap (call f.0) (parts_kept ps.items h)
-  tree_kept (does.Builtin f ps) h = ap (builtin (builtin_of f)) (parts_kept ps.items h)
+  tree_kept (does.Builtin f ps) h = ap (builtin f) (parts_kept ps.items h)
   tree_kept (does.Match ps a) h = let x = patterns_kept ps.items h.0 in let y = part_kept a h.1 in cc
   tree_kept (does.Bind ps a r) h = let x = patterns_kept ps.items h.0 in let y = part_kept a h.1 in let z = part_kept r h.2 in cc
   tree_kept (does.Case a cs) h = let x = part_kept a h.0 in let y = clauses_kept cs.items h.1 in cc

@@ -5,7 +5,8 @@ use Rattle.pf_terms.specs.Value.{int}
 use Rattle.pf_syntax.specs.Pattern.{Pattern, Patterns, new, slot, tuple_of, no_patterns, pattern}
 use Rattle.pf_syntax.specs.ExprPattern.{no_expr_patterns, expr_pattern}
 use Rattle.pf_syntax.specs.ExprPattern as s
-use Rattle.pf_syntax.specs.Tree.{Tree, plus, lit, var}
+use Rattle.pf_syntax.specs.Tree.{Tree, lit, var}
+use Rattle.pf_syntax.specs.declared.operator.Operator.TheVariants.{Plus}
 use Rattle.pf_syntax.specs.Tree as t
 use Rattle.pf_syntax.specs.Expr.{no_exprs, expr}
 use Rattle.pf_syntax.specs.Expr as p
@@ -66,9 +67,9 @@ x_is = n.variable x_seen 0 0 0 refl
 
 doubled_is : BodyIs atoms_alone no_scope doubled doubled_tree
 doubled_is =
-    let twice = p.binary plus x x in
-    let sum = t.op plus (var 0) (var 0) in
-    let rest = n.last x_seen twice no_patterns sum (n.plain x_seen twice sum (n.binary x_seen plus x x (var 0) (var 0) x_is x_is)) in
+    let twice = p.binary Plus x x in
+    let sum = t.op Plus (var 0) (var 0) in
+    let rest = n.last x_seen twice no_patterns sum (n.plain x_seen twice sum (n.binary x_seen Plus x x (var 0) (var 0) x_is x_is)) in
     n.before no_scope (p.match x_expr_pattern one_expr) (expr twice no_exprs) (pattern new no_patterns) a_one sum x_is_one rest
 
 both_are : n.ExprPatternsAre atoms_alone x_seen (expr_pattern x_expr_pattern (expr_pattern y_expr_pattern no_expr_patterns)) (pattern (slot 0) (pattern new no_patterns))

@@ -1,6 +1,6 @@
 -- Expressions of the surface syntax, before the static rules.
 use Rattle.std.specs.Prelude.{ℕ, ◌+◌, max, ℤ, List}
-use Rattle.pf_syntax.specs.Tree.{Operator}
+use Rattle.pf_syntax.specs.declared.operator.Operator.{Operator}
 use Rattle.pf_syntax.specs.ExprPattern.{ExprPattern, expr_pattern_size, expr_pattern_depth}
 
 mutual

@@ -2,7 +2,6 @@ pub mod Pattern
 pub mod Tree
 pub mod Numbers
 pub mod Encoding
-pub mod Operators
 pub mod Module
 pub mod Root
 pub mod Over
@@ -20,4 +19,3 @@ pub mod Scope
 pub mod Naming
 pub mod Worked
 pub mod Forms
-pub mod FormView

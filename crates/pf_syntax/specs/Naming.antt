@@ -8,7 +8,9 @@ use Rattle.pf_syntax.specs.ExprPattern.{ExprPattern, ExprPatterns, no_expr_patte
 use Rattle.pf_syntax.specs.Expr as p
 use Rattle.pf_syntax.specs.Expr.{Expr, Exprs, Condition, Branches, no_exprs, expr, no_tests, tests, no_branches, branch}
 use Rattle.pf_syntax.specs.Tree as t
-use Rattle.pf_syntax.specs.Tree.{Operator, Builtin, Tree, Trees, Clauses, Guard, lit, var, no_trees, tree, no_clauses, clause, no_alternatives, alternative, FunctionClause}
+use Rattle.pf_syntax.specs.Tree.{Tree, Trees, Clauses, Guard, lit, var, no_trees, tree, no_clauses, clause, no_alternatives, alternative, FunctionClause}
+use Rattle.pf_syntax.specs.declared.operator.Builtin.{Builtin}
+use Rattle.pf_syntax.specs.declared.operator.Operator.{Operator}
 use Rattle.pf_syntax.specs.SyntaxTree.{Head}
 use Rattle.pf_syntax.specs.Scope.{Scope, no_scope, is_new, after_expr_pattern, after_expr_patterns, after, after_all}
 

@@ -3,7 +3,6 @@ use Rattle.std.specs.Prelude.{List, [], ◌∷◌, ◌++◌, map}
 use Rattle.pf_terms.specs.Value.{Value, int, atom, list, none}
 use Rattle.pf_syntax.specs.Pattern.{Pattern, Patterns, any, new, slot, known, tuple_of, cons_of, never, no_patterns, pattern}
 use Rattle.pf_syntax.specs.Tree.{Tree, Trees, Clauses, Guard, lit, var, tuple, cons, op, neg, and_also, or_else, call, builtin, match, bind, case, if_expression, receive, send, no_trees, tree, no_clauses, clause, no_alternatives, alternative, no_guard, Function, FunctionClause}
-use Rattle.pf_syntax.specs.Operators.{operator_of, builtin_of}
 use Rattle.pf_syntax.specs.Module.{Tables, Checked, literal_at, pattern_at, tree_at}
 use Rattle.pf_syntax.specs.declared.node.PatternId.{PatternId}
 use Rattle.pf_syntax.specs.declared.node.Operand.{Operand}
@@ -77,12 +76,12 @@ clauses_over t (c ∷ cs) = clause (pattern_at t c.pattern.0) (guard_over t c.gu
 abbrev pub tree_over : Tables → Node → Tree
 tree_over t (does.Tuple ps) = tuple (parts_over t ps.items)
 tree_over t (does.Cons a b) = cons (part_over t a) (part_over t b)
-tree_over t (does.Binary o a b) = op (operator_of o) (part_over t a) (part_over t b)
+tree_over t (does.Binary o a b) = op o (part_over t a) (part_over t b)
 tree_over t (does.Negate a) = neg (part_over t a)
 tree_over t (does.AndAlso a b) = and_also (part_over t a) (part_over t b)
 tree_over t (does.OrElse a b) = or_else (part_over t a) (part_over t b)
 tree_over t (does.Call f ps) = call f.0 (parts_over t ps.items)
-tree_over t (does.Builtin f ps) = builtin (builtin_of f) (parts_over t ps.items)
+tree_over t (does.Builtin f ps) = builtin f (parts_over t ps.items)
 tree_over t (does.Match ps a) = match (patterns_at t ps.items) (part_over t a)
 tree_over t (does.Bind ps a r) = bind (patterns_at t ps.items) (part_over t a) (part_over t r)
 tree_over t (does.Case a cs) = case (part_over t a) (clauses_over t cs.items)

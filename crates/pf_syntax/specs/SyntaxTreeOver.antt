@@ -5,7 +5,6 @@ use Rattle.pf_syntax.specs.ExprPattern.{ExprPattern, ExprPatterns, no_expr_patte
 use Rattle.pf_syntax.specs.ExprPattern as s
 use Rattle.pf_syntax.specs.Expr.{Expr, Exprs, Condition, Branches, no_exprs, expr, no_tests, tests, no_branches, branch, exprs_size, exprs_depth, condition_size, condition_depth}
 use Rattle.pf_syntax.specs.Expr as p
-use Rattle.pf_syntax.specs.Operators.{operator_of}
 use Rattle.pf_syntax.specs.SyntaxTree.{NodeTable, ExprArena, Export, Head, expr_pattern_at, expr_at}
 use Rattle.pf_syntax.specs.declared.expr.ExprPatternId.{ExprPatternId}
 use Rattle.pf_syntax.specs.declared.expr.ExprId.{ExprId}
@@ -71,7 +70,7 @@ expr_over b (says.Tuple es) = p.tuple (exprs_at b es.items)
 expr_over b (says.List es) = p.list (exprs_at b es.items)
 expr_over b (says.ListOn es t) = p.list_on (exprs_at b es.items) (expr_at b t.0)
 expr_over b (says.Call w es) = p.call w.name.0 w.offset (exprs_at b es.items)
-expr_over b (says.Binary o l r) = p.binary (operator_of o) (expr_at b l.0) (expr_at b r.0)
+expr_over b (says.Binary o l r) = p.binary o (expr_at b l.0) (expr_at b r.0)
 expr_over b (says.Negate e) = p.negate (expr_at b e.0)
 expr_over b (says.AndAlso l r) = p.and_also (expr_at b l.0) (expr_at b r.0)
 expr_over b (says.OrElse l r) = p.or_else (expr_at b l.0) (expr_at b r.0)

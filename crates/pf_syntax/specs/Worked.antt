@@ -7,7 +7,8 @@ use Rattle.pf_syntax.specs.ExprPattern.{ExprPattern, no_expr_patterns, expr_patt
 use Rattle.pf_syntax.specs.Expr as p
 use Rattle.pf_syntax.specs.Expr.{Expr, Exprs, no_exprs, expr, no_tests, tests, no_branches, branch}
 use Rattle.pf_syntax.specs.Tree as t
-use Rattle.pf_syntax.specs.Tree.{Tree, plus, lit, var, no_trees, tree}
+use Rattle.pf_syntax.specs.Tree.{Tree, lit, var, no_trees, tree}
+use Rattle.pf_syntax.specs.declared.operator.Operator.TheVariants.{Plus}
 use Rattle.pf_syntax.specs.Scope.{no_scope}
 use Rattle.pf_syntax.specs.Naming.{Names, BodyIs}
 
@@ -30,10 +31,10 @@ one_expr = p.integer (pos 1)
 
 -- X = 1, X + X
 abbrev pub doubled : Exprs
-doubled = expr (p.match x_expr_pattern one_expr) (expr (p.binary plus x x) no_exprs)
+doubled = expr (p.match x_expr_pattern one_expr) (expr (p.binary Plus x x) no_exprs)
 
 abbrev pub doubled_tree : Tree
-doubled_tree = t.bind (pattern new no_patterns) (lit (int (pos 1))) (t.op plus (var 0) (var 0))
+doubled_tree = t.bind (pattern new no_patterns) (lit (int (pos 1))) (t.op Plus (var 0) (var 0))
 
 -- {X, Y} = X = 1: X is before the outer pattern, in which it is bound
 abbrev pub chained : Exprs

@@ -2,8 +2,8 @@
 
 ghost use Rattle.std.specs.Prelude.{◌≡◌, false, map, option_map, true};
 ghost use Rattle.std.specs.Option.{option_map_or};
-ghost use Rattle.pf_syntax.specs.Operators.{builtin_of};
 ghost use Rattle.pf_syntax.specs.Forms as forms;
+ghost use Rattle.pf_syntax.specs.declared.forms.Form.TheVariants as form;
 
 use crate::Builtin;
 use crate::forms::{Form, may_stand};
@@ -41,13 +41,13 @@ const BUILTINS: [(&str, u64, Builtin); 27] = [
 
 /// The built-in function of this name that takes this number of arguments.
 pub fn builtin_named(name: &[u8], arity: u64) -> Option<Builtin>
-    ensures { option_map builtin_of result ≡ forms.builtin_named name.now arity }
+    ensures { result ≡ forms.builtin_named name.now arity }
 {
     named_in(&BUILTINS, name, arity)
 }
 
 fn named_in(table: &[(&str, u64, Builtin)], name: &[u8], arity: u64) -> Option<Builtin>
-    ensures { option_map builtin_of result ≡ forms.named_in name.now arity (map (λ b. forms.row b.0.now b.1 (builtin_of b.2)) table.now) }
+    ensures { result ≡ forms.named_in name.now arity (map (λ b. forms.row b.0.now b.1 b.2) table.now) }
 {
     for row in table {
         if row.0.as_bytes() == name && row.1 == arity {
@@ -59,7 +59,7 @@ fn named_in(table: &[(&str, u64, Builtin)], name: &[u8], arity: u64) -> Option<B
 
 /// Whether a built-in function only looks at its arguments, or gives the own pid.
 pub fn is_pure(builtin: Builtin) -> bool
-    ensures { result ≡ forms.is_pure (builtin_of builtin) }
+    ensures { result ≡ forms.is_pure builtin }
 {
     match builtin {
         Builtin::SelfPid
@@ -94,7 +94,7 @@ pub fn is_pure(builtin: Builtin) -> bool
 
 /// Whether a guard may call a function of this name with this number of arguments: a built-in one, and pure.
 pub fn guard_may_call(name: &[u8], arity: u64) -> bool
-    ensures { result ≡ option_map_or (λ b. forms.may_stand true (forms.calling b)) (forms.builtin_named name.now arity) false }
+    ensures { result ≡ option_map_or (λ b. forms.may_stand true (form.Calling b)) (forms.builtin_named name.now arity) false }
 {
     match builtin_named(name, arity) {
         Some(builtin) => may_stand(true, Form::Calling(builtin)),

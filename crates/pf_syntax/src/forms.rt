@@ -2,7 +2,6 @@
 
 ghost use Rattle.std.specs.Prelude.{◌≡◌};
 ghost use Rattle.pf_syntax.specs.Forms as forms;
-ghost use Rattle.pf_syntax.specs.FormView.{form_of};
 
 use crate::Builtin;
 use crate::builtins::is_pure;
@@ -26,7 +25,7 @@ pub enum Form {
 
 /// Whether this form is allowed in a guard, or else in a body, which holds all of them.
 pub fn may_stand(guard: bool, form: Form) -> bool
-    ensures { result ≡ forms.may_stand guard (form_of form) }
+    ensures { result ≡ forms.may_stand guard form }
 {
     match form {
         Form::Calling(builtin) if guard => is_pure(builtin),

@@ -9,8 +9,9 @@ use Rattle.pf_ops.specs.Reasons.{no_match, no_case}
 use Rattle.pf_patterns.specs.Fit.{ValueScope, fit}
 use Rattle.pf_patterns.specs.Substitution.{sub, sub_patterns}
 use Rattle.pf_syntax.specs.Pattern.{Patterns, no_patterns, pattern}
-use Rattle.pf_syntax.specs.Tree.{Tree, Clauses, Builtin, Function, lit, var, tuple, cons, op, neg, and_also, or_else, call, builtin, match, bind, case, if_expression, receive, send}
-use Rattle.pf_syntax.specs.Tree as b
+use Rattle.pf_syntax.specs.Tree.{Tree, Clauses, Function, lit, var, tuple, cons, op, neg, and_also, or_else, call, builtin, match, bind, case, if_expression, receive, send}
+use Rattle.pf_syntax.specs.declared.operator.Builtin.{Builtin}
+use Rattle.pf_syntax.specs.declared.operator.Builtin.TheVariants as builtins
 use Rattle.pf_model.specs.Module.{Module}
 use Rattle.pf_model.specs.Contraction.{Change, Becomes, Raises, Exits, Asks, Awaits, worked_out, picked, picked_by_all, body_or_raise, entered, fits_or, matches_left, matched, bound, decided, computed_or_undefined, called, as_value, as_values, with_both, contract}
 use Rattle.pf_model.specs.Context.{Frame, IsRedexIn, fill, moved, awaits, Moves, at_value, at_index}
@@ -67,21 +68,21 @@ computed_goes None = tt
 computed_goes (Some r) = worked_out_goes r
 
 called_goes : (own : ℕ) (f : Builtin) (vs : Values) → NoWait (called own f vs)
-called_goes own b.exit (more v none) = tt
-called_goes own b.spawn (more m (more f (more vs none))) = tt
-called_goes own b.spawn_link (more m (more f (more vs none))) = tt
-called_goes own b.link (more p none) = tt
-called_goes own b.unlink (more p none) = tt
-called_goes own b.monitor (more k (more p none)) = tt
-called_goes own b.demonitor (more r none) = tt
-called_goes own b.exit_other (more p (more r none)) = tt
-called_goes own b.process_flag (more k (more v none)) = tt
-called_goes own b.register (more n (more p none)) = tt
-called_goes own b.unregister (more n none) = tt
-called_goes own b.whereis (more n none) = tt
-called_goes own b.make_ref none = tt
-called_goes own b.spawn_monitor (more m (more f (more vs none))) = tt
-called_goes own b.demonitor_with (more r (more o none)) = tt
+called_goes own builtins.Exit (more v none) = tt
+called_goes own builtins.Spawn (more m (more f (more vs none))) = tt
+called_goes own builtins.SpawnLink (more m (more f (more vs none))) = tt
+called_goes own builtins.Link (more p none) = tt
+called_goes own builtins.Unlink (more p none) = tt
+called_goes own builtins.Monitor (more k (more p none)) = tt
+called_goes own builtins.Demonitor (more r none) = tt
+called_goes own builtins.ExitOther (more p (more r none)) = tt
+called_goes own builtins.ProcessFlag (more k (more v none)) = tt
+called_goes own builtins.Register (more n (more p none)) = tt
+called_goes own builtins.Unregister (more n none) = tt
+called_goes own builtins.Whereis (more n none) = tt
+called_goes own builtins.MakeRef none = tt
+called_goes own builtins.SpawnMonitor (more m (more f (more vs none))) = tt
+called_goes own builtins.DemonitorWith (more r (more o none)) = tt
 called_goes own f vs = computed_goes (computed own f vs)
 
 module _ (m : Module) (own : ℕ) where

@@ -4,8 +4,10 @@ use Rattle.pf_terms.specs.Value.{int, atom, list, none, more}
 use Rattle.pf_terms.specs.Atoms.{fixed_names}
 use Rattle.pf_syntax.specs.Pattern.{Patterns, any, new, slot, known, tuple_of, no_patterns, pattern}
 use Rattle.pf_syntax.specs.Tree as b
-use Rattle.pf_syntax.specs.Tree.{Tree, Guard, Function, FunctionClause, lit, var, tuple, cons, op, neg, and_also, call, builtin, bind, case, if_expression, receive, send, no_trees, tree, no_clauses, clause, no_alternatives, alternative, no_guard, plus, minus, times, quotient, remainder, append, equal, greater}
+use Rattle.pf_syntax.specs.Tree.{Tree, Guard, Function, FunctionClause, lit, var, tuple, cons, op, neg, and_also, call, builtin, bind, case, if_expression, receive, send, no_trees, tree, no_clauses, clause, no_alternatives, alternative, no_guard}
+use Rattle.pf_syntax.specs.declared.operator.Operator.TheVariants.{Plus, Minus, Times, Quotient, Remainder, Append, Equal, Greater}
 use Rattle.pf_model.specs.Module.{Module}
+use Rattle.pf_syntax.specs.declared.operator.Builtin.TheVariants as builtins
 
 abbrev pub of_clause : Patterns → Guard → Tree → FunctionClause
 of_clause ps g t = record { parameters = ps; guard = g; body = t }
@@ -22,7 +24,7 @@ sum_and_product =
       functions =
           of_function 22 0 true (
           of_clause no_patterns no_guard
-          (op plus (lit (int (pos 1))) (op times (lit (int (pos 2))) (lit (int (pos 3))))) ∷ [])
+          (op Plus (lit (int (pos 1))) (op Times (lit (int (pos 2))) (lit (int (pos 3))))) ∷ [])
           ∷ [];
     }
 
@@ -36,7 +38,7 @@ message_to_itself =
       functions =
           of_function 22 0 true (
           of_clause no_patterns no_guard
-          (bind no_patterns (send (builtin b.self no_trees) (lit (atom 24))) (receive (clause (known (atom
+          (bind no_patterns (send (builtin builtins.SelfPid no_trees) (lit (atom 24))) (receive (clause (known (atom
           24)) no_guard (lit (atom 25)) no_clauses))) ∷ [])
           ∷ [];
     }
@@ -65,8 +67,8 @@ out_of_order =
       functions =
           of_function 22 0 true (
           of_clause no_patterns no_guard
-          (bind (pattern new no_patterns) (builtin b.spawn (tree (lit (atom 21)) (tree (lit (atom 23))
-          (tree (cons (builtin b.self no_trees) (lit (list none))) no_trees)))) (bind no_patterns (send
+          (bind (pattern new no_patterns) (builtin builtins.Spawn (tree (lit (atom 21)) (tree (lit (atom 23))
+          (tree (cons (builtin builtins.SelfPid no_trees) (lit (list none))) no_trees)))) (bind no_patterns (send
           (var 0) (lit (atom 26))) (bind no_patterns (send (var 0) (lit (atom 27))) (receive (clause
           (known (atom 28)) no_guard (lit (atom 0)) no_clauses))))) ∷ [])
           ∷ of_function 23 1 true (
@@ -88,9 +90,9 @@ two_senders =
       functions =
           of_function 22 0 true (
           of_clause no_patterns no_guard
-          (bind (pattern new no_patterns) (builtin b.self no_trees) (bind no_patterns (builtin b.spawn
+          (bind (pattern new no_patterns) (builtin builtins.SelfPid no_trees) (bind no_patterns (builtin builtins.Spawn
           (tree (lit (atom 21)) (tree (lit (atom 23)) (tree (cons (var 0) (cons (lit (atom 27)) (lit
-          (list none)))) no_trees)))) (bind no_patterns (builtin b.spawn (tree (lit (atom 21)) (tree
+          (list none)))) no_trees)))) (bind no_patterns (builtin builtins.Spawn (tree (lit (atom 21)) (tree
           (lit (atom 23)) (tree (cons (var 0) (cons (lit (atom 28)) (lit (list none)))) no_trees))))
           (tuple (tree (call 2 no_trees) (tree (call 2 no_trees) (tree (call 2 no_trees) (tree (call 2
           no_trees) no_trees)))))))) ∷ [])
@@ -113,7 +115,7 @@ past_64_bits =
       functions =
           of_function 22 0 true (
           of_clause no_patterns no_guard
-          (op plus (lit (int (pos 9223372036854775807))) (lit (int (pos 1)))) ∷ [])
+          (op Plus (lit (int (pos 9223372036854775807))) (lit (int (pos 1)))) ∷ [])
           ∷ [];
     }
 
@@ -126,7 +128,7 @@ below_zero =
       functions =
           of_function 22 0 true (
           of_clause no_patterns no_guard
-          (tuple (tree (op quotient (neg (lit (int (pos 7)))) (lit (int (pos 2)))) (tree (op remainder
+          (tuple (tree (op Quotient (neg (lit (int (pos 7)))) (lit (int (pos 2)))) (tree (op Remainder
           (neg (lit (int (pos 7)))) (lit (int (pos 2)))) no_trees))) ∷ [])
           ∷ [];
     }
@@ -142,13 +144,13 @@ kill_by_a_link =
       functions =
           of_function 22 0 true (
           of_clause no_patterns no_guard
-          (bind no_patterns (builtin b.process_flag (tree (lit (atom 18)) (tree (lit (atom 0)) no_trees)))
-          (bind (pattern new no_patterns) (builtin b.spawn_link (tree (lit (atom 21)) (tree (lit (atom
+          (bind no_patterns (builtin builtins.ProcessFlag (tree (lit (atom 18)) (tree (lit (atom 0)) no_trees)))
+          (bind (pattern new no_patterns) (builtin builtins.SpawnLink (tree (lit (atom 21)) (tree (lit (atom
           23)) (tree (lit (list none)) no_trees)))) (receive (clause (tuple_of (pattern (known (atom 8))
           (pattern (slot 0) (pattern new no_patterns)))) no_guard (var 1) no_clauses)))) ∷ [])
           ∷ of_function 23 0 true (
           of_clause no_patterns no_guard
-          (builtin b.exit (tree (lit (atom 4)) no_trees)) ∷ [])
+          (builtin builtins.Exit (tree (lit (atom 4)) no_trees)) ∷ [])
           ∷ [];
     }
 
@@ -163,15 +165,15 @@ killed_by_exit =
       functions =
           of_function 22 0 true (
           of_clause no_patterns no_guard
-          (bind (pattern new no_patterns) (builtin b.spawn (tree (lit (atom 21)) (tree (lit (atom 23))
-          (tree (lit (list none)) no_trees)))) (bind no_patterns (builtin b.monitor (tree (lit (atom 7))
-          (tree (var 0) no_trees))) (bind no_patterns (builtin b.exit_other (tree (var 0) (tree (lit
+          (bind (pattern new no_patterns) (builtin builtins.Spawn (tree (lit (atom 21)) (tree (lit (atom 23))
+          (tree (lit (list none)) no_trees)))) (bind no_patterns (builtin builtins.Monitor (tree (lit (atom 7))
+          (tree (var 0) no_trees))) (bind no_patterns (builtin builtins.ExitOther (tree (var 0) (tree (lit
           (atom 4)) no_trees))) (receive (clause (tuple_of (pattern (known (atom 9)) (pattern any
           (pattern (known (atom 7)) (pattern (slot 0) (pattern new no_patterns)))))) no_guard (var 1)
           no_clauses))))) ∷ [])
           ∷ of_function 23 0 true (
           of_clause no_patterns no_guard
-          (bind no_patterns (builtin b.process_flag (tree (lit (atom 18)) (tree (lit (atom 0)) no_trees)))
+          (bind no_patterns (builtin builtins.ProcessFlag (tree (lit (atom 18)) (tree (lit (atom 0)) no_trees)))
           (receive (clause (known (atom 28)) no_guard (lit (atom 28)) no_clauses))) ∷ [])
           ∷ [];
     }
@@ -188,9 +190,9 @@ watched_twice =
       functions =
           of_function 22 0 true (
           of_clause no_patterns no_guard
-          (bind (pattern new no_patterns) (builtin b.spawn (tree (lit (atom 21)) (tree (lit (atom 24))
-          (tree (lit (list none)) no_trees)))) (bind no_patterns (call 1 (tree (builtin b.monitor (tree
-          (lit (atom 7)) (tree (var 0) no_trees))) no_trees)) (call 1 (tree (builtin b.monitor (tree
+          (bind (pattern new no_patterns) (builtin builtins.Spawn (tree (lit (atom 21)) (tree (lit (atom 24))
+          (tree (lit (list none)) no_trees)))) (bind no_patterns (call 1 (tree (builtin builtins.Monitor (tree
+          (lit (atom 7)) (tree (var 0) no_trees))) no_trees)) (call 1 (tree (builtin builtins.Monitor (tree
           (lit (atom 7)) (tree (var 0) no_trees))) no_trees)))) ∷ [])
           ∷ of_function 23 1 true (
           of_clause (pattern new no_patterns) no_guard
@@ -213,9 +215,9 @@ watched_no_more =
       functions =
           of_function 22 0 true (
           of_clause no_patterns no_guard
-          (bind (pattern new no_patterns) (builtin b.spawn (tree (lit (atom 21)) (tree (lit (atom 23))
-          (tree (lit (list none)) no_trees)))) (bind (pattern new no_patterns) (builtin b.monitor (tree
-          (lit (atom 7)) (tree (var 0) no_trees))) (bind no_patterns (builtin b.demonitor (tree (var 1)
+          (bind (pattern new no_patterns) (builtin builtins.Spawn (tree (lit (atom 21)) (tree (lit (atom 23))
+          (tree (lit (list none)) no_trees)))) (bind (pattern new no_patterns) (builtin builtins.Monitor (tree
+          (lit (atom 7)) (tree (var 0) no_trees))) (bind no_patterns (builtin builtins.Demonitor (tree (var 1)
           no_trees)) (receive (clause (tuple_of (pattern (known (atom 9)) (pattern (slot 1) (pattern any
           (pattern any (pattern any no_patterns)))))) no_guard (lit (atom 27)) no_clauses))))) ∷ [])
           ∷ of_function 23 0 true (
@@ -289,7 +291,7 @@ strings =
       functions =
           of_function 22 0 true (
           of_clause no_patterns no_guard
-          (op append (lit (list (more (int (pos 97)) (more (int (pos 98)) none)))) (lit (list (more (int
+          (op Append (lit (list (more (int (pos 97)) (more (int (pos 98)) none)))) (lit (list (more (int
           (pos 99)) none)))) ∷ [])
           ∷ [];
     }
@@ -322,10 +324,10 @@ clauses =
           (call 1 (tree (lit (int (pos 3))) no_trees)) ∷ [])
           ∷ of_function 23 1 true (
           of_clause (pattern (known (int (pos 0))) no_patterns) no_guard
-          (lit (atom 24)) ∷ of_clause (pattern new no_patterns) (alternative (tree (builtin b.hd (tree
-          (var 0) no_trees)) no_trees) (alternative (tree (op greater (var 0) (lit (int (pos 2))))
+          (lit (atom 24)) ∷ of_clause (pattern new no_patterns) (alternative (tree (builtin builtins.Hd (tree
+          (var 0) no_trees)) no_trees) (alternative (tree (op Greater (var 0) (lit (int (pos 2))))
           no_trees) no_alternatives))
-          (call 1 (tree (op minus (var 0) (lit (int (pos 3)))) no_trees)) ∷ of_clause (pattern any
+          (call 1 (tree (op Minus (var 0) (lit (int (pos 3)))) no_trees)) ∷ of_clause (pattern any
           no_patterns) no_guard
           (lit (atom 26)) ∷ [])
           ∷ [];
@@ -342,7 +344,7 @@ to_an_ended_process =
       functions =
           of_function 22 0 true (
           of_clause no_patterns no_guard
-          (bind (pattern new no_patterns) (builtin b.spawn (tree (lit (atom 21)) (tree (lit (atom 23))
+          (bind (pattern new no_patterns) (builtin builtins.Spawn (tree (lit (atom 21)) (tree (lit (atom 23))
           (tree (lit (list none)) no_trees)))) (bind no_patterns (send (var 0) (lit (atom 25))) (lit
           (atom 26)))) ∷ [])
           ∷ of_function 23 0 true (
@@ -361,7 +363,7 @@ not_exported =
       functions =
           of_function 22 0 true (
           of_clause no_patterns no_guard
-          (bind no_patterns (builtin b.spawn (tree (lit (atom 21)) (tree (lit (atom 24)) (tree (lit (list
+          (bind no_patterns (builtin builtins.Spawn (tree (lit (atom 21)) (tree (lit (atom 24)) (tree (lit (list
           none)) no_trees)))) (lit (atom 25))) ∷ [])
           ∷ [];
     }
@@ -377,9 +379,9 @@ link_too_late =
       functions =
           of_function 22 0 true (
           of_clause no_patterns no_guard
-          (bind no_patterns (builtin b.process_flag (tree (lit (atom 18)) (tree (lit (atom 0)) no_trees)))
-          (bind (pattern new no_patterns) (builtin b.spawn (tree (lit (atom 21)) (tree (lit (atom 23))
-          (tree (lit (list none)) no_trees)))) (bind no_patterns (builtin b.link (tree (var 0)
+          (bind no_patterns (builtin builtins.ProcessFlag (tree (lit (atom 18)) (tree (lit (atom 0)) no_trees)))
+          (bind (pattern new no_patterns) (builtin builtins.Spawn (tree (lit (atom 21)) (tree (lit (atom 23))
+          (tree (lit (list none)) no_trees)))) (bind no_patterns (builtin builtins.Link (tree (var 0)
           no_trees)) (receive (clause (tuple_of (pattern (known (atom 8)) (pattern (slot 0) (pattern new
           no_patterns)))) no_guard (var 1) no_clauses))))) ∷ [])
           ∷ of_function 23 0 true (
@@ -398,9 +400,9 @@ name =
       functions =
           of_function 22 0 true (
           of_clause no_patterns no_guard
-          (bind no_patterns (builtin b.register (tree (lit (atom 24)) (tree (builtin b.self no_trees)
+          (bind no_patterns (builtin builtins.Register (tree (lit (atom 24)) (tree (builtin builtins.SelfPid no_trees)
           no_trees))) (bind no_patterns (send (lit (atom 24)) (lit (atom 26))) (receive (clause (known
-          (atom 26)) no_guard (builtin b.whereis (tree (lit (atom 24)) no_trees)) no_clauses)))) ∷ [])
+          (atom 26)) no_guard (builtin builtins.Whereis (tree (lit (atom 24)) no_trees)) no_clauses)))) ∷ [])
           ∷ [];
     }
 
@@ -415,7 +417,7 @@ two_wait =
       functions =
           of_function 22 0 true (
           of_clause no_patterns no_guard
-          (bind no_patterns (builtin b.spawn (tree (lit (atom 21)) (tree (lit (atom 23)) (tree (lit (list
+          (bind no_patterns (builtin builtins.Spawn (tree (lit (atom 21)) (tree (lit (atom 23)) (tree (lit (list
           none)) no_trees)))) (receive (clause (known (atom 25)) no_guard (lit (atom 26)) no_clauses)))
           ∷ [])
           ∷ of_function 23 0 true (
@@ -436,10 +438,10 @@ race =
       functions =
           of_function 22 0 true (
           of_clause no_patterns no_guard
-          (bind (pattern new no_patterns) (builtin b.self no_trees) (bind no_patterns (builtin b.spawn
+          (bind (pattern new no_patterns) (builtin builtins.SelfPid no_trees) (bind no_patterns (builtin builtins.Spawn
           (tree (lit (atom 21)) (tree (lit (atom 23)) (tree (cons (var 0) (lit (list none)))
-          no_trees)))) (bind no_patterns (builtin b.spawn (tree (lit (atom 21)) (tree (lit (atom 24))
-          (tree (cons (var 0) (lit (list none))) no_trees)))) (receive (clause new no_guard (op equal
+          no_trees)))) (bind no_patterns (builtin builtins.Spawn (tree (lit (atom 21)) (tree (lit (atom 24))
+          (tree (cons (var 0) (lit (list none))) no_trees)))) (receive (clause new no_guard (op Equal
           (var 1) (lit (int (pos 1)))) no_clauses))))) ∷ [])
           ∷ of_function 23 1 true (
           of_clause (pattern new no_patterns) no_guard
@@ -461,9 +463,9 @@ exit_before_down =
       functions =
           of_function 22 0 true (
           of_clause no_patterns no_guard
-          (bind no_patterns (builtin b.process_flag (tree (lit (atom 18)) (tree (lit (atom 0)) no_trees)))
-          (bind (pattern new no_patterns) (builtin b.spawn_link (tree (lit (atom 21)) (tree (lit (atom
-          23)) (tree (lit (list none)) no_trees)))) (bind no_patterns (builtin b.monitor (tree (lit
+          (bind no_patterns (builtin builtins.ProcessFlag (tree (lit (atom 18)) (tree (lit (atom 0)) no_trees)))
+          (bind (pattern new no_patterns) (builtin builtins.SpawnLink (tree (lit (atom 21)) (tree (lit (atom
+          23)) (tree (lit (list none)) no_trees)))) (bind no_patterns (builtin builtins.Monitor (tree (lit
           (atom 7)) (tree (var 0) no_trees))) (bind no_patterns (send (var 0) (lit (atom 28))) (receive
           (clause new no_guard (var 1) no_clauses)))))) ∷ [])
           ∷ of_function 23 0 true (
@@ -483,10 +485,10 @@ name_is_lost =
       functions =
           of_function 22 0 true (
           of_clause no_patterns no_guard
-          (bind no_patterns (builtin b.register (tree (lit (atom 23)) (tree (builtin b.spawn (tree (lit
+          (bind no_patterns (builtin builtins.Register (tree (lit (atom 23)) (tree (builtin builtins.Spawn (tree (lit
           (atom 21)) (tree (lit (atom 23)) (tree (lit (list none)) no_trees)))) no_trees))) (bind
-          no_patterns (send (builtin b.self no_trees) (lit (atom 28))) (receive (clause (known (atom
-          28)) no_guard (builtin b.whereis (tree (lit (atom 23)) no_trees)) no_clauses)))) ∷ [])
+          no_patterns (send (builtin builtins.SelfPid no_trees) (lit (atom 28))) (receive (clause (known (atom
+          28)) no_guard (builtin builtins.Whereis (tree (lit (atom 23)) no_trees)) no_clauses)))) ∷ [])
           ∷ of_function 23 0 true (
           of_clause no_patterns no_guard
           (lit (atom 30)) ∷ [])
@@ -503,7 +505,7 @@ exit_to_oneself =
       functions =
           of_function 22 0 true (
           of_clause no_patterns no_guard
-          (bind no_patterns (builtin b.exit_other (tree (builtin b.self no_trees) (tree (lit (atom 3))
+          (bind no_patterns (builtin builtins.ExitOther (tree (builtin builtins.SelfPid no_trees) (tree (lit (atom 3))
           no_trees))) (receive (clause (known (atom 27)) no_guard (lit (atom 28)) no_clauses))) ∷ [])
           ∷ [];
     }
@@ -519,8 +521,8 @@ normal_from_another =
       functions =
           of_function 22 0 true (
           of_clause no_patterns no_guard
-          (bind (pattern new no_patterns) (builtin b.spawn (tree (lit (atom 21)) (tree (lit (atom 23))
-          (tree (lit (list none)) no_trees)))) (bind no_patterns (builtin b.exit_other (tree (var 0)
+          (bind (pattern new no_patterns) (builtin builtins.Spawn (tree (lit (atom 21)) (tree (lit (atom 23))
+          (tree (lit (list none)) no_trees)))) (bind no_patterns (builtin builtins.ExitOther (tree (var 0)
           (tree (lit (atom 3)) no_trees))) (receive (clause (known (atom 27)) no_guard (lit (atom 28))
           no_clauses)))) ∷ [])
           ∷ of_function 23 0 true (
@@ -540,9 +542,9 @@ names_and_references =
       functions =
           of_function 22 0 true (
           of_clause no_patterns no_guard
-          (bind no_patterns (builtin b.register (tree (lit (atom 26)) (tree (builtin b.self no_trees)
-          no_trees))) (bind no_patterns (builtin b.unregister (tree (lit (atom 26)) no_trees)) (tuple
-          (tree (builtin b.whereis (tree (lit (atom 26)) no_trees)) (tree (builtin b.make_ref no_trees)
+          (bind no_patterns (builtin builtins.Register (tree (lit (atom 26)) (tree (builtin builtins.SelfPid no_trees)
+          no_trees))) (bind no_patterns (builtin builtins.Unregister (tree (lit (atom 26)) no_trees)) (tuple
+          (tree (builtin builtins.Whereis (tree (lit (atom 26)) no_trees)) (tree (builtin builtins.MakeRef no_trees)
           no_trees))))) ∷ [])
           ∷ [];
     }
@@ -558,12 +560,12 @@ crash_by_a_link =
       functions =
           of_function 22 0 true (
           of_clause no_patterns no_guard
-          (bind no_patterns (builtin b.spawn_link (tree (lit (atom 21)) (tree (lit (atom 23)) (tree (lit
+          (bind no_patterns (builtin builtins.SpawnLink (tree (lit (atom 21)) (tree (lit (atom 23)) (tree (lit
           (list none)) no_trees)))) (receive (clause (known (atom 26)) no_guard (lit (atom 27))
           no_clauses))) ∷ [])
           ∷ of_function 23 0 true (
           of_clause no_patterns no_guard
-          (op plus (lit (int (pos 1))) (lit (atom 28))) ∷ [])
+          (op Plus (lit (int (pos 1))) (lit (atom 28))) ∷ [])
           ∷ [];
     }
 
@@ -578,12 +580,12 @@ unlinked_kid =
       functions =
           of_function 22 0 true (
           of_clause no_patterns no_guard
-          (bind (pattern new no_patterns) (builtin b.spawn_link (tree (lit (atom 21)) (tree (lit (atom
-          23)) (tree (lit (list none)) no_trees)))) (bind no_patterns (builtin b.unlink (tree (var 0)
+          (bind (pattern new no_patterns) (builtin builtins.SpawnLink (tree (lit (atom 21)) (tree (lit (atom
+          23)) (tree (lit (list none)) no_trees)))) (bind no_patterns (builtin builtins.Unlink (tree (var 0)
           no_trees)) (receive (clause (known (atom 27)) no_guard (lit (atom 28)) no_clauses)))) ∷ [])
           ∷ of_function 23 0 true (
           of_clause no_patterns no_guard
-          (op plus (lit (int (pos 1))) (lit (atom 29))) ∷ [])
+          (op Plus (lit (int (pos 1))) (lit (atom 29))) ∷ [])
           ∷ [];
     }
 
@@ -601,11 +603,11 @@ guarded =
           (tuple (tree (call 1 (tree (lit (int (pos 1))) no_trees)) (tree (call 1 (tree (lit (int (pos
           3))) no_trees)) (tree (call 1 (tree (lit (atom 25)) no_trees)) no_trees)))) ∷ [])
           ∷ of_function 24 1 true (
-          of_clause (pattern new no_patterns) (alternative (tree (builtin b.hd (tree (var 0) no_trees))
+          of_clause (pattern new no_patterns) (alternative (tree (builtin builtins.Hd (tree (var 0) no_trees))
           no_trees) no_alternatives)
-          (lit (atom 27)) ∷ of_clause (pattern new no_patterns) (alternative (tree (builtin b.is_integer
-          (tree (var 0) no_trees)) (tree (op greater (var 0) (lit (int (pos 2)))) no_trees))
-          (alternative (tree (op equal (var 0) (lit (atom 29))) no_trees) no_alternatives))
+          (lit (atom 27)) ∷ of_clause (pattern new no_patterns) (alternative (tree (builtin builtins.IsInteger
+          (tree (var 0) no_trees)) (tree (op Greater (var 0) (lit (int (pos 2)))) no_trees))
+          (alternative (tree (op Equal (var 0) (lit (atom 29))) no_trees) no_alternatives))
           (lit (atom 30)) ∷ of_clause (pattern any no_patterns) no_guard
           (lit (atom 31)) ∷ [])
           ∷ [];
@@ -621,7 +623,7 @@ by_if =
       functions =
           of_function 22 0 true (
           of_clause no_patterns no_guard
-          (if_expression (clause any (alternative (tree (op greater (lit (int (pos 1))) (lit (int (pos
+          (if_expression (clause any (alternative (tree (op Greater (lit (int (pos 1))) (lit (int (pos
           2)))) no_trees) no_alternatives) (lit (atom 25)) (clause any (alternative (tree (lit (atom 0))
           no_trees) no_alternatives) (lit (atom 26)) no_clauses))) ∷ [])
           ∷ [];
@@ -638,12 +640,12 @@ looking_at_values =
       functions =
           of_function 22 0 true (
           of_clause no_patterns no_guard
-          (tuple (tree (builtin b.element (tree (lit (int (pos 2))) (tree (tuple (tree (lit (atom 26))
-          (tree (lit (atom 27)) no_trees))) no_trees))) (tree (builtin b.hd (tree (cons (lit (atom 29))
-          (lit (list none))) no_trees)) (tree (builtin b.tl (tree (cons (lit (atom 31)) (lit (list
-          none))) no_trees)) (tree (builtin b.length_of (tree (cons (lit (atom 33)) (cons (lit (atom
-          24)) (lit (list none)))) no_trees)) (tree (builtin b.tuple_size (tree (tuple no_trees)
-          no_trees)) (tree (builtin b.is_list (tree (lit (list none)) no_trees)) (tree (op greater (lit
+          (tuple (tree (builtin builtins.Element (tree (lit (int (pos 2))) (tree (tuple (tree (lit (atom 26))
+          (tree (lit (atom 27)) no_trees))) no_trees))) (tree (builtin builtins.Hd (tree (cons (lit (atom 29))
+          (lit (list none))) no_trees)) (tree (builtin builtins.Tl (tree (cons (lit (atom 31)) (lit (list
+          none))) no_trees)) (tree (builtin builtins.Length (tree (cons (lit (atom 33)) (cons (lit (atom
+          24)) (lit (list none)))) no_trees)) (tree (builtin builtins.TupleSize (tree (tuple no_trees)
+          no_trees)) (tree (builtin builtins.IsList (tree (lit (list none)) no_trees)) (tree (op Greater (lit
           (atom 27)) (lit (atom 26))) (tree (cons (lit (int (pos 1))) (cons (lit (int (pos 2))) (lit
           (list none)))) no_trees))))))))) ∷ [])
           ∷ [];
@@ -659,7 +661,7 @@ exit_with_a_value =
       functions =
           of_function 22 0 true (
           of_clause no_patterns no_guard
-          (op plus (lit (int (pos 1))) (builtin b.exit (tree (lit (atom 26)) no_trees))) ∷ [])
+          (op Plus (lit (int (pos 1))) (builtin builtins.Exit (tree (lit (atom 26)) no_trees))) ∷ [])
           ∷ [];
     }
 
@@ -673,21 +675,21 @@ spawned_watched =
       functions =
           of_function 22 0 true (
           of_clause no_patterns no_guard
-          (bind (pattern (tuple_of (pattern new (pattern new no_patterns))) no_patterns) (builtin b.spawn_monitor (tree (lit (atom 21))
+          (bind (pattern (tuple_of (pattern new (pattern new no_patterns))) no_patterns) (builtin builtins.SpawnMonitor (tree (lit (atom 21))
           (tree (lit (atom 23)) (tree (lit (list none)) no_trees)))) (receive (clause (tuple_of (pattern (known (atom 9)) (pattern (slot 1)
           (pattern (known (atom 7)) (pattern (slot 0) (pattern new no_patterns)))))) no_guard (var 2) no_clauses))) ∷ [])
           ∷ of_function 23 0 true (
           of_clause no_patterns no_guard
-          (builtin b.exit (tree (lit (atom 24)) no_trees)) ∷ [])
+          (builtin builtins.Exit (tree (lit (atom 24)) no_trees)) ∷ [])
           ∷ [];
     }
 
 -- `demonitor(M)` and `demonitor(M, [flush])`, where M is the first variable
 abbrev pub demonitors : Tree
-demonitors = builtin b.demonitor (tree (var 0) no_trees)
+demonitors = builtin builtins.Demonitor (tree (var 0) no_trees)
 
 abbrev pub flushing_tree : Tree
-flushing_tree = builtin b.demonitor_with (tree (var 0) (tree (cons (lit (atom 19)) (lit (list none))) no_trees))
+flushing_tree = builtin builtins.DemonitorWith (tree (var 0) (tree (cons (lit (atom 19)) (lit (list none))) no_trees))
 
 --   main() -> self() ! w, {_, M} = spawn_monitor(m, kid, []), spawn(m, two, [self()]), receive x -> ok end, .., receive w -> receive A -> A end end.
 --   kid() -> ok.
@@ -701,9 +703,9 @@ watched_until ends =
       functions =
           of_function 22 0 true (
           of_clause no_patterns no_guard
-          (bind no_patterns (send (builtin b.self no_trees) (lit (atom 23))) (bind (pattern (tuple_of (pattern any (pattern new no_patterns)))
-          no_patterns) (builtin b.spawn_monitor (tree (lit (atom 21)) (tree (lit (atom 24)) (tree (lit (list none)) no_trees)))) (bind
-          no_patterns (builtin b.spawn (tree (lit (atom 21)) (tree (lit (atom 25)) (tree (cons (builtin b.self no_trees) (lit (list none)))
+          (bind no_patterns (send (builtin builtins.SelfPid no_trees) (lit (atom 23))) (bind (pattern (tuple_of (pattern any (pattern new no_patterns)))
+          no_patterns) (builtin builtins.SpawnMonitor (tree (lit (atom 21)) (tree (lit (atom 24)) (tree (lit (list none)) no_trees)))) (bind
+          no_patterns (builtin builtins.Spawn (tree (lit (atom 21)) (tree (lit (atom 25)) (tree (cons (builtin builtins.SelfPid no_trees) (lit (list none)))
           no_trees)))) (bind no_patterns (receive (clause (known (atom 26)) no_guard (lit (atom 27)) no_clauses)) (bind no_patterns ends
           (receive (clause (known (atom 23)) no_guard (receive (clause new no_guard (var 1) no_clauses)) no_clauses))))))) ∷ [])
           ∷ of_function 24 0 true (

@@ -1,7 +1,6 @@
 use Rattle.std.proofs.Common.{◌≡◌, ℕ, List, length, Some, None, refl, sym, ap, ◌∙◌}
 use Rattle.pf_terms.specs.Atoms.{name_of}
 use Rattle.pf_syntax.specs.Forms.{builtin_named}
-use Rattle.pf_syntax.specs.Operators.{builtin_of}
 use Rattle.pf_syntax.specs.Naming.{arity_of}
 use Rattle.pf_syntax.specs.Naming as w
 use Rattle.pf_syntax.specs.Expr as p
@@ -39,10 +38,10 @@ returns-in-Some-builtin_named c =
     let f = c.args.ident.name.0 in
     let at = c.args.ident.offset in
     let named = c.name.ensures ∙ ap (λ (a : List (List ℕ)). name_of a f) c.atoms.ensures in
-    let found = found_by builtin_named c.name.result.now (name_of m.atoms f) (arity_of es) (length c.args.ids.now) (Some (builtin_of c.in-Some-builtin_named.builtin)) named (arity_length c.args.syntax.now.node_table c.args.ids.now) c.in-Some-builtin_named.ensures in
+    let found = found_by builtin_named c.name.result.now (name_of m.atoms f) (arity_of es) (length c.args.ids.now) (Some c.in-Some-builtin_named.builtin) named (arity_length c.args.syntax.now.node_table c.args.ids.now) c.in-Some-builtin_named.ensures in
     by_ok _ _ _ c.put_node-in-Some-builtin_named.ensures
     (λ x h. expr_put fs m m _ _ c.args.slots.now _ (p.call f at es) _ x refl refl (grown_itself m)
-    (λ g e i k. w.builtin g f at (builtin_of c.in-Some-builtin_named.builtin) es _ found (c.requires.parts_are.means g e i (call_clean n g f at es k))) h)
+    (λ g e i k. w.builtin g f at c.in-Some-builtin_named.builtin es _ found (c.requires.parts_are.means g e i (call_clean n g f at es k))) h)
 
 pub returns-in-None : goal.returns-in-None
 returns-in-None c =

@@ -3,14 +3,13 @@ use Rattle.std.proofs.lemmas.Int.{to_z-of_z}
 use Rattle.pf_terms.specs.Value.{int}
 use Rattle.pf_terms.specs.Term.{value_of}
 use Rattle.pf_terms.specs.Atoms.{name_of}
-use Rattle.pf_syntax.specs.Operators.{operator_of}
 use Rattle.pf_ops.specs.Operations.{operated}
 use Rattle.pf_ops.proofs.operators.apply.Goals as goal
 
 pub returns-in-Int-Int : goal.returns-in-Int-Int
 returns-in-Int-Int c =
     let name = name_of c.args.atoms.now in
-    let o = operator_of c.args.operator in
+    let o = c.args.operator in
     let x : FitsSigned w64 c.in-Int-Int.x = search rules in
     let y : FitsSigned w64 c.in-Int-Int.y = search rules in
     let h = simp to_z-of_z at (c.on_integers.ensures name) in

@@ -9,7 +9,6 @@ use Rattle.pf_tokens.specs.NumberedTokens.{mark}
 use Rattle.pf_tokens.specs.View.{numbered_token_of}
 use Rattle.pf_grammar.specs.Grammar.{call_stands, top}
 use Rattle.pf_grammar.specs.Parse.{after_kind, clause, parse_expr, infix_ahead, match_ahead, pattern, readers, guard_tests}
-use Rattle.pf_grammar.specs.View.{view_of_infix}
 use Rattle.pf_reader.specs.ListItems.{item_at}
 use Rattle.pf_reader.specs.View.{names_of, tokens_in}
 use Rattle.pf_reader.specs.Given.{clause_of, view_of_tests, expr_of, seen_expr_pattern, TestsStand}
@@ -214,7 +213,7 @@ read_level-returns-in_err-right-clause-given t c =
     let deeper = parse_expr (names_of c.args.context) c.args.guard (c.args.limit - 1) in
     let turn : length c.in_ok-left.left.rest.list.now - c.loop.counter ≡ suc (length c.in_ok-left.left.rest.list.now - (c.loop.counter + 1)) = omega arith in
     let left = expr_at c.loop.syntax.node_table c.loop.left.expr.0 in
-    let ahead : infix_ahead c.args.guard c.loop.floor c.args.level (tokens_in c.loop.left.rest) ≡ Some (view_of_infix c.in-Some.infix, tokens_in c.in-Some.after) = search rules in
+    let ahead : infix_ahead c.args.guard c.loop.floor c.args.level (tokens_in c.loop.left.rest) ≡ Some (c.in-Some.infix, tokens_in c.in-Some.after) = search rules in
     let p = err_from_is_err_and c.from_residual-in_err-right.result c.from_residual-in_err-right.ensures.1 in
     rw (p.1, p.2) (fails_as _ _ _ (λ f. c.loop.invariant.given ∙ more_fails deeper c.args.guard c.args.limit c.args.level _ _ _ _ left left left _ _ _ refl turn ahead c.right_level-above.ensures f) c.in_err-right.ensures.given)
 
@@ -222,7 +221,7 @@ pub read_level-returns-in_err-left-2-clause-given : goal.read_level-returns-in_e
 read_level-returns-in_err-left-2-clause-given t c =
     let deeper = parse_expr (names_of c.args.context) c.args.guard (c.args.limit - 1) in
     let turn : length c.in_ok-left.left.rest.list.now - c.loop.counter ≡ suc (length c.in_ok-left.left.rest.list.now - (c.loop.counter + 1)) = omega arith in
-    let ahead : infix_ahead c.args.guard c.loop.floor c.args.level (tokens_in c.loop.left.rest) ≡ Some (view_of_infix c.in-Some.infix, tokens_in c.in-Some.after) = search rules in
+    let ahead : infix_ahead c.args.guard c.loop.floor c.args.level (tokens_in c.loop.left.rest) ≡ Some (c.in-Some.infix, tokens_in c.in-Some.after) = search rules in
     let same = c.in_ok-right.ensures.grown.node_table.exprs c.loop.left.expr.0 c.loop.invariant.stands in
     let meaning = c.joined-node.ensures.meaning c.read_level.new.syntax.node_table in
     let p = err_from_is_err_and c.from_residual-in_err-left-2.result c.from_residual-in_err-left-2.ensures.1 in
@@ -232,7 +231,7 @@ pub read_level-loop-preserved : goal.read_level-loop-preserved
 read_level-loop-preserved t c =
     let deeper = parse_expr (names_of c.args.context) c.args.guard (c.args.limit - 1) in
     let turn : length c.in_ok-left.left.rest.list.now - c.loop.counter ≡ suc (length c.in_ok-left.left.rest.list.now - (c.loop.counter + 1)) = omega arith in
-    let ahead : infix_ahead c.args.guard c.loop.floor c.args.level (tokens_in c.loop.left.rest) ≡ Some (view_of_infix c.in-Some.infix, tokens_in c.in-Some.after) = search rules in
+    let ahead : infix_ahead c.args.guard c.loop.floor c.args.level (tokens_in c.loop.left.rest) ≡ Some (c.in-Some.infix, tokens_in c.in-Some.after) = search rules in
     let same = c.in_ok-right.ensures.grown.node_table.exprs c.loop.left.expr.0 c.loop.invariant.stands in
     let meaning = c.joined-node.ensures.meaning c.read_level.new.syntax.node_table in
     record {
