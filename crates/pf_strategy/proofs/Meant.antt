@@ -5,7 +5,7 @@ use Rattle.rand_pcg.specs.Lcg.{Lcg}
 use Rattle.rand_pcg.specs.Pcg.{pcg32}
 use Rattle.pf_choice.specs.Chosen.{IsProfile}
 use Rattle.pf_model.specs.Choosers.{ChoosesOne, choose_by_picks}
-use Rattle.pf_model.specs.Meaning.{Choices, picks_of, profile_of, schedule, seed, weighted_seed, words_of}
+use Rattle.pf_model.specs.Meaning.{Choices, picks_of, profile_of, schedule, seed, weighted_seed}
 use Rattle.pf_model.proofs.Meanings as meanings
 use Rattle.pf_request.specs.Job.{asked_by_seed, reseeded}
 use Rattle.pf_strategy.specs.Keys.{keys_among}
