@@ -131,11 +131,11 @@ root_has word atoms functions root = by (position (bytes_eq word) atoms)
     by None e = absurd (cc)
     by (Some a) e = exported_has functions a 0 root e
 
-pub read_modules_are_closed : ReadModulesAreClosed
-read_modules_are_closed bytes name atoms functions h =
+pub read_modules_are_closed : (S : Type 0) → ReadModulesAreClosed S
+read_modules_are_closed S bytes name atoms functions h =
     let code = read_is_closed bytes (accepted name atoms functions) h in
     record {
       code = code;
-      runs = closed_states_stay_closed (record { name = name; atoms = atoms; functions = functions }) code;
+      runs = closed_states_stay_closed S (record { name = name; atoms = atoms; functions = functions }) code;
       roots = λ word root e. root_has word atoms functions root e;
     }
