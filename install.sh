@@ -1,7 +1,8 @@
 #!/bin/sh
-# Proves `pulsefarm` (install/prove.py) and builds it, puts a link to it where programs are looked for, and runs the main job: the report of a
-# module whose `main` is `1 + 2 * 3`. The link goes into the folder $PREFIX/bin if PREFIX is set, else into /usr/local/bin if that can be
-# written, else into ~/.local/bin. What it is at goes to standard error. Where Erlang is there, `pulsefarm-erl` is built and linked too.
+# Proves `pulsefarm` (install/prove.py) and builds it, puts a link to it where programs are looked for, and runs the
+# main job: the report of a module whose `main` is `1 + 2 * 3`. The link goes into the folder $PREFIX/bin if PREFIX is
+# set, else into /usr/local/bin if that can be written, else into ~/.local/bin. What it is at goes to standard error.
+# Where Erlang is there, `pulsefarm-erl` is built and linked too.
 set -eu
 top=$(cd "$(dirname "$0")" && pwd)
 program="$top/crates/pulsefarm"

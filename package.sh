@@ -1,10 +1,12 @@
 #!/bin/sh
-# Makes of the proved program a package for Debian and a tar archive, in FOLDER, with their sums: the program, `pulsefarm-erl` where `erlc` is here, the
-# page for `man`, completions, examples, scripts for many machines and for CI, and docs with what is trusted. Each holds its commit, its kit, and the sums of its
-# files. Of one commit and one program each run makes the same bytes.
+# Makes of the proved program a package for Debian and a tar archive, in FOLDER, with their sums: the program,
+# `pulsefarm-erl` where `erlc` is here, the page for `man`, completions, examples, scripts for many machines and for CI,
+# and docs with what is trusted. Each holds its commit, its kit, and the sums of its files. Of one commit and one
+# program each run makes the same bytes.
 #
-# Usage: package.sh [FOLDER]; the folder is out/ at the top where none is named. The program is proved first, which takes seconds where install.sh or
-# the gate has proved it; where PROGRAM names one, that one is taken, by whose word it is proved.
+# Usage: package.sh [FOLDER]; the folder is out/ at the top where none is named. The program is proved first, which
+# takes seconds where install.sh or the gate has proved it; where PROGRAM names one, that one is taken, by whose word it
+# is proved.
 set -eu
 top=$(cd "$(dirname "$0")" && pwd)
 out=${1:-$top/out}
@@ -18,7 +20,8 @@ fail() {
   exit 1
 }
 
-# A package is of a commit: what goes into it and into the program is as the commit has it. (The gate lays its mutants elsewhere.)
+# A package is of a commit: what goes into it and into the program is as the commit has it. (The gate lays its mutants
+# elsewhere.)
 git -C "$top" rev-parse -q --verify HEAD > /dev/null 2>&1 || fail "this is no clone, so there is no commit to make a package of"
 git -C "$top" diff --quiet HEAD -- LICENSE ':(glob)*.md' HANDLES crates.txt crates ':!crates/*/mutants' docs examples install install.sh package.sh port ||
   fail "there are changes that aren't committed: a package is of a commit"

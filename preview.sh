@@ -1,7 +1,9 @@
 #!/bin/sh
-# Runs the program unproved, by `rt try`, with the words that are given: some two minutes after a clone, before anything is proved.
+# Runs the program unproved, by `rt try`, with the words that are given: some two minutes after a clone, before anything
+# is proved.
 #
-# Usage: preview.sh WORDS..; the words are those of `pulsefarm`. It sees the files that they name, and the standard input.
+# Usage: preview.sh WORDS..; the words are those of `pulsefarm`. It sees the files that they name, and the standard
+# input.
 set -eu
 top=$(cd "$(dirname "$0")" && pwd)
 count=$#

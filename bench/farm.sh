@@ -1,8 +1,11 @@
 #!/bin/sh
-# Times `pulsefarm farm` on trials of some 400 events, a client for each worker, beside as many programs of one worker and one client each, side by side in the same
-# minute; takes what a line costs that submits nothing, by one client and by four at once; and what processor time idle workers take. It prints tables for docs/SPEED.md, and fails where
-# - two workers have less than 0.9 of the throughput of two programs, or four less than that of four where there are four processors,
-# - such a line takes over 2 microseconds with all that belongs to it: its reading, the hold of the lock, its receipt and the text of its reply,
+# Times `pulsefarm farm` on trials of some 400 events, a client for each worker, beside as many programs of one worker
+# and one client each, side by side in the same minute; takes what a line costs that submits nothing, by one client and
+# by four at once; and what processor time idle workers take. It prints tables for docs/SPEED.md, and fails where
+# - two workers have less than 0.9 of the throughput of two programs, or four less than that of four where there are
+# four processors,
+# - such a line takes over 2 microseconds with all that belongs to it: its reading, the hold of the lock, its receipt
+# and the text of its reply,
 # - 64 workers that wait for two seconds take 0.05 seconds of a processor.
 # The program is the one that the gate or install.sh built.
 set -eu

@@ -1,7 +1,8 @@
 #!/bin/sh
-# Times a hunt over 10,000 seeds of a race of two processes, in the build that LLVM makes, beside the sum of its runs in the same minute. It
-# prints a table for docs/SPEED.md, and fails where one worker takes over 1.3 times the sum of the runs, or four take over 0.4 of it where there are
-# four processors; or where a seed whose outcome is new takes over 1.3 times as much among 40,000 of them as among 4,000.
+# Times a hunt over 10,000 seeds of a race of two processes, in the build that LLVM makes, beside the sum of its runs in
+# the same minute. It prints a table for docs/SPEED.md, and fails where one worker takes over 1.3 times the sum of the
+# runs, or four take over 0.4 of it where there are four processors; or where a seed whose outcome is new takes over 1.3
+# times as much among 40,000 of them as among 4,000.
 set -eu
 sh "$(dirname "$0")/program.sh" hunt | awk -v processors="$(nproc)" '
   { print "| what | a seed | of the sum |"; print "|---|---|---|"

@@ -1,12 +1,14 @@
 #!/bin/sh
-# Times install.sh on a machine where nothing is proved yet, beside the longest chain of its crates, one after another at one job. It prints a table, and
-# fails where the whole takes over 1.15 times the chain's own time on four processors or more. On an idle machine it takes the time of both, two
-# to three hours.
+# Times install.sh on a machine where nothing is proved yet, beside the longest chain of its crates, one after another
+# at one job. It prints a table, and fails where the whole takes over 1.15 times the chain's own time on four processors
+# or more. On an idle machine it takes the time of both, two to three hours.
 #
-# Nothing that was proved before counts: both run by a copy of the kit, which keeps what it proves beside itself. What was kept of a crate of the chain is
-# laid aside, and it is proved again over the libraries that the whole run left; what `rt` takes to find these is measured by a second call and left out.
+# Nothing that was proved before counts: both run by a copy of the kit, which keeps what it proves beside itself. What
+# was kept of a crate of the chain is laid aside, and it is proved again over the libraries that the whole run left;
+# what `rt` takes to find these is measured by a second call and left out.
 #
-# Usage: install.sh [FOLDER]; the copies are in FOLDER, which stays, or else in a folder of their own, which goes. They want some 10 GB, and
+# Usage: install.sh [FOLDER]; the copies are in FOLDER, which stays, or else in a folder of their own, which goes. They
+# want some 10 GB, and
 # 18 more where the kit is on another file system.
 set -eu
 top=$(cd "$(dirname "$0")/.." && pwd)

@@ -1,7 +1,8 @@
 #!/bin/sh
-# Times a step of the machine, in the build that LLVM makes: a loop by tail calls from 30,000, a sum to 10,000, the 18th Fibonacci
-# number and work on lists of 1,000 elements, each up to a limit of steps or its end. It prints a table for docs/SPEED.md, and fails where a
-# step costs over 60 ns, or under the highest limit over 1.3 times as much as under the lowest.
+# Times a step of the machine, in the build that LLVM makes: a loop by tail calls from 30,000, a sum to 10,000, the 18th
+# Fibonacci number and work on lists of 1,000 elements, each up to a limit of steps or its end. It prints a table for
+# docs/SPEED.md, and fails where a step costs over 60 ns, or under the highest limit over 1.3 times as much as under the
+# lowest.
 set -eu
 lines=$(sh "$(dirname "$0")/program.sh" machine)
 printf '%s\n' "$lines" | awk '

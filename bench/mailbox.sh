@@ -1,8 +1,9 @@
 #!/bin/sh
-# Times a message that is placed in a mailbox (and packed again with the others), with 10, 100 and 1,000 messages, and a message that
-# is placed after 9, 99 and 999 others and then taken by a `receive` that wants it alone, in the build that LLVM makes. It prints a
-# table for docs/SPEED.md, the second row also by each message that is tested, and fails where a message placed costs over 3 times as
-# much with some number as with another, or a message tested among 1,000 over 3 times as much as one among 10.
+# Times a message that is placed in a mailbox (and packed again with the others), with 10, 100 and 1,000 messages, and a
+# message that is placed after 9, 99 and 999 others and then taken by a `receive` that wants it alone, in the build that
+# LLVM makes. It prints a table for docs/SPEED.md, the second row also by each message that is tested, and fails where a
+# message placed costs over 3 times as much with some number as with another, or a message tested among 1,000 over 3
+# times as much as one among 10.
 set -eu
 lines=$(sh "$(dirname "$0")/program.sh" mailbox)
 printf '%s\n' "$lines" | awk '

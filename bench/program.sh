@@ -1,6 +1,6 @@
 #!/bin/sh
-# Proves and builds the benchmark of this name in a folder of its own, since the gate proves no benchmark, and runs it; where a file is named
-# after it, the program is left there and isn't run.
+# Proves and builds the benchmark of this name in a folder of its own, since the gate proves no benchmark, and runs it;
+# where a file is named after it, the program is left there and isn't run.
 set -eu
 top=$(cd "$(dirname "$0")/.." && pwd)
 room=$(mktemp -d)

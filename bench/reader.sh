@@ -1,9 +1,10 @@
 #!/bin/sh
-# Times the reader, from bytes to a checked module, in the build that LLVM makes, over sources of 1, 8 and 64 KiB of two shapes, and over
-# sources of 64 KiB whose names are chosen to be slow; and takes the memory of a module for each byte of its source. It prints tables for
-# docs/SPEED.md, and fails where a byte costs over 1.5 times as much in a source of one shape as in another of it, or where a byte of a chosen
-# source costs over 3 times as much as one of the longest plain source. By the memory it doesn't fail.
-# With a word it takes that program, which `bench/program.sh reader PROGRAM` has built.
+# Times the reader, from bytes to a checked module, in the build that LLVM makes, over sources of 1, 8 and 64 KiB of two
+# shapes, and over sources of 64 KiB whose names are chosen to be slow; and takes the memory of a module for each byte
+# of its source. It prints tables for docs/SPEED.md, and fails where a byte costs over 1.5 times as much in a source of
+# one shape as in another of it, or where a byte of a chosen source costs over 3 times as much as one of the longest
+# plain source. By the memory it doesn't fail. With a word it takes that program, which `bench/program.sh reader
+# PROGRAM` has built.
 set -eu
 here=$(cd "$(dirname "$0")" && pwd)
 room=$(mktemp -d)

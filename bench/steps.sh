@@ -1,18 +1,23 @@
 #!/bin/sh
-# Times `pulsefarm steps` on scripts of many projects, each with 16 modules, 64 orders, and for each order a worker's claim, slice and file, and a `fetch`, and
-# takes how many bytes are in blocks at most. It prints tables for docs/SPEED.md, and fails where
+# Times `pulsefarm steps` on scripts of many projects, each with 16 modules, 64 orders, and for each order a worker's
+# claim, slice and file, and a `fetch`, and takes how many bytes are in blocks at most. It prints tables for
+# docs/SPEED.md, and fails where
 # - a command costs over 1.5 times as much in one script as in another,
-# - 100 projects that submit the same 16 modules take 3 bytes or more for each byte that is read and written: the sources, the calls and the replies
+# - 100 projects that submit the same 16 modules take 3 bytes or more for each byte that is read and written: the
+# sources, the calls and the replies
 #   with their reports,
-# - 100 projects that submit modules of their own take 3 bytes or more for each byte of their sources, reports and logs as these are in memory,
+# - 100 projects that submit modules of their own take 3 bytes or more for each byte of their sources, reports and logs
+# as these are in memory,
 # - one more fetch of a report takes as much as a note and a copy of the report,
-# - large sources take 2.5 bytes or more for each byte that is read: the input and the one copy that desk and log share are 2,
-# - a client's call costs over 1.5 times as much among 10,000 projects as among 10, with a full log as with an empty one, or at the 64th
+# - large sources take 2.5 bytes or more for each byte that is read: the input and the one copy that desk and log share
+# are 2,
+# - a client's call costs over 1.5 times as much among 10,000 projects as among 10, with a full log as with an empty
+# one, or at the 64th
 #   trial as at the first,
 # - a trial that is run and dropped, and was never fetched, leaves more than its notes, its order and its lines,
 # - modules that are withdrawn leave 3 bytes or more for each byte of their text.
-# It also prints what 100 projects with modules of their own take for each byte that is read and written; by that it doesn't fail.
-# The program is the one that the gate or install.sh built.
+# It also prints what 100 projects with modules of their own take for each byte that is read and written; by that it
+# doesn't fail. The program is the one that the gate or install.sh built.
 set -eu
 top=$(cd "$(dirname "$0")/.." && pwd)
 program=${1:-$top/crates/pulsefarm/out/pulsefarm}
@@ -20,8 +25,9 @@ room=$(mktemp -d)
 trap 'rm -rf "$room"' EXIT
 cc -O2 -shared -fPIC -o "$room/blocks.so" "$top/tests/faults/refused/refuse.c" -ldl
 
-# The script of $1 projects with $2 modules and $3 orders each: each command for all projects before the next, so that no two in a row
-# are of one project. The modules are those of all projects, or where $4 is `own` each its project's own.
+# The script of $1 projects with $2 modules and $3 orders each: each command for all projects before the next, so that
+# no two in a row are of one project. The modules are those of all projects, or where $4 is `own` each its project's
+# own.
 script() {
   awk -v projects="$1" -v modules="$2" -v orders="$3" -v whose="$4" 'BEGIN {
     for (m = 1; m <= modules; m++) for (p = 1; p <= projects; p++) {
@@ -74,8 +80,9 @@ measure() {
   text=$(($(wc -c < "$room/in") + $(wc -c < "$room/out")))
 }
 
-# The bytes of what is noted, ordered and answered, as the types had them when the bound was set and without what blocks have beside: a note (a call
-# with its reply, a claim or a file), an order with its two words, and a report with its one event.
+# The bytes of what is noted, ordered and answered, as the types had them when the bound was set and without what blocks
+# have beside: a note (a call with its reply, a claim or a file), an order with its two words, and a report with its one
+# event.
 note=24
 order=96
 report=$((64 + 48))
@@ -140,8 +147,8 @@ opened() {
   }'
 }
 
-# $2 rounds of $1 projects that order, ask how far the trial is and for its report, drop it, and ask for usage and log; $3 trials were ordered
-# before.
+# $2 rounds of $1 projects that order, ask how far the trial is and for its report, drop it, and ask for usage and log;
+# $3 trials were ordered before.
 rounds() {
   awk -v projects="$1" -v rounds="$2" -v trials="$3" 'BEGIN {
     for (r = 1; r <= rounds; r++) {

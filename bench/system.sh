@@ -1,9 +1,12 @@
 #!/bin/sh
-# Times events of runs of many processes, in the build that LLVM makes, beside a loop of one process in the same minute, by whose step they
-# are given; and takes the memory of runs of 100 and of 10,000 messages. It prints tables for docs/SPEED.md, and fails where
+# Times events of runs of many processes, in the build that LLVM makes, beside a loop of one process in the same minute,
+# by whose step they are given; and takes the memory of runs of 100 and of 10,000 messages. It prints tables for
+# docs/SPEED.md, and fails where
 # - an event of two processes that send each other 100 messages takes over 7 steps of the loop,
-# - an event costs over 1.3 times as much with 2, 16, 64 or 250 processes as with another number of them, or a microsecond with 1,000 that all go,
-# - an event costs over 1.3 times as much in a run of some 10, 100, 1,000 or 10,000 events as in another, the start of a run taken off,
+# - an event costs over 1.3 times as much with 2, 16, 64 or 250 processes as with another number of them, or a
+# microsecond with 1,000 that all go,
+# - an event costs over 1.3 times as much in a run of some 10, 100, 1,000 or 10,000 events as in another, the start of a
+# run taken off,
 # - a run of 10,000 messages takes over a page more than one of 100, beside the lists of their events.
 # With a word it takes that program, which `bench/program.sh system PROGRAM` has built.
 set -eu
@@ -37,8 +40,8 @@ bad=0
   END { for (kind in high) if (high[kind] > 1.3 * low[kind]) bad = 1
     exit bad || NR != 20 }' || bad=1
 
-# The bytes that are in blocks at most in a run of so many messages, beside the list of its events, which grows by doubling and is cut to its
-# size at the end.
+# The bytes that are in blocks at most in a run of so many messages, beside the list of its events, which grows by
+# doubling and is cut to its size at the end.
 beside() {
   LD_PRELOAD="$room/blocks.so" BLOCKS_TOLD="$room/blocks" "$program" "$1" > "$room/told"
   most=$(sed -n 's/.*, \([0-9]*\) bytes at most$/\1/p' "$room/blocks")

@@ -1,7 +1,10 @@
 #!/bin/sh
-# Times the steps of a workshop of 64 workers, in the build that LLVM makes. It prints a table for docs/SPEED.md, and fails where
-# - a whole run in slices of 256 events costs over 1.05 times one in one slice, or in slices of one event over 1.5 times,
-# - a parking, with what takes the run again, costs over 1.5 times as much for a run with 5,000 messages in its mailbox as for one with one,
+# Times the steps of a workshop of 64 workers, in the build that LLVM makes. It prints a table for docs/SPEED.md, and
+# fails where
+# - a whole run in slices of 256 events costs over 1.05 times one in one slice, or in slices of one event over 1.5
+# times,
+# - a parking, with what takes the run again, costs over 1.5 times as much for a run with 5,000 messages in its mailbox
+# as for one with one,
 # - a claim among 10,000 projects with 64 queued trials each costs over 1.5 times one among 10,
 # - a worker's step costs over 1.5 times as much in a list of 1,000,000 as in one of 1,000.
 # With a word it takes that program, which `bench/program.sh world PROGRAM` has built.

@@ -122,7 +122,8 @@ class Run:
         environment = {name: value for name, value in os.environ.items() if name != "CI" or not crate} | fixed
         words = ["rt", "ci", crate] if crate else ["rt", "ci"]
         self.lane, self.crate, self.log, self.text, self.has_begun = lane, crate, [], b"", False
-        # (in a group of its own: Ctrl-C is ours to hand on, and rt, which ends at SIGTERM at once, takes all its checks with it)
+        # (in a group of its own: Ctrl-C is ours to hand on, and rt, which ends at SIGTERM at once, takes all its checks
+        # with it)
         self.process = subprocess.Popen(
             words, cwd=room, env=environment, stdin=subprocess.DEVNULL, stdout=subprocess.PIPE, stderr=subprocess.STDOUT, start_new_session=True
         )

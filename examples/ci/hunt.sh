@@ -1,9 +1,11 @@
 #!/bin/sh
-# A hunt as a step of a CI job: what it finds lies in FOLDER, for the job to upload, and its status is the job's: 1 where a run fails.
+# A hunt as a step of a CI job: what it finds lies in FOLDER, for the job to upload, and its status is the job's: 1
+# where a run fails.
 #
 # Usage: hunt.sh FOLDER FILE ROOT LIMIT PROPERTY A..B
 #
-# FOLDER gets answer.txt, what `pulsefarm hunt` prints, answer.json, the same as JSON, and where a run fails chart.svg, its chart.
+# FOLDER gets answer.txt, what `pulsefarm hunt` prints, answer.json, the same as JSON, and where a run fails chart.svg,
+# its chart.
 set -u
 if [ $# != 6 ]; then
   echo "usage: hunt.sh FOLDER FILE ROOT LIMIT PROPERTY A..B" >&2

@@ -12,7 +12,8 @@ import os
 import re
 import sys
 
-# The commands, by how many words stand before the project: none in a client's, the worker in a worker's, and two workers in a theft.
+# The commands, by how many words stand before the project: none in a client's, the worker in a worker's, and two
+# workers in a theft.
 VERBS = {
     **dict.fromkeys(b"submit order shrink fetch status drop withdraw usage log edition".split(), 1),
     **dict.fromkeys(b"claim slice park take file back".split(), 2),

@@ -1,8 +1,10 @@
 #!/bin/sh
-# Hunts through one shard of seeds, and leaves what `pulsefarm hunt` prints in FOLDER/A..B once that is whole. A shard whose answer is
-# there isn't run again. The status is 0 where the hunt ended, whether or not it found a failure; else 2.
+# Hunts through one shard of seeds, and leaves what `pulsefarm hunt` prints in FOLDER/A..B once that is whole. A shard
+# whose answer is there isn't run again. The status is 0 where the hunt ended, whether or not it found a failure; else
+# 2.
 #
-# Usage: shard.sh FOLDER A..B WORDS..; WORDS are those of `pulsefarm hunt` but --seeds. PULSEFARM names the program where it isn't on the path.
+# Usage: shard.sh FOLDER A..B WORDS..; WORDS are those of `pulsefarm hunt` but --seeds. PULSEFARM names the program
+# where it isn't on the path.
 set -u
 if [ $# -lt 3 ]; then
   echo "usage: shard.sh FOLDER A..B WORDS.." >&2

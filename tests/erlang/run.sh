@@ -1,7 +1,9 @@
 #!/bin/sh
-# The tests of port/: plain Erlang translated and run, against Erlang itself. Without `erl` they are left out, and said to be.
+# The tests of port/: plain Erlang translated and run, against Erlang itself. Without `erl` they are left out, and said
+# to be.
 #
-# Usage: run.sh [BINARY [CHECK..]]; the program is that of the crate `pulsefarm` where none is named, and all checks are run.
+# Usage: run.sh [BINARY [CHECK..]]; the program is that of the crate `pulsefarm` where none is named, and all checks are
+# run.
 set -u
 top=$(cd "$(dirname "$0")/../.." && pwd)
 program=${1:-$top/crates/pulsefarm/out/pulsefarm}

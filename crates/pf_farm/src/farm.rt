@@ -153,7 +153,8 @@ impl<N: FarmNames> Farm<N> {
         self.given
     }
 
-    /// What all threads share.
+    /// What all threads share. The names `N` are of this farm alone, so its type says which floor it is; what is under
+    /// its lock changes with each call, so no clause can say it.
     pub fn floor(&self) -> &Floor<N> {
         &self.floor
     }

@@ -136,8 +136,8 @@ impl Heap {
         Ok(Moved { heap, places })
     }
 
-    /// Keeps what the roots reach, in the same order, and lets the rest go; it answers the roots by their new names. Where
-    /// memory runs out all is as it was.
+    /// Keeps what the roots reach, in the same order, and lets the rest go; it answers the roots by their new names.
+    /// Where memory runs out all is as it was.
     pub fn collect(&mut self, alloc: Global, roots: &[Word]) -> Result<Vec<Word>, NoMemory>
         requires { All (IsWordOf self.old) roots.now }
         ensures words { IfOk result (λ v. All (IsWordOf self.new) v.items) }

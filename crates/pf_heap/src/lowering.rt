@@ -13,8 +13,8 @@ use pf_terms::{List, Term};
 use std::alloc::Global;
 
 impl Heap {
-    /// The term's value as a word. It fails only where memory runs out: no term is past the limits. Where it fails, cells
-    /// may be left that no word names; they go at the next collection.
+    /// The term's value as a word. It fails only where memory runs out: no term is past the limits. Where it fails,
+    /// cells may be left that no word names; they go at the next collection.
     #[cycle(lower)]
     pub fn lower(&mut self, alloc: Global, term: &Term) -> Result<Word, NoMemory>
         ensures made { IfOk result (λ w. word_value self.new w ≡ value_of term.now) }

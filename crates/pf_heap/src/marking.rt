@@ -65,7 +65,8 @@ impl Heap {
         self.mark_parts(at, marks);
     }
 
-    /// Marks all that is reached from what is marked, from the last cell to the first: parts come before what they are part of.
+    /// Marks all that is reached from what is marked, from the last cell to the first: parts come before what they are
+    /// part of.
     #[tactic(auto, using(crate::proofs::Marks::closed_none, crate::proofs::Marks::more_then, crate::proofs::Marks::more_itself))]
     fn mark_reached(&self, marks: &mut [bool])
         requires { length marks.old ≡ length self.now }

@@ -1,8 +1,10 @@
 -- What the walks of the raw functions share. Assumes `Logic`.
---     R, Nr, Sr, Pl, Lr, Mark      the rows of a value, a node, an owner, a reference and a loose box, and of the owner's own field, which takes no bytes
---     mark_made      that field is made.        node_ref_had, node_ref_made, loose_had, loose_made      a reference and a loose box by value
---     node_seen, node_out, node_back, node_in      of the nodes that are lent, or owned: the one at a reference, taken out, put back, and added
---     fresh, knows      a node that is owned beside others lies at none of their references, and such a fact is learned
+--     R, Nr, Sr, Pl, Lr    the rows of a value, a node, an owner, a reference and a loose box
+--     Mark                 the row of the owner's own field, which takes no bytes; mark_made: that field is made
+--     node_ref_had, node_ref_made, loose_had, loose_made    a reference and a loose box by value
+--     node_seen, node_out, node_back, node_in    of the nodes that are lent, or owned: the one at a reference, taken
+--                          out, put back, and added
+--     fresh, knows         a node that is owned beside others is at none of their references, and such a fact is learned
 use mathlib.Core.Path.{◌≡◌, refl, sym, subst}
 use Prim.Native.Nat.{ℕ}
 use native.Mathlib.Omega.{arith}

@@ -452,7 +452,8 @@ race =
           ∷ [];
     }
 
---   main() -> process_flag(trap_exit, true), C = spawn_link(m, kid, []), monitor(process, C), C ! stop, receive M -> M end.
+--   main() -> process_flag(trap_exit, true), C = spawn_link(m, kid, []), monitor(process, C), C ! stop,
+--             receive M -> M end.
 --   kid() -> receive stop -> ok end.
 abbrev pub exit_before_down : Module
 exit_before_down =
@@ -691,7 +692,8 @@ demonitors = builtin builtins.Demonitor (tree (var 0) no_trees)
 abbrev pub flushing_tree : Tree
 flushing_tree = builtin builtins.DemonitorWith (tree (var 0) (tree (cons (lit (atom 19)) (lit (list none))) no_trees))
 
---   main() -> self() ! w, {_, M} = spawn_monitor(m, kid, []), spawn(m, two, [self()]), receive x -> ok end, .., receive w -> receive A -> A end end.
+--   main() -> self() ! w, {_, M} = spawn_monitor(m, kid, []), spawn(m, two, [self()]), receive x -> ok end, ..,
+--             receive w -> receive A -> A end end.
 --   kid() -> ok.
 --   two(P) -> P ! z, P ! x.
 abbrev pub watched_until : Tree → Module
