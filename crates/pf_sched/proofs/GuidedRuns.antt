@@ -7,7 +7,8 @@ use Rattle.pf_model.specs.Module.{Module, module_of}
 use Rattle.pf_model.specs.Configuration.{Configuration}
 use Rattle.pf_model.specs.Meaning.{Event, Report, event_of_transition, outcome_of}
 use Rattle.pf_model.specs.Properties.{Outcome, verdict}
-use Rattle.pf_model.specs.Runs.{Passes, Stops, Transition, channel, enabled, process, start, transition}
+use Rattle.pf_model.specs.Runs.{Passes, Stops, Transition, enabled, start, transition}
+use Rattle.pf_model.specs.declared.report.Actor.TheVariants.{Channel, Process}
 use Rattle.pf_property.proofs.Shown.{labels_of_run}
 use Rattle.pf_request.specs.Job.{Job}
 use Rattle.pf_strategy.specs.Keys.{channel_key, keys_among}
@@ -28,11 +29,11 @@ use Rattle.pf_sched.proofs.Past.{as_many_steps}
 -- ---- keys
 
 -- the keys of processes and of channels, as they are noted, are those of the actors
-key_by_pair : (hs : List (ℕ × ℕ)) → keys_of (map (λ h. channel h.0 h.1) hs) ≡ map (λ h. channel_key h.0 h.1) hs
+key_by_pair : (hs : List (ℕ × ℕ)) → keys_of (map (λ h. Channel h.0 h.1) hs) ≡ map (λ h. channel_key h.0 h.1) hs
 key_by_pair [] = refl
 key_by_pair (h ∷ hs) = ap (λ l. channel_key h.0 h.1 ∷ l) (key_by_pair hs)
 
-pub noted_keys : (ps : List ℕ) (hs : List (ℕ × ℕ)) → keys_among ps hs ≡ keys_of (map process ps ++ map (λ h. channel h.0 h.1) hs)
+pub noted_keys : (ps : List ℕ) (hs : List (ℕ × ℕ)) → keys_among ps hs ≡ keys_of (map Process ps ++ map (λ h. Channel h.0 h.1) hs)
 noted_keys [] hs = sym (key_by_pair hs)
 noted_keys (p ∷ ps) hs = ap (λ l. p ∷ l) (noted_keys ps hs)
 

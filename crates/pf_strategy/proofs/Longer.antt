@@ -4,7 +4,8 @@ use Rattle.std.specs.Prelude.{slice_get}
 use Rattle.rand_pcg.specs.Lcg.{Lcg}
 use Rattle.pf_model.specs.Module.{Module}
 use Rattle.pf_model.specs.Configuration.{Configuration}
-use Rattle.pf_model.specs.Runs.{Actor, Passed, Passes, Transition, transition, enabled}
+use Rattle.pf_model.specs.Runs.{Passed, Passes, Transition, transition, enabled}
+use Rattle.pf_model.specs.declared.report.Actor.{Actor}
 use Rattle.pf_strategy.specs.Priorities.{PriorityState}
 use Rattle.pf_strategy.specs.Runs.{GoesBy, stays, more, actor_picked, state_later}
 

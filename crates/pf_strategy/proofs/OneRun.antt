@@ -7,7 +7,8 @@ use Rattle.pf_model.specs.Module.{Module}
 use Rattle.pf_model.specs.Configuration.{Configuration}
 use Rattle.pf_model.specs.Evaluation.{Ran, ran, pass_of}
 use Rattle.pf_model.specs.Meaning.{Job, Report, report_of}
-use Rattle.pf_model.specs.Runs.{Actor, Passed, Passes, Transition, transition, Stops, enabled, start}
+use Rattle.pf_model.specs.Runs.{Passed, Passes, Transition, transition, Stops, enabled, start}
+use Rattle.pf_model.specs.declared.report.Actor.{Actor}
 use Rattle.pf_model.proofs.Meanings.{only_evaluated}
 use Rattle.pf_model.proofs.Turned.{pass_only}
 use Rattle.pf_request.specs.Job.{asked_by_seed}

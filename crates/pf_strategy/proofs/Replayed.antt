@@ -10,7 +10,8 @@ use Rattle.pf_model.specs.Module.{Module}
 use Rattle.pf_model.specs.Configuration.{Configuration}
 use Rattle.pf_model.specs.Meaning.{event_of_transition, picks}
 use Rattle.pf_model.specs.Runs as runs
-use Rattle.pf_model.specs.Runs.{Actor, Picks, Transition, transition, Goes, first_pick, enabled, start}
+use Rattle.pf_model.specs.Runs.{Picks, Transition, transition, Goes, first_pick, enabled, start}
+use Rattle.pf_model.specs.declared.report.Actor.{Actor}
 use Rattle.pf_model.proofs.Meanings as meanings
 use Rattle.pf_model.proofs.Meanings.{enabled_count}
 use Rattle.pf_request.specs.Job.{asked_by_seed}

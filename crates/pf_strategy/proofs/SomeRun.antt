@@ -11,7 +11,8 @@ use Rattle.pf_model.specs.Module.{Module}
 use Rattle.pf_model.specs.Configuration.{Configuration}
 use Rattle.pf_model.specs.Evaluation.{pass_of}
 use Rattle.pf_model.specs.Meaning.{Choices, report_of, seed, schedule, weighted_seed, profile_of}
-use Rattle.pf_model.specs.Runs.{Actor, Transition, transition, Stops, enabled, start}
+use Rattle.pf_model.specs.Runs.{Transition, transition, Stops, enabled, start}
+use Rattle.pf_model.specs.declared.report.Actor.{Actor}
 use Rattle.pf_model.proofs.Enabled.{enabled_can_pass}
 use Rattle.pf_model.proofs.Meanings.{one_meaning}
 use Rattle.pf_model.proofs.Turned.{passes_as, pass_uses}

@@ -5,7 +5,8 @@ use Rattle.rand_pcg.specs.Lcg.{Lcg}
 use Rattle.pf_model.specs.Module.{Module}
 use Rattle.pf_model.specs.Configuration.{Configuration}
 use Rattle.pf_model.specs.Meaning.{Job, Report, report_of}
-use Rattle.pf_model.specs.Runs.{Actor, Passed, Passes, Transition, transition, Stops, enabled, start}
+use Rattle.pf_model.specs.Runs.{Passed, Passes, Transition, transition, Stops, enabled, start}
+use Rattle.pf_model.specs.declared.report.Actor.{Actor}
 use Rattle.pf_strategy.specs.Priorities.{PriorityState, choice, first}
 use Rattle.pf_strategy.specs.ActorKeys.{keys_of}
 
