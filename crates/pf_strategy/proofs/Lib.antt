@@ -1,5 +1,2 @@
-pub mod Longer
-pub mod Replayed
-pub mod OneRun
-pub mod SomeRun
+pub mod Meant
 pub mod Places

@@ -1,4 +1,3 @@
-pub mod ActorKeys
 pub mod Runs
 pub mod Strategies
 pub mod Laws

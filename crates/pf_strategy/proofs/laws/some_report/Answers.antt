@@ -1,8 +1,8 @@
-use Rattle.pf_strategy.proofs.SomeRun as some_run
+use Rattle.pf_strategy.proofs.Meant as meant
 use Rattle.pf_strategy.proofs.laws.some_report.Goals as goal
 
 pub returns-clause-by_priorities : goal.returns-clause-by_priorities
-returns-clause-by_priorities c = some_run.some_report_by_priorities
+returns-clause-by_priorities c = meant.some_report_by_priorities
 
 pub returns-clause-by_any : goal.returns-clause-by_any
-returns-clause-by_any c = some_run.some_report
+returns-clause-by_any c = meant.some_report
