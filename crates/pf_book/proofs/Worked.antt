@@ -9,7 +9,8 @@ use Rattle.pf_model.specs.Shrinking.{Result}
 use Rattle.pf_request.specs.Job.{Job}
 use Rattle.pf_check.specs.Module.{ReadModule}
 use Rattle.pf_desks.specs.Desk as desk
-use Rattle.pf_desks.specs.Desk.{Profile, TrialState, queued, running, done, Trial, Desk, FileMark, claimed, filed, handed_back, held_at, with_held, all_held}
+use Rattle.pf_desks.specs.Desk.{Profile, TrialState, queued, running, done, Trial, Desk, claimed, filed, handed_back, held_at, with_held, all_held}
+use Rattle.pf_desks.specs.declared.mark.FileMark.{FileMark}
 use Rattle.pf_desks.specs.Calls.{calls_in, usage_in, with_entry}
 use Rattle.pf_desks.specs.History.{IsLegalDesk}
 use Rattle.pf_desks.specs.Work.{is_queued_state, is_queued, is_running_state, is_running, in_state, with_state, result_marked, after_claim, after_file, after_hand_back, claim_step, file_step, hand_back_step}

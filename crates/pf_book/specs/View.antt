@@ -12,14 +12,12 @@ use Rattle.pf_request.specs.View.{view_of_order}
 use Rattle.pf_sched.specs.Views.{without_memory}
 use Rattle.pf_book.specs.declared.refusal.CallRefusal.{CallRefusal}
 use Rattle.pf_book.specs.declared.refusal.CallRefusal.TheVariants as refusal
-use Rattle.pf_book.specs.declared.reply.TrialStage.{TrialStage}
-use Rattle.pf_book.specs.declared.reply.TrialStage.TheVariants as stage
 use Rattle.pf_book.specs.declared.reply.Reply.{Reply}
 use Rattle.pf_book.specs.declared.reply.Reply.TheVariants as reply
 use Rattle.pf_book.specs.declared.entry.Entry.{Entry}
 use Rattle.pf_book.specs.declared.entry.Entry.TheVariants as entry
-use Rattle.pf_book.specs.declared.entry.FileMark.{FileMark}
-use Rattle.pf_book.specs.declared.entry.FileMark.TheVariants as mark
+use Rattle.pf_desks.specs.declared.mark.FileMark.{FileMark}
+use Rattle.pf_desks.specs.declared.mark.FileMark.TheVariants as mark
 use Rattle.pf_book.specs.declared.trial.TrialState.{TrialState}
 use Rattle.pf_book.specs.declared.trial.TrialState.TheVariants as state
 
@@ -37,16 +35,11 @@ code_of refusal.NoEdition = code.NoEdition
 code_of refusal.EditionTooLow = code.EditionTooLow
 code_of (refusal.PastLimit q) = quota.code_of q
 
-abbrev pub view_of_stage : TrialStage → desk.TrialStage
-view_of_stage stage.Queued = desk.at_queue
-view_of_stage stage.Running = desk.at_work
-view_of_stage stage.Done = desk.at_end
-
 abbrev pub view_of_reply : Reply → desk.Reply
 view_of_reply (reply.Module n) = desk.number n
 view_of_reply (reply.Ticket t) = desk.ticket t
 view_of_reply (reply.Result f) = desk.result f.job.asked.code.atoms f.result
-view_of_reply (reply.Stage s) = desk.stage (view_of_stage s)
+view_of_reply (reply.Stage s) = desk.stage s
 view_of_reply reply.GivenUp = desk.given_up
 view_of_reply (reply.Usage u) = desk.uses u
 view_of_reply (reply.Logged n) = desk.logged n
@@ -55,19 +48,15 @@ view_of_reply (reply.Refused e) = desk.refused (code_of e)
 
 -- ---- marks
 
-abbrev pub view_of_mark : FileMark → desk.FileMark
-view_of_mark mark.Whole = desk.marked_whole
-view_of_mark mark.Memory = desk.marked_memory
-
-abbrev pub mark_by : Outcome → desk.FileMark
-mark_by memory = desk.marked_memory
-mark_by _ = desk.marked_whole
+abbrev pub mark_by : Outcome → FileMark
+mark_by memory = mark.Memory
+mark_by _ = mark.Whole
 
 -- the mark under which a job's result is filed
-abbrev pub mark_of : Result → desk.FileMark
+abbrev pub mark_of : Result → FileMark
 mark_of (report r) = mark_by r.outcome
-mark_of (shrunk_to f r) = desk.marked_whole
-mark_of nothing_fails = desk.marked_whole
+mark_of (shrunk_to f r) = mark.Whole
+mark_of nothing_fails = mark.Whole
 
 -- ---- notes and states
 
@@ -79,7 +68,7 @@ view_of_entry (entry.OrderRefused o e) = desk.called (view_of_order o.value) (de
 view_of_entry (entry.Fetched t w) = desk.called (calls.fetch t) (desk.result w.job.asked.code.atoms w.result)
 view_of_entry (entry.ToldMemory t j) = desk.called (calls.fetch t) (desk.result j.value.asked.code.atoms without_memory)
 view_of_entry (entry.FetchRefused t e) = desk.called (calls.fetch t) (desk.refused (code_of e))
-view_of_entry (entry.Stood t s) = desk.called (calls.status t) (desk.stage (view_of_stage s))
+view_of_entry (entry.Stood t s) = desk.called (calls.status t) (desk.stage s)
 view_of_entry (entry.StatusRefused t e) = desk.called (calls.status t) (desk.refused (code_of e))
 view_of_entry (entry.Dropped t) = desk.called (calls.drop_trial t) desk.given_up
 view_of_entry (entry.DropRefused t e) = desk.called (calls.drop_trial t) (desk.refused (code_of e))
@@ -90,7 +79,7 @@ view_of_entry (entry.Counted n) = desk.called calls.log (desk.logged n)
 view_of_entry (entry.Moved e) = desk.called (calls.edition e) desk.has_edition
 view_of_entry (entry.MoveRefused e r) = desk.called (calls.edition e) (desk.refused (code_of r))
 view_of_entry (entry.Claimed t) = desk.claimed t
-view_of_entry (entry.Filed t m) = desk.filed t (view_of_mark m)
+view_of_entry (entry.Filed t m) = desk.filed t m
 view_of_entry (entry.HandedBack t) = desk.handed_back t
 
 -- a worker has it, or it waits for one

@@ -15,15 +15,15 @@ ghost use Rattle.pf_book.specs.Profile.{ForRight};
 ghost use Rattle.pf_book.specs.Queued.{job_at};
 ghost use Rattle.pf_book.specs.Queues.{FrontIsQueued, QueuesAll};
 ghost use Rattle.pf_book.specs.Trials.{JobAt};
-ghost use Rattle.pf_book.specs.View.{view_of_stage};
 ghost use Rattle.pf_request.specs.View.{view_of_call, view_of_order};
 
 use crate::claimed::Claimed;
 use crate::desk::Desk;
 use crate::queue::TrialQueue;
-use crate::reply::{Reply, TrialStage};
+use crate::reply::Reply;
 use indexmap::IndexMap;
 use pf_check::Source;
+use pf_desks::TrialStage;
 use pf_errors::NoMemory;
 use pf_request::{Call, Order};
 use pf_sched::{Finished, Job};
@@ -101,7 +101,7 @@ impl Book {
 
     /// How far the trial of a project's ticket is, if it is held. Nothing is noted.
     pub fn stage(&self, project: u32, ticket: u64) -> Option<TrialStage>
-        ensures { option_map view_of_stage result
+        ensures { result
             ≡ option_map (λ t. stage_of t.state) (held_at (desk_at project self.now).trials ticket) }
     {
         match index_of(&self.desks, self.last, project) {

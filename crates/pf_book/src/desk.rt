@@ -20,19 +20,20 @@ ghost use Rattle.pf_book.specs.Queued.{is_undone, job_at};
 ghost use Rattle.pf_book.specs.Queues.{trials_dropped_by, FollowsQueue, HoldsRoom};
 ghost use Rattle.pf_book.specs.Running.{running_in};
 ghost use Rattle.pf_book.specs.Trials.{JobAt, IsStrayJob};
-ghost use Rattle.pf_book.specs.View.{state_running, view_of_stage};
+ghost use Rattle.pf_book.specs.View.{state_running};
 
 mod planning;
 
 use crate::change::carry_out;
-use crate::entry::{Entry, FileMark};
+use crate::entry::{Entry, mark_of};
 use crate::numbers::{make_room, numbered};
 use crate::plan::{DeskChange, Plan};
 use crate::queue::TrialQueue;
 use crate::refusal::CallRefusal;
-use crate::reply::{Reply, TrialStage};
+use crate::reply::Reply;
 use crate::trial::Trial;
 use pf_check::ReadModule;
+use pf_desks::TrialStage;
 use pf_errors::NoMemory;
 use pf_quota::{Charge, Usage};
 use pf_request::Call;
@@ -105,7 +106,7 @@ impl Desk {
 
     /// How far the trial of a ticket is, if it is held.
     pub fn stage(&self, ticket: u64) -> Option<TrialStage>
-        ensures { option_map view_of_stage result
+        ensures { result
             ≡ option_map (λ t. stage_of t.state) (held_at self.now.trials ticket) }
     {
         match numbered(&self.trials, ticket) {
@@ -236,7 +237,7 @@ impl Desk {
         if !runs_job(&self.trials, ticket, finished.job()) {
             return false;
         }
-        let mark = FileMark::of(&finished);
+        let mark = mark_of(&finished);
         file(&mut self.trials, ticket, finished);
         self.running -= 1;
         self.history.push_reserved(Entry::Filed(ticket, mark));

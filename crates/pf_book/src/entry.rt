@@ -5,35 +5,26 @@ ghost use Rattle.pf_desks.specs.Desk as desk;
 ghost use Rattle.pf_desks.specs.Work.{result_marked};
 ghost use Rattle.pf_request.specs.Calls as calls;
 ghost use Rattle.pf_book.specs.Profile.{ForRight};
-ghost use Rattle.pf_book.specs.View.{mark_of, view_of_entry, view_of_mark};
+ghost use Rattle.pf_book.specs.View.{mark_of, view_of_entry};
 
 use crate::refusal::CallRefusal;
-use crate::reply::TrialStage;
 use pf_check::Source;
+use pf_desks::{FileMark, TrialStage};
 use pf_quota::Usage;
 use pf_request::Order;
 use pf_sched::{Finished, Job, JobEnd, Whole};
 use std::sync::Arc;
 
-/// What a file bears: the whole result of the job, or that memory ran out.
-#[derive(Clone, Copy, Debug, PartialEq, Eq)]
-pub(crate) enum FileMark {
-    Whole,
-    Memory,
-}
-
-impl FileMark {
-    /// The mark of a job's result.
-    pub fn of(finished: &Finished) -> FileMark
-        ensures mark { view_of_mark result ≡ mark_of finished.now.result }
-        ensures puts { ForRight (λ p.
-            result_marked p (view_of_mark result) finished.now.job ≡ finished.now.result) }
-    {
-        if finished.is_whole() {
-            FileMark::Whole
-        } else {
-            FileMark::Memory
-        }
+/// The mark of a job's result.
+pub(crate) fn mark_of(finished: &Finished) -> FileMark
+    ensures mark { result ≡ mark_of finished.now.result }
+    ensures puts { ForRight (λ p.
+        result_marked p result finished.now.job ≡ finished.now.result) }
+{
+    if finished.is_whole() {
+        FileMark::Whole
+    } else {
+        FileMark::Memory
     }
 }
 

@@ -17,4 +17,4 @@ mod trial;
 pub use book::Book;
 pub use claimed::Claimed;
 pub use refusal::CallRefusal;
-pub use reply::{Reply, TrialStage};
+pub use reply::Reply;

@@ -1,19 +1,9 @@
 //! What a client is answered.
 
 use crate::refusal::CallRefusal;
+use pf_desks::TrialStage;
 use pf_quota::Usage;
 use pf_sched::Finished;
-
-/// How far a trial is.
-#[derive(Clone, Copy, Debug, PartialEq, Eq)]
-pub enum TrialStage {
-    /// It waits for a worker.
-    Queued,
-    /// A worker has it.
-    Running,
-    /// Its result is filed.
-    Done,
-}
 
 /// What a client is answered.
 #[derive(Drop)]

@@ -7,11 +7,11 @@ ghost use Rattle.pf_desks.specs.Desk as desk;
 ghost use Rattle.pf_desks.specs.Calls.{result_in, stage_of};
 ghost use Rattle.pf_desks.specs.Work.{is_running_state};
 ghost use Rattle.pf_book.specs.Orders.{IsRefusal};
-ghost use Rattle.pf_book.specs.View.{code_of, state_running, view_of_stage};
+ghost use Rattle.pf_book.specs.View.{code_of, state_running};
 ghost use Rattle.pf_book.specs.Queued.{is_undone, queued_job};
 
 use crate::refusal::CallRefusal;
-use crate::reply::TrialStage;
+use pf_desks::TrialStage;
 use pf_errors::OrNoMemory;
 use pf_quota::{Holding, trial_steps};
 use pf_sched::{Finished, Job, JobEnd, Whole};
@@ -92,7 +92,7 @@ impl Trial {
 
     /// How far it is.
     pub fn stage(&self) -> TrialStage
-        ensures { view_of_stage result ≡ stage_of self.now.state }
+        ensures { result ≡ stage_of self.now.state }
     {
         match &self.state {
             TrialState::Undone { running, .. } => {

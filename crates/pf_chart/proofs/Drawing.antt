@@ -6,7 +6,7 @@ use Rattle.std.proofs.lemmas.Option.{same_Some}
 use Rattle.pf_model.specs.Channels.{Signal}
 use Rattle.pf_model.specs.Labels.{Label, Suffix, as_message, delivers, dropped, ending_with, no_process, took_effect}
 use Rattle.pf_model.specs.Meaning.{Event}
-use Rattle.pf_model.specs.Runs.{channel}
+use Rattle.pf_model.specs.declared.report.Actor.TheVariants.{Channel}
 use Rattle.pf_chart.specs.Processes.{Process}
 use Rattle.pf_chart.specs.Signals.{AreArrows, BeginsIn, Delivers, EndsIn, HasPid, IsArrow, IsDeliveredIn, marked}
 use Rattle.pf_chart.specs.Traffic.{AreOnWay, AreSentIn, AreWaiting, IsDelivered, IsOnWay, Sends, Way, kind_of, signal_kind_number, reach_of, open_arrow, untold, way_of}
@@ -114,12 +114,12 @@ module _ (es : List Event) (ps : List Process) where
 
   -- which is no delivery between two processes
   pub one_more : (n : ℕ) (e : Event) (xs : List Arrow) → slice_get es n ≡ Some e
-      → ((p q i j : ℕ) (signal : Signal) (x : Suffix) → e.actor ≡ channel p q → e.label ≡ delivers signal x → HasPid ps i p → HasPid ps j q → ⊥)
+      → ((p q i j : ℕ) (signal : Signal) (x : Suffix) → e.actor ≡ Channel p q → e.label ≡ delivers signal x → HasPid ps i p → HasPid ps j q → ⊥)
       → AreArrows es ps n xs → AreArrows es ps (n + 1) xs
   one_more n e xs at never d = record { each = d.each; all = λ m f p q i j signal x low is actor label sender receiver. all m f p q i j signal x low is actor label sender receiver (eqb_tells m n) }
     where
       all : (m : ℕ) (f : Event) (p q i j : ℕ) (signal : Signal) (x : Suffix) → m < n + 1 → slice_get es m ≡ Some f
-          → f.actor ≡ channel p q → f.label ≡ delivers signal x → HasPid ps i p → HasPid ps j q → Tells m n
+          → f.actor ≡ Channel p q → f.label ≡ delivers signal x → HasPid ps i p → HasPid ps j q → Tells m n
           → (k : ℕ) × (a : Arrow) × (slice_get xs k ≡ Some a) × Delivers ps a x f × (a.reach ≡ reach_of x m)
       all m f p q i j signal x low is actor label sender receiver (inl same) =
           let one : f ≡ e = same_Some f e (sym is ∙ ap (slice_get es) same.1 ∙ at) in
@@ -138,7 +138,7 @@ module _ (es : List Event) (ps : List Process) where
         ends = ends_by es ps c x n (d.0, d.1, alike ps a c x d.0 refl refl refl d.2);
       })
 
-  module _ (n a b p q : ℕ) (e : Event) (signal : Signal) (x : Suffix) (at : slice_get es n ≡ Some e) (actor : e.actor ≡ channel p q)
+  module _ (n a b p q : ℕ) (e : Event) (signal : Signal) (x : Suffix) (at : slice_get es n ≡ Some e) (actor : e.actor ≡ Channel p q)
       (label : e.label ≡ delivers signal x) (sender : HasPid ps a p) (receiver : HasPid ps b q) where
     abbrev k : SignalKind
     k = kind_of signal
@@ -179,7 +179,7 @@ module _ (es : List Event) (ps : List Process) where
         only (suc i) z is = absurd (cc)
 
         all : (m : ℕ) (f : Event) (v w i j : ℕ) (g : Signal) (y : Suffix) → m < n + 1 → slice_get es m ≡ Some f
-            → f.actor ≡ channel v w → f.label ≡ delivers g y → HasPid ps i v → HasPid ps j w → Tells m n
+            → f.actor ≡ Channel v w → f.label ≡ delivers g y → HasPid ps i v → HasPid ps j w → Tells m n
             → (l : ℕ) × (z : Arrow) × (slice_get (xs ++ alone ∷ []) l ≡ Some z) × Delivers ps z y f × (z.reach ≡ reach_of y m)
         all m f v w i j g y low is acts labelled from to (inl same) =
             let one : e ≡ f = same_Some e f (sym at ∙ ap (slice_get es) (sym same.1) ∙ is) in
@@ -220,7 +220,7 @@ module _ (es : List Event) (ps : List Process) where
                 subst (λ (u : Arrow). IsArrow es ps u) (sym (from.2 ∙ ap (λ c. if c then record from.0 { reach = reach_of x n } else from.0) e'.0)) (d.each i from.0 from.1)
 
         all : (m : ℕ) (f : Event) (v w i o : ℕ) (g : Signal) (y : Suffix) → m < n + 1 → slice_get es m ≡ Some f
-            → f.actor ≡ channel v w → f.label ≡ delivers g y → HasPid ps i v → HasPid ps o w → Tells m n
+            → f.actor ≡ Channel v w → f.label ≡ delivers g y → HasPid ps i v → HasPid ps o w → Tells m n
             → (l : ℕ) × (z : Arrow) × (slice_get ys l ≡ Some z) × Delivers ps z y f × (z.reach ≡ reach_of y m)
         all m f v w i o g y low is acts labelled from to (inl same) =
             let one : e ≡ f = same_Some e f (sym at ∙ ap (slice_get es) (sym same.1) ∙ is) in

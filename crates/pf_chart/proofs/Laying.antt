@@ -8,7 +8,8 @@ use Rattle.std.proofs.lemmas.Option.{same_Some, slice_get-get_or, slice_get-map}
 use Rattle.pf_model.specs.Channels.{Signal}
 use Rattle.pf_model.specs.Labels.{Label, Suffix, sends, spawns, spawns_watched, links, unlinks, monitors, demonitors, exits, sets_flag, registers, unregisters, looks_up, makes_reference, takes, waits, raises, ends, cut, delivers}
 use Rattle.pf_model.specs.Meaning.{Event}
-use Rattle.pf_model.specs.Runs.{Actor, channel, process}
+use Rattle.pf_model.specs.declared.report.Actor.{Actor}
+use Rattle.pf_model.specs.declared.report.Actor.TheVariants as actors
 use Rattle.pf_chart.specs.Laid.{IsCarried, IsLaid, IsLayout, delivery_in}
 use Rattle.pf_chart.specs.Origins.{SameProcesses, process_of}
 use Rattle.pf_chart.specs.Processes.{Process}
@@ -48,14 +49,14 @@ delivery_is (ends reason) g x h = absurd (cc)
 delivery_is cut g x h = absurd (cc)
 
 abbrev actor_pid : Actor → Option ℕ
-actor_pid (process p) = Some p
-actor_pid (channel p q) = None
+actor_pid (actors.Process p) = Some p
+actor_pid (actors.Channel p q) = None
 
 abbrev sender_in : Actor → ℕ
-sender_in (process p) = p
-sender_in (channel p q) = p
+sender_in (actors.Process p) = p
+sender_in (actors.Channel p q) = p
 
-no_channel : (p v w : ℕ) → process p ≡ channel v w → ⊥
+no_channel : (p v w : ℕ) → actors.Process p ≡ actors.Channel v w → ⊥
 no_channel p v w h = let never : Some p ≡ None = ap actor_pid h in absurd (cc)
 
 -- ---- columns by their pids
@@ -81,8 +82,8 @@ lacks cs ds p same sorted h =
     (h (subst (λ (xs : List Column). IsNonDecreasingBy (λ (c : Column). c.pid) xs) (sym same) (columns_by_pid cs sorted)))
 
 -- a turn delivers nothing
-pub no_delivery : (e : Event) (p : ℕ) → e.actor ≡ process p → (ps : List Process)
-    → (v w i j : ℕ) (g : Signal) (x : Suffix) → e.actor ≡ channel v w → e.label ≡ delivers g x → HasPid ps i v → HasPid ps j w → ⊥
+pub no_delivery : (e : Event) (p : ℕ) → e.actor ≡ actors.Process p → (ps : List Process)
+    → (v w i j : ℕ) (g : Signal) (x : Suffix) → e.actor ≡ actors.Channel v w → e.label ≡ delivers g x → HasPid ps i v → HasPid ps j w → ⊥
 no_delivery e p actor ps v w i j g x acts label from into = no_channel p v w (sym actor ∙ acts)
 
 module _ (n : ℕ) (e : Event) (l m : Layout) (same : SameProcesses l.columns.items m.columns.items) (es : List Event)
@@ -98,7 +99,7 @@ module _ (n : ℕ) (e : Event) (l m : Layout) (same : SameProcesses l.columns.it
   }
 
   -- a turn of a process
-  pub turn_laid : (p a : ℕ) → e.actor ≡ process p → HasColumn l.columns.items p a → Sends n a l.traffic m.traffic → IsLaid es (n + 1) m
+  pub turn_laid : (p a : ℕ) → e.actor ≡ actors.Process p → HasColumn l.columns.items p a → Sends n a l.traffic m.traffic → IsLaid es (n + 1) m
   turn_laid p a actor column goes =
       let has : HasPid ps a (marked e.actor) = subst (λ x. HasPid ps a (marked x)) (sym actor) (has_pid l.columns.items a p column) in
       onto
@@ -108,13 +109,13 @@ module _ (n : ℕ) (e : Event) (l m : Layout) (same : SameProcesses l.columns.it
 
   -- nothing is drawn
   pub none_laid : m.traffic ≡ l.traffic
-      → ((v w i j : ℕ) (g : Signal) (x : Suffix) → e.actor ≡ channel v w → e.label ≡ delivers g x → HasPid ps i v → HasPid ps j w → ⊥) → IsLaid es (n + 1) m
+      → ((v w i j : ℕ) (g : Signal) (x : Suffix) → e.actor ≡ actors.Channel v w → e.label ≡ delivers g x → HasPid ps i v → HasPid ps j w → ⊥) → IsLaid es (n + 1) m
   none_laid traffic never =
       onto (one_more es ps n e m.traffic.arrows.items at never (subst (λ (t : Traffic). AreArrows es ps n t.arrows.items) (sym traffic) laid.arrows))
       (subst (λ (t : Traffic). AreWaiting t) (sym traffic) laid.wait)
 
   -- a delivery
-  pub carried_laid : (p q a b : ℕ) → e.actor ≡ channel p q → HasColumn l.columns.items p a → HasColumn l.columns.items q b
+  pub carried_laid : (p q a b : ℕ) → e.actor ≡ actors.Channel p q → HasColumn l.columns.items p a → HasColumn l.columns.items q b
       → IsCarried n a b (delivery_in e.label) l.traffic m.traffic → IsLaid es (n + 1) m
   carried_laid p q a b actor sender receiver = by (delivery_in e.label) refl
     where
@@ -135,10 +136,10 @@ module _ (n : ℕ) (e : Event) (l m : Layout) (same : SameProcesses l.columns.it
           onto (sends_drawn es ps n b (n + 1) e t m.traffic at to goes arrived) (goes.wait (arrived_wait _ _ l.traffic t delivered laid.wait))
 
   -- who isn't there takes part in nothing
-  pub missing : (p q : ℕ) → e.actor ≡ channel p q → All (λ c. c.pid ≢ p) l.columns.items ⊎ All (λ c. c.pid ≢ q) l.columns.items
-      → (v w i j : ℕ) (g : Signal) (x : Suffix) → e.actor ≡ channel v w → e.label ≡ delivers g x → HasPid ps i v → HasPid ps j w → ⊥
+  pub missing : (p q : ℕ) → e.actor ≡ actors.Channel p q → All (λ c. c.pid ≢ p) l.columns.items ⊎ All (λ c. c.pid ≢ q) l.columns.items
+      → (v w i j : ℕ) (g : Signal) (x : Suffix) → e.actor ≡ actors.Channel v w → e.label ≡ delivers g x → HasPid ps i v → HasPid ps j w → ⊥
   missing p q actor none v w i j g x acts label from into =
-      let same : channel p q ≡ channel v w = sym actor ∙ acts in
+      let same : actors.Channel p q ≡ actors.Channel v w = sym actor ∙ acts in
       elim none [
         | inl h ↦ no_pid l.columns.items p h i (subst (HasPid ps i) (sym (ap sender_in same)) from)
         | inr h ↦ no_pid l.columns.items q h j (subst (HasPid ps j) (sym (ap marked same)) into)

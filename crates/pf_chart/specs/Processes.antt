@@ -2,7 +2,8 @@
 use Rattle.std.specs.Prelude.{ℕ, suc, List, [], ◌∷◌, ◌++◌, Option, Some, None, option_to_list}
 use Rattle.pf_model.specs.Labels.{Label, spawns, spawns_watched}
 use Rattle.pf_model.specs.Meaning.{Event}
-use Rattle.pf_model.specs.Runs.{Actor, process}
+use Rattle.pf_model.specs.declared.report.Actor.{Actor}
+use Rattle.pf_model.specs.declared.report.Actor.TheVariants as actors
 
 -- a process of the run: its pid, and by whom and in which event it was spawned; the root by none
 pub record Process : Type 0 where
@@ -17,7 +18,7 @@ child_in l = None
 
 -- the process that is spawned by this actor, in the event of this number
 abbrev pub spawned_by : Actor → (child : Option ℕ) → (event : ℕ) → Option Process
-spawned_by (process a) (Some p) n = Some (record { pid = p; spawned = Some (a, n) })
+spawned_by (actors.Process a) (Some p) n = Some (record { pid = p; spawned = Some (a, n) })
 spawned_by x child n = None
 
 -- those that these events spawn, of which the first has this number

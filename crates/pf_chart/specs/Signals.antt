@@ -4,7 +4,8 @@ use Rattle.std.specs.Prelude.{◌≡◌, ◌<◌, ℕ, Bool, true, false, List, 
 use Rattle.pf_model.specs.Channels.{Signal}
 use Rattle.pf_model.specs.Labels.{Suffix, delivers}
 use Rattle.pf_model.specs.Meaning.{Event}
-use Rattle.pf_model.specs.Runs.{Actor, channel, process}
+use Rattle.pf_model.specs.declared.report.Actor.{Actor}
+use Rattle.pf_model.specs.declared.report.Actor.TheVariants as actors
 use Rattle.pf_chart.specs.Processes.{Process}
 use Rattle.pf_chart.specs.Traffic.{kind_of, reach_of}
 use Rattle.pf_chart.specs.declared.arrows.Arrow.{Arrow}
@@ -21,8 +22,8 @@ HasPid ps i p = (q : Process) × (slice_get ps i ≡ Some q) × (q.pid ≡ p)
 
 -- who has the mark of an event: who acts, or who receives a signal
 abbrev pub marked : Actor → ℕ
-marked (process p) = p
-marked (channel p q) = q
+marked (actors.Process p) = p
+marked (actors.Channel p q) = q
 
 -- an event delivers a signal with this suffix, which is of the kind of an arrow and goes between the processes of its
 -- columns
@@ -30,7 +31,7 @@ pub record Delivers (ps : List Process) (a : Arrow) (suffix : Suffix) (e : Event
   pub from : ℕ
   pub to : ℕ
   pub signal : Signal
-  pub actor : e.actor ≡ channel from to
+  pub actor : e.actor ≡ actors.Channel from to
   pub label : e.label ≡ delivers signal suffix
   pub kind : a.kind ≡ kind_of signal
   pub sender : HasPid ps a.from from
@@ -58,7 +59,7 @@ pub record IsArrow (es : List Event) (ps : List Process) (a : Arrow) : Type 0 wh
 pub record AreArrows (es : List Event) (ps : List Process) (count : ℕ) (arrows : List Arrow) : Type 0 where
   pub each : (i : ℕ) (a : Arrow) → slice_get arrows i ≡ Some a → IsArrow es ps a
   pub all : (n : ℕ) (e : Event) (p q i j : ℕ) (signal : Signal) (x : Suffix) → n < count → slice_get es n ≡ Some e
-      → e.actor ≡ channel p q → e.label ≡ delivers signal x → HasPid ps i p → HasPid ps j q
+      → e.actor ≡ actors.Channel p q → e.label ≡ delivers signal x → HasPid ps i p → HasPid ps j q
       → (k : ℕ) × (a : Arrow) × (slice_get arrows k ≡ Some a) × Delivers ps a x e × (a.reach ≡ reach_of x n)
 
 -- what a message that was delivered in this event becomes, where these are the events that take messages

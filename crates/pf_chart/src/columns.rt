@@ -1,24 +1,10 @@
 //! The processes of a run, a column each.
 
-ghost use Rattle.std.specs.Prelude.{
-  ◌≡◌,
-  ◌≢◌,
-  ◌<◌,
-  ◌++◌,
-  All,
-  IfOk,
-  IfSome,
-  None,
-  OnOk,
-  length,
-  map,
-  option_map,
-  option_to_list,
-};
+ghost use Rattle.std.specs.Prelude.{◌≡◌, ◌≢◌, ◌<◌, ◌++◌, All, IfOk, IfSome, None, OnOk, length, map, option_map, option_to_list};
 ghost use Rattle.std.specs.List.{HoldsAt};
 ghost use Rattle.std.specs.List.Sorted.{IsNonDecreasingBy, IsPermutation};
-ghost use Rattle.pf_model.specs.Reports.{actor_of, view_of_event, label_of, view_of_report};
-ghost use Rattle.pf_model.specs.Runs.{process};
+ghost use Rattle.pf_model.specs.Reports.{view_of_event, label_of, view_of_report};
+ghost use Rattle.pf_model.specs.declared.report.Actor.TheVariants as actors;
 ghost use Rattle.pf_chart.specs.Processes.{child_in, processes_of, spawned_by};
 ghost use Rattle.pf_chart.specs.Origins.{AreAlike, SameProcesses, process_of};
 
@@ -70,7 +56,7 @@ fn child_of(label: &Label) -> Option<u32>
 
 /// The process that this one spawns in an event, if it does.
 fn child_column(parent: u32, child: Option<u32>, row: usize) -> Option<Column>
-    ensures { option_map process_of result ≡ spawned_by (process parent) child row }
+    ensures { option_map process_of result ≡ spawned_by (actors.Process parent) child row }
 {
     match child {
         Some(pid) => Some(made_column(pid, Some((parent, row)))),
@@ -81,7 +67,7 @@ fn child_column(parent: u32, child: Option<u32>, row: usize) -> Option<Column>
 /// The process that an event spawns, if it does.
 fn spawned_by(event: &Event, row: usize) -> Option<Column>
     ensures { option_map process_of result
-        ≡ spawned_by (actor_of event.now.actor) (child_in (label_of event.now.label)) row }
+        ≡ spawned_by event.now.actor (child_in (label_of event.now.label)) row }
 {
     match event.actor {
         Actor::Process(parent) => child_column(parent, child_of(&event.label), row),

@@ -2,7 +2,7 @@
 
 ghost use Rattle.std.specs.Prelude.{◌≡◌, ◌++◌, ◌∷◌, [], IsTrue, OnOk, flat_map};
 ghost use Rattle.pf_terms.specs.Atoms.{name_of};
-ghost use Rattle.pf_model.specs.Reports.{actor_of, view_of_event, label_of};
+ghost use Rattle.pf_model.specs.Reports.{view_of_event, label_of};
 ghost use Rattle.pf_model.specs.Text.{label_text};
 ghost use Rattle.pf_chart.specs.Chart.{choice_labels, choice_text, event_labels, twice};
 ghost use Rattle.pf_chart.specs.Origins.{IsMarkedIn};
@@ -71,7 +71,7 @@ pub(crate) fn put_numbers(
 /// The column in which an event has its mark: that of who acts, or of the receiver of a signal. No run has a process
 /// that was never spawned; its events are in the first column.
 fn column_of_actor(columns: &[Column], actor: Actor) -> usize
-    ensures { IsMarkedIn columns.now (marked (actor_of actor)) result }
+    ensures { IsMarkedIn columns.now (marked actor) result }
 {
     let (Actor::Process(pid) | Actor::Channel { to: pid, .. }) = actor;
     column_of(columns, pid).unwrap_or(0)

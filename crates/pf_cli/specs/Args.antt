@@ -27,13 +27,13 @@ use Rattle.pf_cli.specs.declared.args.RunArgs as run_code
 use Rattle.pf_cli.specs.declared.args.ChartArgs as chart_code
 use Rattle.pf_cli.specs.declared.args.HuntArgs as hunt_code
 use Rattle.pf_cli.specs.declared.args.FarmArgs as farm_code
-use Rattle.pf_cli.specs.declared.args.HuntGoal as sought_code
 use Rattle.pf_cli.specs.declared.args.HuntGoal.TheVariants.{Failure, Outcomes}
 use Rattle.pf_cli.specs.declared.args.Args as args_code
 use Rattle.pf_cli.specs.declared.args.Args.TheVariants.{Run, Hunt, Shrink, Chart, Check, Steps, Farm}
 use Rattle.pf_cli.specs.declared.args.CliCommand as asked_code
 use Rattle.pf_cli.specs.declared.reading.ReadWords as reading_code
 use Rattle.pf_cli.specs.declared.reading.ReadWords.TheVariants as read
+use Rattle.pf_cli.specs.declared.args.HuntGoal.{HuntGoal}
 
 -- ---- the words that are taken
 
@@ -186,12 +186,6 @@ pub record ChartArgs : Type 0 where
   pub run : RunArgs
   pub compact : Bool
   pub page : ℕ
-
--- what is sought among seeds: the least that fails, with its schedule shrunk within n runs where that is asked for; or
--- each outcome
-pub data HuntGoal : Type 0 where
-  failure : (runs : Option ℕ) → HuntGoal
-  outcomes : HuntGoal
 
 -- a hunt is asked for: the request is the run by the seed 0, in whose place the seeds from a first to before an end go,
 -- by a strategy; for so many seconds if a time is named, and by n workers if these are; and what it goes over
@@ -394,9 +388,9 @@ workers_named (Some word) = option_map Some (option_and_then as_workers (number_
 
 -- each outcome is sought, or the least seed that fails
 abbrev pub sought_named : (all : Bool) → (shrink : Option Text) → Option HuntGoal
-sought_named true shrink = Some outcomes
-sought_named false None = Some (failure None)
-sought_named false (Some word) = option_map (λ n. failure (Some n)) (number_of_digits word)
+sought_named true shrink = Some Outcomes
+sought_named false None = Some (Failure None)
+sought_named false (Some word) = option_map (λ n. Failure (Some n)) (number_of_digits word)
 
 abbrev pub sought_in : List Row → Option HuntGoal
 sought_in rows = sought_named (is_given (first_of (codes "all") rows)) (first_of (codes "shrink") rows)
@@ -582,10 +576,6 @@ edition_number Second = 2
 abbrev pub weights_by : WeightArgs → ℕ × ℕ
 weights_by w = (w.run, w.deliver)
 
-abbrev pub sought_by : sought_code.HuntGoal → HuntGoal
-sought_by (Failure runs) = failure runs
-sought_by Outcomes = outcomes
-
 abbrev pub view_of_run_args : run_code.RunArgs → RunArgs
 view_of_run_args a =
     record { request = view_of_request a.request; edition = edition_number a.edition; priorities = a.priorities }
@@ -606,7 +596,7 @@ view_of_hunt_args a =
       seeds = (a.first, a.end);
       time = a.time;
       workers = a.workers;
-      sought = sought_by a.sought;
+      sought = a.sought;
     }
 
 abbrev pub view_of_farm_args : farm_code.FarmArgs → FarmArgs

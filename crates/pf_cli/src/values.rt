@@ -6,7 +6,7 @@ ghost use Rattle.pf_model.specs.Meaning.{schedule};
 ghost use Rattle.pf_text.specs.Numbers.{long_number_of, number_of_digits, schedule_of};
 ghost use Rattle.pf_request.specs.Request.{may_weigh};
 ghost use Rattle.pf_request.specs.View.{view_of_choices};
-ghost use Rattle.pf_cli.specs.Args.{as_edition, as_workers, bounds_in, choices_in, edition_named, edition_number, file_at, file_named, guided_by, guided_in, hunt_strategy, in_place, is_given, limit_named, option_number, schedule_numbers, page_named, property_named, root_named, run_fault, schedule_in, seeded_by, sought_by, sought_in, strategy_named, strategy_of, weight_of_word, weights_by, weights_in, weights_of, workers_in};
+ghost use Rattle.pf_cli.specs.Args.{as_edition, as_workers, bounds_in, choices_in, edition_named, edition_number, file_at, file_named, guided_by, guided_in, hunt_strategy, in_place, is_given, limit_named, option_number, schedule_numbers, page_named, property_named, root_named, run_fault, schedule_in, seeded_by, sought_in, strategy_named, strategy_of, weight_of_word, weights_by, weights_in, weights_of, workers_in};
 
 use crate::args::{Edition, HuntGoal, WeightArgs};
 use crate::refusals::{Valued, mistake, refuse, refuse_number, refuse_value};
@@ -528,7 +528,7 @@ pub(crate) fn workers(alloc: Global, rows: &ArgMatches) -> Result<Option<u32>, E
 
 /// What is sought: each outcome, or the least seed that fails, whose schedule may be shrunk.
 pub(crate) fn sought(alloc: Global, rows: &ArgMatches) -> Result<HuntGoal, Error>
-    ensures ok { IfOk result (λ s. sought_in (rows_of (found_of rows.now)) ≡ Some (sought_by s)) }
+    ensures ok { IfOk result (λ s. sought_in (rows_of (found_of rows.now)) ≡ Some s) }
     ensures err { IfErr result (λ e. (kind_of e ≡ ErrorKind.OutOfMemory)
         ⊎ ((kind_of e ≡ ErrorKind.InvalidValue) × (sought_in (rows_of (found_of rows.now)) ≡ None))) }
 {

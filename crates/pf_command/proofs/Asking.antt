@@ -10,7 +10,8 @@ use Rattle.pf_request.specs.Job.{Job}
 use Rattle.pf_sched.specs.Asked.{Asks, IsRefusal}
 use Rattle.pf_sched.specs.Views.{code_of}
 use Rattle.pf_sched.specs.declared.refusal.JobRefusal.{JobRefusal}
-use Rattle.pf_cli.specs.Args.{HuntArgs, HuntGoal}
+use Rattle.pf_cli.specs.Args.{HuntArgs}
+use Rattle.pf_cli.specs.declared.args.HuntGoal.{HuntGoal}
 use Rattle.pf_command.specs.Hunts.{HuntAsksFor, MayShrink, run_asked}
 
 -- who is refused for one thing is refused for what that implies

@@ -15,7 +15,8 @@ use Rattle.pf_hunt.specs.Rows as rows
 use Rattle.pf_hunt.specs.Views.{row_of, rows_in}
 use Rattle.pf_hunt.specs.declared.row.OutcomeRow.{OutcomeRow}
 use Rattle.pf_hunt.proofs.Stopping.{over_where_found}
-use Rattle.pf_cli.specs.Args.{HuntArgs, failure, outcomes}
+use Rattle.pf_cli.specs.Args.{HuntArgs}
+use Rattle.pf_cli.specs.declared.args.HuntGoal.TheVariants.{Failure, Outcomes}
 use Rattle.pf_command.specs.Answers.{atom_names_of, no_memory_report}
 use Rattle.pf_command.specs.Hunts.{IsLeastFailure, TellsReport, TellsShrinking, TellsSought, choices_of, front_text, may_stop, none_text, row_text, rows_status, seed_text, strategy_text}
 use Rattle.pf_command.specs.Hunts.{none_fails, seed_fails, seed_cut, seed_shrunk, seed_alone, tallied}
@@ -35,7 +36,7 @@ texts_are name xs = sym (flat_map-map (row_text name) row_of xs)
 
 module _ (h : HuntArgs) (bytes : List ℕ) (j : Job) (ns : List Notice) where
   pub tells_none : (runs : Option ℕ) (c : ℕ) (a : Output) → SearchedTo (may_stop h) h.seeds.0 h.seeds.1 c → IsLeastFailure h j ns c None
-      → (a.text.items ≡ front_text h c ++ none_text (c - h.seeds.0)) × (a.status ≡ 0) → TellsSought h bytes j ns (failure runs) a.text.items a.status
+      → (a.text.items ≡ front_text h c ++ none_text (c - h.seeds.0)) × (a.status ≡ 0) → TellsSought h bytes j ns (Failure runs) a.text.items a.status
   tells_none runs c a reach none is = rw (is.0, is.1) (none_fails runs c reach none)
 
   -- what was found is the least of all seeds
@@ -52,24 +53,24 @@ module _ (h : HuntArgs) (bytes : List ℕ) (j : Job) (ns : List Notice) where
 
   -- after the seed and the choices of a run that fails comes its report, or what it was cut to
   pub tells_report : (s : ℕ) (r : Report) (text : List ℕ) (status : ℕ) → IsLeastFailure h j ns h.seeds.1 (Some (s, r))
-      → TellsReport j r text status → TellsSought h bytes j ns (failure None) (seed_text s h.strategy (choices_of r) ++ text) status
+      → TellsReport j r text status → TellsSought h bytes j ns (Failure None) (seed_text s h.strategy (choices_of r) ++ text) status
   tells_report s r text status least (inl is) = rw (is.0, is.1) (seed_fails s r least)
   tells_report s r text status least (inr (es, rest, e, is, one)) = rw (is, one) (seed_cut s r es rest least e)
 
   -- or what the shrinking of the choices is answered with
   pub tells_shrinking : (s : ℕ) (r : Report) (runs : ℕ) (text : List ℕ) (status : ℕ) → IsLeastFailure h j ns h.seeds.1 (Some (s, r))
-      → TellsShrinking h bytes r runs text status → TellsSought h bytes j ns (failure (Some runs)) (seed_text s h.strategy (choices_of r) ++ text) status
+      → TellsShrinking h bytes r runs text status → TellsSought h bytes j ns (Failure (Some runs)) (seed_text s h.strategy (choices_of r) ++ text) status
   tells_shrinking s r runs text status least (inl answers) = seed_shrunk s r runs text status least answers
   tells_shrinking s r runs text status least (inr is) = rw (is.0, is.1) (seed_alone s r runs least)
 
   -- something may be reported after the seed of a run that fails
   pub may_be_told : (s : ℕ) (r : Report) (runs : Option ℕ) → IsLeastFailure h j ns h.seeds.1 (Some (s, r))
-      → (text : List ℕ) × (status : ℕ) × TellsSought h bytes j ns (failure runs) (seed_text s h.strategy (choices_of r) ++ text) status
+      → (text : List ℕ) × (status : ℕ) × TellsSought h bytes j ns (Failure runs) (seed_text s h.strategy (choices_of r) ++ text) status
   may_be_told s r None least = (report_text (atom_names_of j) r, 1, seed_fails s r least)
   may_be_told s r (Some runs) least = (no_memory_report, 2, seed_alone s r runs least)
 
   pub tells_rows : (c : ℕ) (xs : List rows.OutcomeRow) (a : Output) → SearchedTo (may_stop h) h.seeds.0 h.seeds.1 c → Tallies h.strategy j.asked h.seeds.0 c xs
       → TallyNotices h.strategy j.asked (may_stop h) h.seeds.0 h.seeds.1 c ns
       → (a.text.items ≡ front_text h c ++ strategy_text h.strategy ++ flat_map (row_text (atom_names_of j)) xs) × (a.status ≡ rows_status xs)
-      → TellsSought h bytes j ns outcomes a.text.items a.status
+      → TellsSought h bytes j ns Outcomes a.text.items a.status
   tells_rows c xs a reach counted told is = rw (is.0, is.1) (tallied c xs reach counted told)

@@ -18,7 +18,9 @@ use Rattle.pf_hunt.specs.Hunts.{FirstFailing, SearchedTo, Tallies}
 use Rattle.pf_hunt.specs.Notices.{Notice, SearchNotices, TallyNotices}
 use Rattle.pf_hunt.specs.Rows.{OutcomeRow}
 use Rattle.pf_hunt.specs.Views.{failure_of}
-use Rattle.pf_cli.specs.Args.{HuntArgs, RunArgs, HuntGoal, failure, outcomes}
+use Rattle.pf_cli.specs.Args.{HuntArgs, RunArgs}
+use Rattle.pf_cli.specs.declared.args.HuntGoal.{HuntGoal}
+use Rattle.pf_cli.specs.declared.args.HuntGoal.TheVariants.{Failure, Outcomes}
 use Rattle.pf_command.specs.declared.ending.HuntEnd.{HuntEnd}
 use Rattle.pf_command.specs.declared.ending.HuntEnd.TheVariants.{Told, Found}
 use Rattle.pf_command.specs.Answers.{AnswersRun, AnswersBy, IsNoMemory, cut_text, atom_names_of, no_memory_report}
@@ -33,15 +35,15 @@ shrinking_of h numbers runs = record { request = record h.request { kind = shrin
 
 -- if a schedule is to be shrunk, the shrinking of the empty one isn't refused
 abbrev pub MayShrink : HuntArgs → HuntGoal → ReadModule → Type 0
-MayShrink h (failure (Some runs)) m = (j : Job) × AsksOf (shrinking_of h [] runs) m (Ok j)
-MayShrink h (failure None) m = Unit {0}
-MayShrink h outcomes m = Unit {0}
+MayShrink h (Failure (Some runs)) m = (j : Job) × AsksOf (shrinking_of h [] runs) m (Ok j)
+MayShrink h (Failure None) m = Unit {0}
+MayShrink h Outcomes m = Unit {0}
 
 -- HuntAsksFor h sought m x: the run in whose place those by the seeds go is this job, or what is asked for is refused
 -- for this: first the shrinking of the empty schedule, if one is to be shrunk, and then the run
 pub data HuntAsksFor (h : HuntArgs) : HuntGoal → ReadModule → Result Job Code → Type 0 where
   shrinking_refused : (runs : ℕ) (m : ReadModule) (code : Code) → AsksOf (shrinking_of h [] runs) m (Err code)
-      → HuntAsksFor h (failure (Some runs)) m (Err code)
+      → HuntAsksFor h (Failure (Some runs)) m (Err code)
   run_asked : (sought : HuntGoal) (m : ReadModule) (x : Result Job Code) → MayShrink h sought m → Asks m h.edition h.request x
       → HuntAsksFor h sought m x
 
@@ -100,24 +102,24 @@ IsLeastFailure h j ns c x =
 pub data TellsSought (h : HuntArgs) (bytes : List ℕ) (j : Job) (ns : List Notice) : HuntGoal → List ℕ → ℕ → Type 0 where
   -- no run fails of the seeds that it reached
   none_fails : (runs : Option ℕ) (c : ℕ) → SearchedTo (may_stop h) h.seeds.0 h.seeds.1 c → IsLeastFailure h j ns c None
-      → TellsSought h bytes j ns (failure runs) (front_text h c ++ none_text (c - h.seeds.0)) 0
+      → TellsSought h bytes j ns (Failure runs) (front_text h c ++ none_text (c - h.seeds.0)) 0
   -- the least seed whose run fails, the choices of that run, and its report
   seed_fails : (s : ℕ) (r : Report) → IsLeastFailure h j ns h.seeds.1 (Some (s, r))
-      → TellsSought h bytes j ns (failure None) (seed_text s h.strategy (choices_of r) ++ report_text (atom_names_of j) r) 1
+      → TellsSought h bytes j ns (Failure None) (seed_text s h.strategy (choices_of r) ++ report_text (atom_names_of j) r) 1
   -- or, if memory ran out within the report, the lines of its first events that went out by then, and that it did
   seed_cut : (s : ℕ) (r : Report) (es rest : List Event) → IsLeastFailure h j ns h.seeds.1 (Some (s, r)) → r.events ≡ es ++ rest
-      → TellsSought h bytes j ns (failure None) (seed_text s h.strategy (choices_of r) ++ cut_text (atom_names_of j) es) 2
+      → TellsSought h bytes j ns (Failure None) (seed_text s h.strategy (choices_of r) ++ cut_text (atom_names_of j) es) 2
   -- or what the shrinking of these choices is answered with
   seed_shrunk : (s : ℕ) (r : Report) (runs : ℕ) (text : List ℕ) (status : ℕ) → IsLeastFailure h j ns h.seeds.1 (Some (s, r))
       → AnswersRun (shrinking_of h (choices_of r) runs) bytes text status
-      → TellsSought h bytes j ns (failure (Some runs)) (seed_text s h.strategy (choices_of r) ++ text) status
+      → TellsSought h bytes j ns (Failure (Some runs)) (seed_text s h.strategy (choices_of r) ++ text) status
   -- or, if memory ran out within the shrinking, that it did
   seed_alone : (s : ℕ) (r : Report) (runs : ℕ) → IsLeastFailure h j ns h.seeds.1 (Some (s, r))
-      → TellsSought h bytes j ns (failure (Some runs)) (seed_text s h.strategy (choices_of r) ++ no_memory_report) 2
+      → TellsSought h bytes j ns (Failure (Some runs)) (seed_text s h.strategy (choices_of r) ++ no_memory_report) 2
   -- the strategy, and each outcome that is met by the seeds that it reached
   tallied : (c : ℕ) (rows : List OutcomeRow) → SearchedTo (may_stop h) h.seeds.0 h.seeds.1 c → Tallies h.strategy j.asked h.seeds.0 c rows
       → TallyNotices h.strategy j.asked (may_stop h) h.seeds.0 h.seeds.1 c ns
-      → TellsSought h bytes j ns outcomes (front_text h c ++ strategy_text h.strategy ++ flat_map (row_text (atom_names_of j)) rows) (rows_status rows)
+      → TellsSought h bytes j ns Outcomes (front_text h c ++ strategy_text h.strategy ++ flat_map (row_text (atom_names_of j)) rows) (rows_status rows)
 
 -- SoughtAnswers h sought bytes notices text status: a source of these bytes, of whose runs by many seeds this is
 -- sought, is answered with this text and this status, and the observer of the hunt receives these notices
@@ -142,7 +144,7 @@ HuntAnswers h bytes text status = (ns : List Notice) × HuntNotifies h ns bytes 
 -- what may be said of the end of a hunt over the runs of a source's job: its answer; or, where a run fails, that
 abbrev pub MaySay : HuntArgs → (bytes : List ℕ) → List Notice → HuntEnd → List ℕ → ℕ → Type 0
 MaySay h bytes ns (Told a) text status = (text ≡ a.text.items) × (status ≡ a.status)
-MaySay h bytes ns (Found f) text status = TellsSought h bytes f.job ns (failure f.runs) text status
+MaySay h bytes ns (Found f) text status = TellsSought h bytes f.job ns (Failure f.runs) text status
 
 -- it is a run that fails, the first of the module of the source, or an answer
 abbrev pub IsFound : HuntArgs → (bytes : List ℕ) → List Notice → HuntEnd → Type 0

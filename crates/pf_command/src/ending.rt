@@ -9,7 +9,8 @@ ghost use Rattle.pf_model.specs.Reports.{view_of_report};
 ghost use Rattle.pf_text.specs.Schedules.{schedule_text};
 ghost use Rattle.pf_hunt.specs.Notices.{Notice};
 ghost use Rattle.pf_hunt.specs.Views.{failure_of};
-ghost use Rattle.pf_cli.specs.Args.{failure, view_of_hunt_args};
+ghost use Rattle.pf_cli.specs.Args.{view_of_hunt_args};
+ghost use Rattle.pf_cli.specs.declared.args.HuntGoal.TheVariants.{Failure};
 ghost use Rattle.pf_command.specs.Answers.{AnswersRun};
 ghost use Rattle.pf_check.specs.Reading.{IsModuleOf};
 ghost use Rattle.pf_command.specs.Hunts.{IsFound, IsLeastFailure, MaySay, TellsReport, TellsShrinking, TellsSought, choices_of, seed_text, shrinking_of, strategy_text};
@@ -227,7 +228,7 @@ fn print_found<W: Write, M: Ledger>(
 ) -> Result<u8, StreamFault>
     ensures { (bytes : List ℕ) (ns : List Notice) → IsModuleOf bytes found.«module»
         → IsLeastFailure (view_of_hunt_args args.now) found.job ns args.now.end (Some (failure_of found.failure))
-        → PrintsAnswer (TellsSought (view_of_hunt_args args.now) bytes found.job ns (failure found.runs))
+        → PrintsAnswer (TellsSought (view_of_hunt_args args.now) bytes found.job ns (Failure found.runs))
         (W.contents writer.old.inner) (W.contents writer.new.inner)
         writer.old.failures.total writer.new.failures.total result }
 {

@@ -6,7 +6,8 @@ ghost use Rattle.pf_model.specs.Shrinking.{is_failure};
 ghost use Rattle.pf_sched.specs.Asked.{IsRefusal};
 ghost use Rattle.pf_hunt.specs.Notices.{HearsSome};
 ghost use Rattle.pf_hunt.specs.Views.{row_of};
-ghost use Rattle.pf_cli.specs.Args.{failure, outcomes, view_of_hunt_args};
+ghost use Rattle.pf_cli.specs.Args.{view_of_hunt_args};
+ghost use Rattle.pf_cli.specs.declared.args.HuntGoal.TheVariants as goals;
 ghost use Rattle.pf_command.specs.Answers.{AnswersRun, atom_names_of, run_args};
 ghost use Rattle.pf_cli_messages.specs.Explained.{AsksOf};
 ghost use Rattle.pf_check.specs.Reading.{IsModuleOf};
@@ -74,8 +75,8 @@ fn may_shrink(
     runs: u32,
 ) -> Result<(), OrNoMemory<JobRefusal>>
     ensures { MatchResult result
-        (λ _. MayShrink (view_of_hunt_args args.now) (failure (Some runs)) «module».now)
-        (IsRefusal (HuntAsksFor (view_of_hunt_args args.now) (failure (Some runs)) «module».now)) }
+        (λ _. MayShrink (view_of_hunt_args args.now) (goals.Failure (Some runs)) «module».now)
+        (IsRefusal (HuntAsksFor (view_of_hunt_args args.now) (goals.Failure (Some runs)) «module».now)) }
 {
     match try_shrinking(alloc, args, module, runs) {
         Ok(_shrinking) => Ok(()),
@@ -91,8 +92,8 @@ fn may_seek(
     runs: Option<u32>,
 ) -> Result<(), OrNoMemory<JobRefusal>>
     ensures { MatchResult result
-        (λ _. MayShrink (view_of_hunt_args args.now) (failure runs) «module».now)
-        (IsRefusal (HuntAsksFor (view_of_hunt_args args.now) (failure runs) «module».now)) }
+        (λ _. MayShrink (view_of_hunt_args args.now) (goals.Failure runs) «module».now)
+        (IsRefusal (HuntAsksFor (view_of_hunt_args args.now) (goals.Failure runs) «module».now)) }
 {
     match runs {
         Some(runs) => may_shrink(alloc, args, module, runs),
@@ -108,8 +109,8 @@ fn job_of(
     runs: Option<u32>,
 ) -> Result<Job, OrNoMemory<JobRefusal>>
     ensures { MatchResult result
-        (λ job. HuntAsksFor (view_of_hunt_args args.now) (failure runs) «module».now (Ok job))
-        (IsRefusal (HuntAsksFor (view_of_hunt_args args.now) (failure runs) «module».now)) }
+        (λ job. HuntAsksFor (view_of_hunt_args args.now) (goals.Failure runs) «module».now (Ok job))
+        (IsRefusal (HuntAsksFor (view_of_hunt_args args.now) (goals.Failure runs) «module».now)) }
 {
     may_seek(alloc, args, module, runs)?;
     Job::new(alloc, module.share()?, &args.request, args.edition.number())
@@ -159,7 +160,7 @@ fn seek_failure<T: Threads + Sync, S: HuntObserver>(
     seeds: &mut S,
 ) -> Result<HuntEnd, NoMemory>
     ensures { IfOk result (λ x. HearsSome S.Heard seeds.old (OfEach «module»
-        (λ bytes. TellsAs (view_of_hunt_args args.now) bytes job (failure runs) x)) seeds.new) }
+        (λ bytes. TellsAs (view_of_hunt_args args.now) bytes job (goals.Failure runs) x)) seeds.new) }
 {
     let others = other_jobs(
         alloc,
@@ -201,7 +202,7 @@ fn hunt_failure<T: Threads + Sync, S: HuntObserver>(
     seeds: &mut S,
 ) -> Result<HuntEnd, NoMemory>
     ensures { IfOk result (λ x. HearsSome S.Heard seeds.old (OfEach «module»
-        (λ bytes. HuntEndsAs (view_of_hunt_args args.now) (failure runs) bytes x)) seeds.new) }
+        (λ bytes. HuntEndsAs (view_of_hunt_args args.now) (goals.Failure runs) bytes x)) seeds.new) }
 {
     match job_of(alloc, args, &module, runs) {
         Ok(job) => seek_failure(rt, alloc, args, module, job, runs, workers, seeds),
@@ -246,7 +247,7 @@ fn seek_outcomes<T: Threads + Sync, S: HuntObserver>(
     seeds: &mut S,
 ) -> Result<Output, NoMemory>
     ensures { IfOk result (λ a. HearsSome S.Heard seeds.old (λ ns. (bytes : List ℕ)
-        → TellsSought (view_of_hunt_args args.now) bytes job ns outcomes a.text.items a.status) seeds.new) }
+        → TellsSought (view_of_hunt_args args.now) bytes job ns goals.Outcomes a.text.items a.status) seeds.new) }
 {
     let others = other_jobs(
         alloc,
@@ -278,7 +279,7 @@ fn hunt_outcomes<T: Threads + Sync, S: HuntObserver>(
     seeds: &mut S,
 ) -> Result<Output, NoMemory>
     ensures { IfOk result (λ a. HearsSome S.Heard seeds.old (OfEach «module»
-        (λ bytes ns. SoughtAnswers (view_of_hunt_args args.now) outcomes bytes ns a.text.items a.status)) seeds.new) }
+        (λ bytes ns. SoughtAnswers (view_of_hunt_args args.now) goals.Outcomes bytes ns a.text.items a.status)) seeds.new) }
 {
     match Job::new(alloc, module.share()?, &args.request, args.edition.number()) {
         Ok(job) => seek_outcomes(rt, alloc, args, module, job, workers, seeds),

@@ -3,7 +3,8 @@ use Rattle.std.proofs.Common.{◌≡◌, ℕ, ◌==◌, Bool, true, false, List,
 use Rattle.std.specs.Prelude.{if◌then◌else◌}
 use Rattle.pf_request.specs.Calls.{Call}
 use Rattle.pf_request.specs.Job.{Job}
-use Rattle.pf_desks.specs.Desk.{Profile, Desk, no_desk, TrialState, queued, running, done, Entry, called, claimed, filed, handed_back, FileMark, held_at}
+use Rattle.pf_desks.specs.Desk.{Profile, Desk, no_desk, TrialState, queued, running, done, Entry, called, claimed, filed, handed_back, held_at}
+use Rattle.pf_desks.specs.declared.mark.FileMark.{FileMark}
 use Rattle.pf_desks.specs.Calls.{after_call, with_entry}
 use Rattle.pf_desks.specs.Work.{is_queued, is_running, after_claim, after_file, after_hand_back, with_state, result_marked, DeskWork, claim, file, hand_back, worker_step}
 use Rattle.pf_desks.specs.Desks.{Desks, DeskStep, client, worker, desk_at, put_desk, worked, step}

@@ -10,7 +10,8 @@ use Rattle.pf_quota.specs.Charges.{steps_of_trial}
 use Rattle.pf_quota.specs.Usage.{usage_of, charged, refunded, Covers, charge_of, module_count, byte_count, trial_count, step_count}
 use Rattle.pf_request.specs.Calls.{Call}
 use Rattle.pf_check.specs.Module.{ReadModule}
-use Rattle.pf_desks.specs.Desk.{Trial, FileMark, Desk, Entry, Reply, called, claimed, filed, handed_back, held_at, with_held, all_held}
+use Rattle.pf_desks.specs.Desk.{Trial, Desk, Entry, Reply, called, claimed, filed, handed_back, held_at, with_held, all_held}
+use Rattle.pf_desks.specs.declared.mark.FileMark.{FileMark}
 use Rattle.pf_desks.specs.Calls.{calls_in, held_by, usage_in}
 use Rattle.pf_desks.proofs.Always.{OfWork, of_claim, of_file, of_back}
 use Rattle.pf_desks.proofs.Held.{OneMore, one_pushed, one_gone, Around, around}

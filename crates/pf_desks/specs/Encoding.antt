@@ -10,8 +10,11 @@ use Rattle.pf_request.specs.Calls.{Call}
 use Rattle.pf_request.specs.Encoding.{coded_call, coded_job}
 use Rattle.pf_check.specs.Encoding.{coded_names, coded_read_module}
 use Rattle.pf_request.specs.ReportEncoding.{coded_result}
-use Rattle.pf_desks.specs.Desk.{TrialState, queued, running, done, Trial, Desk, Entry, called, claimed, filed, handed_back, marked_whole, marked_memory}
-use Rattle.pf_desks.specs.Desk.{TrialStage, at_queue, at_work, at_end, Reply, number, ticket, result, stage, given_up, uses, logged, has_edition, refused}
+use Rattle.pf_desks.specs.Desk.{TrialState, queued, running, done, Trial, Desk, Entry, called, claimed, filed, handed_back}
+use Rattle.pf_desks.specs.declared.mark.FileMark.TheVariants.{Whole, Memory}
+use Rattle.pf_desks.specs.Desk.{Reply, number, ticket, result, stage, given_up, uses, logged, has_edition, refused}
+use Rattle.pf_desks.specs.declared.stage.TrialStage.{TrialStage}
+use Rattle.pf_desks.specs.declared.stage.TrialStage.TheVariants.{Queued, Running, Done}
 
 -- ---- what a desk holds
 
@@ -50,12 +53,12 @@ coded_usage =
     (λ p. record { modules = p.0.0; bytes = p.0.1; trials = p.1.0; steps = p.1.1.0; calls = p.1.1.1 }) (λ _. refl)
 
 abbrev pub rank_of_stage : TrialStage → ℕ
-rank_of_stage at_queue = 0
-rank_of_stage at_work = 1
-rank_of_stage at_end = 2
+rank_of_stage Queued = 0
+rank_of_stage Running = 1
+rank_of_stage Done = 2
 
 abbrev pub stage_at : ℕ → TrialStage
-stage_at n = if n == 0 then at_queue else (if n == 1 then at_work else at_end)
+stage_at n = if n == 0 then Queued else (if n == 1 then Running else Done)
 
 -- the replies that are a number are 0 to 2 with it; how far a trial is, is one of three, that it is given up the
 -- fourth, and that a desk has its edition the fifth
@@ -90,9 +93,9 @@ pub reply_from-parts_of : (r : Reply) → reply_from (parts_of_reply r) ≡ r
 reply_from-parts_of (number n) = refl
 reply_from-parts_of (ticket t) = refl
 reply_from-parts_of (logged n) = refl
-reply_from-parts_of (stage at_queue) = refl
-reply_from-parts_of (stage at_work) = refl
-reply_from-parts_of (stage at_end) = refl
+reply_from-parts_of (stage Queued) = refl
+reply_from-parts_of (stage Running) = refl
+reply_from-parts_of (stage Done) = refl
 reply_from-parts_of given_up = refl
 reply_from-parts_of has_edition = refl
 reply_from-parts_of (result atoms r) = refl
@@ -108,15 +111,15 @@ coded_reply =
 abbrev pub parts_of_entry : Entry → (Call × Reply) ⊎ (ℕ × ℕ)
 parts_of_entry (called c r) = inl (c, r)
 parts_of_entry (claimed t) = inr (0, t)
-parts_of_entry (filed t marked_whole) = inr (1, t)
-parts_of_entry (filed t marked_memory) = inr (2, t)
+parts_of_entry (filed t Whole) = inr (1, t)
+parts_of_entry (filed t Memory) = inr (2, t)
 parts_of_entry (handed_back t) = inr (3, t)
 
 abbrev pub work_entry : ℕ → ℕ → Entry
 work_entry k t =
     if k == 0 then claimed t
-    else (if k == 1 then filed t marked_whole
-    else (if k == 2 then filed t marked_memory else handed_back t))
+    else (if k == 1 then filed t Whole
+    else (if k == 2 then filed t Memory else handed_back t))
 
 abbrev pub entry_from : (Call × Reply) ⊎ (ℕ × ℕ) → Entry
 entry_from (inl p) = called p.0 p.1
@@ -125,8 +128,8 @@ entry_from (inr x) = work_entry x.0 x.1
 pub entry_from-parts_of : (e : Entry) → entry_from (parts_of_entry e) ≡ e
 entry_from-parts_of (called c r) = refl
 entry_from-parts_of (claimed t) = refl
-entry_from-parts_of (filed t marked_whole) = refl
-entry_from-parts_of (filed t marked_memory) = refl
+entry_from-parts_of (filed t Whole) = refl
+entry_from-parts_of (filed t Memory) = refl
 entry_from-parts_of (handed_back t) = refl
 
 abbrev pub coded_entry : Coded Entry

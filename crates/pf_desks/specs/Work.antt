@@ -3,7 +3,9 @@ use Rattle.std.specs.Prelude.{ℕ, Bool, true, false, if◌then◌else◌, List,
 use Rattle.std.specs.Option.{option_map}
 use Rattle.pf_model.specs.Shrinking as shrinking
 use Rattle.pf_request.specs.Job.{Job, memory_report}
-use Rattle.pf_desks.specs.Desk.{TrialState, queued, running, done, Trial, Desk, held_at, with_held, Profile, FileMark, marked_whole, marked_memory, claimed, filed, handed_back}
+use Rattle.pf_desks.specs.Desk.{TrialState, queued, running, done, Trial, Desk, held_at, with_held, Profile, claimed, filed, handed_back}
+use Rattle.pf_desks.specs.declared.mark.FileMark.{FileMark}
+use Rattle.pf_desks.specs.declared.mark.FileMark.TheVariants.{Whole, Memory}
 use Rattle.pf_desks.specs.Calls.{with_entry}
 
 abbrev pub is_queued_state : TrialState → Bool
@@ -34,8 +36,8 @@ with_state ts t f = with_held ts t (option_map (in_state f) (held_at ts t))
 
 -- what a file puts, by its mark
 abbrev pub result_marked : Profile → FileMark → Job → shrinking.Result
-result_marked p marked_whole j = p.meaning j.asked
-result_marked p marked_memory j = shrinking.report memory_report
+result_marked p Whole j = p.meaning j.asked
+result_marked p Memory j = shrinking.report memory_report
 
 -- a claim: what was queued is running
 abbrev pub after_claim : Desk → ℕ → Desk

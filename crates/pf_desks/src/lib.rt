@@ -2,3 +2,8 @@
 #![tactic(auto)]
 
 pub mod laws;
+mod mark;
+mod stage;
+
+pub use mark::FileMark;
+pub use stage::TrialStage;

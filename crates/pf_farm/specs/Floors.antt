@@ -1,19 +1,18 @@
 -- What a client waits for.
 use Rattle.std.specs.Prelude.{⊤, Bool, true, false, not, ◌&&◌, Option, Some, None}
 use Rattle.pf_desks.specs.Desk as desk
-use Rattle.pf_desks.specs.Desk.{at_queue, at_work, at_end}
-use Rattle.pf_book.specs.declared.reply.TrialStage.{TrialStage}
-use Rattle.pf_book.specs.declared.reply.TrialStage.TheVariants.{Queued, Running, Done}
+use Rattle.pf_desks.specs.declared.stage.TrialStage.{TrialStage}
+use Rattle.pf_desks.specs.declared.stage.TrialStage.TheVariants.{Queued, Running, Done}
 
 -- the trial is queued or running
-abbrev pub is_undone : Option desk.TrialStage → Bool
+abbrev pub is_undone : Option TrialStage → Bool
 is_undone None = false
-is_undone (Some at_queue) = true
-is_undone (Some at_work) = true
-is_undone (Some at_end) = false
+is_undone (Some Queued) = true
+is_undone (Some Running) = true
+is_undone (Some Done) = false
 
 -- a client waits while its trial is queued or running and the farm goes on
-abbrev pub must_wait : Option desk.TrialStage → (stops : Bool) → Bool
+abbrev pub must_wait : Option TrialStage → (stops : Bool) → Bool
 must_wait s stops = not stops && is_undone s
 
 -- the trial is done, or isn't held

@@ -4,14 +4,14 @@ ghost use Rattle.std.specs.Prelude.{◌≡◌, true, false, is_some, IfOk, OnErr
 ghost use Rattle.pf_desks.specs.Calls.{stage_of};
 ghost use Rattle.pf_desks.specs.Desk.{held_at};
 ghost use Rattle.pf_desks.specs.Desks.{desk_at};
-ghost use Rattle.pf_book.specs.View.{view_of_stage};
 ghost use Rattle.pf_farm_state.specs.Clients.{GetsReceipt, StaysFull};
 ghost use Rattle.pf_farm.specs.Floors.{must_wait, IsTrialOver};
 ghost use Rattle.pf_farm.specs.Seats.{HasFiled, IsAsBefore};
 
 use crate::seat::WorkSeat;
 use crate::waiting::{SLOTS, WaitingClients, slot_of};
-use pf_book::{Reply, TrialStage};
+use pf_book::Reply;
+use pf_desks::TrialStage;
 use pf_errors::NoMemory;
 use pf_farm_accounts::{FarmNames, OpenClaim};
 use pf_farm_state::{ClaimedTrial, ClientSeat, Hall};
@@ -44,7 +44,7 @@ impl<N: FarmNames> SharedState<N> {
 
     /// How far the trial of a project's ticket is, and whether the farm stops.
     fn look(&self, project: u32, ticket: u64) -> LastSeen
-        ensures stage { option_map view_of_stage result.stage
+        ensures stage { result.stage
             ≡ option_map (λ t. stage_of t.state) (held_at (desk_at project self.now.hall.desks).trials ticket) }
         ensures stops { result.stops ≡ self.now.stopped }
     {

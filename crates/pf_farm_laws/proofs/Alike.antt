@@ -3,10 +3,12 @@ use Rattle.std.proofs.Common.{◌≡◌, ℕ, List, [], ◌∷◌, Option, refl,
 use Rattle.std.specs.Prelude.{unwrap_or}
 use Rattle.std.proofs.lemmas.List.Elements.{All-nil, All-head, All-tail}
 use Rattle.pf_request.specs.Calls.{Call}
-use Rattle.pf_desks.specs.Desk.{Profile, Desk, no_desk, Reply, Entry, called, claimed, filed, handed_back, marked_whole, marked_memory}
+use Rattle.pf_desks.specs.Desk.{Profile, Desk, no_desk, Reply, Entry, called, claimed, filed, handed_back}
+use Rattle.pf_desks.specs.declared.mark.FileMark.TheVariants.{Whole, Memory}
 use Rattle.pf_desks.specs.Calls.{after_call}
 use Rattle.pf_desks.specs.History.{IsLegal, replies_noted}
-use Rattle.pf_world.specs.Chores.{Chore, claiming, filing, handing_back}
+use Rattle.pf_request.specs.declared.step.Chore.{Chore}
+use Rattle.pf_request.specs.declared.step.Chore.TheVariants.{Claim, File, HandBack}
 use Rattle.pf_world.specs.Steps.{worker_does}
 use Rattle.pf_world.specs.Alone.{at_desk}
 use Rattle.pf_world.specs.Laws.{Settles}
@@ -46,12 +48,12 @@ module _ (p : Profile) where
       let rest : IsAlong d' (after_call p e c) es = like_along h.0 (after_call p e c) es d' (All-tail NotForMemory _ es m) h.2 next in
       (rest.0, (λ s. h.1.1 ∙ one.1 (subst (Settles c) h.1.1 s), rest.1))
   like_along d e (claimed t ∷ es) d' m h l =
-      like_along h.0 e es d' (All-tail NotForMemory _ es m) h.2 (like_work d h.0 e t claiming (ap (λ (o : Option Desk). unwrap_or o d) h.1) l)
-  like_along d e (filed t marked_whole ∷ es) d' m h l =
-      like_along h.0 e es d' (All-tail NotForMemory _ es m) h.2 (like_work d h.0 e t filing (ap (λ (o : Option Desk). unwrap_or o d) h.1) l)
-  like_along d e (filed t marked_memory ∷ es) d' m h l = absurd (All-head NotForMemory _ es m t refl)
+      like_along h.0 e es d' (All-tail NotForMemory _ es m) h.2 (like_work d h.0 e t Claim (ap (λ (o : Option Desk). unwrap_or o d) h.1) l)
+  like_along d e (filed t Whole ∷ es) d' m h l =
+      like_along h.0 e es d' (All-tail NotForMemory _ es m) h.2 (like_work d h.0 e t File (ap (λ (o : Option Desk). unwrap_or o d) h.1) l)
+  like_along d e (filed t Memory ∷ es) d' m h l = absurd (All-head NotForMemory _ es m t refl)
   like_along d e (handed_back t ∷ es) d' m h l =
-      like_along h.0 e es d' (All-tail NotForMemory _ es m) h.2 (like_work d h.0 e t handing_back (ap (λ (o : Option Desk). unwrap_or o d) h.1) l)
+      like_along h.0 e es d' (All-tail NotForMemory _ es m) h.2 (like_work d h.0 e t HandBack (ap (λ (o : Option Desk). unwrap_or o d) h.1) l)
 
   -- so it is of what a legal history makes of an empty desk
   pub along : (es : List Entry) (d : Desk) → NoneForMemory es → IsLegal p no_desk es d → IsAlong d no_desk es

@@ -10,7 +10,8 @@ use Rattle.pf_request.specs.Calls.{order, fetch}
 use Rattle.pf_request.specs.Job.{Job, job_of}
 use Rattle.pf_check.specs.Module.{ReadModule}
 use Rattle.pf_request.specs.Request.{Request}
-use Rattle.pf_desks.specs.Desk.{Profile, Desk, no_desk, queued, running, done, Trial, Entry, called, claimed, filed, handed_back, marked_whole, marked_memory, Reply, ticket, result, job_ordered, held_at}
+use Rattle.pf_desks.specs.Desk.{Profile, Desk, no_desk, queued, running, done, Trial, Entry, called, claimed, filed, handed_back, Reply, ticket, result, job_ordered, held_at}
+use Rattle.pf_desks.specs.declared.mark.FileMark.TheVariants.{Whole, Memory}
 use Rattle.pf_desks.specs.Calls.{within_limits, passed_by, with_job, ordered, noted, after_call, reply_to}
 use Rattle.pf_desks.specs.Work.{is_queued, is_running, after_claim, after_file, after_hand_back, result_marked}
 use Rattle.pf_desks.specs.History.{EntryFollows, IsLegal}
@@ -67,24 +68,24 @@ module _ (p : Profile) (j : Job) (t : ℕ) where
   own_where : (d k x : Desk) → k ≡ x → IsGiven IsOwn x t → IsGiven IsOwn k t
   own_where d k x is g = subst (λ (y : Desk). IsGiven IsOwn y t) (sym is) g
 
-  own_note : (d k : Desk) (e : Entry) → EntryFollows p d e k → (e ≡ filed t marked_memory → ⊥) → IsGiven IsOwn d t → IsGiven IsOwn k t
+  own_note : (d k : Desk) (e : Entry) → EntryFollows p d e k → (e ≡ filed t Memory → ⊥) → IsGiven IsOwn d t → IsGiven IsOwn k t
   own_note d k (called c r) h none g = own_where d k (after_call p d c) h.2 (given_called IsOwn d t g p c)
   own_note d k (claimed u) h none g =
       own_where d k (after_claim d u) (where_so (is_queued (held_at d.trials u)) (after_claim d u) k h) (given_in_state IsOwn d t g u (λ i. running) (λ e x y. (y.0, tt)))
-  own_note d k (filed u marked_whole) h none g =
-      own_where d k (after_file p d u marked_whole) (where_so (is_running (held_at d.trials u)) (after_file p d u marked_whole) k h)
+  own_note d k (filed u Whole) h none g =
+      own_where d k (after_file p d u Whole) (where_so (is_running (held_at d.trials u)) (after_file p d u Whole) k h)
       (given_in_state IsOwn d t g u (λ i. done (p.meaning i.asked)) (λ e x y. (y.0, refl)))
-  own_note d k (filed u marked_memory) h none g =
-      own_where d k (after_file p d u marked_memory) (where_so (is_running (held_at d.trials u)) (after_file p d u marked_memory) k h)
-      (given_in_state IsOwn d t g u (λ i. done (result_marked p marked_memory i)) (λ e x y. absurd (none (ap (λ (n : ℕ). filed n marked_memory) e))))
+  own_note d k (filed u Memory) h none g =
+      own_where d k (after_file p d u Memory) (where_so (is_running (held_at d.trials u)) (after_file p d u Memory) k h)
+      (given_in_state IsOwn d t g u (λ i. done (result_marked p Memory i)) (λ e x y. absurd (none (ap (λ (n : ℕ). filed n Memory) e))))
   own_note d k (handed_back u) h none g =
       own_where d k (after_hand_back d u) (where_so (is_running (held_at d.trials u)) (after_hand_back d u) k h) (given_in_state IsOwn d t g u (λ i. queued) (λ e x y. (y.0, tt)))
 
   own_along : (d : Desk) (es : List Entry) (d' : Desk) → IsLegal p d es d' → NoneForMemoryOf t es → IsGiven IsOwn d t → IsGiven IsOwn d' t
   own_along d [] d' h none g = own_where d d' d (sym h) g
   own_along d (e ∷ es) d' h none g =
-      own_along h.0 es d' h.2 (All-tail (λ (x : Entry). x ≡ filed t marked_memory → ⊥) e es none)
-      (own_note d h.0 e h.1 (All-head (λ (x : Entry). x ≡ filed t marked_memory → ⊥) e es none) g)
+      own_along h.0 es d' h.2 (All-tail (λ (x : Entry). x ≡ filed t Memory → ⊥) e es none)
+      (own_note d h.0 e h.1 (All-head (λ (x : Entry). x ≡ filed t Memory → ⊥) e es none) g)
 
   -- a result that is reported of it
   told_own : (d : Desk) (atoms : List (List ℕ)) (r : shrinking.Result) → IsGiven IsOwn d t → reply_to p d (fetch t) ≡ result atoms r

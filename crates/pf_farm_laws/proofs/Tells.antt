@@ -6,7 +6,8 @@ use Rattle.pf_errors.specs.declared.code.Code.{Code}
 use Rattle.pf_quota.specs.declared.charges.Charge.TheVariants as charge
 use Rattle.pf_request.specs.Calls.{Call}
 use Rattle.pf_request.specs.Job.{Job}
-use Rattle.pf_desks.specs.Desk.{Profile, Desk, no_desk, Trial, TrialState, queued, running, done, Entry, called, claimed, filed, handed_back, FileMark, Reply, held_at}
+use Rattle.pf_desks.specs.Desk.{Profile, Desk, no_desk, Trial, TrialState, queued, running, done, Entry, called, claimed, filed, handed_back, Reply, held_at}
+use Rattle.pf_desks.specs.declared.mark.FileMark.{FileMark}
 use Rattle.pf_desks.specs.Calls.{within_limits, passed_by, answer_of_call, noted, after_call, reply_to, with_entry}
 use Rattle.pf_desks.specs.Work.{is_queued, is_running, is_queued_state, is_running_state, in_state, with_state, after_claim, after_file, after_hand_back}
 use Rattle.pf_desks.proofs.Histories.{call_notes}

@@ -2,7 +2,8 @@
 use Rattle.std.specs.Prelude.{◌≡◌, ℕ, List, ◌∷◌, ◌++◌, Some}
 use Rattle.pf_model.specs.Shrinking.{Result}
 use Rattle.pf_request.specs.Calls.{fetch}
-use Rattle.pf_desks.specs.Desk.{Profile, Trial, Desk, no_desk, Entry, called, result, held_at, marked_whole}
+use Rattle.pf_desks.specs.Desk.{Profile, Trial, Desk, no_desk, Entry, called, result, held_at}
+use Rattle.pf_desks.specs.declared.mark.FileMark.TheVariants.{Whole}
 use Rattle.pf_desks.specs.Calls.{reply_to}
 use Rattle.pf_desks.specs.History.{IsLegal, IsLegalDesk, replies_noted}
 use Rattle.pf_desks.specs.Work.{result_marked}
@@ -12,7 +13,7 @@ use Rattle.pf_farm_laws.specs.Notes.{NoneForMemory, calls_of}
 -- a ticket's trial is held, and this is what its job means, with the names of the job's atoms
 abbrev pub IsMeant : Profile → Desk → (ticket : ℕ) → (atoms : List (List ℕ)) → Result → Type 0
 IsMeant p d t atoms r =
-    (x : Trial) × (held_at d.trials t ≡ Some x) × (atoms ≡ x.job.asked.code.atoms) × (r ≡ result_marked p marked_whole x.job)
+    (x : Trial) × (held_at d.trials t ≡ Some x) × (atoms ≡ x.job.asked.code.atoms) × (r ≡ result_marked p Whole x.job)
 
 -- at a legal desk with no file marked for memory, what a `fetch` is answered is what the job of its trial means
 abbrev pub ReportsAreMeant : Type 0

@@ -6,7 +6,8 @@ use Rattle.pf_model.specs.Shrinking.{Result}
 use Rattle.pf_request.specs.Calls.{Call, submit, order, fetch, edition}
 use Rattle.pf_request.specs.Job.{Job, job_of}
 use Rattle.pf_request.specs.Request.{Request}
-use Rattle.pf_desks.specs.Desk.{Profile, Desk, Reply, number, ticket, result, has_edition, readable, Entry, called, claimed, filed, handed_back, marked_memory}
+use Rattle.pf_desks.specs.Desk.{Profile, Desk, Reply, number, ticket, result, has_edition, readable, Entry, called, claimed, filed, handed_back}
+use Rattle.pf_desks.specs.declared.mark.FileMark.TheVariants.{Memory}
 use Rattle.pf_desks.specs.History.{IsLegalDesk}
 
 -- this source was submitted, and was given this number
@@ -37,7 +38,7 @@ pub record AsksFor (p : Profile) (es : List Entry) (n : ℕ) (q : Request) (j : 
 
 -- no file of a ticket bears the mark of memory
 abbrev pub NoneForMemoryOf : ℕ → List Entry → Type 0
-NoneForMemoryOf t es = All (λ e. e ≢ filed t marked_memory) es
+NoneForMemoryOf t es = All (λ e. e ≢ filed t Memory) es
 
 -- in a legal history, where an order was given a ticket and a later `fetch` of the ticket was given a result, and
 -- memory didn't run out for that trial between the two, that result is what the job means which that very order asked

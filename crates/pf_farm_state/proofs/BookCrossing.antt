@@ -10,7 +10,7 @@ use Rattle.pf_store.specs.contracts.store.StoredModule as Held
 use Rattle.pf_store.specs.contracts.store.Store as Store
 use Rattle.pf_quota.specs.contracts.usage.Usage as Usage
 use Rattle.pf_book.proofs.refusal.CallRefusal.TheSendSync as refusal
-use Rattle.pf_book.specs.contracts.reply.TrialStage as Stage
+use Rattle.pf_desks.specs.contracts.stage.TrialStage as Stage
 use Rattle.pf_book.specs.contracts.entry.Entry as Entry
 use Rattle.pf_book.specs.contracts.trial.TrialState as State
 use Rattle.pf_book.specs.contracts.trial.Trial as Trial

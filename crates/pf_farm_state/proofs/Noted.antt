@@ -11,7 +11,8 @@ use Rattle.pf_quota.specs.declared.refusals.LimitRefusal.TheVariants.{Calls}
 use Rattle.pf_quota.specs.declared.refusals.TheConstants.{MOST_CALLS}
 use Rattle.pf_request.specs.Calls.{Call}
 use Rattle.pf_desks.specs.Calls.{calls_in, HasRoom, within_limits, answer_of_call, noted, reply_to, after_call}
-use Rattle.pf_desks.specs.Desk.{Profile, Desk, no_desk, Entry, FileMark, called, claimed, filed, handed_back, held_at, refused}
+use Rattle.pf_desks.specs.Desk.{Profile, Desk, no_desk, Entry, called, claimed, filed, handed_back, held_at, refused}
+use Rattle.pf_desks.specs.declared.mark.FileMark.{FileMark}
 use Rattle.pf_desks.specs.History.{EntryFollows, IsLegal, IsLegalDesk}
 use Rattle.pf_desks.specs.Work.{is_queued, is_running, after_claim, after_file, after_hand_back}
 use Rattle.pf_desks.proofs.Always.{where_so}

@@ -7,7 +7,6 @@ ghost use Rattle.pf_quota.specs.declared.refusals.TheConstants.{MOST_CALLS};
 ghost use Rattle.pf_desks.specs.Calls.{calls_in, stage_of};
 ghost use Rattle.pf_desks.specs.Desk.{held_at};
 ghost use Rattle.pf_desks.specs.Desks.{desk_at};
-ghost use Rattle.pf_book.specs.View.{view_of_stage};
 ghost use Rattle.pf_farm_accounts.specs.Rows.{row_of, HaveEnded};
 ghost use Rattle.pf_book.specs.Answers.{SimulatesCall, ClaimsAt, SimulatesFile, SimulatesHandBack};
 ghost use Rattle.pf_book.specs.Profile.{ForRight};
@@ -20,7 +19,8 @@ ghost use Rattle.pf_farm_state.specs.Hall.{no_hall, end_or_stray, NoneIsQueued};
 use crate::claimed::ClaimedTrial;
 use crate::client::{ClientSeat, ClosedSeat};
 use crate::closing::{Closing, close};
-use pf_book::{Book, Claimed, Reply, TrialStage};
+use pf_book::{Book, Claimed, Reply};
+use pf_desks::TrialStage;
 use pf_errors::NoMemory;
 use pf_farm_accounts::{
     CallLedger, CallLog, Claim, ClaimEnd, EndedLedger, FarmNames, Ledger, NewRegister, OpenClaim,
@@ -97,7 +97,7 @@ impl<N: FarmNames> Hall<N> {
 
     /// How far the trial of a project's ticket is, if it is held.
     pub fn stage(&self, project: u32, ticket: u64) -> Option<TrialStage>
-        ensures { option_map view_of_stage result
+        ensures { result
             ≡ option_map (λ t. stage_of t.state) (held_at (desk_at project self.now.desks).trials ticket) }
     {
         self.book.stage(project, ticket)

@@ -12,29 +12,11 @@ use Rattle.pf_tokens.specs.declared.words.Reserved.TheVariants as words
 use Rattle.pf_syntax.specs.declared.operator.Operator.TheVariants.{Plus, Minus, Times, Quotient, Remainder, Append, Equal, Unequal, Less, AtMost, Greater, AtLeast}
 use Rattle.pf_tokens.specs.declared.limits.TheConstants.{MOST_NAME_BYTES, MOST_TEXT_CHARACTERS}
 use Rattle.pf_tokens.specs.NumberedTokens.{NumberedKind, integer, atom, own_module, dot, mark, reserved, NumberedToken}
-use Rattle.pf_grammar.specs.Grammar.{
-  TokenNames,
-  IsAtom,
-  IsWord,
-  Infix,
-  operator,
-  and_also,
-  or_else,
-  send,
-  infix_of,
-  Grouping,
-  leftwards,
-  rightwards,
-  alone,
-  binding_of,
-  level_of,
-  top,
-  greatest_left,
-  greatest_right,
-  left_level,
-  right_level,
-  infix_stands,
-}
+use Rattle.pf_grammar.specs.Grammar.{TokenNames, IsAtom, IsWord, infix_of, binding_of, level_of, top, greatest_left, greatest_right, left_level, right_level, infix_stands}
+use Rattle.pf_grammar.specs.declared.infix.Grouping.{Grouping}
+use Rattle.pf_grammar.specs.declared.infix.Grouping.TheVariants.{Leftwards, Rightwards, Alone}
+use Rattle.pf_grammar.specs.declared.infix.Infix.{Infix}
+use Rattle.pf_grammar.specs.declared.infix.Infix.TheVariants.{Operator, AndAlso, OrElse, Send}
 use Rattle.pf_grammar.specs.Parse.{◌>>=◌, mark_code, reserved_code, is, after_kind, atom_in, name_with_offset, number_kind, number, follows_word, word_parse, is_short, infix_fits, infix_ahead}
 use Rattle.pf_errors.proofs.Bools.{both}
 
@@ -252,53 +234,53 @@ short_is cs le = le-leb _ _ le
 -- ---- infixes
 
 pub level_low : (i : Infix) → 2 ≤ level_of i
-level_low (operator Times) = omega arith
-level_low (operator Quotient) = omega arith
-level_low (operator Remainder) = omega arith
-level_low (operator Plus) = omega arith
-level_low (operator Minus) = omega arith
-level_low (operator Append) = omega arith
-level_low (operator Equal) = omega arith
-level_low (operator Unequal) = omega arith
-level_low (operator Less) = omega arith
-level_low (operator AtMost) = omega arith
-level_low (operator Greater) = omega arith
-level_low (operator AtLeast) = omega arith
-level_low and_also = omega arith
-level_low or_else = omega arith
-level_low send = omega arith
+level_low (Operator Times) = omega arith
+level_low (Operator Quotient) = omega arith
+level_low (Operator Remainder) = omega arith
+level_low (Operator Plus) = omega arith
+level_low (Operator Minus) = omega arith
+level_low (Operator Append) = omega arith
+level_low (Operator Equal) = omega arith
+level_low (Operator Unequal) = omega arith
+level_low (Operator Less) = omega arith
+level_low (Operator AtMost) = omega arith
+level_low (Operator Greater) = omega arith
+level_low (Operator AtLeast) = omega arith
+level_low AndAlso = omega arith
+level_low OrElse = omega arith
+level_low Send = omega arith
 
 pub level_high : (i : Infix) → level_of i ≤ top
-level_high (operator Times) = omega arith
-level_high (operator Quotient) = omega arith
-level_high (operator Remainder) = omega arith
-level_high (operator Plus) = omega arith
-level_high (operator Minus) = omega arith
-level_high (operator Append) = omega arith
-level_high (operator Equal) = omega arith
-level_high (operator Unequal) = omega arith
-level_high (operator Less) = omega arith
-level_high (operator AtMost) = omega arith
-level_high (operator Greater) = omega arith
-level_high (operator AtLeast) = omega arith
-level_high and_also = omega arith
-level_high or_else = omega arith
-level_high send = omega arith
+level_high (Operator Times) = omega arith
+level_high (Operator Quotient) = omega arith
+level_high (Operator Remainder) = omega arith
+level_high (Operator Plus) = omega arith
+level_high (Operator Minus) = omega arith
+level_high (Operator Append) = omega arith
+level_high (Operator Equal) = omega arith
+level_high (Operator Unequal) = omega arith
+level_high (Operator Less) = omega arith
+level_high (Operator AtMost) = omega arith
+level_high (Operator Greater) = omega arith
+level_high (Operator AtLeast) = omega arith
+level_high AndAlso = omega arith
+level_high OrElse = omega arith
+level_high Send = omega arith
 
 left_in_high : (g : Grouping) (level : ℕ) → (greatest_left g level ≤ level) × (level ≤ suc (greatest_left g level))
-left_in_high leftwards level = (omega arith, omega arith)
-left_in_high rightwards level = (omega arith, omega arith)
-left_in_high alone level = (omega arith, omega arith)
+left_in_high Leftwards level = (omega arith, omega arith)
+left_in_high Rightwards level = (omega arith, omega arith)
+left_in_high Alone level = (omega arith, omega arith)
 
 right_in_high : (g : Grouping) (level : ℕ) → (greatest_right g level ≤ level) × (level ≤ suc (greatest_right g level))
-right_in_high leftwards level = (omega arith, omega arith)
-right_in_high rightwards level = (omega arith, omega arith)
-right_in_high alone level = (omega arith, omega arith)
+right_in_high Leftwards level = (omega arith, omega arith)
+right_in_high Rightwards level = (omega arith, omega arith)
+right_in_high Alone level = (omega arith, omega arith)
 
 one_side_in : (g : Grouping) (level : ℕ) → 0 < level → greatest_left g level + greatest_right g level < level + level
-one_side_in leftwards level lt = omega arith
-one_side_in rightwards level lt = omega arith
-one_side_in alone level lt = omega arith
+one_side_in Leftwards level lt = omega arith
+one_side_in Rightwards level lt = omega arith
+one_side_in Alone level lt = omega arith
 
 -- the operands' levels are the infix's or one below it, and at most one of them is the infix's
 pub left_most : (i : Infix) → left_level i ≤ level_of i
@@ -324,25 +306,25 @@ one_side i = one_side_in (binding_of i).grouping (level_of i) (let b = level_low
 
 -- the infixes of a level group alike
 grouping_at : ℕ → Grouping
-grouping_at level = cond (nat_le level 3) leftwards (cond (nat_eq level 5) alone rightwards)
+grouping_at level = cond (nat_le level 3) Leftwards (cond (nat_eq level 5) Alone Rightwards)
 
 grouping_is : (i : Infix) → (binding_of i).grouping ≡ grouping_at (level_of i)
 unfolding grouping_at
-grouping_is (operator Times) = refl
-grouping_is (operator Quotient) = refl
-grouping_is (operator Remainder) = refl
-grouping_is (operator Plus) = refl
-grouping_is (operator Minus) = refl
-grouping_is (operator Append) = refl
-grouping_is (operator Equal) = refl
-grouping_is (operator Unequal) = refl
-grouping_is (operator Less) = refl
-grouping_is (operator AtMost) = refl
-grouping_is (operator Greater) = refl
-grouping_is (operator AtLeast) = refl
-grouping_is and_also = refl
-grouping_is or_else = refl
-grouping_is send = refl
+grouping_is (Operator Times) = refl
+grouping_is (Operator Quotient) = refl
+grouping_is (Operator Remainder) = refl
+grouping_is (Operator Plus) = refl
+grouping_is (Operator Minus) = refl
+grouping_is (Operator Append) = refl
+grouping_is (Operator Equal) = refl
+grouping_is (Operator Unequal) = refl
+grouping_is (Operator Less) = refl
+grouping_is (Operator AtMost) = refl
+grouping_is (Operator Greater) = refl
+grouping_is (Operator AtLeast) = refl
+grouping_is AndAlso = refl
+grouping_is OrElse = refl
+grouping_is Send = refl
 
 pub one_grouping : (i j : Infix) → level_of i ≡ level_of j → (binding_of i).grouping ≡ (binding_of j).grouping
 one_grouping i j e = grouping_is i ∙ ap grouping_at e ∙ sym (grouping_is j)

@@ -14,29 +14,9 @@ use Rattle.pf_syntax.specs.Expr.{Expr, Condition, Branches, expr_depth, conditio
 use Rattle.pf_syntax.specs.Forms.{may_stand}
 use Rattle.pf_syntax.specs.declared.forms.Form.TheVariants.{Deciding, Choosing, Receiving}
 use Rattle.pf_tokens.specs.NumberedTokens.{NumberedKind, integer, atom, variable, anonymous, text, own_module, dot, mark, reserved, NumberedToken}
-use Rattle.pf_grammar.specs.Grammar.{
-  TokenNames,
-  IsAtom,
-  Before,
-  Guarded,
-  Infix,
-  operator,
-  and_also,
-  or_else,
-  send,
-  level_of,
-  left_level,
-  right_level,
-  Joined,
-  call_stands,
-  top,
-  element as body_level,
-  unguarded,
-  DerivesExprPattern,
-  Derives,
-  DerivesGuard,
-  DerivesBranches,
-}
+use Rattle.pf_grammar.specs.Grammar.{TokenNames, IsAtom, Before, Guarded, level_of, left_level, right_level, Joined, call_stands, top, element as body_level, unguarded, DerivesExprPattern, Derives, DerivesGuard, DerivesBranches}
+use Rattle.pf_grammar.specs.declared.infix.Infix.{Infix}
+use Rattle.pf_grammar.specs.declared.infix.Infix.TheVariants.{Operator, AndAlso, OrElse, Send}
 use Rattle.pf_grammar.specs.Parse.{
   ◌>>=◌,
   Parse,
@@ -320,10 +300,10 @@ took_up : (n : TokenNames) (g : Bool) (e : Expr) (low high limit : ℕ) (ts rest
 took_up n g e low high limit ts rest le t = record { front = t.front; parts = t.parts; holds = (up n g e low high t.front le t.holds.0, t.holds.1) }
 
 joined_derives : (n : TokenNames) (g : Bool) (i : Infix) (a b : Expr) (level : ℕ) (ts : List NumberedToken) → Joined g i level (Derives n g a) (Derives n g b) ts → Derives n g (joined_exprs i a b) level ts
-joined_derives n g (operator o) a b level ts h = h
-joined_derives n g and_also a b level ts h = h
-joined_derives n g or_else a b level ts h = h
-joined_derives n g send a b level ts h = h
+joined_derives n g (Operator o) a b level ts h = h
+joined_derives n g AndAlso a b level ts h = h
+joined_derives n g OrElse a b level ts h = h
+joined_derives n g Send a b level ts h = h
 
 pub within_some : (limit : ℕ) (e : Expr) (ts : List NumberedToken) (x : Expr × List NumberedToken) → within limit e ts ≡ Some x → (Some (e, ts) ≡ Some x) × (expr_depth e ≤ limit)
 within_some limit e ts x f = let c = cond_some (nat_le (expr_depth e) limit) (Some (e, ts)) x f in (c.1, leb-true _ _ c.0)

@@ -13,7 +13,8 @@ use Rattle.pf_model.specs.Labels as label
 use Rattle.pf_model.specs.Labels.{Label, Suffix, took_effect, no_process, dropped, as_message, ending_with}
 use Rattle.pf_model.specs.Meaning.{Event, Report}
 use Rattle.pf_model.specs.Properties.{Outcome, finished, ended, deadlock, limit, memory}
-use Rattle.pf_model.specs.Runs.{Actor, process, channel}
+use Rattle.pf_model.specs.declared.report.Actor.{Actor}
+use Rattle.pf_model.specs.declared.report.Actor.TheVariants.{Process, Channel}
 use Rattle.pf_model.specs.Shrinking.{Found, Result, report, shrunk_to, nothing_fails}
 use Rattle.pf_model.specs.TermText.{atom_text, is_plain_name, line, pid_text, quoted_byte, rest_text, value_text, values_text}
 use Rattle.pf_model.specs.Text.{actor_text, complete_text, event_text, found_text, kind_text, label_text, outcome_text, reference_text, report_text, result_text, suffix_text, verdict_text}
@@ -74,8 +75,8 @@ reference_seen : (r : ℕ) → Seen (reference_text r)
 reference_seen r = three (codes "#Ref<") (decimal r) (codes ">") refl (seen_decimal r) refl
 
 actor_seen : (x : Actor) → Seen (actor_text x)
-actor_seen (process p) = pid_seen p
-actor_seen (channel a b) = three (pid_text a) (codes "->") (pid_text b) (pid_seen a) refl (pid_seen b)
+actor_seen (Process p) = pid_seen p
+actor_seen (Channel a b) = three (pid_text a) (codes "->") (pid_text b) (pid_seen a) refl (pid_seen b)
 
 kind_seen : (s : Signal) → Seen (kind_text s)
 kind_seen (message v) = refl

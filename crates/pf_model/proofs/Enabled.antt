@@ -9,7 +9,9 @@ use Rattle.pf_sorted.specs.Maps.{got}
 use Rattle.pf_model.specs.Context.{ProcessState}
 use Rattle.pf_model.specs.Channels.{Queue, SenderRow, Channels, row_of, heads_of, heads_from, heads}
 use Rattle.pf_model.specs.Configuration.{Process, Configuration, process_at}
-use Rattle.pf_model.specs.Runs.{Actor, process, channel, can_go, pids_in_state, enabled}
+use Rattle.pf_model.specs.Runs.{can_go, pids_in_state, enabled}
+use Rattle.pf_model.specs.declared.report.Actor.{Actor}
+use Rattle.pf_model.specs.declared.report.Actor.TheVariants as actors
 use Rattle.pf_model.proofs.Turned.{CanPass}
 
 -- what holds of each process in such a state holds of their numbers
@@ -43,11 +45,11 @@ heads_all P n (r ∷ rs) h =
 
 all_can_pass : (c : Configuration) → All (CanPass c) (enabled c)
 all_can_pass c =
-    All-append (CanPass c) (map process (pids_in_state can_go zero c.core.processes)) (map (λ h. channel h.0 h.1) (heads c.channels))
-    (All-map (CanPass c) process (pids_in_state can_go zero c.core.processes)
-    (numbers_all (λ a. CanPass c (process a)) can_go zero c.core.processes (λ j e. rw (zero-add j) e)))
-    (All-map (CanPass c) (λ h. channel h.0 h.1) (heads c.channels)
-    (heads_all (λ h. CanPass c (channel h.0 h.1)) zero c.channels (λ a b q e. (q, rw (zero-add a) e))))
+    All-append (CanPass c) (map actors.Process (pids_in_state can_go zero c.core.processes)) (map (λ h. actors.Channel h.0 h.1) (heads c.channels))
+    (All-map (CanPass c) actors.Process (pids_in_state can_go zero c.core.processes)
+    (numbers_all (λ a. CanPass c (actors.Process a)) can_go zero c.core.processes (λ j e. rw (zero-add j) e)))
+    (All-map (CanPass c) (λ h. actors.Channel h.0 h.1) (heads c.channels)
+    (heads_all (λ h. CanPass c (actors.Channel h.0 h.1)) zero c.channels (λ a b q e. (q, rw (zero-add a) e))))
 
 pub enabled_can_pass : (c : Configuration) (i : ℕ) (x : Actor) → slice_get (enabled c) i ≡ Some x → CanPass c x
 enabled_can_pass c i x e =

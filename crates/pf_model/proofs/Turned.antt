@@ -11,7 +11,9 @@ use Rattle.pf_model.specs.Actions.{acted}
 use Rattle.pf_model.specs.Receive.{selected}
 use Rattle.pf_model.specs.Deliveries.{Deed}
 use Rattle.pf_model.specs.Turns.{Turn, cut_running, cut_ending, end, contraction, act, last_of_turn, after_act, received, ended_so}
-use Rattle.pf_model.specs.Runs.{Actor, process, channel, can_go, Passed, Passes, turn, delivery}
+use Rattle.pf_model.specs.Runs.{can_go, Passed, Passes, turn, delivery}
+use Rattle.pf_model.specs.declared.report.Actor.{Actor}
+use Rattle.pf_model.specs.declared.report.Actor.TheVariants.{Process, Channel}
 use Rattle.pf_model.specs.Evaluation.{SoughtRedex, valued, placed, sought, move_of, Turned, turned, one_more, turned_by, turn_of, turn_passed, delivery_passed, pass_of}
 use Rattle.pf_model.proofs.Sought.{moves_as_sought, one_move}
 
@@ -79,16 +81,16 @@ module _ (m : Module) (a : ℕ) (c : Core) where
 
 -- a process that can go, or a channel with a signal in it
 abbrev pub CanPass : Configuration → Actor → Type 0
-CanPass c (process a) = can_go (of c.core a).state ≡ true
-CanPass c (channel a b) = (q : Queue) × (got b (row_of a c.channels) ≡ Some q)
+CanPass c (Process a) = can_go (of c.core a).state ≡ true
+CanPass c (Channel a b) = (q : Queue) × (got b (row_of a c.channels) ≡ Some q)
 
 module _ (m : Module) (n : ℕ) (c : Configuration) where
   pub passes_as : (x : Actor) → CanPass c x → Passes m n c x (pass_of m n c x)
-  passes_as (process a) h = let t = turn_of m a c.core n (of c.core a).state in turn a t.used t.deed (turns_as m a c.core n (of c.core a).state h)
-  passes_as (channel a b) h =
+  passes_as (Process a) h = let t = turn_of m a c.core n (of c.core a).state in turn a t.used t.deed (turns_as m a c.core n (of c.core a).state h)
+  passes_as (Channel a b) h =
       let cs = with_row a (row_with_left b h.0.rest (row_of a c.channels)) c.channels in
       let e : taken a b c.channels ≡ Some (h.0.first, cs) = ap (taken_from a b c.channels) h.1 in
-      subst (λ o. Passes m n c (channel a b) (delivery_passed a b c o)) (sym e) (delivery a b h.0.first cs e)
+      subst (λ o. Passes m n c (Channel a b) (delivery_passed a b c o)) (sym e) (delivery a b h.0.first cs e)
 
   pub pass_only : (x : Actor) (p : Passed) → Passes m n c x p → pass_of m n c x ≡ p
   pass_only _ _ (turn a k d t) = ap (λ u. turn_passed a u c.channels) (turn_only m a c.core n (of c.core a).state d k t)

@@ -2,13 +2,15 @@
 use Rattle.std.proofs.Common.{◌≡◌, ℕ, Bool, true, false, ◌&&◌, Option, Some, None, refl, sym, ap, ◌∙◌, subst}
 use Rattle.std.specs.Prelude.{if◌then◌else◌, IfSome, nat_lt, length, [], ◌∷◌, ◌++◌}
 use Rattle.pf_request.specs.Job.{Job}
-use Rattle.pf_desks.specs.Desk.{Trial, Desk, FileMark, held_at}
+use Rattle.pf_desks.specs.Desk.{Trial, Desk, held_at}
+use Rattle.pf_desks.specs.declared.mark.FileMark.{FileMark}
 use Rattle.pf_desks.specs.Work.{is_queued, after_claim, claim_step, file_step, hand_back_step}
 use Rattle.pf_book.specs.Queued.{job_at}
 use Rattle.pf_book.proofs.Worked.{is_waiting, none_waiting, queued_at}
 use Rattle.pf_pool.proofs.Own.{own_job}
 use Rattle.pf_world.specs.World.{RunProfile, RunProgress, going, over, ClaimedRun, Hand, Deque}
-use Rattle.pf_world.specs.Chores.{claiming, slicing, parking, filing, handing_back, Effect, MOST_PARKED, new_run, is_run_of, is_going, sliced, in_hand, onto_deque, claimed_as, hand_emptied, claim_effect, file_effect, chore_effect}
+use Rattle.pf_world.specs.Chores.{Effect, MOST_PARKED, new_run, is_run_of, is_going, sliced, in_hand, onto_deque, claimed_as, hand_emptied, claim_effect, file_effect, chore_effect}
+use Rattle.pf_request.specs.declared.step.Chore.TheVariants.{Claim, Slice, Park, File, HandBack}
 use Rattle.pf_pool.specs.Hands.{is_free, hand_holds, holds_going}
 
 -- ---- tests
@@ -33,7 +35,7 @@ not_second false g c x h = refl
 module _ (p : RunProfile) (q t : ℕ) (d : Desk) where
   -- ---- claims
 
-  pub claim_busy : (h : Hand) (rs : Deque) → is_free (Some h) ≡ false → chore_effect p q t claiming d h rs ≡ None
+  pub claim_busy : (h : Hand) (rs : Deque) → is_free (Some h) ≡ false → chore_effect p q t Claim d h rs ≡ None
   claim_busy None rs h = absurd (cc)
   claim_busy (Some r) rs h = by (is_run_of q t r)
     where
@@ -41,7 +43,7 @@ module _ (p : RunProfile) (q t : ℕ) (d : Desk) where
       by true = refl
       by false = refl
 
-  pub claim_unqueued : (rs : Deque) → job_at d.trials t ≡ None → chore_effect p q t claiming d None rs ≡ None
+  pub claim_unqueued : (rs : Deque) → job_at d.trials t ≡ None → chore_effect p q t Claim d None rs ≡ None
   claim_unqueued rs h =
       ap (λ (b : Bool). claim_effect q t (held_at d.trials t) (if b then Some (after_claim d t) else None)) (none_waiting d.trials t h)
       ∙ by (held_at d.trials t)
@@ -51,7 +53,7 @@ module _ (p : RunProfile) (q t : ℕ) (d : Desk) where
       by (Some x) = refl
 
   pub claim_queued : (j : Job) (rs : Deque) → job_at d.trials t ≡ Some j
-      → chore_effect p q t claiming d None rs ≡ Some (claimed_as (after_claim d t) (new_run q t j))
+      → chore_effect p q t Claim d None rs ≡ Some (claimed_as (after_claim d t) (new_run q t j))
   claim_queued j rs h =
       let waits = is_waiting d.trials t j h in
       let a = queued_at (held_at d.trials t) waits in
@@ -61,39 +63,39 @@ module _ (p : RunProfile) (q t : ℕ) (d : Desk) where
 
   -- ---- slices
 
-  pub slice_none : (n : ℕ) (h : Hand) (rs : Deque) → holds_going q t h ≡ false → chore_effect p q t (slicing n) d h rs ≡ None
+  pub slice_none : (n : ℕ) (h : Hand) (rs : Deque) → holds_going q t h ≡ false → chore_effect p q t (Slice n) d h rs ≡ None
   slice_none n None rs h = refl
   slice_none n (Some r) rs h = not_first (is_run_of q t r) (is_going r.progress) (nat_lt 0 n) (in_hand (sliced p n r)) h
 
-  pub slice_zero : (n : ℕ) (h : Hand) (rs : Deque) → nat_lt 0 n ≡ false → chore_effect p q t (slicing n) d h rs ≡ None
+  pub slice_zero : (n : ℕ) (h : Hand) (rs : Deque) → nat_lt 0 n ≡ false → chore_effect p q t (Slice n) d h rs ≡ None
   slice_zero n None rs h = refl
   slice_zero n (Some r) rs h = not_second (is_run_of q t r) (is_going r.progress) (nat_lt 0 n) (in_hand (sliced p n r)) h
 
   pub slice_does : (n : ℕ) (r : ClaimedRun) (rs : Deque) → holds_going q t (Some r) ≡ true → nat_lt 0 n ≡ true
-      → chore_effect p q t (slicing n) d (Some r) rs ≡ Some (in_hand (sliced p n r))
+      → chore_effect p q t (Slice n) d (Some r) rs ≡ Some (in_hand (sliced p n r))
   slice_does n r rs h i = both (is_run_of q t r) (is_going r.progress) (nat_lt 0 n) (in_hand (sliced p n r)) h i
 
   -- ---- parkings
 
-  pub park_none : (h : Hand) (rs : Deque) → holds_going q t h ≡ false → chore_effect p q t parking d h rs ≡ None
+  pub park_none : (h : Hand) (rs : Deque) → holds_going q t h ≡ false → chore_effect p q t Park d h rs ≡ None
   park_none None rs h = refl
   park_none (Some r) rs h = not_first (is_run_of q t r) (is_going r.progress) (nat_lt (length rs) MOST_PARKED) (onto_deque r rs) h
 
-  pub park_full : (h : Hand) (rs : Deque) → nat_lt (length rs) MOST_PARKED ≡ false → chore_effect p q t parking d h rs ≡ None
+  pub park_full : (h : Hand) (rs : Deque) → nat_lt (length rs) MOST_PARKED ≡ false → chore_effect p q t Park d h rs ≡ None
   park_full None rs h = refl
   park_full (Some r) rs h = not_second (is_run_of q t r) (is_going r.progress) (nat_lt (length rs) MOST_PARKED) (onto_deque r rs) h
 
   pub park_does : (r : ClaimedRun) (rs : Deque) → holds_going q t (Some r) ≡ true → nat_lt (length rs) MOST_PARKED ≡ true
-      → chore_effect p q t parking d (Some r) rs ≡ Some (onto_deque r rs)
+      → chore_effect p q t Park d (Some r) rs ≡ Some (onto_deque r rs)
   park_does r rs h i = both (is_run_of q t r) (is_going r.progress) (nat_lt (length rs) MOST_PARKED) (onto_deque r rs) h i
 
   -- ---- files
 
-  pub file_not_held : (h : Hand) (rs : Deque) → hand_holds q t h ≡ false → chore_effect p q t filing d h rs ≡ None
+  pub file_not_held : (h : Hand) (rs : Deque) → hand_holds q t h ≡ false → chore_effect p q t File d h rs ≡ None
   file_not_held None rs h = refl
   file_not_held (Some r) rs h = ap (λ (b : Bool). if b then file_effect p t d r.progress else None) h
 
-  pub file_going : (h : Hand) (rs : Deque) → holds_going q t h ≡ true → chore_effect p q t filing d h rs ≡ None
+  pub file_going : (h : Hand) (rs : Deque) → holds_going q t h ≡ true → chore_effect p q t File d h rs ≡ None
   file_going None rs h = absurd (cc)
   file_going (Some r) rs h = by (is_run_of q t r) r.progress h
     where
@@ -103,16 +105,16 @@ module _ (p : RunProfile) (q t : ℕ) (d : Desk) where
       by false g i = absurd (cc)
 
   pub file_does : (r : ClaimedRun) (rs : Deque) (m : FileMark) → is_run_of q t r ≡ true → r.progress ≡ over m
-      → chore_effect p q t filing d (Some r) rs ≡ Some (hand_emptied (file_step p.profile d t m))
+      → chore_effect p q t File d (Some r) rs ≡ Some (hand_emptied (file_step p.profile d t m))
   file_does r rs m own is =
       ap (λ (b : Bool). if b then file_effect p t d r.progress else None) own ∙ ap (λ (g : RunProgress). file_effect p t d g) is
 
   -- ---- hand-backs
 
-  pub back_none : (h : Hand) (rs : Deque) → hand_holds q t h ≡ false → chore_effect p q t handing_back d h rs ≡ None
+  pub back_none : (h : Hand) (rs : Deque) → hand_holds q t h ≡ false → chore_effect p q t HandBack d h rs ≡ None
   back_none None rs h = refl
   back_none (Some r) rs h = ap (λ (b : Bool). if b then Some (hand_emptied (hand_back_step d t)) else None) h
 
-  pub back_does : (h : Hand) (rs : Deque) → hand_holds q t h ≡ true → chore_effect p q t handing_back d h rs ≡ Some (hand_emptied (hand_back_step d t))
+  pub back_does : (h : Hand) (rs : Deque) → hand_holds q t h ≡ true → chore_effect p q t HandBack d h rs ≡ Some (hand_emptied (hand_back_step d t))
   back_does None rs h = absurd (cc)
   back_does (Some r) rs h = ap (λ (b : Bool). if b then Some (hand_emptied (hand_back_step d t)) else None) h

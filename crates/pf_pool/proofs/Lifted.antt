@@ -4,7 +4,8 @@ use Rattle.std.specs.Prelude.{if◌then◌else◌, slice_get}
 use Rattle.std.proofs.lemmas.Option.{slice_get_within, slice_get-get_or}
 use Rattle.pf_desks.specs.Desks.{not_now, desk_at}
 use Rattle.pf_world.specs.World.{RunProfile, Hand, Deque, World}
-use Rattle.pf_world.specs.Chores.{Chore, Response, answer, Effect, chore_effect}
+use Rattle.pf_world.specs.Chores.{Response, answer, Effect, chore_effect}
+use Rattle.pf_request.specs.declared.step.Chore.{Chore}
 use Rattle.pf_world.specs.Steps.{worker_does, deque_owner, is_theft_of_own, effect_among, with_effect, effect_of, take_step}
 
 -- a worker that has a hand has a deque

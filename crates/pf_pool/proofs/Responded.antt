@@ -24,7 +24,9 @@ use Rattle.pf_book.proofs.Claims.{claimed_world, unclaimed_world}
 use Rattle.pf_book.proofs.Worked.{is_waiting}
 use Rattle.pf_world.specs.World.{RunProfile, ClaimedRun, Hand, Deque, World}
 use Rattle.pf_world.specs.Chores as chores
-use Rattle.pf_world.specs.Chores.{Chore, claiming, slicing, parking, taking_up, stealing, filing, handing_back, answer, stray, Effect, MOST_PARKED, new_run, is_going, is_run_of, in_hand, onto_deque, claimed_as, hand_emptied, sliced, chore_effect}
+use Rattle.pf_world.specs.Chores.{answer, stray, Effect, MOST_PARKED, new_run, is_going, is_run_of, in_hand, onto_deque, claimed_as, hand_emptied, sliced, chore_effect}
+use Rattle.pf_request.specs.declared.step.Chore.{Chore}
+use Rattle.pf_request.specs.declared.step.Chore.TheVariants.{Claim, Slice, Park, TakeUp, Steal, File, HandBack}
 use Rattle.pf_world.specs.Steps.{WorldStep, worker_does, deque_owner, is_theft_of_own, effect_among, with_effect, effect_of, take_step}
 use Rattle.pf_world.specs.Memory.{MayTakeMemory, out_of_memory, refused_in, RespondsTo}
 use Rattle.pf_pool.specs.declared.response.Response.{Response}
@@ -111,52 +113,52 @@ module _ (s : World) (same : length s.hands ≡ length s.deques) (w q t : ℕ) (
           at_hand p s w q t k h d.0 None other i (subst (λ (v : ℕ). slice_get s.deques v ≡ Some d.0) (sym own) d.1) (none p h d.0 (at h i))
 
 module _ (s : World) (same : length s.hands ≡ length s.deques) (w q t : ℕ) where
-  pub slice_not : (n : ℕ) → holds_going q t (held_of_worker s.hands w) ≡ false → SimulatesStep s (worker_does w q t (slicing n)) (Ok response.NotNow) s
+  pub slice_not : (n : ℕ) → holds_going q t (held_of_worker s.hands w) ≡ false → SimulatesStep s (worker_does w q t (Slice n)) (Ok response.NotNow) s
   slice_not n missing =
-      not_with s same w q t (slicing n) refl refl (λ h. holds_going q t h ≡ false) (λ p h rs is. slice_none p q t (desk_at q s.desks) n h rs is)
+      not_with s same w q t (Slice n) refl refl (λ h. holds_going q t h ≡ false) (λ p h rs is. slice_none p q t (desk_at q s.desks) n h rs is)
       (λ h i. at_held (holds_going q t) false s.hands w h i missing)
 
-  pub slice_no_turns : (n : ℕ) → nat_lt 0 n ≡ false → SimulatesStep s (worker_does w q t (slicing n)) (Ok response.NotNow) s
+  pub slice_no_turns : (n : ℕ) → nat_lt 0 n ≡ false → SimulatesStep s (worker_does w q t (Slice n)) (Ok response.NotNow) s
   slice_no_turns n missing =
-      not_with s same w q t (slicing n) refl refl (λ h. Unit {0}) (λ p h rs is. slice_zero p q t (desk_at q s.desks) n h rs missing) (λ h i. tt)
+      not_with s same w q t (Slice n) refl refl (λ h. Unit {0}) (λ p h rs is. slice_zero p q t (desk_at q s.desks) n h rs missing) (λ h i. tt)
 
-  pub park_not : holds_going q t (held_of_worker s.hands w) ≡ false → SimulatesStep s (worker_does w q t parking) (Ok response.NotNow) s
+  pub park_not : holds_going q t (held_of_worker s.hands w) ≡ false → SimulatesStep s (worker_does w q t Park) (Ok response.NotNow) s
   park_not missing =
-      not_with s same w q t parking refl refl (λ h. holds_going q t h ≡ false) (λ p h rs is. park_none p q t (desk_at q s.desks) h rs is)
+      not_with s same w q t Park refl refl (λ h. holds_going q t h ≡ false) (λ p h rs is. park_none p q t (desk_at q s.desks) h rs is)
       (λ h i. at_held (holds_going q t) false s.hands w h i missing)
 
-  pub back_not : hand_holds q t (held_of_worker s.hands w) ≡ false → SimulatesStep s (worker_does w q t handing_back) (Ok response.NotNow) s
+  pub back_not : hand_holds q t (held_of_worker s.hands w) ≡ false → SimulatesStep s (worker_does w q t HandBack) (Ok response.NotNow) s
   back_not missing =
-      not_with s same w q t handing_back refl refl (λ h. hand_holds q t h ≡ false) (λ p h rs is. back_none p q t (desk_at q s.desks) h rs is)
+      not_with s same w q t HandBack refl refl (λ h. hand_holds q t h ≡ false) (λ p h rs is. back_none p q t (desk_at q s.desks) h rs is)
       (λ h i. at_held (hand_holds q t) false s.hands w h i missing)
 
   pub file_not : (hand_holds q t (held_of_worker s.hands w) ≡ false) ⊎ (holds_going q t (held_of_worker s.hands w) ≡ true)
-      → SimulatesStep s (worker_does w q t filing) (Ok response.NotNow) s
+      → SimulatesStep s (worker_does w q t File) (Ok response.NotNow) s
   file_not (inl missing) =
-      not_with s same w q t filing refl refl (λ h. hand_holds q t h ≡ false) (λ p h rs is. file_not_held p q t (desk_at q s.desks) h rs is)
+      not_with s same w q t File refl refl (λ h. hand_holds q t h ≡ false) (λ p h rs is. file_not_held p q t (desk_at q s.desks) h rs is)
       (λ h i. at_held (hand_holds q t) false s.hands w h i missing)
   file_not (inr goes) =
-      not_with s same w q t filing refl refl (λ h. holds_going q t h ≡ true) (λ p h rs is. file_going p q t (desk_at q s.desks) h rs is)
+      not_with s same w q t File refl refl (λ h. holds_going q t h ≡ true) (λ p h rs is. file_going p q t (desk_at q s.desks) h rs is)
       (λ h i. at_held (holds_going q t) true s.hands w h i goes)
 
-  pub claim_not_free : is_free (slice_get s.hands w) ≡ false → SimulatesStep s (worker_does w q t claiming) (Ok response.NotNow) s
+  pub claim_not_free : is_free (slice_get s.hands w) ≡ false → SimulatesStep s (worker_does w q t Claim) (Ok response.NotNow) s
   claim_not_free missing =
-      not_with s same w q t claiming refl refl (λ h. is_free (Some h) ≡ false) (λ p h rs is. claim_busy p q t (desk_at q s.desks) h rs is)
+      not_with s same w q t Claim refl refl (λ h. is_free (Some h) ≡ false) (λ p h rs is. claim_busy p q t (desk_at q s.desks) h rs is)
       (λ h i. sym (ap is_free i) ∙ missing)
 
 -- ---- a run is sliced, or an allocation failed in it
 
 pub slice_responds : (s : World) (w q t n : ℕ) (h h' : Hand) (rs : Deque) (r : Result Response NoMemory) → slice_get s.hands w ≡ Some h
     → slice_get s.deques w ≡ Some rs → holds_going q t h ≡ true → nat_lt 0 n ≡ true → SlicesHand n h r h'
-    → SimulatesStep s (worker_does w q t (slicing n)) r (record s { hands = slice_set s.hands w h' })
+    → SimulatesStep s (worker_does w q t (Slice n)) r (record s { hands = slice_set s.hands w h' })
 slice_responds s w q t n None h' rs r i j hand_holds some k p right = absurd (cc)
 slice_responds s w q t n (Some x) h' rs (Ok r) i j hand_holds some k p right =
-    with_its_effect p s w q t (slicing n) (Some (in_hand (sliced p n x)))
-    (at_hand p s w q t (slicing n) (Some x) rs (Some (in_hand (sliced p n x))) refl i j (slice_does p q t (desk_at q s.desks) n x rs hand_holds some))
+    with_its_effect p s w q t (Slice n) (Some (in_hand (sliced p n x)))
+    (at_hand p s w q t (Slice n) (Some x) rs (Some (in_hand (sliced p n x))) refl i j (slice_does p q t (desk_at q s.desks) n x rs hand_holds some))
     ∙ (λ z. (record s { hands = slice_set s.hands w (sym (k.1 p right) z) }, sym k.0 z))
 slice_responds s w q t n (Some x) h' rs (Err e) i j hand_holds some k p right =
-    let does : effect_of p s w q t (slicing n) ≡ Some (in_hand (sliced p n x)) =
-    at_hand p s w q t (slicing n) (Some x) rs (Some (in_hand (sliced p n x))) refl i j (slice_does p q t (desk_at q s.desks) n x rs hand_holds some) in (
+    let does : effect_of p s w q t (Slice n) ≡ Some (in_hand (sliced p n x)) =
+    at_hand p s w q t (Slice n) (Some x) rs (Some (in_hand (sliced p n x))) refl i j (slice_does p q t (desk_at q s.desks) n x rs hand_holds some) in (
       (tt, subst IsSome (sym does) refl),
       ap (λ (y : Hand). record s { hands = slice_set s.hands w y })
           (k p right ∙ ap (λ (y : Option Hand). option_map out_of_memory (option_flatten y)) (sym i)),
@@ -166,48 +168,48 @@ slice_responds s w q t n (Some x) h' rs (Err e) i j hand_holds some k p right =
 
 pub park_responds : (s : World) (w q t : ℕ) (h h' : Hand) (rs rs' : Deque) → slice_get s.hands w ≡ Some h → slice_get s.deques w ≡ Some rs
     → holds_going q t h ≡ true → nat_lt (length rs) MOST_PARKED ≡ true → Parks rs h (Ok tt) rs' h'
-    → SimulatesStep s (worker_does w q t parking) (Ok response.Done) (record { desks = s.desks; hands = slice_set s.hands w h'; deques = slice_set s.deques w rs' })
+    → SimulatesStep s (worker_does w q t Park) (Ok response.Done) (record { desks = s.desks; hands = slice_set s.hands w h'; deques = slice_set s.deques w rs' })
 park_responds s w q t None h' rs rs' i j hand_holds room k p right = absurd (cc)
 park_responds s w q t (Some r) h' rs rs' i j hand_holds room k p right =
-    with_its_effect p s w q t parking (Some (onto_deque r rs))
-    (at_hand p s w q t parking (Some r) rs (Some (onto_deque r rs)) refl i j (park_does p q t (desk_at q s.desks) r rs hand_holds room))
+    with_its_effect p s w q t Park (Some (onto_deque r rs))
+    (at_hand p s w q t Park (Some r) rs (Some (onto_deque r rs)) refl i j (park_does p q t (desk_at q s.desks) r rs hand_holds room))
     ∙ (λ z. (record { desks = s.desks; hands = slice_set s.hands w (sym k.1 z); deques = slice_set s.deques w (sym k.0 z) }, answer work_done))
 
 pub park_refused : (s : World) (w q t : ℕ) (h : Hand) (rs : Deque) (e : NoMemory) → slice_get s.hands w ≡ Some h → slice_get s.deques w ≡ Some rs
-    → holds_going q t h ≡ true → nat_lt (length rs) MOST_PARKED ≡ true → SimulatesStep s (worker_does w q t parking) (Err e) s
+    → holds_going q t h ≡ true → nat_lt (length rs) MOST_PARKED ≡ true → SimulatesStep s (worker_does w q t Park) (Err e) s
 park_refused s w q t None rs e i j hand_holds room = absurd (cc)
 park_refused s w q t (Some r) rs e i j hand_holds room =
-    responds_refused s w q t parking e tt refl
-    (λ p. (onto_deque r rs, at_hand p s w q t parking (Some r) rs (Some (onto_deque r rs)) refl i j (park_does p q t (desk_at q s.desks) r rs hand_holds room)))
+    responds_refused s w q t Park e tt refl
+    (λ p. (onto_deque r rs, at_hand p s w q t Park (Some r) rs (Some (onto_deque r rs)) refl i j (park_does p q t (desk_at q s.desks) r rs hand_holds room)))
 
 pub park_no_room : (s : World) (w q t : ℕ) (h : Hand) (rs : Deque) → slice_get s.hands w ≡ Some h → slice_get s.deques w ≡ Some rs
-    → nat_lt (length rs) MOST_PARKED ≡ false → SimulatesStep s (worker_does w q t parking) (Ok response.NotNow) s
+    → nat_lt (length rs) MOST_PARKED ≡ false → SimulatesStep s (worker_does w q t Park) (Ok response.NotNow) s
 park_no_room s w q t h rs i j missing =
-    responds_not_now s w q t parking (λ p. at_hand p s w q t parking h rs None refl i j (park_full p q t (desk_at q s.desks) h rs missing))
+    responds_not_now s w q t Park (λ p. at_hand p s w q t Park h rs None refl i j (park_full p q t (desk_at q s.desks) h rs missing))
 
 -- ---- a trial is claimed
 
 module _ (s : World) (w q t : ℕ) (rs : Deque) (j : slice_get s.deques w ≡ Some rs) where
   module _ (i : slice_get s.hands w ≡ Some None) where
-    pub claim_not_queued : job_at (desk_at q s.desks).trials t ≡ None → SimulatesStep s (worker_does w q t claiming) (Ok response.NotNow) s
+    pub claim_not_queued : job_at (desk_at q s.desks).trials t ≡ None → SimulatesStep s (worker_does w q t Claim) (Ok response.NotNow) s
     claim_not_queued none =
-        responds_not_now s w q t claiming (λ p. at_hand p s w q t claiming None rs None refl i j (claim_unqueued p q t (desk_at q s.desks) rs none))
+        responds_not_now s w q t Claim (λ p. at_hand p s w q t Claim None rs None refl i j (claim_unqueued p q t (desk_at q s.desks) rs none))
 
     module _ (job : Job) (waits : job_at (desk_at q s.desks).trials t ≡ Some job) where
       abbrev left : Effect
       left = claimed_as (after_claim (desk_at q s.desks) t) (new_run q t job)
 
-      claims : (p : RunProfile) → effect_of p s w q t claiming ≡ Some left
-      claims p = at_hand p s w q t claiming None rs (Some left) refl i j (claim_queued p q t (desk_at q s.desks) job rs waits)
+      claims : (p : RunProfile) → effect_of p s w q t Claim ≡ Some left
+      claims p = at_hand p s w q t Claim None rs (Some left) refl i j (claim_queued p q t (desk_at q s.desks) job rs waits)
 
-      pub claim_refused : (e : NoMemory) → SimulatesStep s (worker_does w q t claiming) (Err e) s
-      claim_refused e = responds_refused s w q t claiming e tt refl (λ p. (left, claims p))
+      pub claim_refused : (e : NoMemory) → SimulatesStep s (worker_does w q t Claim) (Err e) s
+      claim_refused e = responds_refused s w q t Claim e tt refl (λ p. (left, claims p))
 
       pub claim_responds : (o : Option (Arc Job Global)) (w' : Desks) → ClaimsAt s.desks q t (Ok o) w'
-          → SimulatesStep s (worker_does w q t claiming) (Ok response.Done) (record { desks = w'; hands = slice_set s.hands w (Some (new_run q t job)); deques = s.deques })
+          → SimulatesStep s (worker_does w q t Claim) (Ok response.Done) (record { desks = w'; hands = slice_set s.hands w (Some (new_run q t job)); deques = s.deques })
       claim_responds None w' h p right = absurd (cc (is_waiting (desk_at q s.desks).trials t job waits, (unclaimed_world q t s.desks w' h).0))
       claim_responds (Some a) w' h p right =
-          with_its_effect p s w q t claiming (Some left) (claims p)
+          with_its_effect p s w q t Claim (Some left) (claims p)
           ∙ ap (λ (x : Desks). (record { desks = x; hands = slice_set s.hands w (Some (new_run q t job)); deques = s.deques }, answer work_done))
           (sym (claimed_world q t s.desks w' a h).1)
 
@@ -227,11 +229,11 @@ module _ (s : World) (w v q : ℕ) where
 
 module _ (s : World) (w q t : ℕ) (h : Hand) (rs : Deque) (i : slice_get s.hands w ≡ Some h) (j : slice_get s.deques w ≡ Some rs) where
   pub back_responds : (b : Bool) (r : Response) (w' : Desks) → hand_holds q t h ≡ true → view_of_response r ≡ work_response b → SimulatesHandBack s.desks q t b w'
-      → SimulatesStep s (worker_does w q t handing_back) (Ok r) (record { desks = w'; hands = slice_set s.hands w None; deques = s.deques })
+      → SimulatesStep s (worker_does w q t HandBack) (Ok r) (record { desks = w'; hands = slice_set s.hands w None; deques = s.deques })
   back_responds b r w' hand_holds told back p right =
       let o = hand_back_step (desk_at q s.desks) t in
-      with_its_effect p s w q t handing_back (Some (hand_emptied o))
-      (at_hand p s w q t handing_back h rs (Some (hand_emptied o)) refl i j (back_does p q t (desk_at q s.desks) h rs hand_holds))
+      with_its_effect p s w q t HandBack (Some (hand_emptied o))
+      (at_hand p s w q t HandBack h rs (Some (hand_emptied o)) refl i j (back_does p q t (desk_at q s.desks) h rs hand_holds))
       ∙ emptied s w w q o b w' back
       ∙ ap (λ (x : chores.Response). (record { desks = w'; hands = slice_set s.hands w None; deques = s.deques }, x)) (sym told)
 
@@ -250,12 +252,12 @@ filed q t w w' f false own h p right = by h.0
 module _ (s : World) (w q t : ℕ) (rs : Deque) (j : slice_get s.deques w ≡ Some rs) where
   pub file_responds : (f : FinishedView) (b : Bool) (r : Response) (hs' : List Hand) (w' : Desks) → TakesFinished w q t s.hands (Some f) hs'
       → JobAt (desk_at q s.desks).trials t f.job → view_of_response r ≡ work_response b → SimulatesFile s.desks q t f b w'
-      → SimulatesStep s (worker_does w q t filing) (Ok r) (record { desks = w'; hands = hs'; deques = s.deques })
+      → SimulatesStep s (worker_does w q t File) (Ok r) (record { desks = w'; hands = hs'; deques = s.deques })
   file_responds f b r hs' w' taken own told files p right =
       let x = taken.0 in
       let o = file_step p.profile (desk_at q s.desks) t (mark_of f.result) in
-      with_its_effect p s w q t filing (Some (hand_emptied o))
-      (at_hand p s w q t filing (Some x) rs (Some (hand_emptied o)) refl taken.1 j
+      with_its_effect p s w q t File (Some (hand_emptied o))
+      (at_hand p s w q t File (Some x) rs (Some (hand_emptied o)) refl taken.1 j
       (file_does p q t (desk_at q s.desks) x rs (mark_of f.result) taken.2.run taken.2.progress))
       ∙ emptied s w w q o b w' (filed q t s.desks w' f b own files p.profile right.desks)
       ∙ (λ z. (record { desks = w'; hands = sym taken.3 z; deques = s.deques }, sym told z))
@@ -279,17 +281,17 @@ module _ (s : World) (w v q t : ℕ) (rs rs' : Deque) where
       (λ z. with_effect s w v q (take_effect q t (i z) (j z))) ∙ ap (λ (o : Option Effect). with_effect s w v q o) k
 
 module _ (s s' : World) (w v q t : ℕ) (r : Response) (takes : TakesUpRun w v q t s r s') where
-  pub take_up_responds : v ≡ w → SimulatesStep s (worker_does w q t taking_up) (Ok r) s'
+  pub take_up_responds : v ≡ w → SimulatesStep s (worker_does w q t TakeUp) (Ok r) s'
   take_up_responds own p right =
       ap (λ (o : Option Effect). with_effect s w w q o) (takes_up p s.desks q t (slice_get s.hands w) (slice_get s.deques w))
       ∙ subst (λ (u : ℕ). TakesUpRun w u q t s r s') own takes
 
-  pub steal_responds : (v == w) ≡ false → SimulatesStep s (worker_does w q t (stealing v)) (Ok r) s'
+  pub steal_responds : (v == w) ≡ false → SimulatesStep s (worker_does w q t (Steal v)) (Ok r) s'
   steal_responds other p right =
-      ap (λ (b : Bool). with_effect s w v q (if b then None else effect_among p s.desks q t (stealing v) (slice_get s.hands w) (slice_get s.deques v))) other
+      ap (λ (b : Bool). with_effect s w v q (if b then None else effect_among p s.desks q t (Steal v) (slice_get s.hands w) (slice_get s.deques v))) other
       ∙ ap (λ (o : Option Effect). with_effect s w v q o) (steals p s.desks q t v (slice_get s.hands w) (slice_get s.deques v))
       ∙ takes
 
-pub steal_own : (s : World) (w v q t : ℕ) → (v == w) ≡ true → SimulatesStep s (worker_does w q t (stealing v)) (Ok response.NotNow) s
+pub steal_own : (s : World) (w v q t : ℕ) → (v == w) ≡ true → SimulatesStep s (worker_does w q t (Steal v)) (Ok response.NotNow) s
 steal_own s w v q t own =
-    responds_not_now s w q t (stealing v) (λ p. ap (λ (b : Bool). if b then None else effect_among p s.desks q t (stealing v) (slice_get s.hands w) (slice_get s.deques v)) own)
+    responds_not_now s w q t (Steal v) (λ p. ap (λ (b : Bool). if b then None else effect_among p s.desks q t (Steal v) (slice_get s.hands w) (slice_get s.deques v)) own)

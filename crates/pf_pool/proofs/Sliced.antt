@@ -4,7 +4,8 @@ use Rattle.std.specs.Prelude.{◌⊎◌, if◌then◌else◌, MatchBool, nat_lt,
 use Rattle.std.proofs.lemmas.Bool.Decides.{nat_tests}
 use Rattle.pf_model.specs.Shrinking.{Result, IsResult}
 use Rattle.pf_request.specs.Job.{Job}
-use Rattle.pf_desks.specs.Desk.{FileMark, marked_whole, marked_memory}
+use Rattle.pf_desks.specs.declared.mark.FileMark.{FileMark}
+use Rattle.pf_desks.specs.declared.mark.FileMark.TheVariants.{Whole}
 use Rattle.pf_sched.specs.Events.{HasEvents}
 use Rattle.pf_sched.specs.Views.{ParkedView, FinishedView, without_memory}
 use Rattle.pf_sched.specs.declared.slice.Slice.TheVariants.{More, Done}
@@ -41,7 +42,7 @@ module _ (q t : ℕ) (j : Job) (k n : ℕ) where
       goes p right =
           let more : nat_lt (k + n) (p.events j.asked) ≡ true = grind (arith, nat_tests, right.events j.asked past.0 past.1, past.2) in
           (λ x. run q t (same x) (going (is x)))
-          ∙ sym (ap (λ (b : Bool). run q t j (if b then going (k + n) else over marked_whole)) more)
+          ∙ sym (ap (λ (b : Bool). run q t j (if b then going (k + n) else over Whole)) more)
 
   -- it is over, whole or out of memory
   pub sliced_over : (f : FinishedView) → f.job ≡ j → EndsBy j (k + n) f.result ⊎ (f.result ≡ without_memory)
@@ -55,7 +56,7 @@ module _ (q t : ℕ) (j : Job) (k n : ℕ) where
           let no_more : nat_lt (k + n) (p.events j.asked) ≡ false = grind (arith, nat_tests, right.events j.asked ends.1.0 ends.1.1, ends.1.2) in
           (λ x. run q t (same x) (over (mark_of f.result)))
           ∙ ap (λ (m : FileMark). run q t j (over m)) (result_whole j.asked f.result ends.0)
-          ∙ sym (ap (λ (b : Bool). run q t j (if b then going (k + n) else over marked_whole)) no_more)
+          ∙ sym (ap (λ (b : Bool). run q t j (if b then going (k + n) else over Whole)) no_more)
 
 -- the same of the code's own runs
 module _ (r : Inside) (self : ClaimedRun) (n : ℕ) (g : code.RunProgress) (seen : run_in r ≡ self) where
@@ -86,7 +87,7 @@ module _ (r : Inside) (self : ClaimedRun) (n : ℕ) (g : code.RunProgress) (seen
 sliced_whole : (p : RunProfile) (n : ℕ) (r : ClaimedRun) → is_going r.progress ≡ true → is_out_of_memory (sliced p n r).progress ≡ false
 sliced_whole p n r h = by r.progress h
   where
-    on : (b : Bool) (m : ℕ) → is_out_of_memory (if b then going m else over marked_whole) ≡ false
+    on : (b : Bool) (m : ℕ) → is_out_of_memory (if b then going m else over Whole) ≡ false
     on true m = refl
     on false m = refl
 

@@ -3,7 +3,8 @@ use Rattle.std.proofs.Common.{◌≡◌, ◌<◌, ℕ, Bool, true, false, List, 
 use Rattle.std.specs.Prelude.{if◌then◌else◌, slice_get}
 use Rattle.pf_desks.specs.Desks.{Desks, desk_at}
 use Rattle.pf_world.specs.World.{RunProfile, ClaimedRun, Hand, Deque, World}
-use Rattle.pf_world.specs.Chores.{taking_up, stealing, Effect, is_run_of, from_deque, deque_effect, chore_effect}
+use Rattle.pf_world.specs.Chores.{Effect, is_run_of, from_deque, deque_effect, chore_effect}
+use Rattle.pf_request.specs.declared.step.Chore.TheVariants.{TakeUp, Steal}
 use Rattle.pf_world.specs.Steps.{effect_among}
 use Rattle.pf_pool.specs.Deques.{TakesOldest}
 use Rattle.pf_pool.specs.Hands.{take_effect}
@@ -29,14 +30,14 @@ module _ (p : RunProfile) (ds : Desks) (q t : ℕ) where
   both_none true = refl
   both_none false = refl
 
-  pub takes_up : (h : Option Hand) (rs : Option Deque) → effect_among p ds q t taking_up h rs ≡ take_effect q t h rs
+  pub takes_up : (h : Option Hand) (rs : Option Deque) → effect_among p ds q t TakeUp h rs ≡ take_effect q t h rs
   takes_up None rs = refl
   takes_up (Some None) None = refl
   takes_up (Some (Some r)) None = refl
   takes_up (Some None) (Some rs) = refl
   takes_up (Some (Some r)) (Some rs) = both_none (is_run_of q t r)
 
-  pub steals : (v : ℕ) (h : Option Hand) (rs : Option Deque) → effect_among p ds q t (stealing v) h rs ≡ take_effect q t h rs
+  pub steals : (v : ℕ) (h : Option Hand) (rs : Option Deque) → effect_among p ds q t (Steal v) h rs ≡ take_effect q t h rs
   steals v None rs = refl
   steals v (Some None) None = refl
   steals v (Some (Some r)) None = refl

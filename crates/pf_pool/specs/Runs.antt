@@ -1,7 +1,8 @@
 -- What claimed runs of the code stand for, and what a slice makes of one.
 use Rattle.std.specs.Prelude.{◌≡◌, ◌⊎◌, ℕ, Bool, true, false}
 use Rattle.pf_request.specs.Job.{Job}
-use Rattle.pf_desks.specs.Desk.{FileMark, marked_whole, marked_memory}
+use Rattle.pf_desks.specs.declared.mark.FileMark.{FileMark}
+use Rattle.pf_desks.specs.declared.mark.FileMark.TheVariants.{Whole, Memory}
 use Rattle.pf_book.specs.View.{mark_of}
 use Rattle.pf_world.specs.World as worlds
 use Rattle.pf_world.specs.World.{ClaimedRun, going, over}
@@ -26,8 +27,8 @@ run_in r = record { project = r.project; ticket = r.ticket; job = job_of_progres
 
 -- an allocation failed in it
 abbrev pub is_memory : FileMark → Bool
-is_memory marked_whole = false
-is_memory marked_memory = true
+is_memory Whole = false
+is_memory Memory = true
 
 abbrev pub is_out_of_memory : worlds.RunProgress → Bool
 is_out_of_memory (going n) = false

@@ -2,10 +2,11 @@
 
 ghost use Rattle.std.specs.Prelude.{◌≡◌, ◌<◌, ◌≤◌, true, slice_get, IfOk, IfSome, Ok};
 ghost use Rattle.pf_request.specs.View.{view_of_call};
-ghost use Rattle.pf_world.specs.Chores.{claiming, filing, handing_back, is_going, parking, slicing, stealing, taking_up};
+ghost use Rattle.pf_world.specs.Chores.{is_going};
+ghost use Rattle.pf_request.specs.declared.step.Chore.TheVariants as chores;
 ghost use Rattle.pf_world.specs.Steps.{client_calls, worker_does};
 ghost use Rattle.pf_world.specs.World.{new_world};
-ghost use Rattle.pf_world.specs.View.{view_of_chore, view_of_step};
+ghost use Rattle.pf_world.specs.View.{view_of_step};
 ghost use Rattle.pf_pool.specs.Hands as held;
 ghost use Rattle.pf_pool.specs.Hands.{held_of_worker, HoldsSameTrial, SlicesHand, TakesUpRun, TakesFinished};
 ghost use Rattle.pf_pool.specs.Responses.{SimulatesStep, view_of_response, work_response};
@@ -103,7 +104,7 @@ impl World {
         ticket: u64,
         chore: Chore,
     ) -> Result<Response, NoMemory>
-        ensures { SimulatesStep self.old (worker_does worker project ticket (view_of_chore chore)) result self.new }
+        ensures { SimulatesStep self.old (worker_does worker project ticket chore) result self.new }
     {
         match chore {
             Chore::Claim => self.claim(alloc, worker, project, ticket),
@@ -125,7 +126,7 @@ impl World {
         project: u32,
         ticket: u64,
     ) -> Result<Response, NoMemory>
-        ensures { SimulatesStep self.old (worker_does worker project ticket claiming) result self.new }
+        ensures { SimulatesStep self.old (worker_does worker project ticket chores.Claim) result self.new }
     {
         if !is_free(&self.hands, worker) {
             return Ok(Response::NotNow);
@@ -149,7 +150,7 @@ impl World {
         ticket: u64,
         turns: u32,
     ) -> Result<Response, NoMemory>
-        ensures { SimulatesStep self.old (worker_does worker project ticket (slicing turns)) result self.new }
+        ensures { SimulatesStep self.old (worker_does worker project ticket (chores.Slice turns)) result self.new }
     {
         if turns == 0 || !holds_going(&self.hands, worker, project, ticket) {
             return Ok(Response::NotNow);
@@ -160,7 +161,7 @@ impl World {
 
     /// A worker parks a run that it holds and that isn't over, if fewer than 64 are parked.
     pub fn park(&mut self, worker: u32, project: u32, ticket: u64) -> Result<Response, NoMemory>
-        ensures { SimulatesStep self.old (worker_does worker project ticket parking) result self.new }
+        ensures { SimulatesStep self.old (worker_does worker project ticket chores.Park) result self.new }
     {
         if !holds_going(&self.hands, worker, project, ticket) {
             return Ok(Response::NotNow);
@@ -174,14 +175,14 @@ impl World {
 
     /// A free worker takes up the oldest run that it parked, if it is that of the ticket.
     pub fn take_up(&mut self, worker: u32, project: u32, ticket: u64) -> Response
-        ensures { SimulatesStep self.old (worker_does worker project ticket taking_up) (Ok result) self.new }
+        ensures { SimulatesStep self.old (worker_does worker project ticket chores.TakeUp) (Ok result) self.new }
     {
         self.take(worker, worker, project, ticket)
     }
 
     /// A free worker steals the oldest run that another parked, if it is that of the ticket.
     pub fn steal(&mut self, worker: u32, from: u32, project: u32, ticket: u64) -> Response
-        ensures { SimulatesStep self.old (worker_does worker project ticket (stealing from)) (Ok result) self.new }
+        ensures { SimulatesStep self.old (worker_does worker project ticket (chores.Steal from)) (Ok result) self.new }
     {
         if worker == from {
             return Response::NotNow;
@@ -191,7 +192,7 @@ impl World {
 
     /// A worker files a run that it holds and that is over. It takes no memory.
     pub fn file(&mut self, worker: u32, project: u32, ticket: u64) -> Response
-        ensures { SimulatesStep self.old (worker_does worker project ticket filing) (Ok result) self.new }
+        ensures { SimulatesStep self.old (worker_does worker project ticket chores.File) (Ok result) self.new }
     {
         let Some(finished) = take_finished(&mut self.hands, worker, project, ticket) else {
             return Response::NotNow;
@@ -201,7 +202,7 @@ impl World {
 
     /// A worker hands back a run that it holds, however far it is; its trial is queued again. It takes no memory.
     pub fn hand_back(&mut self, worker: u32, project: u32, ticket: u64) -> Response
-        ensures { SimulatesStep self.old (worker_does worker project ticket handing_back) (Ok result) self.new }
+        ensures { SimulatesStep self.old (worker_does worker project ticket chores.HandBack) (Ok result) self.new }
     {
         if !holds(&self.hands, worker, project, ticket) {
             return Response::NotNow;

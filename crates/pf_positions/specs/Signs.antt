@@ -1,9 +1,9 @@
 -- The signs of nodes.
 use Rattle.std.specs.Prelude.{ℕ}
-use Rattle.pf_syntax.specs.Tree as t
 use Rattle.pf_positions.specs.declared.sign.Sign.{Sign}
 use Rattle.pf_positions.specs.declared.sign.Sign.TheVariants.{Receive, Case, If, AndAlso, OrElse, Send, Match, Name, Brace, Plus, Minus, Times, Quotient, Remainder, Append, Equal, Unequal, Less, AtMost, Greater, AtLeast, Unwritten}
 use Rattle.pf_syntax.specs.declared.operator.Operator.TheVariants as operators
+use Rattle.pf_syntax.specs.declared.operator.Operator.{Operator}
 
 -- the number of a sign
 abbrev pub sign_number : Sign → ℕ
@@ -31,7 +31,7 @@ sign_number AtLeast = 20
 sign_number Unwritten = 21
 
 -- the sign of an operator
-abbrev pub operator_sign : t.Operator → Sign
+abbrev pub operator_sign : Operator → Sign
 operator_sign operators.Plus = Plus
 operator_sign operators.Minus = Minus
 operator_sign operators.Times = Times

@@ -10,7 +10,9 @@ use Rattle.pf_model.specs.Module.{Module, exported_as}
 use Rattle.pf_model.specs.Channels as signal
 use Rattle.pf_model.specs.Channels.{Signal}
 use Rattle.pf_model.specs.Context.{Frame, ProcessState, running, waiting, ending, ended, End, returned, failed, Move, goes_on, asks, awaits, returns}
-use Rattle.pf_model.specs.Contraction.{Bond, unbound, linking, watching, Act, send, spawn, link, unlink, monitor, demonitor, exit_other, set_flag, register, unregister, whereis, make_ref}
+use Rattle.pf_model.specs.Contraction.{Act, send, spawn, link, unlink, monitor, demonitor, exit_other, set_flag, register, unregister, whereis, make_ref}
+use Rattle.pf_model.specs.declared.bond.Bond.{Bond}
+use Rattle.pf_model.specs.declared.bond.Bond.TheVariants.{Unbound, Linking, Watching}
 use Rattle.pf_model.specs.Configuration.{Configuration, Core, Process, fresh, is_alive, of, process_at, with_process, with_state}
 use Rattle.pf_model.specs.Actions.{Acted, acted, and_flushed, as_atom, as_elements, as_pid, as_reference, begun, demonitored, demonitored_so, flag_set, given, linked_to, may_register, monitored, only_if, raising, receiver, registered, spawned, start_of, unlinked_from, unregistered}
 use Rattle.pf_model.specs.Deliveries.{Deed, at_ended, at_living, changes, delivered, down_at, drops, ends_with, exit_at, exit_by_link_at, exit_message, with_message, woken}
@@ -19,7 +21,9 @@ use Rattle.pf_model.specs.Flush.{flushes}
 use Rattle.pf_model.specs.Labels.{Label, as_message}
 use Rattle.pf_sorted.specs.Maps.{got, has, without_number}
 use Rattle.pf_model.specs.Receive.{Taken, selected}
-use Rattle.pf_model.specs.Runs.{Actor, process, channel, Passed, Passes, turn, delivery}
+use Rattle.pf_model.specs.Runs.{Passed, Passes, turn, delivery}
+use Rattle.pf_model.specs.declared.report.Actor.{Actor}
+use Rattle.pf_model.specs.declared.report.Actor.TheVariants as actors
 use Rattle.pf_model.specs.Turns.{Turn, cut_running, cut_ending, end, contraction, act, after_act, with_answer, ended_so, last_of_turn, received}
 use Rattle.pf_system.proofs.Bodies.{map_more, more_length, set_length, set_map}
 use Rattle.pf_system.proofs.Delivering.{at_set}
@@ -83,7 +87,7 @@ ends_here c a e = set_map lives a c.processes (fresh (ended e) [])
 -- of what an action of a process makes: the process lives, and who lives else is shown
 record Steady (c : Core) (a : ℕ) (x : Acted) : Type 0 where
   here : lives (of x.left.core a) ≡ true
-  shows : lives_in x.left.core ≡ behind (process a) x.label (lives_in c)
+  shows : lives_in x.left.core ≡ behind (actors.Process a) x.label (lives_in c)
   next : IsNext x.label (length c.processes)
 
 begun_lives : (o : Option ℕ) (vs : Values) → is_alive (begun o vs) ≡ true
@@ -134,17 +138,17 @@ module _ (c : Core) (a : ℕ) (here : lives (of c a) ≡ true) where
       ∙ ap (λ bs. bs ++ true ∷ []) (same_lives p e)
 
   spawns_steady : (b : Bond) (s : ProcessState) → is_alive s ≡ true → Steady c a (spawned c a b s)
-  spawns_steady unbound s l = by_test (nat_lt (length c.processes) c.most) _ _ (record {
+  spawns_steady Unbound s l = by_test (nat_lt (length c.processes) c.most) _ _ (record {
     here = ap lives (at_more c.processes a (fresh s []) (in_range c.processes a here)) ∙ here;
     shows = map_more lives c.processes (fresh s []) ∙ ap (λ b. lives_in c ++ b ∷ []) l;
     next = refl;
   }) (raises _)
-  spawns_steady linking s l = by_test (nat_lt (length c.processes) c.most) _ _ (record {
+  spawns_steady Linking s l = by_test (nat_lt (length c.processes) c.most) _ _ (record {
     here = more_here _ (fresh s (a ∷ [])) refl;
     shows = more_live _ (fresh s (a ∷ [])) refl l;
     next = refl;
   }) (raises _)
-  spawns_steady watching s l = by_test (nat_lt (length c.processes) c.most) _ _ (record {
+  spawns_steady Watching s l = by_test (nat_lt (length c.processes) c.most) _ _ (record {
     here = more_here _ _ refl;
     shows = more_live _ _ refl l;
     next = refl;
@@ -212,7 +216,7 @@ record Shows (x : Actor) (c : Core) (d : Deed) : Type 0 where
 
 module _ (a : ℕ) (c : Core) (here : lives (of c a) ≡ true) where
   abbrev TurnShows : Deed → Type 0
-  TurnShows = Shows (process a) c
+  TurnShows = Shows (actors.Process a) c
 
   state_kept : (s : ProcessState) → is_alive s ≡ true → lives_in (with_state c a s) ≡ lives_in c
   state_kept s l = kept c a (record (of c a) { state = s }) here l
@@ -268,7 +272,7 @@ woken_lives (ended e) h = absurd (cc)
 
 -- a signal from process a that is taken at process b
 abbrev Strikes : (from to : ℕ) → Core → Deed → Type 0
-Strikes a b c d = Shows (channel a b) c d
+Strikes a b c d = Shows (actors.Channel a b) c d
 
 either : (a b : ℕ) (c : Core) (t : Bool) (x y : Deed) → Strikes a b c x → Strikes a b c y → Strikes a b c (if t then x else y)
 either a b c true x y h k = h
@@ -311,7 +315,7 @@ exit_by_link_shows c b here a r = either a b c (has a (of c b).links) (exit_at d
 
     linked : Strikes a b c (exit_at d a b true r)
     linked = record {
-      shows = there.shows ∙ ap (behind (channel a b) (exit_at d a b true r).label) (kept c b unlinked here here);
+      shows = there.shows ∙ ap (behind (actors.Channel a b) (exit_at d a b true r).label) (kept c b unlinked here here);
       next = subst (IsNext (exit_at d a b true r).label) (set_length b c.processes unlinked) there.next;
     }
 

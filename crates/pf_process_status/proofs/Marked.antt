@@ -4,7 +4,8 @@ use Rattle.std.specs.Prelude.{slice_get}
 use Rattle.std.proofs.lemmas.Option.{same_Some}
 use Rattle.pf_model.specs.Configuration.{Configuration}
 use Rattle.pf_model.specs.Module.{Module}
-use Rattle.pf_model.specs.Runs.{Actor, Goes, stays, more, Passed, Passes, Picks, Transition, transition, enabled, first_pick, picks_later}
+use Rattle.pf_model.specs.Runs.{Goes, stays, more, Passed, Passes, Picks, Transition, transition, enabled, first_pick, picks_later}
+use Rattle.pf_model.specs.declared.report.Actor.{Actor}
 
 -- Marked m d ps n c ts k i e j: a run from c, with n steps left, by ts in k steps to d; after i transitions, in j
 -- steps, it was at e

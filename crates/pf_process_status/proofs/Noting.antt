@@ -9,7 +9,8 @@ use Rattle.pf_terms.specs.Value.{Value}
 use Rattle.pf_terms.specs.Fixed.{normal}
 use Rattle.pf_model.specs.Labels.{Label, ends}
 use Rattle.pf_model.specs.Meaning.{Event}
-use Rattle.pf_model.specs.Runs.{Actor, process, channel}
+use Rattle.pf_model.specs.declared.report.Actor.{Actor}
+use Rattle.pf_model.specs.declared.report.Actor.TheVariants.{Process, Channel}
 use Rattle.pf_stepper.specs.declared.point.Point.{Point}
 use Rattle.pf_process_status.specs.Fates.{EndsSo, who_ends}
 use Rattle.pf_process_status.specs.Noted.{AreMade, AreNoted, none_made, one_more, Fails, HasNote, HasPoint, IsNoted, PutsPoint, TakePoints, failed_from, failure, last_or, last_point, raises_in}
@@ -58,8 +59,8 @@ note_where fs f q n (i, g, at, pid, event) = where_at fs f g q n i at pid event
 
 -- ---- who fails
 
-killed_itself : (a p q : ℕ) (r : Value) (e : Event) → EndsSo p (end.Killed a) e → e.actor ≡ process q → ⊥
-killed_itself a p q r e h itself = let never : channel a p ≡ process q = sym h.0 ∙ itself in absurd (cc)
+killed_itself : (a p q : ℕ) (r : Value) (e : Event) → EndsSo p (end.Killed a) e → e.actor ≡ Process q → ⊥
+killed_itself a p q r e h itself = let never : Channel a p ≡ Process q = sym h.0 ∙ itself in absurd (cc)
 
 fails_as : (e : Event) (p q : ℕ) (x : ProcessEnd) → EndsSo p x e → who_ends e.actor e.label ≡ Some p → EndsSo q end.Failed e → x ≡ end.Failed
 fails_as e p q end.Failed h who f = refl
@@ -76,19 +77,19 @@ failed_so e p x h who not = λ q f. not (fails_as e p q x h who f)
 -- nobody failed where nobody ended
 pub none_failed : (e : Event) → who_ends e.actor e.label ≡ None → Fails e None
 none_failed e none = λ q f.
-    let who : who_ends e.actor e.label ≡ Some q = ap (λ x. who_ends x e.label) f.1.0 ∙ ap (who_ends (process q)) f.1.1 in
+    let who : who_ends e.actor e.label ≡ Some q = ap (λ x. who_ends x e.label) f.1.0 ∙ ap (who_ends (Process q)) f.1.1 in
     let never : None ≡ Some q = sym none ∙ who in
     absurd (cc)
 
 same_who : (e : Event) (p q : ℕ) → EndsSo p end.Failed e → EndsSo q end.Failed e → p ≡ q
-same_who e p q h f = let same : process p ≡ process q = sym h.1.0 ∙ f.1.0 in cc
+same_who e p q h f = let same : Process p ≡ Process q = sym h.1.0 ∙ f.1.0 in cc
 
 no_raise : (x : Actor) (l : Label) (r : Value) (q : ℕ) → l ≡ ends r → raises_in x l ≡ Some q → ⊥
 no_raise x l r q e h = by x (sym (ap (raises_in x) e) ∙ h)
   where
     by : (x : Actor) → raises_in x (ends r) ≡ Some q → ⊥
-    by (process a) h = absurd (cc)
-    by (channel a b) h = absurd (cc)
+    by (Process a) h = absurd (cc)
+    by (Channel a b) h = absurd (cc)
 
 -- ---- one event more
 

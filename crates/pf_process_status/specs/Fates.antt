@@ -10,7 +10,9 @@ use Rattle.pf_model.specs.Context.{ProcessState}
 use Rattle.pf_model.specs.Deliveries.{woken}
 use Rattle.pf_model.specs.Labels.{Label, delivers, ending_with, ends, spawns, spawns_watched}
 use Rattle.pf_model.specs.Meaning.{Event}
-use Rattle.pf_model.specs.Runs.{Actor, process, channel, can_go, is_waiting}
+use Rattle.pf_model.specs.Runs.{can_go, is_waiting}
+use Rattle.pf_model.specs.declared.report.Actor.{Actor}
+use Rattle.pf_model.specs.declared.report.Actor.TheVariants.{Process, Channel}
 use Rattle.pf_stepper.specs.Points.{IsCalling, IsPointOf}
 use Rattle.pf_stepper.specs.declared.point.Point.{Point}
 use Rattle.pf_stepper.specs.declared.point.Point.TheVariants as point
@@ -34,16 +36,16 @@ is_struck l = false
 
 -- the process that an event ends: of its own, or by the exit signal that is delivered to it
 abbrev pub who_ends : Actor → Label → Option ℕ
-who_ends (process a) l = if is_end l then Some a else None
-who_ends (channel a b) l = if is_struck l then Some b else None
+who_ends (Process a) l = if is_end l then Some a else None
+who_ends (Channel a b) l = if is_struck l then Some b else None
 
 -- a process ended in an event of its own, with this reason
 abbrev pub EndsItself : (p : ℕ) → (reason : Value) → Event → Type 0
-EndsItself p r e = (e.actor ≡ process p) × (e.label ≡ ends r)
+EndsItself p r e = (e.actor ≡ Process p) × (e.label ≡ ends r)
 
 -- the exit signal of one process ended another in an event
 abbrev pub EndsAnother : (from p : ℕ) → Event → Type 0
-EndsAnother a p e = (e.actor ≡ channel a p) × ((s : Signal) × (r : Value) × (e.label ≡ delivers s (ending_with r)))
+EndsAnother a p e = (e.actor ≡ Channel a p) × ((s : Signal) × (r : Value) × (e.label ≡ delivers s (ending_with r)))
 
 -- a process ended in an event, and so
 abbrev pub EndsSo : (p : ℕ) → ProcessEnd → Event → Type 0

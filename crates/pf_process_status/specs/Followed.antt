@@ -2,7 +2,8 @@
 use Rattle.std.specs.Prelude.{◌≡◌, ◌⊎◌, ◌≤◌, ◌-◌, ℕ, Bool, true, false, List, Some, None, length, slice_get}
 use Rattle.pf_model.specs.Configuration.{Configuration}
 use Rattle.pf_model.specs.Labels.{Label}
-use Rattle.pf_model.specs.Runs.{Actor, enabled}
+use Rattle.pf_model.specs.Runs.{enabled}
+use Rattle.pf_model.specs.declared.report.Actor.{Actor}
 use Rattle.pf_system.specs.Steps.{SimulatesTransition}
 use Rattle.pf_system.specs.View.{SystemView}
 use Rattle.pf_process_status.specs.Fates.{Began}

@@ -2,7 +2,8 @@
 use Rattle.std.specs.Prelude.{◌≡◌, ◌⊎◌, ◌++◌, ◌<◌, ◌==◌, if◌then◌else◌, ℕ, suc, List, [], ◌∷◌, Option, Some, None, length, slice_get}
 use Rattle.pf_model.specs.Labels.{Label, raises}
 use Rattle.pf_model.specs.Meaning.{Event}
-use Rattle.pf_model.specs.Runs.{Actor, process}
+use Rattle.pf_model.specs.declared.report.Actor.{Actor}
+use Rattle.pf_model.specs.declared.report.Actor.TheVariants.{Process}
 use Rattle.pf_stepper.specs.declared.point.Point.{Point}
 use Rattle.pf_stepper.specs.declared.point.Point.TheVariants as p
 use Rattle.pf_process_status.specs.Fates.{EndsAt, EndsSo}
@@ -22,7 +23,7 @@ Fails e (Some q) = EndsSo q end.Failed e
 
 -- whose action raises in an event
 abbrev pub raises_in : Actor → Label → Option ℕ
-raises_in (process q) (raises r) = Some q
+raises_in (Process q) (raises r) = Some q
 raises_in x l = None
 
 -- ---- where

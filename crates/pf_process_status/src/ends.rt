@@ -3,8 +3,8 @@
 ghost use Rattle.std.specs.Prelude.{◌≡◌, ℕ, IfSome, Some, option_map};
 ghost use Rattle.pf_terms.specs.Term.{value_of};
 ghost use Rattle.pf_model.specs.Meaning as model;
-ghost use Rattle.pf_model.specs.Reports.{actor_of, view_of_event, label_of};
-ghost use Rattle.pf_model.specs.Runs.{channel, process};
+ghost use Rattle.pf_model.specs.Reports.{view_of_event, label_of};
+ghost use Rattle.pf_model.specs.declared.report.Actor.TheVariants as actors;
 ghost use Rattle.pf_process_status.specs.Fates.{EndsItself, EndsSo, is_struck, who_ends};
 ghost use Rattle.pf_process_status.specs.Noted.{Fails, raises_in};
 
@@ -39,8 +39,8 @@ fn end_with(reason: &Term) -> ProcessEnd
 
 /// A process that ended by itself in a turn that showed this, if it did.
 fn ended_itself(pid: u32, label: &Label) -> Option<EndedProcess>
-    ensures who { option_map (λ x. x.pid) result ≡ who_ends (process pid) (label_of label.now) }
-    ensures how { IfSome result (λ x. (e : model.Event) → e.actor ≡ process pid
+    ensures who { option_map (λ x. x.pid) result ≡ who_ends (actors.Process pid) (label_of label.now) }
+    ensures how { IfSome result (λ x. (e : model.Event) → e.actor ≡ actors.Process pid
         → e.label ≡ label_of label.now → EndsSo x.pid x.end e) }
 {
     match label {
@@ -61,8 +61,8 @@ fn is_struck(label: &Label) -> bool
 
 /// A process that ended by a delivery that showed this, if it did.
 fn ended_by(from: u32, to: u32, label: &Label) -> Option<EndedProcess>
-    ensures who { option_map (λ x. x.pid) result ≡ who_ends (channel from to) (label_of label.now) }
-    ensures how { IfSome result (λ x. (e : model.Event) → e.actor ≡ channel from to
+    ensures who { option_map (λ x. x.pid) result ≡ who_ends (actors.Channel from to) (label_of label.now) }
+    ensures how { IfSome result (λ x. (e : model.Event) → e.actor ≡ actors.Channel from to
         → e.label ≡ label_of label.now → EndsSo x.pid x.end e) }
 {
     if is_struck(label) {
@@ -76,7 +76,7 @@ fn ended_by(from: u32, to: u32, label: &Label) -> Option<EndedProcess>
 /// Who ended in an event, if somebody did.
 pub(crate) fn ended_in(event: &Event) -> Option<EndedProcess>
     ensures who { option_map (λ x. x.pid) result
-        ≡ who_ends (actor_of event.now.actor) (label_of event.now.label) }
+        ≡ who_ends event.now.actor (label_of event.now.label) }
     ensures how { IfSome result (λ x. EndsSo x.pid x.end (view_of_event event.now)) }
 {
     match event.actor {
@@ -109,7 +109,7 @@ pub(crate) fn failed_in(event: &Event) -> Option<u32>
 
 /// Whose action raised in an event, if one did.
 pub(crate) fn raised_in(event: &Event) -> Option<u32>
-    ensures { result ≡ raises_in (actor_of event.now.actor) (label_of event.now.label) }
+    ensures { result ≡ raises_in event.now.actor (label_of event.now.label) }
 {
     match (event.actor, &event.label) {
         (Actor::Process(pid), Label::Raises(_)) => Some(pid),

@@ -3,7 +3,7 @@
 ghost use Rattle.std.specs.Prelude.{◌≡◌, [], false, IfOk, IfSome, MatchOption, OnOk, Some, option_map, slice_get};
 ghost use Rattle.pf_model.specs.Configuration.{Configuration, is_alive, of};
 ghost use Rattle.pf_model.specs.Limits.{IsEdition};
-ghost use Rattle.pf_model.specs.Reports.{actor_of, label_of};
+ghost use Rattle.pf_model.specs.Reports.{label_of};
 ghost use Rattle.pf_model.specs.Runs.{enabled, start};
 ghost use Rattle.pf_system.specs.Steps.{MayGo};
 ghost use Rattle.pf_system.specs.View.{view_of_system};
@@ -21,9 +21,9 @@ use std::alloc::Global;
 
 /// The actor at the index of a choice among those who may go.
 pub(crate) fn chosen(system: &System, choice: u32) -> Option<Actor>
-    ensures may_go { IfSome result (λ actor. MayGo (actor_of actor) system.now.standing) }
+    ensures may_go { IfSome result (λ actor. MayGo actor system.now.standing) }
     ensures chosen { (c : Configuration) → system.now.standing ≡ Some c
-        → option_map actor_of result ≡ slice_get (enabled c) choice }
+        → result ≡ slice_get (enabled c) choice }
 {
     let enabled = system.enabled();
     let index = choice as usize;

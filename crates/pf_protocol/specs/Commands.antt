@@ -7,7 +7,8 @@ use Rattle.pf_text.specs.Numbers.{long_number_of, number_of_digits, schedule_of}
 use Rattle.pf_model.specs.Meaning.{Choices, seed, schedule, weighted_seed}
 use Rattle.pf_request.specs.Calls.{Call, submit, order, fetch, status, drop_trial, withdraw, usage, log, edition}
 use Rattle.pf_request.specs.Request.{RequestKind, run, shrink}
-use Rattle.pf_world.specs.Chores.{Chore, claiming, slicing, parking, taking_up, stealing, filing, handing_back}
+use Rattle.pf_request.specs.declared.step.Chore.{Chore}
+use Rattle.pf_request.specs.declared.step.Chore.TheVariants.{Claim, Slice, Park, TakeUp, Steal, File, HandBack}
 use Rattle.pf_world.specs.Steps.{WorldStep, client_calls, worker_does}
 
 -- ---- lines and words
@@ -133,22 +134,22 @@ of_chore k ws = of_three (λ w p t. made (worker_does w p t k)) ws
 
 -- W P T TURNS: a slice, which has at least one turn
 abbrev pub slice_of : (worker project ticket turns : ℕ) → Option LineContent
-slice_of w p t turns = if nat_lt 0 turns then Some (made (worker_does w p t (slicing turns))) else None
+slice_of w p t turns = if nat_lt 0 turns then Some (made (worker_does w p t (Slice turns))) else None
 
 -- W V P T: a worker steals from another
 abbrev pub theft_of : (worker from project ticket : ℕ) → Option LineContent
-theft_of w v p t = Some (made (worker_does w p t (stealing v)))
+theft_of w v p t = Some (made (worker_does w p t (Steal v)))
 
 -- the first word names what a worker does
 abbrev pub work_asked : List ℕ → List (List ℕ) → Option LineContent
 work_asked w ws =
-    if bytes_eq w (codes "claim") then of_chore claiming ws
+    if bytes_eq w (codes "claim") then of_chore Claim ws
     else (if bytes_eq w (codes "slice") then of_four slice_of ws
-    else (if bytes_eq w (codes "park") then of_chore parking ws
-    else (if bytes_eq w (codes "take") then of_chore taking_up ws
+    else (if bytes_eq w (codes "park") then of_chore Park ws
+    else (if bytes_eq w (codes "take") then of_chore TakeUp ws
     else (if bytes_eq w (codes "steal") then of_four theft_of ws
-    else (if bytes_eq w (codes "file") then of_chore filing ws
-    else (if bytes_eq w (codes "back") then of_chore handing_back ws
+    else (if bytes_eq w (codes "file") then of_chore File ws
+    else (if bytes_eq w (codes "back") then of_chore HandBack ws
     else None))))))
 
 -- the first word names the command, which is a client's call or else a worker's chore

@@ -2,7 +2,6 @@
 
 ghost use Rattle.std.specs.Prelude.{◌≡◌, ℕ, Option, option_and_then};
 ghost use Rattle.std.specs.Option.{option_map};
-ghost use Rattle.pf_world.specs.View.{view_of_chore};
 ghost use Rattle.pf_protocol.specs.Commands as commands;
 ghost use Rattle.pf_protocol.specs.Commands.{of_chore, of_four, of_three, slice_of, theft_of, words_of_line, work_asked};
 ghost use Rattle.pf_protocol.specs.View.{view_of_content};
@@ -42,7 +41,7 @@ fn four_numbers(words: &[u8]) -> Option<(u32, u32, u32, u32)>
 
 /// A chore of a worker about the trial of a project's ticket.
 fn read_chore(words: &[u8], chore: Chore) -> Option<LineContent>
-    ensures { option_map view_of_content result ≡ of_chore (view_of_chore chore) (words_of_line words.now) }
+    ensures { option_map view_of_content result ≡ of_chore chore (words_of_line words.now) }
 {
     let (worker, project, ticket) = three_numbers(words)?;
     let ticket = u64::from(ticket);

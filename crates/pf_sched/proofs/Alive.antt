@@ -7,7 +7,9 @@ use Rattle.pf_terms.specs.Fixed.{process, trap_exit}
 use Rattle.pf_terms.specs.Value.{Value, Values, count, same}
 use Rattle.pf_model.specs.Module.{Module, exported_as}
 use Rattle.pf_model.specs.Context.{ProcessState}
-use Rattle.pf_model.specs.Contraction.{Bond, unbound, linking, watching, Act, send, spawn, link, unlink, monitor, demonitor, exit_other, set_flag, register, unregister, whereis, make_ref}
+use Rattle.pf_model.specs.Contraction.{Act, send, spawn, link, unlink, monitor, demonitor, exit_other, set_flag, register, unregister, whereis, make_ref}
+use Rattle.pf_model.specs.declared.bond.Bond.{Bond}
+use Rattle.pf_model.specs.declared.bond.Bond.TheVariants.{Unbound, Linking, Watching}
 use Rattle.pf_model.specs.Configuration.{Core, Process, fresh, is_alive, of, process_at, with_process}
 use Rattle.pf_model.specs.Actions.{Acted, acted, and_flushed, as_atom, as_elements, as_pid, as_reference, begun, demonitored, demonitored_so, flag_set, given, linked_to, may_register, monitored, only_if, raising, receiver, registered, spawned, start_of, unlinked_from, unregistered}
 use Rattle.pf_model.specs.Flush.{flushes}
@@ -139,15 +141,15 @@ module _ (c : Core) (a : ℕ) (here : lives (of c a) ≡ true) where
       omega arith
 
   spawns_steady : (b : Bond) (s : ProcessState) → is_alive s ≡ true → Steady c a (spawned c a b s)
-  spawns_steady unbound s l = by_test (nat_lt (length c.processes) c.most) _ _ (record {
+  spawns_steady Unbound s l = by_test (nat_lt (length c.processes) c.most) _ _ (record {
     here = ap lives (at_more c.processes a (fresh s []) (in_range c.processes a here)) ∙ here;
     counts = let m = counts_more c.processes (fresh s []) l in omega arith;
   }) (raises _)
-  spawns_steady linking s l = by_test (nat_lt (length c.processes) c.most) _ _ (record {
+  spawns_steady Linking s l = by_test (nat_lt (length c.processes) c.most) _ _ (record {
     here = more_here _ (fresh s (a ∷ [])) refl;
     counts = more_counts _ (fresh s (a ∷ [])) refl l;
   }) (raises _)
-  spawns_steady watching s l = by_test (nat_lt (length c.processes) c.most) _ _ (record {
+  spawns_steady Watching s l = by_test (nat_lt (length c.processes) c.most) _ _ (record {
     here = more_here _ _ refl;
     counts = more_counts _ _ refl l;
   }) (raises _)

@@ -4,7 +4,8 @@ use Rattle.std.specs.Prelude.{slice_get}
 use Rattle.pf_model.specs.Module.{Module}
 use Rattle.pf_model.specs.Configuration.{Configuration}
 use Rattle.pf_sched.specs.Traces.{heads_in, ready_in}
-use Rattle.pf_model.specs.Runs.{Actor, Passed, Passes, Transition, transition, Picks, picks_later, first_pick, Goes, stays, more, enabled}
+use Rattle.pf_model.specs.Runs.{Passed, Passes, Transition, transition, Picks, picks_later, first_pick, Goes, stays, more, enabled}
+use Rattle.pf_model.specs.declared.report.Actor.{Actor}
 
 -- the choice of this number among the actors of a configuration
 abbrev pub pick_at : Picks → ℕ → Configuration → ℕ

@@ -5,7 +5,8 @@ use Rattle.std.proofs.Math.Nat.{sub-zero}
 use Rattle.pf_model.specs.Module.{Module}
 use Rattle.pf_model.specs.Configuration.{Configuration}
 use Rattle.pf_model.specs.Evaluation.{pass_of}
-use Rattle.pf_model.specs.Runs.{Actor, Passed, Passes, Transition, transition, Picks, picks_later, first_pick, Goes, stays, more, Stops, enabled}
+use Rattle.pf_model.specs.Runs.{Passed, Passes, Transition, transition, Picks, picks_later, first_pick, Goes, stays, more, Stops, enabled}
+use Rattle.pf_model.specs.declared.report.Actor.{Actor}
 use Rattle.pf_model.proofs.Turned.{pass_only, pass_uses}
 
 -- each transition takes a step at least

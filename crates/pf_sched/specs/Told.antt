@@ -7,7 +7,7 @@ use Rattle.pf_model.specs.Meaning as meaning
 use Rattle.pf_model.specs.Meaning.{Job}
 use Rattle.pf_model.specs.Properties.{Property, some_label}
 use Rattle.pf_model.specs.Reports.{view_of_event}
-use Rattle.pf_model.specs.Runs.{Actor}
+use Rattle.pf_model.specs.declared.report.Actor.{Actor}
 use Rattle.pf_model.specs.declared.report.Event.{Event}
 use Rattle.pf_property.specs.Judging.{rules_out}
 use Rattle.pf_property.specs.Views.{labels_in, property_of}

@@ -9,7 +9,6 @@ use Rattle.pf_choice.specs.declared.choices.Choices.{Choices}
 use Rattle.pf_model.specs.Module.{Module, module_of}
 use Rattle.pf_model.specs.Configuration.{Configuration}
 use Rattle.pf_model.specs.Labels.{Label}
-use Rattle.pf_model.specs.Reports.{actor_of}
 use Rattle.pf_model.specs.Channels.{heads}
 use Rattle.pf_model.specs.Meaning as meaning
 use Rattle.pf_model.specs.Meaning.{picks, profile_of, words_of}
@@ -41,7 +40,7 @@ pub record Went (left : ℕ) (c : Configuration) (x : Execution) (e : meaning.Ev
 
 -- the same of the actor that is chosen, which showed this; or nobody may go and nothing was done
 abbrev pub MayHavePassed : ℕ → Configuration → Execution → Option Chosen → Label → Execution → Type 0
-MayHavePassed left c x (Some n) l x' = Went left c x (event n.index n.among (actor_of n.actor) l) x'
+MayHavePassed left c x (Some n) l x' = Went left c x (event n.index n.among n.actor l) x'
 MayHavePassed left c x None l x' = (enabled c ≡ []) × (x' ≡ x)
 
 -- the same, and a trace received it; or nobody may go and nothing was done

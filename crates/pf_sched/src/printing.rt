@@ -2,7 +2,7 @@
 
 ghost use Rattle.std.specs.Prelude.{◌≡◌, ◌++◌, ◌∷◌, ◌<◌, [], List, ℕ, zero, IfErr, IfOk, Option, OnOk};
 ghost use Rattle.pf_model.specs.Meaning as model;
-ghost use Rattle.pf_model.specs.Reports.{actor_of, view_of_event, label_of};
+ghost use Rattle.pf_model.specs.Reports.{view_of_event, label_of};
 ghost use Rattle.pf_request.specs.Job as request;
 ghost use Rattle.pf_trace.specs.Written.{AreWrittenSoFar, gone_from};
 ghost use Rattle.pf_sched.specs.Asked.{IsValid};
@@ -65,7 +65,7 @@ impl<'a> Printer<'a> {
     /// The same of an event that an actor showed, of which the label is taken.
     fn tell(&mut self, chosen: Chosen, shown: &mut Label) -> Result<(), NoMemory>
         ensures told { OnOk result ((j : model.Job) (es : List model.Event) → PrintsRun self.old j es
-            → PrintsRun self.new j (es ++ event chosen.index chosen.among (actor_of chosen.actor) (label_of shown.old) ∷ [])) }
+            → PrintsRun self.new j (es ++ event chosen.index chosen.among chosen.actor (label_of shown.old) ∷ [])) }
         ensures gone { self.new.pieces.gone ≡ self.old.pieces.gone }
     {
         let label = mem::replace(shown, Label::Waits);

@@ -2,7 +2,7 @@
 
 ghost use Rattle.std.specs.Prelude.{◌≡◌, ◌||◌, ℕ, List, [], false, OnOk, map};
 ghost use Rattle.pf_model.specs.Meaning as model;
-ghost use Rattle.pf_model.specs.Reports.{actor_of, view_of_event, label_of};
+ghost use Rattle.pf_model.specs.Reports.{view_of_event, label_of};
 ghost use Rattle.pf_property.specs.Judging.{rules_out};
 ghost use Rattle.pf_property.specs.Views.{property_of};
 ghost use Rattle.pf_trace.specs.Written.{AreWrittenSoFar, told_so_far};
@@ -34,7 +34,7 @@ pub(crate) trait Trace {
         shown: &mut Label,
     ) -> Result<(), NoMemory>
         ensures { OnOk result
-            (Hears Told self.old (event choice count (actor_of actor) (label_of shown.old)) self.new) };
+            (Hears Told self.old (event choice count actor (label_of shown.old)) self.new) };
 }
 
 /// The events themselves.

@@ -11,7 +11,7 @@ use Rattle.pf_syntax.specs.declared.node.Operand.TheVariants as part
 use Rattle.pf_patterns.specs.Fit.{ValueScope}
 use Rattle.pf_patterns.specs.Substitution.{sub}
 use Rattle.pf_model.specs.Context.{Frame as Hole, fill, literals, ProcessState, running, waiting, ending, ended}
-use Rattle.pf_stepper.specs.Lookups.{applied_to, pairing_in, pairing_of}
+use Rattle.pf_stepper.specs.Lookups.{applied_to, pairing_in}
 use Rattle.pf_stepper.specs.View.{hole_of}
 use Rattle.pf_stepper.specs.MachineView.{MachineStatus, spent, goes, asking, over}
 use Rattle.pf_stepper.specs.declared.frame.Callee.{Callee}
@@ -54,8 +54,8 @@ part_of (k.Case n) = 0
 -- operands so
 abbrev pub IsAtNode : Tables → FrameKind → Type 0
 IsAtNode t (k.BinaryLeft n) = Unit {0}
-IsAtNode t (k.BinaryRight b n) = pairing_in (tree_at t n.0) ≡ pairing_of b
-IsAtNode t (k.BinaryAfterSlot b x n) = pairing_in (tree_at t n.0) ≡ pairing_of b
+IsAtNode t (k.BinaryRight b n) = pairing_in (tree_at t n.0) ≡ b
+IsAtNode t (k.BinaryAfterSlot b x n) = pairing_in (tree_at t n.0) ≡ b
 IsAtNode t (k.Negation n) = (a : Tree) × (tree_at t n.0 ≡ neg a)
 IsAtNode t (k.Shortcut d n) = Unit {0}
 IsAtNode t (k.Argument g n done) = Unit {0}

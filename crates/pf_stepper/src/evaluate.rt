@@ -5,7 +5,7 @@ ghost use Rattle.pf_syntax.specs.declared.node.Operand.TheVariants.{Node as name
 ghost use Rattle.pf_syntax.specs.Module.{tree_at};
 ghost use Rattle.pf_syntax.specs.Tree.{if_expression};
 ghost use Rattle.pf_syntax.specs.Over.{clauses_over, part_over, tree_over};
-ghost use Rattle.pf_stepper.specs.Lookups.{clauses_in, left_index, paired, pairing_of, IsLeftInScope};
+ghost use Rattle.pf_stepper.specs.Lookups.{clauses_in, left_index, paired, IsLeftInScope};
 ghost use Rattle.pf_stepper.specs.declared.frame.Binary.TheVariants as binary;
 ghost use Rattle.pf_stepper.specs.declared.frame.FrameKind.TheVariants as kind;
 ghost use Rattle.pf_patterns.specs.Slots.{activation};
@@ -163,7 +163,7 @@ impl Stack {
         right: Operand,
     ) -> Result<MicroStep, NoMemory>
         requires sound { CanEvaluate self.old }
-        requires found { paired (pairing_of (binary.Operator operator)) (part_over code.now.tables left)
+        requires found { paired (binary.Operator operator) (part_over code.now.tables left)
             (part_over code.now.tables right) ≡ tree_at code.now.tables id.0 }
         ensures { IfOk result (λ t. IsMicroStep code.now own self.old (Focus.Eval (names id)) self.new t) }
     {
@@ -214,7 +214,7 @@ impl Stack {
         right: Operand,
     ) -> Result<MicroStep, NoMemory>
         requires sound { CanEvaluate self.old }
-        requires found { paired (pairing_of binary) (part_over code.now.tables left)
+        requires found { paired binary (part_over code.now.tables left)
             (part_over code.now.tables right) ≡ tree_at code.now.tables id.0 }
         ensures { IfOk result (λ t. IsMicroStep code.now own self.old (Focus.Eval (names id)) self.new t) }
     {

@@ -3,14 +3,14 @@
 ghost use Rattle.std.specs.Prelude.{◌≡◌};
 ghost use Rattle.pf_syntax.specs.Module.{tree_at};
 ghost use Rattle.pf_syntax.specs.Over.{clauses_over, part_over, parts_over, patterns_at};
-ghost use Rattle.pf_stepper.specs.Lookups.{arguments_in, clauses_in, pairing_in, pairing_of, patterns_in, rest_in, right_in};
+ghost use Rattle.pf_stepper.specs.Lookups.{arguments_in, clauses_in, pairing_in, patterns_in, rest_in, right_in};
 
 use crate::frame::Binary;
 use pf_syntax::{Clause, Module, Node, NodeId, Operand, Operator, PatternId};
 
 /// What takes two operands at a node with its right one; `+` and `[]` where nothing does.
 pub(crate) fn operation(code: &Module, id: NodeId) -> (Binary, Operand)
-    ensures binary { pairing_of result.0 ≡ pairing_in (tree_at code.now.tables id.0) }
+    ensures binary { result.0 ≡ pairing_in (tree_at code.now.tables id.0) }
     ensures right { part_over code.now.tables result.1 ≡ right_in (tree_at code.now.tables id.0) }
 {
     match code.node(id) {

@@ -6,7 +6,6 @@ ghost use Rattle.pf_terms.specs.Term.{value_of};
 ghost use Rattle.pf_ops.specs.Operations.{operated};
 ghost use Rattle.pf_ops.specs.Results.{answer_of, result_of};
 ghost use Rattle.pf_model.specs.Contraction.{worked_out};
-ghost use Rattle.pf_stepper.specs.Lookups.{pairing_of};
 ghost use Rattle.pf_stepper.specs.Pairs.{pair_change};
 ghost use Rattle.pf_stepper.specs.MicroSteps.{IsOutcome, IsPairedUp};
 
@@ -64,7 +63,7 @@ pub(crate) fn pair_up(
     right: Term,
     operands: &mut Vec<Term>,
 ) -> Result<MicroStep, NoMemory>
-    ensures { IfOk result (λ r. IsPairedUp (pair_change (name_of code.now.atoms) (pairing_of binary)
+    ensures { IfOk result (λ r. IsPairedUp (pair_change (name_of code.now.atoms) binary
         (value_of left) (value_of right)) left operands.old.items operands.new.items r) }
 {
     match binary {

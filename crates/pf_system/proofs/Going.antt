@@ -4,36 +4,38 @@ use Rattle.std.proofs.lemmas.Bool.Decides.{nat_tests}
 use Rattle.pf_sorted.specs.Maps.{got}
 use Rattle.pf_model.specs.Channels.{Queue, SenderRow, Channels, row_of, taken, taken_from, heads, heads_of, heads_from}
 use Rattle.pf_model.specs.Configuration.{Configuration}
-use Rattle.pf_model.specs.Runs.{Actor, process, channel, enabled, can_go, pids_in_state}
+use Rattle.pf_model.specs.Runs.{enabled, can_go, pids_in_state}
+use Rattle.pf_model.specs.declared.report.Actor.{Actor}
+use Rattle.pf_model.specs.declared.report.Actor.TheVariants.{Process, Channel}
 use Rattle.pf_system.specs.Steps.{IsAmong}
 use Rattle.std.proofs.lemmas.List.{length-map}
 
 abbrev going : List ℕ → List (ℕ × ℕ) → List Actor
-going ps hs = map process ps ++ map (λ h. channel h.0 h.1) hs
+going ps hs = map Process ps ++ map (λ h. Channel h.0 h.1) hs
 
 pub going_length : (ps : List ℕ) (hs : List (ℕ × ℕ)) → length (going ps hs) ≡ length ps + length hs
 going_length ps hs =
-    omega (arith, length-append (map process ps) (map (λ h. channel h.0 h.1) hs), length-map ps process, length-map hs (λ h. channel h.0 h.1))
+    omega (arith, length-append (map Process ps) (map (λ h. Channel h.0 h.1) hs), length-map ps Process, length-map hs (λ h. Channel h.0 h.1))
 
 abbrev some_process : ℕ → Option Actor
-some_process p = Some (process p)
+some_process p = Some (Process p)
 
 abbrev some_channel : ℕ × ℕ → Option Actor
-some_channel h = Some (channel h.0 h.1)
+some_channel h = Some (Channel h.0 h.1)
 
-pub process_there : (ps : List ℕ) (hs : List (ℕ × ℕ)) (k p : ℕ) → slice_get ps k ≡ Some p → slice_get (going ps hs) k ≡ Some (process p)
+pub process_there : (ps : List ℕ) (hs : List (ℕ × ℕ)) (k p : ℕ) → slice_get ps k ≡ Some p → slice_get (going ps hs) k ≡ Some (Process p)
 process_there [] hs k p e = absurd (cc)
 process_there (q ∷ ps) hs zero p e = let d : q ≡ p = cc in ap some_process d
 process_there (q ∷ ps) hs (suc k) p e = process_there ps hs k p e
 
-get_channel : (hs : List (ℕ × ℕ)) (k : ℕ) (h : ℕ × ℕ) → slice_get hs k ≡ Some h → slice_get (map (λ h. channel h.0 h.1) hs) k ≡ Some (channel h.0 h.1)
+get_channel : (hs : List (ℕ × ℕ)) (k : ℕ) (h : ℕ × ℕ) → slice_get hs k ≡ Some h → slice_get (map (λ h. Channel h.0 h.1) hs) k ≡ Some (Channel h.0 h.1)
 get_channel [] k h e = absurd (cc)
 get_channel (g ∷ hs) zero h e = let d : g ≡ h = cc in ap some_channel d
 get_channel (g ∷ hs) (suc k) h e = get_channel hs k h e
 
 pub channel_there : (ps : List ℕ) (hs : List (ℕ × ℕ)) (k j : ℕ) (h : ℕ × ℕ) → k ≡ length ps + j → slice_get hs j ≡ Some h
-    → slice_get (going ps hs) k ≡ Some (channel h.0 h.1)
-channel_there [] hs k j h n e = let d : k ≡ j = omega arith in ap (slice_get (map (λ h. channel h.0 h.1) hs)) d ∙ get_channel hs j h e
+    → slice_get (going ps hs) k ≡ Some (Channel h.0 h.1)
+channel_there [] hs k j h n e = let d : k ≡ j = omega arith in ap (slice_get (map (λ h. Channel h.0 h.1) hs)) d ∙ get_channel hs j h e
 channel_there (q ∷ ps) hs zero j h n e = absurd (omega arith)
 channel_there (q ∷ ps) hs (suc k) j h n e = channel_there ps hs k j h (omega arith) e
 
@@ -57,12 +59,12 @@ module _ {A : Type 0} where
       by (inl k) = inl (inr k)
       by (inr k) = inr k
 
-no_process : (a b : ℕ) (ps : List ℕ) → IsIn (channel a b) (map process ps) → ⊥
+no_process : (a b : ℕ) (ps : List ℕ) → IsIn (Channel a b) (map Process ps) → ⊥
 no_process a b [] h = h
 no_process a b (p ∷ ps) (inl e) = absurd (cc)
 no_process a b (p ∷ ps) (inr h) = no_process a b ps h
 
-by_channel : (a b : ℕ) (hs : List (ℕ × ℕ)) → IsIn (channel a b) (map (λ h. channel h.0 h.1) hs) → IsIn (a, b) hs
+by_channel : (a b : ℕ) (hs : List (ℕ × ℕ)) → IsIn (Channel a b) (map (λ h. Channel h.0 h.1) hs) → IsIn (a, b) hs
 by_channel a b [] h = h
 by_channel a b (g ∷ hs) (inl e) =
     let p : a ≡ g.0 = cc in let q : b ≡ g.1 = cc in
@@ -97,16 +99,16 @@ some_taken : (a b : ℕ) (cs : Channels) (o : Option Queue) → is_some o ≡ tr
 some_taken a b cs None e = absurd (cc)
 some_taken a b cs (Some q) e = refl
 
-pub has_signal : (a b : ℕ) (c : Configuration) → IsAmong (channel a b) (enabled c) → is_some (taken a b c.channels) ≡ true
-has_signal a b c h = by (in_either (channel a b) (map process ps) (map (λ h. channel h.0 h.1) (heads c.channels)) there)
+pub has_signal : (a b : ℕ) (c : Configuration) → IsAmong (Channel a b) (enabled c) → is_some (taken a b c.channels) ≡ true
+has_signal a b c h = by (in_either (Channel a b) (map Process ps) (map (λ h. Channel h.0 h.1) (heads c.channels)) there)
   where
     ps : List ℕ
     ps = pids_in_state can_go zero c.core.processes
 
-    there : IsIn (channel a b) (enabled c)
-    there = subst (IsIn (channel a b)) (sym h.2) (split_in (channel a b) h.0 h.1)
+    there : IsIn (Channel a b) (enabled c)
+    there = subst (IsIn (Channel a b)) (sym h.2) (split_in (Channel a b) h.0 h.1)
 
-    by : IsIn (channel a b) (map process ps) ⊎ IsIn (channel a b) (map (λ h. channel h.0 h.1) (heads c.channels)) → is_some (taken a b c.channels) ≡ true
+    by : IsIn (Channel a b) (map Process ps) ⊎ IsIn (Channel a b) (map (λ h. Channel h.0 h.1) (heads c.channels)) → is_some (taken a b c.channels) ≡ true
     by (inl k) = absurd (no_process a b ps k)
     by (inr k) =
         let q = in_rows zero a b c.channels (by_channel a b (heads c.channels) k) in

@@ -5,7 +5,8 @@ use Rattle.pf_model.specs.Channels.{Channels}
 use Rattle.pf_model.specs.Configuration.{Core, Configuration}
 use Rattle.pf_model.specs.Deliveries.{delivered}
 use Rattle.pf_model.specs.declared.limits.TheConstants.{MOST_PROCESSES}
-use Rattle.pf_model.specs.Runs.{can_go, pids_in_state, channel, Passed, passed, delivery}
+use Rattle.pf_model.specs.Runs.{can_go, pids_in_state, Passed, passed, delivery}
+use Rattle.pf_model.specs.declared.report.Actor.TheVariants.{Channel}
 use Rattle.pf_model.specs.Reports.{label_of}
 use Rattle.pf_model.specs.declared.report.Label.{Label}
 use Rattle.pf_system.specs.View.{SystemView, view_of_system}
@@ -52,7 +53,7 @@ pub still_kept : (m : Checked) (w w' : Processes) (from to : ℕ) (l : Label) �
 still_kept m w w' from to l k h = kept_after m w w' (delivered (core_of w) from to h.signal).left.core k h.shown.done.stands h.shown.done.basis
 
 pub delivery_passes : (m : Checked) (w w' : Processes) (k from to : ℕ) (l : Label) → Delivered (core_of w) from to w l w'
-    → SimulatesTransition 1 (view_of_system m k (Some (configuration_of w))) (channel from to) (label_of l) 1
+    → SimulatesTransition 1 (view_of_system m k (Some (configuration_of w))) (Channel from to) (label_of l) 1
     (view_of_system m (k + 1) (Some (configuration_of w')))
 delivery_passes m w w' k from to l h =
     let d = delivered (core_of w) from to h.signal in

@@ -6,7 +6,8 @@ use Rattle.pf_terms.specs.Value.{Value, Values, atom, list, pid}
 use Rattle.pf_terms.specs.Fixed.{undefined, badarg, system_limit}
 use Rattle.pf_sorted.specs.Maps.{put, with_number}
 use Rattle.pf_model.specs.Contraction as asked
-use Rattle.pf_model.specs.Contraction.{Bond, unbound, linking, watching}
+use Rattle.pf_model.specs.declared.bond.Bond.{Bond}
+use Rattle.pf_model.specs.declared.bond.Bond.TheVariants.{Unbound, Linking, Watching}
 use Rattle.pf_model.specs.Channels.{with_senders}
 use Rattle.pf_model.specs.Configuration.{Process, Core, fresh, of, process_at, is_alive}
 use Rattle.pf_model.specs.Actions.{gives, raising, given, given_for, shown_for, as_atom, as_elements, linked_with, watching_with, after_spawn, spawned, start_of}
@@ -53,25 +54,25 @@ process_front (suc n) (p ∷ ps) qs l = process_front n ps qs (omega arith)
 
 module _ (c : Core) (a : ℕ) (s : ProcessState) where
   spawn_bodies : (b : Bond) → bodies_of (after_spawn c a b s) ≡ bodies_of c ++ body_of s [] ∷ []
-  spawn_bodies unbound = map_more process_body c.processes (fresh s [])
-  spawn_bodies linking =
+  spawn_bodies Unbound = map_more process_body c.processes (fresh s [])
+  spawn_bodies Linking =
       let d = linked_with c a (length c.processes) in
       map_more process_body d.processes (fresh s (a ∷ []))
       ∙ ap (λ z. z ++ body_of s [] ∷ []) (bodies_same c a (record (of c a) { links = _ }) refl)
-  spawn_bodies watching =
+  spawn_bodies Watching =
       let d = watching_with c a (length c.processes) in
       map_more process_body d.processes (record (fresh s []) { watchers = (c.next_reference, a) ∷ [] })
       ∙ ap (λ z. z ++ body_of s [] ∷ []) (bodies_same c a (record (of c a) { active = put c.next_reference (length c.processes) (of c a).active }) refl)
 
   spawn_ties : (b : Bond) → is_alive s ≡ true → ties_of (after_spawn c a b s) ≡ opened_by b a (ties_of c)
-  spawn_ties unbound e = follow_actions.spawn c a s e
-  spawn_ties linking e = follow_actions.spawn_link c a s e
-  spawn_ties watching e = follow_actions.spawn_monitor c a s e
+  spawn_ties Unbound e = follow_actions.spawn c a s e
+  spawn_ties Linking e = follow_actions.spawn_link c a s e
+  spawn_ties Watching e = follow_actions.spawn_monitor c a s e
 
   spawn_most : (b : Bond) → (after_spawn c a b s).most ≡ c.most
-  spawn_most unbound = refl
-  spawn_most linking = refl
-  spawn_most watching = refl
+  spawn_most Unbound = refl
+  spawn_most Linking = refl
+  spawn_most Watching = refl
 
 body_front : (n : ℕ) (c d : Core) (b : Body) → n < length c.processes → bodies_of d ≡ bodies_of c ++ b ∷ [] → process_body (of d n) ≡ process_body (of c n)
 body_front n c d b l e = by n c.processes d.processes l e
@@ -174,7 +175,7 @@ module _ (a : ℕ) (bond : Bond) (w w' : Processes) (l : Life) (r : ActAnswer) (
       })
 
 pub tells_it : (linked : Bool) (p k : ℕ) (r : ActAnswer) → answer_value r.value ≡ Ok (pid p) → label_of r.label ≡ label.spawns linked p
-    → ReportsSpawn (if linked then linking else unbound) p k r
+    → ReportsSpawn (if linked then Linking else Unbound) p k r
 tells_it true p k r x y = record { value = x; label = y }
 tells_it false p k r x y = record { value = x; label = y }
 

@@ -10,7 +10,8 @@ use Rattle.pf_sorted.specs.Maps.{with_number}
 use Rattle.pf_model.specs.declared.limits.TheConstants.{MOST_PROCESSES, MOST_PROCESSES_FIRST}
 use Rattle.pf_model.specs.Channels.{heads, with_senders}
 use Rattle.pf_model.specs.Configuration.{Process, Core, Configuration, of, process_at}
-use Rattle.pf_model.specs.Runs.{process, channel, enabled, start, can_go, pids_in_state, Passed, Passes, passed, turn}
+use Rattle.pf_model.specs.Runs.{enabled, start, can_go, pids_in_state, Passed, Passes, passed, turn}
+use Rattle.pf_model.specs.declared.report.Actor.TheVariants as actors
 use Rattle.pf_model.specs.Reports.{label_of}
 use Rattle.pf_model.specs.declared.report.Label.{Label}
 use Rattle.pf_ties.specs.Ties.{no_process, ties_opened}
@@ -29,12 +30,12 @@ use Rattle.pf_system.proofs.Changed.{again}
 
 -- ---- a process that may go can go
 
-no_channel : (a : ℕ) (hs : List (ℕ × ℕ)) → IsIn (process a) (map (λ h. channel h.0 h.1) hs) → ⊥
+no_channel : (a : ℕ) (hs : List (ℕ × ℕ)) → IsIn (actors.Process a) (map (λ h. actors.Channel h.0 h.1) hs) → ⊥
 no_channel a [] h = h
 no_channel a (x ∷ hs) (inl e) = absurd (cc)
 no_channel a (x ∷ hs) (inr h) = no_channel a hs h
 
-by_process : (a : ℕ) (ps : List ℕ) → IsIn (process a) (map process ps) → IsIn a ps
+by_process : (a : ℕ) (ps : List ℕ) → IsIn (actors.Process a) (map actors.Process ps) → IsIn a ps
 by_process a [] h = h
 by_process a (p ∷ ps) (inl e) = let k : a ≡ p = cc in inl k
 by_process a (p ∷ ps) (inr h) = inr (by_process a ps h)
@@ -57,16 +58,16 @@ in_numbers n a (p ∷ ps) h = by (in_numbers (suc n) a ps) (can_go p.state) refl
     by f true e k = first true e f k refl
     by f false e k = later (f k)
 
-pub can_go_of : (a : ℕ) (c : Configuration) → IsAmong (process a) (enabled c) → can_go (of c.core a).state ≡ true
-can_go_of a c h = by (in_either (process a) (map process ps) (map (λ h. channel h.0 h.1) (heads c.channels)) there)
+pub can_go_of : (a : ℕ) (c : Configuration) → IsAmong (actors.Process a) (enabled c) → can_go (of c.core a).state ≡ true
+can_go_of a c h = by (in_either (actors.Process a) (map actors.Process ps) (map (λ h. actors.Channel h.0 h.1) (heads c.channels)) there)
   where
     ps : List ℕ
     ps = pids_in_state can_go zero c.core.processes
 
-    there : IsIn (process a) (enabled c)
-    there = subst (IsIn (process a)) (sym h.2) (split_in (process a) h.0 h.1)
+    there : IsIn (actors.Process a) (enabled c)
+    there = subst (IsIn (actors.Process a)) (sym h.2) (split_in (actors.Process a) h.0 h.1)
 
-    by : IsIn (process a) (map process ps) ⊎ IsIn (process a) (map (λ h. channel h.0 h.1) (heads c.channels)) → can_go (of c.core a).state ≡ true
+    by : IsIn (actors.Process a) (map actors.Process ps) ⊎ IsIn (actors.Process a) (map (λ h. actors.Channel h.0 h.1) (heads c.channels)) → can_go (of c.core a).state ≡ true
     by (inl k) =
         let q = in_numbers zero a c.core.processes (by_process a ps k) in
         let x = q.1 in
@@ -80,7 +81,7 @@ pub turn_kept : (m : Checked) (w w' : Processes) (c : Core) (a left used : ℕ) 
 turn_kept m w w' c a left used l k h = kept_after m w w' h.deed.left.core k h.shown.done.stands h.shown.done.basis
 
 pub turn_passes : (m : Checked) (w w' : Processes) (k a left used : ℕ) (l : Label) → RunsModule m w → ProcessTurned (core_of w) a left w l used w'
-    → SimulatesTransition left (view_of_system m k (Some (configuration_of w))) (process a) (label_of l) used (view_of_system m (k + used) (Some (configuration_of w')))
+    → SimulatesTransition left (view_of_system m k (Some (configuration_of w))) (actors.Process a) (label_of l) used (view_of_system m (k + used) (Some (configuration_of w')))
 turn_passes m w w' k a left used l i h =
     let d = h.deed in
     let p : Passed = passed a d w.shared.channels None used in
@@ -90,7 +91,7 @@ turn_passes m w w' k a left used l i h =
       before = configuration_of w;
       passed = p;
       was = refl;
-      passes = subst (λ z. Passes (module_of z) left (configuration_of w) (process a) p) i.code (turn a used d h.turn);
+      passes = subst (λ z. Passes (module_of z) left (configuration_of w) (actors.Process a) p) i.code (turn a used d h.turn);
       becomes = ap (λ c. view_of_system m (k + used) (Some c)) e;
       label = h.shown.label;
       counts = refl;

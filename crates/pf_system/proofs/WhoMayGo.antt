@@ -7,7 +7,9 @@ use Rattle.pf_model.specs.Module.{module_of}
 use Rattle.pf_model.specs.Channels.{heads}
 use Rattle.pf_model.specs.Configuration.{Configuration}
 use Rattle.pf_model.specs.Labels.{Label}
-use Rattle.pf_model.specs.Runs.{Actor, process, channel, enabled, Passed, Passes, delivery}
+use Rattle.pf_model.specs.Runs.{enabled, Passed, Passes, delivery}
+use Rattle.pf_model.specs.declared.report.Actor.{Actor}
+use Rattle.pf_model.specs.declared.report.Actor.TheVariants.{Process, Channel}
 use Rattle.pf_system.specs.Steps.{IsAmong, MayGo, SimulatesTransition, noted_actors}
 use Rattle.pf_system.specs.View.{SystemView}
 use Rattle.pf_system.specs.declared.enabled.Enabled.{Enabled}
@@ -19,7 +21,7 @@ among (y ∷ xs) zero x e = ([], xs, ap (λ z. z ∷ xs) (same_Some y x e))
 among (y ∷ xs) (suc k) x e = let r = among xs k x e in (y ∷ r.0, r.1, ap (λ z. y ∷ z) r.2)
 
 -- a delivery is one step, however many are left
-pub delivers_within : (left a b : ℕ) (s s' : SystemView) (l : Label) → 0 < left → SimulatesTransition 1 s (channel a b) l 1 s' → SimulatesTransition left s (channel a b) l 1 s'
+pub delivers_within : (left a b : ℕ) (s s' : SystemView) (l : Label) → 0 < left → SimulatesTransition 1 s (Channel a b) l 1 s' → SimulatesTransition left s (Channel a b) l 1 s'
 delivers_within left a b s s' l h p =
     record {
       before = p.before;
@@ -32,7 +34,7 @@ delivers_within left a b s s' l h p =
       within = omega arith;
     }
   where
-    further : (q : Passed) → Passes (module_of s.checked) 1 p.before (channel a b) q → Passes (module_of s.checked) left p.before (channel a b) q
+    further : (q : Passed) → Passes (module_of s.checked) 1 p.before (Channel a b) q → Passes (module_of s.checked) left p.before (Channel a b) q
     further _ (delivery _ _ x cs e) = delivery a b x cs e
 
 -- what is among those that are noted may go
@@ -43,7 +45,7 @@ may_go (Some c) xs h k x e = among (enabled c) k x (ap (λ l. slice_get l k) (sy
 -- how many are noted
 pub noted_count : (e : Enabled) → length (noted_actors e) ≡ length e.ready.now + length (heads e.channels.now)
 noted_count e =
-    let a = length-map e.ready.now process in
-    let b = length-map (heads e.channels.now) (λ h. channel h.0 h.1) in
-    let all = length-append (map process e.ready.now) (map (λ h. channel h.0 h.1) (heads e.channels.now)) in
+    let a = length-map e.ready.now Process in
+    let b = length-map (heads e.channels.now) (λ h. Channel h.0 h.1) in
+    let all = length-append (map Process e.ready.now) (map (λ h. Channel h.0 h.1) (heads e.channels.now)) in
     omega arith

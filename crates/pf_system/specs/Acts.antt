@@ -7,7 +7,9 @@ use Rattle.pf_model.specs.Context.{Frame, ProcessState}
 use Rattle.pf_model.specs.Runs.{can_go}
 use Rattle.pf_model.specs.Turns.{after_act}
 use Rattle.pf_model.specs.Module.{Module, exported_as}
-use Rattle.pf_model.specs.Contraction.{Bond, unbound, linking, watching, Act}
+use Rattle.pf_model.specs.Contraction.{Act}
+use Rattle.pf_model.specs.declared.bond.Bond.{Bond}
+use Rattle.pf_model.specs.declared.bond.Bond.TheVariants.{Unbound, Linking, Watching}
 use Rattle.pf_model.specs.Channels.{with_senders}
 use Rattle.pf_model.specs.Configuration.{Core, of, posted}
 use Rattle.pf_model.specs.Actions.{Acted, acted, given_for, shown_for}
@@ -140,9 +142,9 @@ pub record OpensWithTies (ties : AllTies) (w : Processes) (l : Life) (w' : Proce
 
 -- the ties after it, by the bond of the new process to another
 abbrev pub opened_by : Bond → (other : ℕ) → AllTies → AllTies
-opened_by unbound a t = ties_opened t None
-opened_by linking a t = ties_opened t (Some a)
-opened_by watching a t = opened_watched t a
+opened_by Unbound a t = ties_opened t None
+opened_by Linking a t = ties_opened t (Some a)
+opened_by Watching a t = opened_watched t a
 
 -- an answer gives and shows a new process, by its bond
 pub record ReportsSpawn (b : Bond) (own reference : ℕ) (r : ActAnswer) : Type 0 where

@@ -5,7 +5,9 @@ use Rattle.pf_model.specs.Module.{module_of}
 use Rattle.pf_model.specs.Labels.{Label}
 use Rattle.pf_model.specs.Channels.{heads}
 use Rattle.pf_model.specs.Configuration.{Configuration}
-use Rattle.pf_model.specs.Runs.{Actor, process, channel, Passed, Passes, enabled, can_go, pids_in_state}
+use Rattle.pf_model.specs.Runs.{Passed, Passes, enabled, can_go, pids_in_state}
+use Rattle.pf_model.specs.declared.report.Actor.{Actor}
+use Rattle.pf_model.specs.declared.report.Actor.TheVariants.{Process, Channel}
 use Rattle.pf_system.specs.View.{SystemView, view_of_system}
 use Rattle.pf_system.specs.Processes.{checked_in, core_of, configuration_of, Represents}
 use Rattle.pf_system.specs.declared.enabled.Enabled.{Enabled}
@@ -14,7 +16,7 @@ use Rattle.pf_system.specs.declared.processes.Processes.{Processes}
 
 -- the actors that may go, as those that are noted
 abbrev pub noted_actors : Enabled → List Actor
-noted_actors e = map process e.ready.now ++ map (λ h. channel h.0 h.1) (heads e.channels.now)
+noted_actors e = map Process e.ready.now ++ map (λ h. Channel h.0 h.1) (heads e.channels.now)
 
 -- the processes and the channels that are noted are those of a configuration
 pub record IsNoteOf (e : Enabled) (c : Configuration) : Type 0 where

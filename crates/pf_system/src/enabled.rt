@@ -2,7 +2,6 @@
 
 ghost use Rattle.std.specs.Prelude.{◌≡◌, ◌^◌, ◌<◌, ◌≤◌, OnOk, length, slice_get, Some};
 ghost use Rattle.pf_model.specs.Channels.{heads};
-ghost use Rattle.pf_model.specs.Reports.{actor_of};
 ghost use Rattle.pf_model.specs.declared.limits.TheConstants.{MOST_PROCESSES};
 ghost use Rattle.pf_system.specs.Steps.{noted_actors};
 
@@ -54,7 +53,7 @@ impl Enabled<'_> {
     /// The k-th of them, counted from 0.
     pub fn actor(&self, k: usize) -> Actor
         requires { k < length (noted_actors self.now) }
-        ensures { slice_get (noted_actors self.now) k ≡ Some (actor_of result) }
+        ensures { slice_get (noted_actors self.now) k ≡ Some result }
     {
         let ready = self.ready.as_slice();
         if k < ready.len() {

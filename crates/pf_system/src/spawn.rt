@@ -5,10 +5,10 @@ ghost use Rattle.pf_terms.specs.Term.{elements_of, value_of, values_of};
 ghost use Rattle.pf_terms.specs.declared.limits.TheConstants.{MOST_NODES};
 ghost use Rattle.pf_model.specs.Actions.{start_of};
 ghost use Rattle.pf_model.specs.Module.{module_of};
-ghost use Rattle.pf_model.specs.Contraction.{linking, spawn, unbound, watching};
+ghost use Rattle.pf_model.specs.Contraction.{spawn};
+ghost use Rattle.pf_model.specs.declared.bond.Bond.TheVariants as bonds;
 ghost use Rattle.pf_model.specs.declared.limits.TheConstants.{MOST_PROCESSES};
 ghost use Rattle.pf_ties.specs.Ties.{ties_opened};
-ghost use Rattle.pf_stepper.specs.Acts.{bond_of};
 ghost use Rattle.pf_system.specs.Acts.{ActsIn, KeepsSlot, LifeBegins, OpensWithTies, OpensProcess, ReportsSpawn, answer};
 ghost use Rattle.pf_system.specs.Acts.{home_function};
 ghost use Rattle.pf_system.specs.Processes.{IsShaped, IsShapedFor};
@@ -19,9 +19,10 @@ use crate::slot::{Life, Slot};
 use crate::spare::Spare;
 use pf_errors::{NoMemory, OrNoMemory};
 use pf_mailbox::Mailbox;
+use pf_model::Bond;
 use pf_model::report::Label;
 use pf_ops::ending_reason;
-use pf_stepper::{Bond, Machine};
+use pf_stepper::Machine;
 use pf_syntax::{FunctionId, Module};
 use pf_terms::{AtomId, List, Term, TooLarge, copy, tuple_of};
 use smallvec::SmallVec;
@@ -91,7 +92,7 @@ fn begun(
 
 /// What a process that isn't watched gives and shows.
 fn told(linked: bool, pid: u32, shown: &mut Label) -> Result<Term, Term>
-    ensures { (reference : _) → ReportsSpawn (if linked then linking else unbound) pid reference
+    ensures { (reference : _) → ReportsSpawn (if linked then bonds.Linking else bonds.Unbound) pid reference
         (answer result shown.new) }
 {
     *shown = Label::Spawns { linked, pid };
@@ -105,7 +106,7 @@ fn told_watched(
     reference: u64,
     shown: &mut Label,
 ) -> Result<Result<Term, Term>, NoMemory>
-    ensures { IfOk result (λ v. ReportsSpawn watching pid reference (answer v shown.new)) }
+    ensures { IfOk result (λ v. ReportsSpawn bonds.Watching pid reference (answer v shown.new)) }
 {
     *shown = Label::SpawnsWatched { pid, reference };
     let items = vec![in alloc; Term::Pid(pid), Term::Ref(reference)]?;
@@ -159,7 +160,7 @@ impl Processes {
         requires shaped { IsShaped watcher self.old }
         requires room { length self.old.slots.items < MOST_PROCESSES }
         ensures { IfOk result
-            (λ v. OpensProcess watching watcher self.old life (answer v shown.new) self.new) }
+            (λ v. OpensProcess bonds.Watching watcher self.old life (answer v shown.new) self.new) }
     {
         if self.shared.ties.next_reference() == u64::MAX {
             return Err(NoMemory);
@@ -182,7 +183,7 @@ impl Processes {
         requires shaped { IsShaped other self.old }
         requires room { length self.old.slots.items < MOST_PROCESSES }
         ensures { IfOk result
-            (λ v. OpensProcess (bond_of bond) other self.old life (answer v shown.new) self.new) }
+            (λ v. OpensProcess bond other self.old life (answer v shown.new) self.new) }
     {
         let pid = self.slots.len() as u32;
         match bond {
@@ -211,7 +212,7 @@ impl Processes {
         shown: &mut Label,
     ) -> Result<Result<Term, Term>, NoMemory>
         requires { IsShaped pid self.old }
-        ensures acts { IfOk result (λ v. ActsIn pid (spawn (bond_of bond) (value_of home)
+        ensures acts { IfOk result (λ v. ActsIn pid (spawn bond (value_of home)
             (value_of function) (value_of arguments)) self.old (answer v shown.new) self.new) }
         ensures keeps { OnOk result (KeepsSlot pid self.old self.new) }
     {

@@ -6,9 +6,10 @@ ghost use Rattle.pf_model.specs.Configuration.{is_alive, of};
 ghost use Rattle.pf_model.specs.Deliveries.{woken};
 ghost use Rattle.pf_model.specs.Limits.{IsEdition};
 ghost use Rattle.pf_model.specs.Meaning.{outcome_of as outcome_where};
-ghost use Rattle.pf_model.specs.Reports.{actor_of, label_of, view_of_outcome};
+ghost use Rattle.pf_model.specs.Reports.{label_of, view_of_outcome};
+ghost use Rattle.pf_model.specs.declared.report.Actor.TheVariants as who;
 ghost use Rattle.pf_model.specs.declared.limits.TheConstants.{MOST_PROCESSES};
-ghost use Rattle.pf_model.specs.Runs.{process, channel, enabled, start};
+ghost use Rattle.pf_model.specs.Runs.{enabled, start};
 ghost use Rattle.pf_stepper.specs.Points.{IsPointOf};
 ghost use Rattle.pf_system.specs.View.{view_of_system};
 ghost use Rattle.pf_system.specs.Steps.{IsNoteOf, MayGo, SimulatesTransition, noted_actors};
@@ -175,10 +176,10 @@ impl System {
         limit: u32,
         shown: &mut Label,
     ) -> Result<u32, NoMemory>
-        requires enabled { MayGo (process pid) self.old.standing }
+        requires enabled { MayGo (who.Process pid) self.old.standing }
         requires left { self.old.steps < limit }
         ensures passed { IfOk result (λ used. SimulatesTransition (limit - self.old.steps)
-            self.old (process pid) (label_of shown.new) used self.new) }
+            self.old (who.Process pid) (label_of shown.new) used self.new) }
         ensures spent { OnErr result (self.new ≡ view_of_system self.old.checked self.old.steps None) }
         ensures refused { self.old.standing ≡ None → IsErr result }
     {
@@ -202,10 +203,10 @@ impl System {
         limit: u32,
         shown: &mut Label,
     ) -> Result<(), NoMemory>
-        requires enabled { MayGo (channel from to) self.old.standing }
+        requires enabled { MayGo (who.Channel from to) self.old.standing }
         requires left { self.old.steps < limit }
         ensures passed { OnOk result
-            (SimulatesTransition 1 self.old (channel from to) (label_of shown.new) 1 self.new) }
+            (SimulatesTransition 1 self.old (who.Channel from to) (label_of shown.new) 1 self.new) }
         ensures spent { OnErr result (self.new ≡ view_of_system self.old.checked self.old.steps None) }
         ensures refused { self.old.standing ≡ None → IsErr result }
     {
@@ -228,10 +229,10 @@ impl System {
         limit: u32,
         shown: &mut Label,
     ) -> Result<u32, NoMemory>
-        requires enabled { MayGo (actor_of actor) self.old.standing }
+        requires enabled { MayGo actor self.old.standing }
         requires left { self.old.steps < limit }
         ensures { IfOk result (λ used. SimulatesTransition (limit - self.old.steps)
-            self.old (actor_of actor) (label_of shown.new) used self.new) }
+            self.old actor (label_of shown.new) used self.new) }
     {
         match actor {
             Actor::Process(pid) => self.turn(alloc, pid, limit, shown),

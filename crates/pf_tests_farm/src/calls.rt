@@ -2,8 +2,9 @@
 
 use crate::missed::Missed;
 use crate::waiting::rest;
-use pf_book::{Reply, TrialStage};
+use pf_book::Reply;
 use pf_check::Source;
+use pf_desks::TrialStage;
 use pf_farm::{ClientSeat, Floor};
 use pf_farm_accounts::FarmNames;
 use pf_request::{Call, Order, Request, RequestKind, RunChoices, ShortBytes};

@@ -7,7 +7,7 @@ use crate::calls::{SUM, await_done, fetch, order, status, submit};
 use crate::missed::Missed;
 use crate::scene::{Scene, play};
 use crate::waiting::GateMark;
-use pf_book::TrialStage;
+use pf_desks::TrialStage;
 use pf_farm::{ClientSeat, Floor, Gate};
 use pf_farm_accounts::FarmNames;
 use pf_sched::{Parked, Scratch, Slice, run_slice};

@@ -3,7 +3,7 @@
 ghost use Rattle.std.specs.Prelude.{◌≡◌, ◌++◌, OnOk, codes, flat_map};
 ghost use Rattle.std.specs.Fmt.{decimal};
 ghost use Rattle.pf_terms.specs.Atoms.{name_of};
-ghost use Rattle.pf_model.specs.Reports.{actor_of, view_of_event, view_of_outcome, view_of_report};
+ghost use Rattle.pf_model.specs.Reports.{view_of_event, view_of_outcome, view_of_report};
 ghost use Rattle.pf_model.specs.Text.{actor_text, event_text, outcome_text, report_text, verdict_text};
 ghost use Rattle.pf_model.specs.TermText.{line, pid_text};
 ghost use Rattle.pf_trace.specs.Written.{last_lines};
@@ -30,7 +30,7 @@ fn put_choice(out: &mut Vec<u8>, choice: u32, count: u32) -> Result<(), NoMemory
 }
 
 fn put_actor(out: &mut Vec<u8>, actor: Actor) -> Result<(), NoMemory>
-    ensures { OnOk result (out.new.items ≡ out.old.items ++ actor_text (actor_of actor)) }
+    ensures { OnOk result (out.new.items ≡ out.old.items ++ actor_text actor) }
 {
     match actor {
         Actor::Process(pid) => put_pid(out, pid),

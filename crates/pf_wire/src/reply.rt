@@ -6,11 +6,12 @@ ghost use Rattle.pf_errors.specs.Codes.{code_text};
 ghost use Rattle.pf_model.specs.Text.{complete_text};
 ghost use Rattle.pf_desks.specs.Told.{line_count, reply_head, reply_rest, reply_text, result_head, stage_text, to_project, usage_text};
 ghost use Rattle.pf_trace.specs.Written.{report_in};
-ghost use Rattle.pf_book.specs.View.{view_of_reply, view_of_stage};
+ghost use Rattle.pf_book.specs.View.{view_of_reply};
 ghost use Rattle.pf_wire.specs.Whole.{whole_text};
 
 use crate::told::WrittenAnswer;
-use pf_book::{Reply, TrialStage};
+use pf_book::Reply;
+use pf_desks::TrialStage;
 use pf_errors::{Code, NoMemory};
 use pf_quota::Usage;
 use pf_sched::{Finished, JobResult, memory_report};
@@ -104,7 +105,7 @@ fn put_result_head(alloc: Global, out: &mut Vec<u8>, finished: &Finished) -> Res
 
 /// Puts how far a trial is.
 fn put_stage(out: &mut Vec<u8>, stage: TrialStage) -> Result<(), NoMemory>
-    ensures { OnOk result (out.new.items ≡ out.old.items ++ stage_text (view_of_stage stage)) }
+    ensures { OnOk result (out.new.items ≡ out.old.items ++ stage_text stage) }
 {
     match stage {
         TrialStage::Queued => put(out, b"queued"),

@@ -10,7 +10,8 @@ use Rattle.pf_desks.specs.Calls.{reply_to, after_call}
 use Rattle.pf_desks.specs.Desks.{Desks, replied, desk_at, put_desk, worked}
 use Rattle.pf_desks.proofs.Isolated.{desk_placed}
 use Rattle.pf_world.specs.World.{RunProfile, Hand, Deque, World, new_world}
-use Rattle.pf_world.specs.Chores.{Chore, Response, answer, Effect, chore_effect}
+use Rattle.pf_world.specs.Chores.{Response, answer, Effect, chore_effect}
+use Rattle.pf_request.specs.declared.step.Chore.{Chore}
 use Rattle.pf_world.specs.Steps.{WorldStep, client_calls, worker_does, deque_owner, is_theft_of_own, with_deque, with_effect, effect_among, effect_of, take_step, responses}
 use Rattle.pf_world.specs.Alone.{took_place, is_own, own_part, own_responses}
 use Rattle.pf_world.specs.Laws.{DeletionOfOthers}

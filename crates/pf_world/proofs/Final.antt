@@ -11,14 +11,16 @@ use Rattle.pf_quota.specs.declared.charges.Charge.TheVariants as charge
 use Rattle.pf_request.specs.Calls.{Call, submit, order, fetch, status, drop_trial, withdraw, usage, log, edition}
 use Rattle.pf_request.specs.Job.{Job}
 use Rattle.pf_check.specs.Module.{ReadModule}
-use Rattle.pf_desks.specs.Desk.{Profile, TrialState, queued, running, done, Trial, Desk, held_at, with_held, SourceReading, readable, faulty, job_ordered, marked_whole}
+use Rattle.pf_desks.specs.Desk.{Profile, TrialState, queued, running, done, Trial, Desk, held_at, with_held, SourceReading, readable, faulty, job_ordered}
+use Rattle.pf_desks.specs.declared.mark.FileMark.TheVariants.{Whole}
 use Rattle.pf_desks.specs.Desk.{Reply, ticket, result, uses, logged, has_edition, refused, Entry, called, claimed, filed, handed_back}
 use Rattle.pf_desks.specs.Calls.{calls_in, passed_by, within_limits, submitted, with_job, ordered, result_in, fetched, dropped, users_of, withdrawn, is_edition, in_edition, answer_of_call, with_entry, noted, reply_to, after_call}
 use Rattle.pf_desks.specs.Work.{is_queued, is_running, in_state, after_claim, after_file, after_hand_back}
 use Rattle.pf_desks.proofs.Always.{OfWork, of_claim, of_file, of_back, moved}
 use Rattle.pf_desks.proofs.Histories.{call_notes}
 use Rattle.pf_desks.proofs.Sums.{calls_more, calls_worked}
-use Rattle.pf_world.specs.Chores.{Chore, claiming, slicing, parking, taking_up, stealing, filing, handing_back}
+use Rattle.pf_request.specs.declared.step.Chore.{Chore}
+use Rattle.pf_request.specs.declared.step.Chore.TheVariants.{Claim, Slice, Park, TakeUp, Steal, File, HandBack}
 use Rattle.pf_world.specs.Steps.{worker_does}
 use Rattle.pf_world.specs.Alone.{at_desk}
 use Rattle.pf_world.specs.Laws.{Settles}
@@ -216,15 +218,15 @@ module _ (p : Profile) where
   like_if false d k e old new = old
 
   pub like_chore : (d e : Desk) (w q t : ℕ) (k : Chore) → IsLike d e → IsLike (desk_done p (at_desk (worker_does w q t k)) d) e
-  like_chore d e w q t claiming l =
+  like_chore d e w q t Claim l =
       like_if (is_queued (held_at d.trials t)) d (after_claim d t) e l (like_moved d e t (λ j. running) (claimed t) (of_claim t) (λ j. tt) l)
-  like_chore d e w q t filing l =
-      like_if (is_running (held_at d.trials t)) d (after_file p d t marked_whole) e l (
-      like_moved d e t (λ j. done (p.meaning j.asked)) (filed t marked_whole) (of_file t marked_whole) (λ j. refl) l
+  like_chore d e w q t File l =
+      like_if (is_running (held_at d.trials t)) d (after_file p d t Whole) e l (
+      like_moved d e t (λ j. done (p.meaning j.asked)) (filed t Whole) (of_file t Whole) (λ j. refl) l
       )
-  like_chore d e w q t handing_back l =
+  like_chore d e w q t HandBack l =
       like_if (is_running (held_at d.trials t)) d (after_hand_back d t) e l (like_moved d e t (λ j. queued) (handed_back t) (of_back t) (λ j. tt) l)
-  like_chore d e w q t (slicing n) l = l
-  like_chore d e w q t parking l = l
-  like_chore d e w q t taking_up l = l
-  like_chore d e w q t (stealing v) l = l
+  like_chore d e w q t (Slice n) l = l
+  like_chore d e w q t Park l = l
+  like_chore d e w q t TakeUp l = l
+  like_chore d e w q t (Steal v) l = l

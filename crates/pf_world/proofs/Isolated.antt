@@ -3,13 +3,16 @@ use Rattle.std.proofs.Common.{◌≡◌, ℕ, ◌==◌, Bool, true, false, ◌&&
 use Rattle.std.specs.Prelude.{if◌then◌else◌, nat_lt, length, unwrap_or, filter_map}
 use Rattle.std.specs.List.{cons_option}
 use Rattle.std.proofs.lemmas.Bool.Decides.{nat_tests}
-use Rattle.pf_desks.specs.Desk.{Profile, Desk, Reply, FileMark, held_at}
+use Rattle.pf_desks.specs.Desk.{Profile, Desk, Reply, held_at}
+use Rattle.pf_desks.specs.declared.mark.FileMark.{FileMark}
 use Rattle.pf_desks.specs.Calls.{after_call}
 use Rattle.pf_desks.specs.Work.{claim_step, file_step, hand_back_step}
 use Rattle.pf_desks.specs.Desks.{Desks, DeskStep, desk_at, put_desk, worked, desk_after, desk_replies, replies_along}
 use Rattle.pf_desks.proofs.Isolated.{desk_placed}
 use Rattle.pf_world.specs.World.{RunProfile, RunProgress, going, over, ClaimedRun, Hand, Deque, World, new_world}
-use Rattle.pf_world.specs.Chores.{Chore, claiming, slicing, parking, taking_up, stealing, filing, handing_back, Response, Effect, MOST_PARKED, is_run_of, is_going, hand_emptied, file_effect, free_effect, busy_effect, chore_effect}
+use Rattle.pf_world.specs.Chores.{Response, Effect, MOST_PARKED, is_run_of, is_going, hand_emptied, file_effect, free_effect, busy_effect, chore_effect}
+use Rattle.pf_request.specs.declared.step.Chore.{Chore}
+use Rattle.pf_request.specs.declared.step.Chore.TheVariants.{Claim, Slice, Park, TakeUp, Steal, File, HandBack}
 use Rattle.pf_world.specs.Steps.{WorldStep, client_calls, worker_does, deque_owner, with_effect, effect_of, take_step, responses, all_responses}
 use Rattle.pf_world.specs.Alone.{project_of, took_place, is_own, own_part, replies_of, heard, at_desk, heard_alone}
 use Rattle.pf_world.proofs.Effects.{from_some, where_so, where_claimed, where_from_deque, where_done, all_at}
@@ -31,13 +34,13 @@ replies_of_more p d None ss = refl
 replies_of_more p d (Some x) ss = refl
 
 silence : (p : Profile) (w q t : ℕ) (k : Chore) (d : Desk) → replies_done p (at_desk (worker_does w q t k)) d ≡ []
-silence p w q t claiming d = refl
-silence p w q t (slicing n) d = refl
-silence p w q t parking d = refl
-silence p w q t taking_up d = refl
-silence p w q t (stealing v) d = refl
-silence p w q t filing d = refl
-silence p w q t handing_back d = refl
+silence p w q t Claim d = refl
+silence p w q t (Slice n) d = refl
+silence p w q t Park d = refl
+silence p w q t TakeUp d = refl
+silence p w q t (Steal v) d = refl
+silence p w q t File d = refl
+silence p w q t HandBack d = refl
 
 module _ (p : RunProfile) where
   -- ---- what a chore does to the desk that it names, and that it says nothing
@@ -52,35 +55,35 @@ module _ (p : RunProfile) where
   emptied_as w q t k d None h = (h, refl, refl)
 
   free_done : (w q t : ℕ) (k : Chore) (d : Desk) (rs : Deque) (e : Effect) → free_effect q t k d rs ≡ Some e → IsDoneAs w q t k d e
-  free_done w q t claiming d rs e h =
-      where_claimed (IsDoneAs w q t claiming d) q t (held_at d.trials t) (claim_step d t) e h (λ x k i j.
+  free_done w q t Claim d rs e h =
+      where_claimed (IsDoneAs w q t Claim d) q t (held_at d.trials t) (claim_step d t) e h (λ x k i j.
       (sym (ap (λ (o : Option Desk). unwrap_or o d) j), refl, refl))
-  free_done w q t taking_up d rs e h = where_from_deque (IsDoneAs w q t taking_up d) q t rs e h (λ r ks i is. (refl, refl, refl))
-  free_done w q t (stealing v) d rs e h = where_from_deque (IsDoneAs w q t (stealing v) d) q t rs e h (λ r ks i is. (refl, refl, refl))
-  free_done w q t (slicing n) d rs e h = absurd (cc)
-  free_done w q t parking d rs e h = absurd (cc)
-  free_done w q t filing d rs e h = absurd (cc)
-  free_done w q t handing_back d rs e h = absurd (cc)
+  free_done w q t TakeUp d rs e h = where_from_deque (IsDoneAs w q t TakeUp d) q t rs e h (λ r ks i is. (refl, refl, refl))
+  free_done w q t (Steal v) d rs e h = where_from_deque (IsDoneAs w q t (Steal v) d) q t rs e h (λ r ks i is. (refl, refl, refl))
+  free_done w q t (Slice n) d rs e h = absurd (cc)
+  free_done w q t Park d rs e h = absurd (cc)
+  free_done w q t File d rs e h = absurd (cc)
+  free_done w q t HandBack d rs e h = absurd (cc)
 
   busy_done : (w q t : ℕ) (k : Chore) (d : Desk) (r : ClaimedRun) (rs : Deque) (e : Effect)
       → busy_effect p t k d r rs ≡ Some e → IsWhole r → IsDoneAs w q t k d e
-  busy_done w q t (slicing n) d r rs e h one =
-      where_so (IsDoneAs w q t (slicing n) d) (is_going r.progress && nat_lt 0 n) _ e h (λ is. (refl, refl, refl))
-  busy_done w q t parking d r rs e h one =
-      where_so (IsDoneAs w q t parking d) (is_going r.progress && nat_lt (length rs) MOST_PARKED) _ e h (λ is. (refl, refl, refl))
-  busy_done w q t filing d r rs e h one = by r.progress h one
+  busy_done w q t (Slice n) d r rs e h one =
+      where_so (IsDoneAs w q t (Slice n) d) (is_going r.progress && nat_lt 0 n) _ e h (λ is. (refl, refl, refl))
+  busy_done w q t Park d r rs e h one =
+      where_so (IsDoneAs w q t Park d) (is_going r.progress && nat_lt (length rs) MOST_PARKED) _ e h (λ is. (refl, refl, refl))
+  busy_done w q t File d r rs e h one = by r.progress h one
     where
-      by : (g : RunProgress) → file_effect p t d g ≡ Some e → IsWholeProgress g → IsDoneAs w q t filing d e
+      by : (g : RunProgress) → file_effect p t d g ≡ Some e → IsWholeProgress g → IsDoneAs w q t File d e
       by (going k) h one = absurd (cc)
       by (over m) h one =
-          from_some (IsDoneAs w q t filing d) _ e h (
-          emptied_as w q t filing d (file_step p.profile d t m) (ap (λ (m : FileMark). unwrap_or (file_step p.profile d t m) d) one)
+          from_some (IsDoneAs w q t File d) _ e h (
+          emptied_as w q t File d (file_step p.profile d t m) (ap (λ (m : FileMark). unwrap_or (file_step p.profile d t m) d) one)
           )
-  busy_done w q t handing_back d r rs e h one =
-      from_some (IsDoneAs w q t handing_back d) _ e h (emptied_as w q t handing_back d (hand_back_step d t) refl)
-  busy_done w q t claiming d r rs e h one = absurd (cc)
-  busy_done w q t taking_up d r rs e h one = absurd (cc)
-  busy_done w q t (stealing v) d r rs e h one = absurd (cc)
+  busy_done w q t HandBack d r rs e h one =
+      from_some (IsDoneAs w q t HandBack d) _ e h (emptied_as w q t HandBack d (hand_back_step d t) refl)
+  busy_done w q t Claim d r rs e h one = absurd (cc)
+  busy_done w q t TakeUp d r rs e h one = absurd (cc)
+  busy_done w q t (Steal v) d r rs e h one = absurd (cc)
 
   pub chore_done : (w q t : ℕ) (k : Chore) (d : Desk) (hand : Hand) (rs : Deque) (e : Effect)
       → chore_effect p q t k d hand rs ≡ Some e → IsWholeHand hand → IsDoneAs w q t k d e

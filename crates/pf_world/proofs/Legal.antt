@@ -9,7 +9,9 @@ use Rattle.pf_desks.specs.Desks.{Desks, DeskStep, client, worker, desk_at, worke
 use Rattle.pf_desks.proofs.Histories as histories
 use Rattle.pf_desks.proofs.Within.{legal_within}
 use Rattle.pf_world.specs.World.{RunProfile, RunProgress, going, over, ClaimedRun, Hand, Deque, World, new_world}
-use Rattle.pf_world.specs.Chores.{Chore, claiming, slicing, parking, taking_up, stealing, filing, handing_back, Response, Effect, MOST_PARKED, is_run_of, is_going, hand_emptied, file_effect, free_effect, busy_effect, chore_effect}
+use Rattle.pf_world.specs.Chores.{Response, Effect, MOST_PARKED, is_run_of, is_going, hand_emptied, file_effect, free_effect, busy_effect, chore_effect}
+use Rattle.pf_request.specs.declared.step.Chore.{Chore}
+use Rattle.pf_request.specs.declared.step.Chore.TheVariants.{Claim, Slice, Park, TakeUp, Steal, File, HandBack}
 use Rattle.pf_world.specs.Steps.{WorldStep, client_calls, worker_does, deque_owner, with_effect, effect_of, take_step}
 use Rattle.pf_world.specs.Memory.{refused_in, RespondsTo, RespondsInTurn}
 use Rattle.pf_world.specs.Laws.{LegalityAmongWorkers, LimitsAmongWorkers}
@@ -30,26 +32,26 @@ module _ (p : RunProfile) where
   work_emptied d k None h = tt
 
   free_work : (q t : ℕ) (k : Chore) (d : Desk) (rs : Deque) (e : Effect) → free_effect q t k d rs ≡ Some e → IsWorkEffect d e
-  free_work q t claiming d rs e h = where_claimed (IsWorkEffect d) q t (held_at d.trials t) (claim_step d t) e h (λ x k i j. (claim t, j))
-  free_work q t taking_up d rs e h = where_from_deque (IsWorkEffect d) q t rs e h (λ r ks i is. tt)
-  free_work q t (stealing v) d rs e h = where_from_deque (IsWorkEffect d) q t rs e h (λ r ks i is. tt)
-  free_work q t (slicing n) d rs e h = absurd (cc)
-  free_work q t parking d rs e h = absurd (cc)
-  free_work q t filing d rs e h = absurd (cc)
-  free_work q t handing_back d rs e h = absurd (cc)
+  free_work q t Claim d rs e h = where_claimed (IsWorkEffect d) q t (held_at d.trials t) (claim_step d t) e h (λ x k i j. (claim t, j))
+  free_work q t TakeUp d rs e h = where_from_deque (IsWorkEffect d) q t rs e h (λ r ks i is. tt)
+  free_work q t (Steal v) d rs e h = where_from_deque (IsWorkEffect d) q t rs e h (λ r ks i is. tt)
+  free_work q t (Slice n) d rs e h = absurd (cc)
+  free_work q t Park d rs e h = absurd (cc)
+  free_work q t File d rs e h = absurd (cc)
+  free_work q t HandBack d rs e h = absurd (cc)
 
   busy_work : (t : ℕ) (k : Chore) (d : Desk) (r : ClaimedRun) (rs : Deque) (e : Effect) → busy_effect p t k d r rs ≡ Some e → IsWorkEffect d e
-  busy_work t (slicing n) d r rs e h = where_so (IsWorkEffect d) (is_going r.progress && nat_lt 0 n) _ e h (λ is. tt)
-  busy_work t parking d r rs e h = where_so (IsWorkEffect d) (is_going r.progress && nat_lt (length rs) MOST_PARKED) _ e h (λ is. tt)
-  busy_work t filing d r rs e h = by r.progress h
+  busy_work t (Slice n) d r rs e h = where_so (IsWorkEffect d) (is_going r.progress && nat_lt 0 n) _ e h (λ is. tt)
+  busy_work t Park d r rs e h = where_so (IsWorkEffect d) (is_going r.progress && nat_lt (length rs) MOST_PARKED) _ e h (λ is. tt)
+  busy_work t File d r rs e h = by r.progress h
     where
       by : (g : RunProgress) → file_effect p t d g ≡ Some e → IsWorkEffect d e
       by (going k) h = absurd (cc)
       by (over m) h = from_some (IsWorkEffect d) _ e h (work_emptied d (file t m) (file_step p.profile d t m) refl)
-  busy_work t handing_back d r rs e h = from_some (IsWorkEffect d) _ e h (work_emptied d (hand_back t) (hand_back_step d t) refl)
-  busy_work t claiming d r rs e h = absurd (cc)
-  busy_work t taking_up d r rs e h = absurd (cc)
-  busy_work t (stealing v) d r rs e h = absurd (cc)
+  busy_work t HandBack d r rs e h = from_some (IsWorkEffect d) _ e h (work_emptied d (hand_back t) (hand_back_step d t) refl)
+  busy_work t Claim d r rs e h = absurd (cc)
+  busy_work t TakeUp d r rs e h = absurd (cc)
+  busy_work t (Steal v) d r rs e h = absurd (cc)
 
   pub chore_work : (q t : ℕ) (k : Chore) (d : Desk) (hand : Hand) (rs : Deque) (e : Effect) → chore_effect p q t k d hand rs ≡ Some e → IsWorkEffect d e
   chore_work q t k d None rs e h = free_work q t k d rs e h
@@ -90,13 +92,13 @@ module _ (p : RunProfile) where
 
   pub refused_desks : (s : World) (x : WorldStep) → (refused_in s x).desks ≡ s.desks
   refused_desks s (client_calls r c) = refl
-  refused_desks s (worker_does w r t claiming) = refl
-  refused_desks s (worker_does w r t (slicing n)) = refl
-  refused_desks s (worker_does w r t parking) = refl
-  refused_desks s (worker_does w r t taking_up) = refl
-  refused_desks s (worker_does w r t (stealing v)) = refl
-  refused_desks s (worker_does w r t filing) = refl
-  refused_desks s (worker_does w r t handing_back) = refl
+  refused_desks s (worker_does w r t Claim) = refl
+  refused_desks s (worker_does w r t (Slice n)) = refl
+  refused_desks s (worker_does w r t Park) = refl
+  refused_desks s (worker_does w r t TakeUp) = refl
+  refused_desks s (worker_does w r t (Steal v)) = refl
+  refused_desks s (worker_does w r t File) = refl
+  refused_desks s (worker_does w r t HandBack) = refl
 
   reached_answer : (s k : World) (x : WorldStep) (a : Option Response) → RespondsTo p s x a k → IsReached s.desks → IsReached k.desks
   reached_answer s k x (Some a) to h = subst (λ (r : World × Response). IsReached r.0.desks) to (reached_after s x h)

@@ -21,7 +21,8 @@ use Rattle.pf_desks.proofs.Histories.{call_notes}
 use Rattle.pf_desks.proofs.Isolated.{desk_placed, same_project}
 use Rattle.pf_desks.proofs.Sums.{calls_more, calls_worked}
 use Rattle.pf_world.specs.World.{RunProfile, World, new_world}
-use Rattle.pf_world.specs.Chores.{Chore, Response, answer, stray, Effect}
+use Rattle.pf_world.specs.Chores.{Response, answer, stray, Effect}
+use Rattle.pf_request.specs.declared.step.Chore.{Chore}
 use Rattle.pf_world.specs.Steps.{WorldStep, client_calls, worker_does, deque_owner, with_effect, effect_of, take_step}
 use Rattle.pf_world.specs.Memory.{RespondsTo, RespondsInTurn}
 use Rattle.pf_world.specs.Noted.{call_answered, calls_answered, HistoriesNoteTheCalls}

@@ -10,7 +10,9 @@ use Rattle.pf_desks.specs.Desks.{Desks, client, desk_at, put_desk, worked, step}
 use Rattle.pf_desks.proofs.Jobs.{tickets_placed, tickets_stepped, tickets_worked, ticket_held}
 use Rattle.pf_desks.proofs.Isolated.{desk_there}
 use Rattle.pf_world.specs.World.{RunProfile, RunProgress, going, over, ClaimedRun, Hand, Deque, World, new_world}
-use Rattle.pf_world.specs.Chores.{Chore, claiming, slicing, parking, taking_up, stealing, filing, handing_back, Response, Effect, MOST_PARKED, new_run, is_run_of, is_going, hand_emptied, file_effect, free_effect, busy_effect, chore_effect}
+use Rattle.pf_world.specs.Chores.{Response, Effect, MOST_PARKED, new_run, is_run_of, is_going, hand_emptied, file_effect, free_effect, busy_effect, chore_effect}
+use Rattle.pf_request.specs.declared.step.Chore.{Chore}
+use Rattle.pf_request.specs.declared.step.Chore.TheVariants.{Claim, Slice, Park, TakeUp, Steal, File, HandBack}
 use Rattle.pf_world.specs.Steps.{WorldStep, client_calls, worker_does, deque_owner, with_deque, with_effect, effect_of, take_step}
 use Rattle.pf_world.specs.Memory.{out_of_memory, refused_in, RespondsTo, RespondsInTurn}
 use Rattle.pf_world.specs.Jobs.{IsOfTrial, RunsAreOfTrials, JobsAmongWorkers}
@@ -57,35 +59,35 @@ module _ (p : RunProfile) where
       (tickets_worked p.profile (desk_at q w) d' (claim t) claims t x.job (ticket_held (desk_at q w) t x held))
 
   free_of : (q t : ℕ) (k : Chore) (w : Desks) (rs : Deque) (e : Effect) → All (IsOfTrial w) rs → free_effect q t k (desk_at q w) rs ≡ Some e → IsOfTrials q w e
-  free_of q t claiming w rs e all h =
+  free_of q t Claim w rs e all h =
       where_claimed (IsOfTrials q w) q t (held_at (desk_at q w).trials t) (claim_step (desk_at q w) t) e h (λ x d i j. (new_of q t w x d i j, tt))
-  free_of q t taking_up w rs e all h = where_from_deque (IsOfTrials q w) q t rs e h (λ r ks i is. taken r ks (subst (All (IsOfTrial w)) i all))
+  free_of q t TakeUp w rs e all h = where_from_deque (IsOfTrials q w) q t rs e h (λ r ks i is. taken r ks (subst (All (IsOfTrial w)) i all))
     where
       taken : (r : ClaimedRun) (ks : Deque) → All (IsOfTrial w) (r ∷ ks) → IsOfTrial w r × All (IsOfTrial w) ks
       taken r ks a = (All-head (IsOfTrial w) r ks a, All-tail (IsOfTrial w) r ks a)
-  free_of q t (stealing v) w rs e all h = where_from_deque (IsOfTrials q w) q t rs e h (λ r ks i is. taken r ks (subst (All (IsOfTrial w)) i all))
+  free_of q t (Steal v) w rs e all h = where_from_deque (IsOfTrials q w) q t rs e h (λ r ks i is. taken r ks (subst (All (IsOfTrial w)) i all))
     where
       taken : (r : ClaimedRun) (ks : Deque) → All (IsOfTrial w) (r ∷ ks) → IsOfTrial w r × All (IsOfTrial w) ks
       taken r ks a = (All-head (IsOfTrial w) r ks a, All-tail (IsOfTrial w) r ks a)
-  free_of q t (slicing n) w rs e all h = absurd (cc)
-  free_of q t parking w rs e all h = absurd (cc)
-  free_of q t filing w rs e all h = absurd (cc)
-  free_of q t handing_back w rs e all h = absurd (cc)
+  free_of q t (Slice n) w rs e all h = absurd (cc)
+  free_of q t Park w rs e all h = absurd (cc)
+  free_of q t File w rs e all h = absurd (cc)
+  free_of q t HandBack w rs e all h = absurd (cc)
 
   busy_of : (q t : ℕ) (k : Chore) (w : Desks) (r : ClaimedRun) (rs : Deque) (e : Effect) → IsOfTrial w r → All (IsOfTrial w) rs
       → busy_effect p t k (desk_at q w) r rs ≡ Some e → IsOfTrials q w e
-  busy_of q t (slicing n) w r rs e own all h = where_so (IsOfTrials q w) (is_going r.progress && nat_lt 0 n) _ e h (λ is. (own, tt))
-  busy_of q t parking w r rs e own all h =
+  busy_of q t (Slice n) w r rs e own all h = where_so (IsOfTrials q w) (is_going r.progress && nat_lt 0 n) _ e h (λ is. (own, tt))
+  busy_of q t Park w r rs e own all h =
       where_so (IsOfTrials q w) (is_going r.progress && nat_lt (length rs) MOST_PARKED) _ e h (λ is. (tt, All-push (IsOfTrial w) rs r all own))
-  busy_of q t filing w r rs e own all h = by r.progress h
+  busy_of q t File w r rs e own all h = by r.progress h
     where
       by : (g : RunProgress) → file_effect p t (desk_at q w) g ≡ Some e → IsOfTrials q w e
       by (going k) h = absurd (cc)
       by (over m) h = from_some (IsOfTrials q w) _ e h (emptied q w (file_step p.profile (desk_at q w) t m))
-  busy_of q t handing_back w r rs e own all h = from_some (IsOfTrials q w) _ e h (emptied q w (hand_back_step (desk_at q w) t))
-  busy_of q t claiming w r rs e own all h = absurd (cc)
-  busy_of q t taking_up w r rs e own all h = absurd (cc)
-  busy_of q t (stealing v) w r rs e own all h = absurd (cc)
+  busy_of q t HandBack w r rs e own all h = from_some (IsOfTrials q w) _ e h (emptied q w (hand_back_step (desk_at q w) t))
+  busy_of q t Claim w r rs e own all h = absurd (cc)
+  busy_of q t TakeUp w r rs e own all h = absurd (cc)
+  busy_of q t (Steal v) w r rs e own all h = absurd (cc)
 
   chore_of : (q t : ℕ) (k : Chore) (w : Desks) (hand : Hand) (rs : Deque) (e : Effect) → IsHandOf w hand → All (IsOfTrial w) rs
       → chore_effect p q t k (desk_at q w) hand rs ≡ Some e → IsOfTrials q w e
@@ -135,8 +137,8 @@ module _ (p : RunProfile) where
   -- a run in which an allocation failed is of the same job
   pub of_refused : (s : World) (x : WorldStep) → RunsAreOfTrials s → RunsAreOfTrials (refused_in s x)
   of_refused s (client_calls q c) all = all
-  of_refused s (worker_does w q t claiming) all = all
-  of_refused s (worker_does w q t (slicing n)) all = (All-set (IsHandOf s.desks) s.hands w _ (by (slice_get s.hands w) refl) all.0, all.1)
+  of_refused s (worker_does w q t Claim) all = all
+  of_refused s (worker_does w q t (Slice n)) all = (All-set (IsHandOf s.desks) s.hands w _ (by (slice_get s.hands w) refl) all.0, all.1)
     where
       out : (h : Hand) → IsHandOf s.desks h → IsHandOf s.desks (option_map out_of_memory h)
       out None h = tt
@@ -145,11 +147,11 @@ module _ (p : RunProfile) where
       by : (o : Option Hand) → slice_get s.hands w ≡ o → IsHandOf s.desks (option_map out_of_memory (option_flatten o))
       by None e = tt
       by (Some h) e = out h (all_at (IsHandOf s.desks) s.hands w h e all.0)
-  of_refused s (worker_does w q t parking) all = all
-  of_refused s (worker_does w q t taking_up) all = all
-  of_refused s (worker_does w q t (stealing v)) all = all
-  of_refused s (worker_does w q t filing) all = all
-  of_refused s (worker_does w q t handing_back) all = all
+  of_refused s (worker_does w q t Park) all = all
+  of_refused s (worker_does w q t TakeUp) all = all
+  of_refused s (worker_does w q t (Steal v)) all = all
+  of_refused s (worker_does w q t File) all = all
+  of_refused s (worker_does w q t HandBack) all = all
 
   pub of_answer : (s k : World) (x : WorldStep) (a : Option Response) → RespondsTo p s x a k → RunsAreOfTrials s → RunsAreOfTrials k
   of_answer s k x (Some a) to all = subst (λ (r : World × Response). RunsAreOfTrials r.0) to (of_step s x all)

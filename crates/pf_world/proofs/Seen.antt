@@ -6,7 +6,9 @@ use Rattle.std.proofs.lemmas.Bool.Decides.{nat_tests}
 use Rattle.pf_desks.specs.Desk.{Desk, held_at}
 use Rattle.pf_desks.specs.Work.{claim_step, file_step, hand_back_step}
 use Rattle.pf_world.specs.World.{RunProfile, RunProgress, going, over, ClaimedRun, Hand, Deque}
-use Rattle.pf_world.specs.Chores.{Chore, claiming, slicing, parking, taking_up, stealing, filing, handing_back, Effect, MOST_PARKED, new_run, is_run_of, is_going, sliced, in_hand, from_deque, onto_deque, claimed_as, hand_emptied, claim_effect, deque_effect, file_effect, free_effect, busy_effect, chore_effect}
+use Rattle.pf_world.specs.Chores.{Effect, MOST_PARKED, new_run, is_run_of, is_going, sliced, in_hand, from_deque, onto_deque, claimed_as, hand_emptied, claim_effect, deque_effect, file_effect, free_effect, busy_effect, chore_effect}
+use Rattle.pf_request.specs.declared.step.Chore.{Chore}
+use Rattle.pf_request.specs.declared.step.Chore.TheVariants.{Claim, Slice, Park, TakeUp, Steal, File, HandBack}
 use Rattle.pf_world.proofs.Effects.{from_some, where_so, where_claimed, where_from_deque}
 use Rattle.pf_world.proofs.Isolated.{same_project}
 
@@ -78,40 +80,40 @@ module _ (q : ℕ) where
         ∙ ap (λ (x : Hand). Some (record (from_deque r (keep_runs ks)) { hand = x })) (sym (keep_own r mine)))
 
     free_own : (t : ℕ) (k : Chore) (d : Desk) (rs : Deque) (e : Effect) → free_effect q t k d rs ≡ Some e → free_effect q t k d (keep_runs rs) ≡ Some (own_effect e)
-    free_own t claiming d rs e h =
+    free_own t Claim d rs e h =
         where_claimed (λ e. claim_effect q t (held_at d.trials t) (claim_step d t) ≡ Some (own_effect e)) q t (held_at d.trials t) (claim_step d t) e h (λ x k i j.
         (λ n. claim_effect q t (i n) (j n))
         ∙ ap (λ (x' : Hand). Some (record (claimed_as k (new_run q t x.job)) { hand = x' })) (sym (keep_own (new_run q t x.job) (itself q))))
-    free_own t taking_up d rs e h = deque_own t rs e h
-    free_own t (stealing v) d rs e h = deque_own t rs e h
-    free_own t (slicing n) d rs e h = absurd (cc)
-    free_own t parking d rs e h = absurd (cc)
-    free_own t filing d rs e h = absurd (cc)
-    free_own t handing_back d rs e h = absurd (cc)
+    free_own t TakeUp d rs e h = deque_own t rs e h
+    free_own t (Steal v) d rs e h = deque_own t rs e h
+    free_own t (Slice n) d rs e h = absurd (cc)
+    free_own t Park d rs e h = absurd (cc)
+    free_own t File d rs e h = absurd (cc)
+    free_own t HandBack d rs e h = absurd (cc)
 
     busy_own : (t : ℕ) (k : Chore) (d : Desk) (r : ClaimedRun) (rs : Deque) (e : Effect) → (r.project == q) ≡ true → busy_effect p t k d r rs ≡ Some e
         → busy_effect p t k d r (keep_runs rs) ≡ Some (own_effect e)
-    busy_own t (slicing n) d r rs e mine h =
-        where_so (λ e. busy_effect p t (slicing n) d r (keep_runs rs) ≡ Some (own_effect e)) (is_going r.progress && nat_lt 0 n) _ e h (λ is.
+    busy_own t (Slice n) d r rs e mine h =
+        where_so (λ e. busy_effect p t (Slice n) d r (keep_runs rs) ≡ Some (own_effect e)) (is_going r.progress && nat_lt 0 n) _ e h (λ is.
         ap (λ (b : Bool). if b then Some (in_hand (sliced p n r)) else None) is
         ∙ ap (λ (x : Hand). Some (record (in_hand (sliced p n r)) { hand = x })) (sym (keep_own (sliced p n r) mine)))
-    busy_own t parking d r rs e mine h =
-        where_so (λ e. busy_effect p t parking d r (keep_runs rs) ≡ Some (own_effect e)) (is_going r.progress && nat_lt (length rs) MOST_PARKED) _ e h (λ is.
+    busy_own t Park d r rs e mine h =
+        where_so (λ e. busy_effect p t Park d r (keep_runs rs) ≡ Some (own_effect e)) (is_going r.progress && nat_lt (length rs) MOST_PARKED) _ e h (λ is.
         ap (λ (b : Bool). if b then Some (onto_deque r (keep_runs rs)) else None)
         (still_room (is_going r.progress) (length (keep_runs rs)) (length rs) MOST_PARKED (fewer rs) is)
         ∙ ap (λ (xs : Deque). Some (record (onto_deque r rs) { deque = Some xs }))
         (sym (runs_more rs r ∙ ap (λ (xs : Deque). keep_runs rs ++ xs) (runs_own r [] mine))))
-    busy_own t filing d r rs e mine h = by r.progress h
+    busy_own t File d r rs e mine h = by r.progress h
       where
         by : (g : RunProgress) → file_effect p t d g ≡ Some e → file_effect p t d g ≡ Some (own_effect e)
         by (going k) h = absurd (cc)
         by (over m) h =
             from_some (λ e. file_effect p t d (over m) ≡ Some (own_effect e)) _ e h (ap (λ (x : Effect). Some x) (own_emptied (file_step p.profile d t m)))
-    busy_own t handing_back d r rs e mine h =
-        from_some (λ e. busy_effect p t handing_back d r (keep_runs rs) ≡ Some (own_effect e)) _ e h (ap (λ (x : Effect). Some x) (own_emptied (hand_back_step d t)))
-    busy_own t claiming d r rs e mine h = absurd (cc)
-    busy_own t taking_up d r rs e mine h = absurd (cc)
-    busy_own t (stealing v) d r rs e mine h = absurd (cc)
+    busy_own t HandBack d r rs e mine h =
+        from_some (λ e. busy_effect p t HandBack d r (keep_runs rs) ≡ Some (own_effect e)) _ e h (ap (λ (x : Effect). Some x) (own_emptied (hand_back_step d t)))
+    busy_own t Claim d r rs e mine h = absurd (cc)
+    busy_own t TakeUp d r rs e mine h = absurd (cc)
+    busy_own t (Steal v) d r rs e mine h = absurd (cc)
 
     pub chore_own : (t : ℕ) (k : Chore) (d : Desk) (hand : Hand) (rs : Deque) (e : Effect) → chore_effect p q t k d hand rs ≡ Some e
         → chore_effect p q t k d (keep hand) (keep_runs rs) ≡ Some (own_effect e)
@@ -145,30 +147,30 @@ module _ (q : ℕ) where
           (keep_other x (theirs t x is), sym (ap keep_runs i ∙ runs_other x ks (theirs t x is))))
 
       free_unseen : (t : ℕ) (k : Chore) (d : Desk) (rs : Deque) (e : Effect) → free_effect r t k d rs ≡ Some e → IsUnseen None rs e
-      free_unseen t claiming d rs e h =
+      free_unseen t Claim d rs e h =
           where_claimed (IsUnseen None rs) r t (held_at d.trials t) (claim_step d t) e h (λ x k i j. (keep_other (new_run r t x.job) apart, refl))
-      free_unseen t taking_up d rs e h = unseen_from_deque t rs e h
-      free_unseen t (stealing v) d rs e h = unseen_from_deque t rs e h
-      free_unseen t (slicing n) d rs e h = absurd (cc)
-      free_unseen t parking d rs e h = absurd (cc)
-      free_unseen t filing d rs e h = absurd (cc)
-      free_unseen t handing_back d rs e h = absurd (cc)
+      free_unseen t TakeUp d rs e h = unseen_from_deque t rs e h
+      free_unseen t (Steal v) d rs e h = unseen_from_deque t rs e h
+      free_unseen t (Slice n) d rs e h = absurd (cc)
+      free_unseen t Park d rs e h = absurd (cc)
+      free_unseen t File d rs e h = absurd (cc)
+      free_unseen t HandBack d rs e h = absurd (cc)
 
       busy_unseen : (t : ℕ) (k : Chore) (d : Desk) (x : ClaimedRun) (rs : Deque) (e : Effect) → (x.project == q) ≡ false → busy_effect p t k d x rs ≡ Some e → IsUnseen (Some x) rs e
-      busy_unseen t (slicing n) d x rs e out h =
+      busy_unseen t (Slice n) d x rs e out h =
           where_so (IsUnseen (Some x) rs) (is_going x.progress && nat_lt 0 n) _ e h (λ is. (keep_other (sliced p n x) out ∙ sym (keep_other x out), refl))
-      busy_unseen t parking d x rs e out h =
+      busy_unseen t Park d x rs e out h =
           where_so (IsUnseen (Some x) rs) (is_going x.progress && nat_lt (length rs) MOST_PARKED) _ e h (λ is.
           (sym (keep_other x out), runs_more rs x ∙ ap (λ (xs : Deque). keep_runs rs ++ xs) (runs_other x [] out) ∙ append-nil (keep_runs rs)))
-      busy_unseen t filing d x rs e out h = by x.progress h
+      busy_unseen t File d x rs e out h = by x.progress h
         where
           by : (g : RunProgress) → file_effect p t d g ≡ Some e → IsUnseen (Some x) rs e
           by (going k) h = absurd (cc)
           by (over m) h = from_some (IsUnseen (Some x) rs) _ e h (unseen_emptied x rs (file_step p.profile d t m) out)
-      busy_unseen t handing_back d x rs e out h = from_some (IsUnseen (Some x) rs) _ e h (unseen_emptied x rs (hand_back_step d t) out)
-      busy_unseen t claiming d x rs e out h = absurd (cc)
-      busy_unseen t taking_up d x rs e out h = absurd (cc)
-      busy_unseen t (stealing v) d x rs e out h = absurd (cc)
+      busy_unseen t HandBack d x rs e out h = from_some (IsUnseen (Some x) rs) _ e h (unseen_emptied x rs (hand_back_step d t) out)
+      busy_unseen t Claim d x rs e out h = absurd (cc)
+      busy_unseen t TakeUp d x rs e out h = absurd (cc)
+      busy_unseen t (Steal v) d x rs e out h = absurd (cc)
 
       pub chore_unseen : (t : ℕ) (k : Chore) (d : Desk) (hand : Hand) (rs : Deque) (e : Effect) → chore_effect p r t k d hand rs ≡ Some e → IsUnseen hand rs e
       chore_unseen t k d None rs e h = free_unseen t k d rs e h

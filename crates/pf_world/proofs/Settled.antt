@@ -7,7 +7,8 @@ use Rattle.pf_desks.specs.Desk.{Desk, no_desk, Reply}
 use Rattle.pf_desks.specs.Calls.{after_call}
 use Rattle.pf_desks.specs.Desks.{replies_along}
 use Rattle.pf_world.specs.World.{RunProfile, World, new_world}
-use Rattle.pf_world.specs.Chores.{Chore, claiming, slicing, parking, taking_up, stealing, filing, handing_back}
+use Rattle.pf_request.specs.declared.step.Chore.{Chore}
+use Rattle.pf_request.specs.declared.step.Chore.TheVariants.{Claim, Slice, Park, TakeUp, Steal, File, HandBack}
 use Rattle.pf_world.specs.Steps.{WorldStep, client_calls, worker_does, take_step, responses, all_responses}
 use Rattle.pf_world.specs.Alone.{is_own, own_part, heard, at_desk, heard_alone}
 use Rattle.pf_world.specs.Laws.{calls_of, Settles, AgreeWhereSettled, SettledReplies}
@@ -36,13 +37,13 @@ module _ (p : RunProfile) where
   no_reply : (w r t : ℕ) (k : Chore) (d : Desk) (xs : List WorldStep)
       → replies_along p.profile (desk_done p.profile (at_desk (worker_does w r t k)) d) (filter_map at_desk xs)
       ≡ replies_along p.profile d (filter_map at_desk (worker_does w r t k ∷ xs))
-  no_reply w r t claiming d xs = refl
-  no_reply w r t (slicing n) d xs = refl
-  no_reply w r t parking d xs = refl
-  no_reply w r t taking_up d xs = refl
-  no_reply w r t (stealing v) d xs = refl
-  no_reply w r t filing d xs = refl
-  no_reply w r t handing_back d xs = refl
+  no_reply w r t Claim d xs = refl
+  no_reply w r t (Slice n) d xs = refl
+  no_reply w r t Park d xs = refl
+  no_reply w r t TakeUp d xs = refl
+  no_reply w r t (Steal v) d xs = refl
+  no_reply w r t File d xs = refl
+  no_reply w r t HandBack d xs = refl
 
   final_along : (d e : Desk) (xs : List WorldStep) → IsLike p.profile d e
       → AreFinal (all_calls xs) (replies_along p.profile d (filter_map at_desk xs)) (finals e (all_calls xs))

@@ -3,18 +3,21 @@ use Rattle.std.proofs.Common.{◌≡◌, ℕ, ◌+◌, Bool, true, false, ◌&&�
 use Rattle.std.specs.Prelude.{if◌then◌else◌, nat_lt, length, All}
 use Rattle.std.proofs.lemmas.List.Elements.{All-nil, All-head, All-tail, All-same, All-replicate, All-set, All-push}
 use Rattle.pf_model.specs.Meaning as model
-use Rattle.pf_desks.specs.Desk.{Desk, held_at, marked_whole}
+use Rattle.pf_desks.specs.Desk.{Desk, held_at}
+use Rattle.pf_desks.specs.declared.mark.FileMark.TheVariants.{Whole}
 use Rattle.pf_desks.specs.Work.{claim_step, file_step, hand_back_step}
 use Rattle.pf_desks.specs.Desks.{desk_at}
 use Rattle.pf_desks.proofs.Isolated.{pick}
 use Rattle.pf_world.specs.World.{RunProfile, RunProgress, going, over, ClaimedRun, Hand, Deque, World, new_world}
-use Rattle.pf_world.specs.Chores.{Chore, claiming, slicing, parking, taking_up, stealing, filing, handing_back, Effect, MOST_PARKED, is_run_of, is_going, progress_after, hand_emptied, file_effect, free_effect, busy_effect, chore_effect}
+use Rattle.pf_world.specs.Chores.{Effect, MOST_PARKED, is_run_of, is_going, progress_after, hand_emptied, file_effect, free_effect, busy_effect, chore_effect}
+use Rattle.pf_request.specs.declared.step.Chore.{Chore}
+use Rattle.pf_request.specs.declared.step.Chore.TheVariants.{Claim, Slice, Park, TakeUp, Steal, File, HandBack}
 use Rattle.pf_world.specs.Steps.{WorldStep, client_calls, worker_does, deque_owner, with_deque, with_effect, effect_of, take_step}
 use Rattle.pf_world.proofs.Effects.{from_some, where_so, where_claimed, where_from_deque, where_done, all_at}
 
 abbrev pub IsWholeProgress : RunProgress → Type 0
 IsWholeProgress (going k) = Unit {0}
-IsWholeProgress (over m) = m ≡ marked_whole
+IsWholeProgress (over m) = m ≡ Whole
 
 abbrev pub IsWhole : ClaimedRun → Type 0
 IsWhole r = IsWholeProgress r.progress
@@ -36,7 +39,7 @@ IsWholeWorld s = All IsWholeHand s.hands × All (All IsWhole) s.deques
 
 module _ (p : RunProfile) where
   whole_after : (n : ℕ) (j : model.Job) (g : RunProgress) → IsWholeProgress g → IsWholeProgress (progress_after p n j g)
-  whole_after n j (going k) h = pick IsWholeProgress (nat_lt (k + n) (p.events j)) (going (k + n)) (over marked_whole) tt refl
+  whole_after n j (going k) h = pick IsWholeProgress (nat_lt (k + n) (p.events j)) (going (k + n)) (over Whole) tt refl
   whole_after n j (over m) h = h
 
   whole_emptied : (o : Option Desk) → IsWholeEffect (hand_emptied o)
@@ -49,29 +52,29 @@ module _ (p : RunProfile) where
       (All-head IsWhole r ks both, All-tail IsWhole r ks both)
 
   free_whole : (q t : ℕ) (k : Chore) (d : Desk) (rs : Deque) (e : Effect) → free_effect q t k d rs ≡ Some e → All IsWhole rs → IsWholeEffect e
-  free_whole q t claiming d rs e h all = where_claimed IsWholeEffect q t (held_at d.trials t) (claim_step d t) e h (λ x k i j. (tt, tt))
-  free_whole q t taking_up d rs e h all = where_from_deque IsWholeEffect q t rs e h (λ r ks i is. both_whole rs r ks i all)
-  free_whole q t (stealing v) d rs e h all = where_from_deque IsWholeEffect q t rs e h (λ r ks i is. both_whole rs r ks i all)
-  free_whole q t (slicing n) d rs e h all = absurd (cc)
-  free_whole q t parking d rs e h all = absurd (cc)
-  free_whole q t filing d rs e h all = absurd (cc)
-  free_whole q t handing_back d rs e h all = absurd (cc)
+  free_whole q t Claim d rs e h all = where_claimed IsWholeEffect q t (held_at d.trials t) (claim_step d t) e h (λ x k i j. (tt, tt))
+  free_whole q t TakeUp d rs e h all = where_from_deque IsWholeEffect q t rs e h (λ r ks i is. both_whole rs r ks i all)
+  free_whole q t (Steal v) d rs e h all = where_from_deque IsWholeEffect q t rs e h (λ r ks i is. both_whole rs r ks i all)
+  free_whole q t (Slice n) d rs e h all = absurd (cc)
+  free_whole q t Park d rs e h all = absurd (cc)
+  free_whole q t File d rs e h all = absurd (cc)
+  free_whole q t HandBack d rs e h all = absurd (cc)
 
   busy_whole : (t : ℕ) (k : Chore) (d : Desk) (r : ClaimedRun) (rs : Deque) (e : Effect)
       → busy_effect p t k d r rs ≡ Some e → IsWhole r → All IsWhole rs → IsWholeEffect e
-  busy_whole t (slicing n) d r rs e h one all =
+  busy_whole t (Slice n) d r rs e h one all =
       where_so IsWholeEffect (is_going r.progress && nat_lt 0 n) _ e h (λ is. (whole_after n r.job.asked r.progress one, tt))
-  busy_whole t parking d r rs e h one all =
+  busy_whole t Park d r rs e h one all =
       where_so IsWholeEffect (is_going r.progress && nat_lt (length rs) MOST_PARKED) _ e h (λ is. (tt, All-push IsWhole rs r all one))
-  busy_whole t filing d r rs e h one all = by r.progress h
+  busy_whole t File d r rs e h one all = by r.progress h
     where
       by : (g : RunProgress) → file_effect p t d g ≡ Some e → IsWholeEffect e
       by (going k) h = absurd (cc)
       by (over m) h = from_some IsWholeEffect _ e h (whole_emptied (file_step p.profile d t m))
-  busy_whole t handing_back d r rs e h one all = from_some IsWholeEffect _ e h (whole_emptied (hand_back_step d t))
-  busy_whole t claiming d r rs e h one all = absurd (cc)
-  busy_whole t taking_up d r rs e h one all = absurd (cc)
-  busy_whole t (stealing v) d r rs e h one all = absurd (cc)
+  busy_whole t HandBack d r rs e h one all = from_some IsWholeEffect _ e h (whole_emptied (hand_back_step d t))
+  busy_whole t Claim d r rs e h one all = absurd (cc)
+  busy_whole t TakeUp d r rs e h one all = absurd (cc)
+  busy_whole t (Steal v) d r rs e h one all = absurd (cc)
 
   chore_whole : (q t : ℕ) (k : Chore) (d : Desk) (hand : Hand) (rs : Deque) (e : Effect)
       → chore_effect p q t k d hand rs ≡ Some e → IsWholeHand hand → All IsWhole rs → IsWholeEffect e

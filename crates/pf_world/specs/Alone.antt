@@ -1,10 +1,12 @@
 -- One project among the others: the steps that belong to it, what it hears, and what it would hear alone.
 use Rattle.std.specs.Prelude.{ℕ, Bool, true, false, ◌==◌, if◌then◌else◌, List, [], ◌∷◌, ◌++◌, filter_map, Option, Some, None}
-use Rattle.pf_desks.specs.Desk.{no_desk, Reply, marked_whole}
+use Rattle.pf_desks.specs.Desk.{no_desk, Reply}
+use Rattle.pf_desks.specs.declared.mark.FileMark.TheVariants.{Whole}
 use Rattle.pf_desks.specs.Work.{claim, file, hand_back}
 use Rattle.pf_desks.specs.Desks.{DeskStep, client, worker, happened, replies_in, replies_along}
 use Rattle.pf_world.specs.World.{RunProfile}
-use Rattle.pf_world.specs.Chores.{claiming, filing, handing_back, Response, answer, stray}
+use Rattle.pf_world.specs.Chores.{Response, answer, stray}
+use Rattle.pf_request.specs.declared.step.Chore.TheVariants.{Claim, File, HandBack}
 use Rattle.pf_world.specs.Steps.{WorldStep, client_calls, worker_does, all_responses}
 
 -- the project that a step names
@@ -45,9 +47,9 @@ heard q xs ans = []
 -- slicing, parking, taking up and stealing are nothing there
 abbrev pub at_desk : WorldStep → Option DeskStep
 at_desk (client_calls q c) = Some (client q c)
-at_desk (worker_does w q t claiming) = Some (worker q (claim t))
-at_desk (worker_does w q t filing) = Some (worker q (file t marked_whole))
-at_desk (worker_does w q t handing_back) = Some (worker q (hand_back t))
+at_desk (worker_does w q t Claim) = Some (worker q (claim t))
+at_desk (worker_does w q t File) = Some (worker q (file t Whole))
+at_desk (worker_does w q t HandBack) = Some (worker q (hand_back t))
 at_desk (worker_does w q t k) = None
 
 -- what a project hears alone: the replies of one empty desk along the steps that belong to it, with no other desk and

@@ -2,21 +2,13 @@
 use Rattle.std.specs.Prelude.{ℕ, ◌+◌, Bool, true, false, ◌&&◌, nat_lt, ◌==◌, if◌then◌else◌, [], ◌∷◌, ◌++◌, length, Option, Some, None}
 use Rattle.pf_model.specs.Meaning as model
 use Rattle.pf_request.specs.Job.{Job}
-use Rattle.pf_desks.specs.Desk.{Trial, Desk, held_at, marked_whole}
+use Rattle.pf_desks.specs.Desk.{Trial, Desk, held_at}
+use Rattle.pf_desks.specs.declared.mark.FileMark.TheVariants.{Whole}
 use Rattle.pf_desks.specs.Work.{claim_step, file_step, hand_back_step}
 use Rattle.pf_desks.specs.Desks.{Answer, work_done}
 use Rattle.pf_world.specs.World.{RunProfile, RunProgress, going, over, ClaimedRun, Hand, Deque}
-
--- what a worker does about a trial: it claims it; makes events of its run, as many as turns; parks the run; takes the
--- run up from its own deque, or steals it from another worker's; files it; or gives it back
-pub data Chore : Type 0 where
-  claiming : Chore
-  slicing : (turns : ℕ) → Chore
-  parking : Chore
-  taking_up : Chore
-  stealing : (from : ℕ) → Chore
-  filing : Chore
-  handing_back : Chore
+use Rattle.pf_request.specs.declared.step.Chore.{Chore}
+use Rattle.pf_request.specs.declared.step.Chore.TheVariants.{Claim, Slice, Park, TakeUp, Steal, File, HandBack}
 
 -- what is answered: what desks answer; or that a file or a hand-back was stray, since the trial isn't running
 pub data Response : Type 0 where
@@ -52,7 +44,7 @@ is_going (over m) = false
 
 -- a run goes on by as many events as turns, if its job has more than those in all; else it is over, and whole
 abbrev pub progress_after : RunProfile → (turns : ℕ) → model.Job → RunProgress → RunProgress
-progress_after p n j (going k) = if nat_lt (k + n) (p.events j) then going (k + n) else over marked_whole
+progress_after p n j (going k) = if nat_lt (k + n) (p.events j) then going (k + n) else over Whole
 progress_after p n j (over m) = over m
 
 -- a run after a slice
@@ -101,18 +93,18 @@ file_effect p t d (over m) = Some (hand_emptied (file_step p.profile d t m))
 
 -- a free worker claims, takes up and steals
 abbrev pub free_effect : (project ticket : ℕ) → Chore → Desk → Deque → Option Effect
-free_effect q t claiming d rs = claim_effect q t (held_at d.trials t) (claim_step d t)
-free_effect q t taking_up d rs = deque_effect q t rs
-free_effect q t (stealing v) d rs = deque_effect q t rs
+free_effect q t Claim d rs = claim_effect q t (held_at d.trials t) (claim_step d t)
+free_effect q t TakeUp d rs = deque_effect q t rs
+free_effect q t (Steal v) d rs = deque_effect q t rs
 free_effect q t k d rs = None
 
 -- a worker that holds the ticket's run slices and parks it while it is going, files it when it is over, and hands it
 -- back at any time
 abbrev pub busy_effect : RunProfile → (ticket : ℕ) → Chore → Desk → ClaimedRun → Deque → Option Effect
-busy_effect p t (slicing n) d r rs = if is_going r.progress && nat_lt 0 n then Some (in_hand (sliced p n r)) else None
-busy_effect p t parking d r rs = if is_going r.progress && nat_lt (length rs) MOST_PARKED then Some (onto_deque r rs) else None
-busy_effect p t filing d r rs = file_effect p t d r.progress
-busy_effect p t handing_back d r rs = Some (hand_emptied (hand_back_step d t))
+busy_effect p t (Slice n) d r rs = if is_going r.progress && nat_lt 0 n then Some (in_hand (sliced p n r)) else None
+busy_effect p t Park d r rs = if is_going r.progress && nat_lt (length rs) MOST_PARKED then Some (onto_deque r rs) else None
+busy_effect p t File d r rs = file_effect p t d r.progress
+busy_effect p t HandBack d r rs = Some (hand_emptied (hand_back_step d t))
 busy_effect p t k d r rs = None
 
 -- what a chore about a ticket leaves, if it can be done by a worker with this hand

@@ -1,18 +1,20 @@
 -- Where allocations fail in a world.
 use Rattle.std.specs.Prelude.{◌≡◌, IsSome, List, [], ◌∷◌, Option, Some, None, slice_get, slice_set}
 use Rattle.std.specs.Option.{option_flatten, option_map}
-use Rattle.pf_desks.specs.Desk.{marked_memory}
+use Rattle.pf_desks.specs.declared.mark.FileMark.TheVariants.{Memory}
 use Rattle.pf_desks.specs.Calls.{HasRoom}
 use Rattle.pf_desks.specs.Desks.{desk_at}
 use Rattle.pf_world.specs.World.{RunProfile, over, ClaimedRun, World}
-use Rattle.pf_world.specs.Chores.{Chore, claiming, slicing, parking, Response}
+use Rattle.pf_world.specs.Chores.{Response}
+use Rattle.pf_request.specs.declared.step.Chore.{Chore}
+use Rattle.pf_request.specs.declared.step.Chore.TheVariants.{Claim, Slice, Park}
 use Rattle.pf_world.specs.Steps.{WorldStep, client_calls, worker_does, effect_of, take_step}
 
 -- claims, slices and parkings may take memory; all other chores look, move or give up what is there
 abbrev pub MayTakeMemory : Chore → Type 0
-MayTakeMemory claiming = Unit {0}
-MayTakeMemory (slicing n) = Unit {0}
-MayTakeMemory parking = Unit {0}
+MayTakeMemory Claim = Unit {0}
+MayTakeMemory (Slice n) = Unit {0}
+MayTakeMemory Park = Unit {0}
 MayTakeMemory k = ⊥
 
 -- an allocation may fail in a call for which the log has room, and in a chore that can be done and may take memory
@@ -22,11 +24,11 @@ MayBeRefused p s (worker_does w q t k) = MayTakeMemory k × IsSome (effect_of p 
 
 -- a run in which an allocation failed is over
 abbrev pub out_of_memory : ClaimedRun → ClaimedRun
-out_of_memory r = record r { progress = over marked_memory }
+out_of_memory r = record r { progress = over Memory }
 
 -- the world after a step in which an allocation failed: a run that was sliced is over, and all else is as it was
 abbrev pub refused_in : World → WorldStep → World
-refused_in s (worker_does w q t (slicing n)) =
+refused_in s (worker_does w q t (Slice n)) =
     record s { hands = slice_set s.hands w (option_map out_of_memory (option_flatten (slice_get s.hands w))) }
 refused_in s x = s
 

@@ -3,7 +3,9 @@ use Rattle.std.specs.Prelude.{ℕ, Bool, false, ◌==◌, if◌then◌else◌, L
 use Rattle.pf_request.specs.Calls.{Call}
 use Rattle.pf_desks.specs.Desks.{Desks, Answer, not_now, client, desk_at, worked, step}
 use Rattle.pf_world.specs.World.{RunProfile, Hand, Deque, World, new_world}
-use Rattle.pf_world.specs.Chores.{Chore, stealing, Response, answer, Effect, chore_effect}
+use Rattle.pf_world.specs.Chores.{Response, answer, Effect, chore_effect}
+use Rattle.pf_request.specs.declared.step.Chore.{Chore}
+use Rattle.pf_request.specs.declared.step.Chore.TheVariants.{Steal}
 
 -- a client of a project makes a call, or a worker does a chore about the trial of a project's ticket
 pub data WorldStep : Type 0 where
@@ -14,12 +16,12 @@ pub data WorldStep : Type 0 where
 
 -- whose deque a worker looks at: another's if it steals, else its own
 abbrev pub deque_owner : (worker : ℕ) → Chore → ℕ
-deque_owner w (stealing v) = v
+deque_owner w (Steal v) = v
 deque_owner w k = w
 
 -- nobody steals from itself
 abbrev pub is_theft_of_own : (worker : ℕ) → Chore → Bool
-is_theft_of_own w (stealing v) = v == w
+is_theft_of_own w (Steal v) = v == w
 is_theft_of_own w k = false
 
 -- what a chore leaves, if there are such workers and it can be done

@@ -13,7 +13,8 @@ use Rattle.pf_request.specs.Request.{run}
 use Rattle.pf_desks.specs.Desk.{Desk, Reply, readable, number, ticket, result, given_up, uses, refused}
 use Rattle.pf_desks.specs.Desks.{replied, work_done, not_now}
 use Rattle.pf_world.specs.World.{RunProfile, ClaimedRun, World, new_world}
-use Rattle.pf_world.specs.Chores.{claiming, slicing, parking, taking_up, stealing, filing, handing_back, Response, answer, stray, new_run, busy_effect}
+use Rattle.pf_world.specs.Chores.{Response, answer, stray, new_run, busy_effect}
+use Rattle.pf_request.specs.declared.step.Chore.TheVariants.{Claim, Slice, Park, TakeUp, Steal, File, HandBack}
 use Rattle.pf_world.specs.Steps.{WorldStep, client_calls, worker_does, all_responses}
 use Rattle.pf_world.specs.Memory.{RespondsInTurn}
 use Rattle.pf_world.specs.Told.{step_text}
@@ -70,17 +71,17 @@ two_projects =
 abbrev pub dropped_at_work : (model.Job → Result) → List (WorldStep × Response)
 dropped_at_work means =
     two_projects
-    ++ (worker_does 0 1 1 claiming, is_done)
-    ∷ (worker_does 0 2 1 claiming, not_yet)
+    ++ (worker_does 0 1 1 Claim, is_done)
+    ∷ (worker_does 0 2 1 Claim, not_yet)
     ∷ (client_calls 1 (drop_trial 1), hears given_up)
-    ∷ (worker_does 0 1 1 (slicing 100), is_done)
-    ∷ (worker_does 0 1 1 filing, stray)
+    ∷ (worker_does 0 1 1 (Slice 100), is_done)
+    ∷ (worker_does 0 1 1 File, stray)
     ∷ (client_calls 1 (fetch 1), hears (refused code.NoTrial))
-    ∷ (worker_does 0 1 1 filing, not_yet)
-    ∷ (worker_does 0 2 1 claiming, is_done)
-    ∷ (worker_does 0 2 1 (slicing 100), is_done)
+    ∷ (worker_does 0 1 1 File, not_yet)
+    ∷ (worker_does 0 2 1 Claim, is_done)
+    ∷ (worker_does 0 2 1 (Slice 100), is_done)
     ∷ (client_calls 2 (fetch 1), hears (refused code.NotDone))
-    ∷ (worker_does 0 2 1 filing, is_done)
+    ∷ (worker_does 0 2 1 File, is_done)
     ∷ (client_calls 2 (fetch 1), its_result means)
     ∷ []
 
@@ -88,12 +89,12 @@ dropped_at_work means =
 abbrev pub stolen : (model.Job → Result) → List (WorldStep × Response)
 stolen means =
     two_projects
-    ++ (worker_does 0 2 1 claiming, is_done)
-    ∷ (worker_does 0 2 1 parking, is_done)
-    ∷ (worker_does 1 2 1 (stealing 0), is_done)
-    ∷ (worker_does 0 2 1 taking_up, not_yet)
-    ∷ (worker_does 1 2 1 (slicing 1), is_done)
-    ∷ (worker_does 1 2 1 filing, is_done)
+    ++ (worker_does 0 2 1 Claim, is_done)
+    ∷ (worker_does 0 2 1 Park, is_done)
+    ∷ (worker_does 1 2 1 (Steal 0), is_done)
+    ∷ (worker_does 0 2 1 TakeUp, not_yet)
+    ∷ (worker_does 1 2 1 (Slice 1), is_done)
+    ∷ (worker_does 1 2 1 File, is_done)
     ∷ (client_calls 2 (fetch 1), its_result means)
     ∷ []
 
@@ -103,16 +104,16 @@ abbrev pub in_slices : (model.Job → Result) → List (WorldStep × Response)
 in_slices means =
     (client_calls 7 a_submit, hears (number 1))
     ∷ (client_calls 7 an_order, hears (ticket 1))
-    ∷ (worker_does 0 7 1 claiming, is_done)
-    ∷ (worker_does 0 7 1 (slicing 2), is_done)
-    ∷ (worker_does 0 7 1 filing, not_yet)
-    ∷ (worker_does 0 7 1 parking, is_done)
-    ∷ (worker_does 3 7 1 (stealing 0), is_done)
-    ∷ (worker_does 3 7 1 (slicing 2), is_done)
-    ∷ (worker_does 3 7 1 (slicing 1), is_done)
-    ∷ (worker_does 3 7 1 (slicing 1), not_yet)
-    ∷ (worker_does 0 7 1 handing_back, not_yet)
-    ∷ (worker_does 3 7 1 filing, is_done)
+    ∷ (worker_does 0 7 1 Claim, is_done)
+    ∷ (worker_does 0 7 1 (Slice 2), is_done)
+    ∷ (worker_does 0 7 1 File, not_yet)
+    ∷ (worker_does 0 7 1 Park, is_done)
+    ∷ (worker_does 3 7 1 (Steal 0), is_done)
+    ∷ (worker_does 3 7 1 (Slice 2), is_done)
+    ∷ (worker_does 3 7 1 (Slice 1), is_done)
+    ∷ (worker_does 3 7 1 (Slice 1), not_yet)
+    ∷ (worker_does 0 7 1 HandBack, not_yet)
+    ∷ (worker_does 3 7 1 File, is_done)
     ∷ (client_calls 7 (fetch 1), its_result means)
     ∷ []
 
@@ -122,28 +123,28 @@ in_slices means =
 abbrev pub one_by_one : (model.Job → Result) → List (WorldStep × Response)
 one_by_one means =
     two_projects
-    ++ (worker_does 2 1 1 claiming, is_done)
-    ∷ (worker_does 3 1 1 claiming, not_yet)
-    ∷ (worker_does 4 2 1 claiming, not_yet)
-    ∷ (worker_does 2 1 1 (slicing 0), not_yet)
-    ∷ (worker_does 2 1 1 parking, is_done)
-    ∷ (worker_does 2 2 1 claiming, is_done)
-    ∷ (worker_does 2 2 1 parking, is_done)
-    ∷ (worker_does 2 2 1 taking_up, not_yet)
-    ∷ (worker_does 2 1 1 (stealing 2), not_yet)
-    ∷ (worker_does 0 1 1 (stealing 4), not_yet)
-    ∷ (worker_does 2 1 1 taking_up, is_done)
-    ∷ (worker_does 0 1 1 (stealing 2), not_yet)
-    ∷ (worker_does 0 2 1 (stealing 2), is_done)
-    ∷ (worker_does 0 2 1 (slicing 1), is_done)
-    ∷ (worker_does 0 2 1 parking, not_yet)
-    ∷ (worker_does 0 2 1 handing_back, is_done)
-    ∷ (worker_does 0 2 1 handing_back, not_yet)
-    ∷ (worker_does 3 2 1 claiming, is_done)
-    ∷ (worker_does 3 2 1 filing, not_yet)
+    ++ (worker_does 2 1 1 Claim, is_done)
+    ∷ (worker_does 3 1 1 Claim, not_yet)
+    ∷ (worker_does 4 2 1 Claim, not_yet)
+    ∷ (worker_does 2 1 1 (Slice 0), not_yet)
+    ∷ (worker_does 2 1 1 Park, is_done)
+    ∷ (worker_does 2 2 1 Claim, is_done)
+    ∷ (worker_does 2 2 1 Park, is_done)
+    ∷ (worker_does 2 2 1 TakeUp, not_yet)
+    ∷ (worker_does 2 1 1 (Steal 2), not_yet)
+    ∷ (worker_does 0 1 1 (Steal 4), not_yet)
+    ∷ (worker_does 2 1 1 TakeUp, is_done)
+    ∷ (worker_does 0 1 1 (Steal 2), not_yet)
+    ∷ (worker_does 0 2 1 (Steal 2), is_done)
+    ∷ (worker_does 0 2 1 (Slice 1), is_done)
+    ∷ (worker_does 0 2 1 Park, not_yet)
+    ∷ (worker_does 0 2 1 HandBack, is_done)
+    ∷ (worker_does 0 2 1 HandBack, not_yet)
+    ∷ (worker_does 3 2 1 Claim, is_done)
+    ∷ (worker_does 3 2 1 File, not_yet)
     ∷ (client_calls 2 (drop_trial 1), hears given_up)
-    ∷ (worker_does 3 2 1 handing_back, stray)
-    ∷ (worker_does 3 2 1 claiming, not_yet)
+    ∷ (worker_does 3 2 1 HandBack, stray)
+    ∷ (worker_does 3 2 1 Claim, not_yet)
     ∷ []
 
 -- an allocation fails in a claim, a parking and a slice; the first two leave all as it was, and the run that was sliced
@@ -152,19 +153,19 @@ abbrev pub growths_refused : List (WorldStep × Option Response)
 growths_refused =
     (client_calls 1 a_submit, Some (hears (number 1)))
     ∷ (client_calls 1 an_order, Some (hears (ticket 1)))
-    ∷ (worker_does 0 1 1 claiming, None)
-    ∷ (worker_does 1 1 1 claiming, Some is_done)
-    ∷ (worker_does 1 1 1 parking, None)
-    ∷ (worker_does 1 1 1 (slicing 1), None)
-    ∷ (worker_does 1 1 1 parking, Some not_yet)
-    ∷ (worker_does 1 1 1 filing, Some is_done)
+    ∷ (worker_does 0 1 1 Claim, None)
+    ∷ (worker_does 1 1 1 Claim, Some is_done)
+    ∷ (worker_does 1 1 1 Park, None)
+    ∷ (worker_does 1 1 1 (Slice 1), None)
+    ∷ (worker_does 1 1 1 Park, Some not_yet)
+    ∷ (worker_does 1 1 1 File, Some is_done)
     ∷ (client_calls 1 (fetch 1), Some (hears (result sum_and_product.atoms (report memory_report))))
     ∷ []
 
 -- a deque has room for a run if 63 are on it, and none if 64 are
 abbrev pub HasItsRoom : RunProfile → Desk → ClaimedRun → Type 0
 HasItsRoom p d r =
-    IsSome (busy_effect p r.ticket parking d r (replicate 63 r)) × (busy_effect p r.ticket parking d r (replicate 64 r) ≡ None)
+    IsSome (busy_effect p r.ticket Park d r (replicate 63 r)) × (busy_effect p r.ticket Park d r (replicate 64 r) ≡ None)
 
 -- whatever jobs mean, these lists are answered so, with one event to a job, or with five
 abbrev pub WorkedSteps : Type 0
@@ -186,9 +187,9 @@ IsStepText x a text = step_text x a ≡ text
 -- a worker is named by its own number, and not by the project's, the ticket's or that of the worker from whom it steals
 abbrev pub WorkedTexts : Type 0
 WorkedTexts =
-    IsStepText (worker_does 3 7 1 (slicing 2)) (Some is_done) (codes "w3 done\n")
-    × IsStepText (worker_does 5 7 1 (stealing 3)) (Some not_yet) (codes "w5 not now N2\n")
-    × IsStepText (worker_does 0 7 1 filing) (Some stray) (codes "w0 stray N1\n")
-    × IsStepText (worker_does 1 7 2 claiming) None (codes "w1 no memory\n")
+    IsStepText (worker_does 3 7 1 (Slice 2)) (Some is_done) (codes "w3 done\n")
+    × IsStepText (worker_does 5 7 1 (Steal 3)) (Some not_yet) (codes "w5 not now N2\n")
+    × IsStepText (worker_does 0 7 1 File) (Some stray) (codes "w0 stray N1\n")
+    × IsStepText (worker_does 1 7 2 Claim) None (codes "w1 no memory\n")
     × IsStepText (client_calls 7 a_submit) (Some (hears (number 1))) (codes "p7 module 1\n")
     × IsStepText (client_calls 7 usage) None (codes "p7 refused NoMemory\n")

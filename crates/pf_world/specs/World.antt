@@ -2,7 +2,8 @@
 use Rattle.std.specs.Prelude.{ℕ, List, [], Option, None, replicate}
 use Rattle.pf_model.specs.Meaning as model
 use Rattle.pf_request.specs.Job.{Job}
-use Rattle.pf_desks.specs.Desk.{Profile, FileMark}
+use Rattle.pf_desks.specs.Desk.{Profile}
+use Rattle.pf_desks.specs.declared.mark.FileMark.{FileMark}
 use Rattle.pf_desks.specs.Desks.{Desks}
 
 -- the profile of the language, or what worlds ask of it: what desks ask; and how many events the run of a job has,

@@ -4,7 +4,8 @@ use Rattle.pf_errors.specs.Codes.{code_text}
 use Rattle.pf_sched.specs.Views.{code_of}
 use Rattle.pf_hunt.specs.Notices.{HearsSome}
 use Rattle.pf_hunt.proofs.Hearing.{hears_none, hears_weaker}
-use Rattle.pf_cli.specs.Args.{failure, view_of_hunt_args}
+use Rattle.pf_cli.specs.Args.{view_of_hunt_args}
+use Rattle.pf_cli.specs.declared.args.HuntGoal.TheVariants.{Failure}
 use Rattle.pf_command.specs.Answers.{Refuses, job_refused}
 use Rattle.pf_command.specs.Hunts.{HuntAsksFor, HuntEndsAs, OfEach, TellsAs, hunted, refused}
 use Rattle.pf_command.proofs.seek.hunt_failure.Goals as goal
@@ -14,7 +15,7 @@ returns-in-Ok g c =
     let h = view_of_hunt_args c.args.args.now in
     let m = c.args.module in
     let job = c.in-Ok.job in
-    let sought = failure c.args.runs in
+    let sought = Failure c.args.runs in
     let heard = g.S.HuntObserver.Heard in
     let old = c.args.seeds.now in
     let new = c.seek_failure.new.seeds in
@@ -29,7 +30,7 @@ pub returns-in-Err-Fault : goal.returns-in-Err-Fault
 returns-in-Err-Fault g c =
     let h = view_of_hunt_args c.args.args.now in
     let m = c.args.module in
-    let sought = failure c.args.runs in
+    let sought = Failure c.args.runs in
     let code = code_of c.in-Err-Fault.refusal in
     let asks : HuntAsksFor h sought m (Err code) = rw c.in-Err-Fault.field-0-is at c.in-Err-Fault.ensures in
     let told = rw c.code.ensures at c.in_ok-answer-in-Err-Fault.ensures in

@@ -1,6 +1,6 @@
 use Rattle.std.proofs.Common.{IfOk, ap, subst, sym}
 use Rattle.pf_hunt.specs.Notices.{HearsSome}
-use Rattle.pf_cli.specs.Args.{view_of_hunt_args, sought_by}
+use Rattle.pf_cli.specs.Args.{view_of_hunt_args}
 use Rattle.pf_command.specs.Hunts.{HuntEndsAs, OfEach, SoughtAnswers}
 use Rattle.pf_command.proofs.seek.hunt_module.Goals as goal
 
@@ -11,7 +11,7 @@ returns-in-Failure g c =
     (λ s.
     IfOk c.hunt_failure.result
     (λ x. HearsSome g.S.HuntObserver.Heard c.args.seeds.now (OfEach c.args.module (λ bytes. HuntEndsAs h s bytes x)) c.hunt_failure.new.seeds))
-    (sym (ap sought_by c.in-Failure.is)) c.hunt_failure.ensures
+    (sym c.in-Failure.is) c.hunt_failure.ensures
 
 pub returns-in_ok-answer-in-Outcomes : goal.returns-in_ok-answer-in-Outcomes
 returns-in_ok-answer-in-Outcomes g c =
@@ -20,7 +20,7 @@ returns-in_ok-answer-in-Outcomes g c =
     let heard = c.in_ok-answer-in-Outcomes.ensures in (
       heard.0,
       (λ bytes of.
-          let answers = subst (λ s. SoughtAnswers h s bytes heard.0 a.text.items a.status) (sym (ap sought_by c.in-Outcomes.is)) (heard.1 bytes of) in
+          let answers = subst (λ s. SoughtAnswers h s bytes heard.0 a.text.items a.status) (sym c.in-Outcomes.is) (heard.1 bytes of) in
           (tt, λ t s say. rw (say.0, say.1) answers)),
       heard.2,
     )

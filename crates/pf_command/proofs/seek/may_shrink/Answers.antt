@@ -1,5 +1,6 @@
 use Rattle.std.proofs.Common.{[], Some}
-use Rattle.pf_cli.specs.Args.{failure, view_of_hunt_args}
+use Rattle.pf_cli.specs.Args.{view_of_hunt_args}
+use Rattle.pf_cli.specs.declared.args.HuntGoal.TheVariants.{Failure}
 use Rattle.pf_cli_messages.specs.Explained.{AsksOf}
 use Rattle.pf_command.specs.Hunts.{HuntAsksFor, shrinking_of, shrinking_refused}
 use Rattle.pf_command.proofs.Asking.{refusal_weaker}
@@ -10,5 +11,5 @@ returns-in-Err c =
     let h = view_of_hunt_args c.args.args.now in
     let m = c.args.module.now in
     let runs = c.args.runs in
-    refusal_weaker (AsksOf (shrinking_of h [] runs) m) (HuntAsksFor h (failure (Some runs)) m) (λ code is. shrinking_refused runs m code is)
+    refusal_weaker (AsksOf (shrinking_of h [] runs) m) (HuntAsksFor h (Failure (Some runs)) m) (λ code is. shrinking_refused runs m code is)
     c.in-Err.refusal c.in-Err.ensures

@@ -7,7 +7,8 @@ use Rattle.pf_hunt.specs.Hunts.{SearchedTo}
 use Rattle.pf_hunt.specs.Notices.{HearsSome, TallyNotices}
 use Rattle.pf_hunt.specs.Views.{row_of, rows_in}
 use Rattle.pf_hunt.proofs.Hearing.{hears_weaker}
-use Rattle.pf_cli.specs.Args.{outcomes, view_of_hunt_args}
+use Rattle.pf_cli.specs.Args.{view_of_hunt_args}
+use Rattle.pf_cli.specs.declared.args.HuntGoal.TheVariants.{Outcomes}
 use Rattle.pf_command.specs.Answers.{atom_names_of}
 use Rattle.pf_command.specs.Hunts.{TellsSought, front_text, row_text, strategy_text}
 use Rattle.pf_command.proofs.Found.{fails_are, tells_rows, texts_are}
@@ -27,10 +28,10 @@ returns g c =
     IfOk-weaker c.write_rows.result
     (λ a. (a.text.items ≡ front_text h end ++ strategy_text h.strategy ++ flat_map (λ x. row_text (atom_names_of j) (row_of x)) rows)
     × (a.status ≡ (if list_any (λ x. is_failure x.verdict) rows then 1 else 0)))
-    (λ a. HearsSome heard old (λ ns. (bytes : List ℕ) → TellsSought h bytes j ns outcomes a.text.items a.status) new)
+    (λ a. HearsSome heard old (λ ns. (bytes : List ℕ) → TellsSought h bytes j ns Outcomes a.text.items a.status) new)
     (λ a is.
     hears_weaker heard (TallyNotices h.strategy j.asked may.result h.seeds.0 h.seeds.1 end)
-    (λ ns. (bytes : List ℕ) → TellsSought h bytes j ns outcomes a.text.items a.status) old new
+    (λ ns. (bytes : List ℕ) → TellsSought h bytes j ns Outcomes a.text.items a.status) old new
     (λ ns told bytes.
     tells_rows h bytes j ns end (rows_in rows) a reach c.in_ok-tallied.ensures.known.rows
     (subst (λ b. TallyNotices h.strategy j.asked b h.seeds.0 h.seeds.1 end ns) may.ensures told)

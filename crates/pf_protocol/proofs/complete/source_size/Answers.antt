@@ -5,7 +5,8 @@ use Rattle.std.specs.Str.{bytes_eq}
 use Rattle.pf_text.specs.Numbers.{number_of_digits, schedule_of}
 use Rattle.pf_request.specs.Calls.{Call, fetch, status, drop_trial, withdraw, usage, log, edition}
 use Rattle.pf_request.specs.Request.{RequestKind, run}
-use Rattle.pf_world.specs.Chores.{Chore, claiming, slicing, parking, taking_up, filing, handing_back}
+use Rattle.pf_request.specs.declared.step.Chore.{Chore}
+use Rattle.pf_request.specs.declared.step.Chore.TheVariants.{Claim, Slice, Park, TakeUp, File, HandBack}
 use Rattle.pf_world.specs.Steps.{WorldStep, client_calls, worker_does}
 use Rattle.pf_protocol.specs.Commands.{LineContent, choices_at, made, one_number, with_two, with_three, with_four, with_order, with_runs, of_call, of_chore, of_one, of_order, of_project, of_shrink, of_two, of_three, of_four, slice_of, theft_of, work_asked, content_of_line, words_of_line, is_line_word}
 use Rattle.pf_protocol.specs.Complete.{size_in}
@@ -115,17 +116,17 @@ chore_made : (k : Chore) (ws : List (List ℕ)) → size_in (of_chore k ws) ≡ 
 chore_made k ws = three_made (λ w p t. worker_does w p t k) ws
 
 slice_made : (w p t turns : ℕ) → size_in (slice_of w p t turns) ≡ None
-slice_made w p t turns = pick_none (nat_lt 0 turns) (Some (made (worker_does w p t (slicing turns)))) None refl refl
+slice_made w p t turns = pick_none (nat_lt 0 turns) (Some (made (worker_does w p t (Slice turns)))) None refl refl
 
 work_made : (w : List ℕ) (ws : List (List ℕ)) → size_in (work_asked w ws) ≡ None
 work_made w ws =
-    let from_back = pick_none (bytes_eq w (codes "back")) (of_chore handing_back ws) None (chore_made handing_back ws) refl in
-    let from_file = pick_none (bytes_eq w (codes "file")) (of_chore filing ws) _ (chore_made filing ws) from_back in
+    let from_back = pick_none (bytes_eq w (codes "back")) (of_chore HandBack ws) None (chore_made HandBack ws) refl in
+    let from_file = pick_none (bytes_eq w (codes "file")) (of_chore File ws) _ (chore_made File ws) from_back in
     let from_steal = pick_none (bytes_eq w (codes "steal")) (of_four theft_of ws) _ (four_made theft_of (λ k l m n. refl) ws) from_file in
-    let from_take = pick_none (bytes_eq w (codes "take")) (of_chore taking_up ws) _ (chore_made taking_up ws) from_steal in
-    let from_park = pick_none (bytes_eq w (codes "park")) (of_chore parking ws) _ (chore_made parking ws) from_take in
+    let from_take = pick_none (bytes_eq w (codes "take")) (of_chore TakeUp ws) _ (chore_made TakeUp ws) from_steal in
+    let from_park = pick_none (bytes_eq w (codes "park")) (of_chore Park ws) _ (chore_made Park ws) from_take in
     let from_slice = pick_none (bytes_eq w (codes "slice")) (of_four slice_of ws) _ (four_made slice_of slice_made ws) from_park in
-    pick_none (bytes_eq w (codes "claim")) (of_chore claiming ws) _ (chore_made claiming ws) from_slice
+    pick_none (bytes_eq w (codes "claim")) (of_chore Claim ws) _ (chore_made Claim ws) from_slice
 
 -- only a submission wants a source
 others_want_none : (w : List ℕ) (ws : List (List ℕ)) → bytes_eq w (codes "submit") ≡ false → size_in (content_of_line (w ∷ ws)) ≡ None

@@ -1,6 +1,6 @@
 use Rattle.std.proofs.Common.{◌≡◌, ◌-◌, ◌∷◌, ◌++◌, [], Some, inl, refl, sym, subst}
 use Rattle.pf_errors.specs.declared.fault.OrNoMemory.TheVariants.{NoMemory}
-use Rattle.pf_model.specs.Reports.{actor_of, label_of}
+use Rattle.pf_model.specs.Reports.{label_of}
 use Rattle.pf_trace.proofs.Fronts.{handed_on}
 use Rattle.pf_sched.specs.Printing.{IsPrinted, atom_names_of}
 use Rattle.pf_sched.specs.Told.{event}
@@ -34,7 +34,7 @@ returns-in_err-print_full-clause-fault g c =
     let old = c.args.execution.now in
     let n = c.in-Some.chosen in
     let l = label_of c.pass_next.new.shown in
-    let e = event n.index n.among (actor_of n.actor) l in
+    let e = event n.index n.among n.actor l in
     let f = c.in_err-print_full.field-0.0 in
     handed_on c.from_residual-in_err-print_full.result f _ c.from_residual-in_err-print_full.ensures
     (λ j cs es w0 same printed.
@@ -52,7 +52,7 @@ returns-clause-printed g c j cs es w0 same printed =
     let old = c.args.execution.now in
     let n = c.in-Some.chosen in
     let l = label_of c.pass_next.new.shown in
-    let e = event n.index n.among (actor_of n.actor) l in
+    let e = event n.index n.among n.actor l in
     let went =
     subst (λ o. MayHavePassed (c.args.limit - old.system.steps) printed.run.last old o l c.pass_next.new.self) c.in-Some.is
     (c.in_ok-chosen.ensures printed.run.last printed.run.stands) in

@@ -1,7 +1,8 @@
 use Rattle.std.proofs.Common.{◌≡◌, ℕ, zero, suc, Option, None, refl, sym, ap, ◌∙◌}
 use Rattle.std.specs.Prelude.{option_map}
 use Rattle.pf_desks.specs.Calls.{stage_of}
-use Rattle.pf_desks.specs.Desk.{Desk, TrialStage, Trial, no_desk, held_at}
+use Rattle.pf_desks.specs.Desk.{Desk, Trial, no_desk, held_at}
+use Rattle.pf_desks.specs.declared.stage.TrialStage.{TrialStage}
 use Rattle.pf_desks.specs.Desks.{desk_at}
 use Rattle.pf_book.proofs.Placed.{desk_at_index, no_desk_at}
 use Rattle.pf_book.proofs.book.Book.stage.Goals as goal

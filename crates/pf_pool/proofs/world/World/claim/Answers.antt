@@ -7,7 +7,8 @@ use Rattle.std.proofs.lemmas.Result.{err_from_is_err_and}
 use Rattle.pf_request.specs.Job.{Job}
 use Rattle.pf_desks.specs.Desks.{Desks, desk_at}
 use Rattle.pf_book.specs.Queued.{job_at}
-use Rattle.pf_world.specs.Chores.{claiming, new_run}
+use Rattle.pf_world.specs.Chores.{new_run}
+use Rattle.pf_request.specs.declared.step.Chore.TheVariants.{Claim}
 use Rattle.pf_world.specs.Steps.{worker_does}
 use Rattle.pf_world.specs.World.{ClaimedRun, Hand, World}
 use Rattle.pf_pool.specs.declared.response.Response.TheVariants.{Done}
@@ -33,7 +34,7 @@ returns-in_err-claim_at c =
     let w = c.args.worker in
     let q = c.args.project in
     let t = c.args.ticket in
-    let x = worker_does w q t claiming in
+    let x = worker_does w q t Claim in
     let free : slice_get s.hands w ≡ Some None =
     free_so (slice_get s.hands w) (ap (λ (l : List Hand). is_free (slice_get l w)) (sym c.deref.ensures.value) ∙ sym c.is_free.ensures ∙ c.if-not-is_free.false) in
     let rs = deque_there s w None c.self.invariant.workers free in
@@ -64,7 +65,7 @@ returns c =
     let w = c.args.worker in
     let q = c.args.project in
     let t = c.args.ticket in
-    let x = worker_does w q t claiming in
+    let x = worker_does w q t Claim in
     let j = c.in-Some.job.now.value in
     let w' = c.claim_at.new.self in
     let free : slice_get s.hands w ≡ Some None =

@@ -1,5 +1,5 @@
 use Rattle.std.proofs.Common.{◌≡◌, List, Some, None, Ok, sym, subst}
-use Rattle.pf_world.specs.Chores.{filing}
+use Rattle.pf_request.specs.declared.step.Chore.TheVariants.{File}
 use Rattle.pf_world.specs.Steps.{worker_does}
 use Rattle.pf_world.specs.World.{Hand, World}
 use Rattle.pf_pool.specs.Sound.{world_in, IsSound}
@@ -24,6 +24,6 @@ returns c =
     let taken = c.in-Some.ensures in
     let rs = deque_there s w (Some taken.0) c.self.invariant.workers taken.1 in
     let k : World = record { desks = c.file.new.self; hands = c.take_finished.new.hands.items; deques = s.deques } in
-    seen s c.args.self.now k (worker_does w q t filing) (Ok c.emptied.result) c.self.view_is
+    seen s c.args.self.now k (worker_does w q t File) (Ok c.emptied.result) c.self.view_is
     (file_responds s w q t rs.0 rs.1 c.in-Some.finished c.file.result c.emptied.result c.take_finished.new.hands.items c.file.new.self taken
     (job_taken s w q t c.in-Some.finished c.take_finished.new.hands.items c.self.invariant taken) c.emptied.ensures c.file.ensures.file)

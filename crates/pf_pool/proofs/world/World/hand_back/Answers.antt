@@ -1,6 +1,6 @@
 use Rattle.std.proofs.Common.{◌≡◌, List, true, Some, None, Ok, sym, ap, ◌∙◌}
 use Rattle.std.specs.Prelude.{slice_get, slice_set}
-use Rattle.pf_world.specs.Chores.{handing_back}
+use Rattle.pf_request.specs.declared.step.Chore.TheVariants.{HandBack}
 use Rattle.pf_world.specs.Steps.{worker_does}
 use Rattle.pf_world.specs.World.{Hand, World}
 use Rattle.pf_pool.specs.Hands.{held_of_worker, hand_holds}
@@ -28,5 +28,5 @@ returns c =
     let x = held_so q t (slice_get s.hands w) test in
     let rs = deque_there s w (Some x.0) c.self.invariant.workers x.1 in
     let k : World = record { desks = w'; hands = slice_set s.hands w None; deques = s.deques } in
-    seen s c.args.self.now k (worker_does w q t handing_back) (Ok c.emptied.result) c.self.view_is
+    seen s c.args.self.now k (worker_does w q t HandBack) (Ok c.emptied.result) c.self.view_is
     (back_responds s w q t (Some x.0) rs.0 x.1 rs.1 c.hand_back.result c.emptied.result w' x.2 c.emptied.ensures c.hand_back.ensures)

@@ -2,7 +2,8 @@ use Rattle.std.proofs.Common.{◌≡◌, true, List, length, Some, Ok, Err, sym,
 use Rattle.std.specs.Prelude.{Result, slice_get, slice_set}
 use Rattle.std.proofs.lemmas.Result.{err_from_is_err_and}
 use Rattle.pf_errors.specs.declared.memory.NoMemory.{NoMemory}
-use Rattle.pf_world.specs.Chores.{parking, MOST_PARKED}
+use Rattle.pf_world.specs.Chores.{MOST_PARKED}
+use Rattle.pf_request.specs.declared.step.Chore.TheVariants.{Park}
 use Rattle.pf_world.specs.Steps.{worker_does}
 use Rattle.pf_world.specs.World.{Hand, Deque, World}
 use Rattle.pf_pool.specs.declared.response.Response.{Response}
@@ -22,7 +23,7 @@ returns-in_err-park c =
     let w = c.args.worker in
     let q = c.args.project in
     let t = c.args.ticket in
-    let x = worker_does w q t parking in
+    let x = worker_does w q t Park in
     let h = c.index_mut-2.result.now in
     let rs = c.index_mut.result.now in
     let test : holds_going q t (held_of_worker s.hands w) ≡ true =
@@ -67,7 +68,7 @@ returns c =
     let w = c.args.worker in
     let q = c.args.project in
     let t = c.args.ticket in
-    let x = worker_does w q t parking in
+    let x = worker_does w q t Park in
     let h = c.index_mut-2.result.now in
     let rs = c.index_mut.result.now in
     let test : holds_going q t (held_of_worker s.hands w) ≡ true =

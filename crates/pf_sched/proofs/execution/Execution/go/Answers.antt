@@ -1,5 +1,5 @@
 use Rattle.std.proofs.Common.{◌-◌, refl, subst}
-use Rattle.pf_model.specs.Reports.{actor_of, label_of}
+use Rattle.pf_model.specs.Reports.{label_of}
 use Rattle.pf_sched.specs.Told.{event}
 use Rattle.pf_sched.specs.Traces.{MayHavePassed}
 use Rattle.pf_sched.proofs.execution.Execution.go.Goals as goal
@@ -8,7 +8,7 @@ pub returns : goal.returns
 returns g c d stands =
     let old = c.args.self.now in
     let n = c.in-Some.chosen in (
-      event n.index n.among (actor_of n.actor) (label_of c.pass_next.new.shown),
+      event n.index n.among n.actor (label_of c.pass_next.new.shown),
       subst (λ o. MayHavePassed (c.args.limit - old.system.steps) d old o (label_of c.pass_next.new.shown) c.pass_next.new.self) c.in-Some.is (c.in_ok-chosen.ensures d stands),
       c.in_ok-tell.ensures,
     )

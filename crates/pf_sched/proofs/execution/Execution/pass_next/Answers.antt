@@ -1,13 +1,12 @@
 use Rattle.std.proofs.Common.{length, sym, ap, ◌∙◌}
 use Rattle.std.specs.Prelude.{slice_get}
-use Rattle.pf_model.specs.Reports.{actor_of}
 use Rattle.pf_system.specs.Steps.{noted_actors}
 use Rattle.pf_system.proofs.WhoMayGo.{may_go}
 use Rattle.pf_sched.proofs.execution.Execution.pass_next.Goals as goal
 
 pub pass-requires-clause-enabled : goal.pass-requires-clause-enabled
 pass-requires-clause-enabled c =
-    may_go c.args.self.now.system.standing (noted_actors c.enabled-enabled.result) c.enabled-enabled.ensures.actors c.choose-index.result (actor_of c.actor-actor.result)
+    may_go c.args.self.now.system.standing (noted_actors c.enabled-enabled.result) c.enabled-enabled.ensures.actors c.choose-index.result c.actor-actor.result
     c.actor-actor.ensures
 
 pub returns : goal.returns

@@ -1,7 +1,7 @@
 use Rattle.std.proofs.Common.{◌≡◌, length, sym, ap, ◌∙◌}
 use Rattle.std.specs.Prelude.{slice_get}
 use Rattle.rand_pcg.specs.Pcg.{pcg32}
-use Rattle.pf_model.specs.Reports.{actor_of, label_of}
+use Rattle.pf_model.specs.Reports.{label_of}
 use Rattle.pf_model.specs.Channels.{heads}
 use Rattle.pf_strategy.specs.Keys.{keys_among}
 use Rattle.pf_strategy.specs.Priorities.{choice}
@@ -15,7 +15,7 @@ use Rattle.pf_sched.proofs.guided.Guided.go.Goals as goal
 
 pub pass-requires-clause-enabled : goal.pass-requires-clause-enabled
 pass-requires-clause-enabled g c =
-    may_go c.args.self.now.system.standing (noted_actors c.enabled-enabled.result) c.enabled-enabled.ensures.actors c.in_ok-index.index (actor_of c.actor-actor.result)
+    may_go c.args.self.now.system.standing (noted_actors c.enabled-enabled.result) c.enabled-enabled.ensures.actors c.in_ok-index.index c.actor-actor.result
     c.actor-actor.ensures
 
 pub returns : goal.returns
@@ -24,7 +24,7 @@ returns g c d stands =
     let hs = heads c.enabled-enabled.result.channels.now in
     let keys : keys_among c.pids.result.now c.as_slice.result.now ≡ keys_of (noted_actors c.enabled-enabled.result) =
     ap (λ xs. keys_among xs c.as_slice.result.now) c.pids.ensures ∙ ap (keys_among ps) (c.as_slice.ensures.value ∙ c.in_ok-put_channels.ensures) ∙ noted_keys ps hs in (
-      event c.in_ok-index.index c.len-among.result (actor_of c.actor-actor.result) (label_of c.pass.new.shown),
+      event c.in_ok-index.index c.len-among.result c.actor-actor.result (label_of c.pass.new.shown),
       record {
         used = c.in_ok-pass.field-0;
         counts = c.len-among.ensures.count ∙ ap length (c.enabled-enabled.ensures.actors d stands);

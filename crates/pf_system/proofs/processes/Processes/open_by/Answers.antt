@@ -1,6 +1,5 @@
 use Rattle.std.proofs.Common.{◌≡◌, sym, subst, arith, length, IfOk}
-use Rattle.pf_model.specs.Contraction.{linking, unbound}
-use Rattle.pf_stepper.specs.Acts.{bond_of}
+use Rattle.pf_model.specs.declared.bond.Bond.TheVariants as bonds
 use Rattle.pf_system.specs.Acts.{OpensProcess, ReportsSpawn, answer}
 use Rattle.pf_system.proofs.processes.Processes.open_by.Goals as goal
 
@@ -10,8 +9,8 @@ returns-in_ok-open-in-Unbound c =
     let r = w.shared.ties.next_reference in
     let n : c.len-pid.result ≡ length w.slots.items = omega (arith, c.len-pid.ensures) in
     let told = answer c.told.result c.told.new.shown in
-    subst (λ b. OpensProcess (bond_of b) c.args.other w c.args.life told c.open.new.self) (sym c.in-Unbound.is)
-    (record { opens = c.in_ok-open-in-Unbound.ensures; tells = subst (λ z. ReportsSpawn unbound z r told) n (c.told.ensures r) })
+    subst (λ b. OpensProcess b c.args.other w c.args.life told c.open.new.self) (sym c.in-Unbound.is)
+    (record { opens = c.in_ok-open-in-Unbound.ensures; tells = subst (λ z. ReportsSpawn bonds.Unbound z r told) n (c.told.ensures r) })
 
 pub returns-in_ok-open-in-Linking : goal.returns-in_ok-open-in-Linking
 returns-in_ok-open-in-Linking c =
@@ -19,11 +18,11 @@ returns-in_ok-open-in-Linking c =
     let r = w.shared.ties.next_reference in
     let n : c.len-pid.result ≡ length w.slots.items = omega (arith, c.len-pid.ensures) in
     let told = answer c.told-in-Linking.result c.told-in-Linking.new.shown in
-    subst (λ b. OpensProcess (bond_of b) c.args.other w c.args.life told c.open-in-Linking.new.self) (sym c.in-Linking.is)
-    (record { opens = c.in_ok-open-in-Linking.ensures; tells = subst (λ z. ReportsSpawn linking z r told) n (c.told-in-Linking.ensures r) })
+    subst (λ b. OpensProcess b c.args.other w c.args.life told c.open-in-Linking.new.self) (sym c.in-Linking.is)
+    (record { opens = c.in_ok-open-in-Linking.ensures; tells = subst (λ z. ReportsSpawn bonds.Linking z r told) n (c.told-in-Linking.ensures r) })
 
 pub returns-in-Watching : goal.returns-in-Watching
 returns-in-Watching c =
     let w = c.args.self.now in
-    subst (λ b. IfOk c.open_watched.result (λ v. OpensProcess (bond_of b) c.args.other w c.args.life (answer v c.open_watched.new.shown) c.open_watched.new.self))
+    subst (λ b. IfOk c.open_watched.result (λ v. OpensProcess b c.args.other w c.args.life (answer v c.open_watched.new.shown) c.open_watched.new.self))
     (sym c.in-Watching.is) c.open_watched.ensures

@@ -1,6 +1,6 @@
 use Rattle.std.proofs.Common.{◌≡◌, ◌∙◌, subst, length}
 use Rattle.std.proofs.lemmas.Result.{IfOk-weaker}
-use Rattle.pf_model.specs.Contraction.{watching}
+use Rattle.pf_model.specs.declared.bond.Bond.TheVariants.{Watching}
 use Rattle.pf_ties.specs.Ties.{opened_watched}
 use Rattle.pf_system.specs.Acts.{ReportsSpawn, answer}
 use Rattle.pf_system.proofs.Spawning.{opens_tied}
@@ -14,6 +14,6 @@ returns c =
     IfOk-weaker c.told_watched.result _ _
     (λ v h. let r = answer v c.told_watched.new.shown in record {
       opens = opens_tied w c.enter.new.self c.args.life (opened_watched w.shared.ties c.args.watcher) c.open_watched.new.self k.opened c.in_ok-enter.ensures;
-      tells = subst (λ z. ReportsSpawn watching z w.shared.ties.next_reference r) n (subst (λ z. ReportsSpawn watching c.in_ok-pid.pid z r) k.reference h);
+      tells = subst (λ z. ReportsSpawn Watching z w.shared.ties.next_reference r) n (subst (λ z. ReportsSpawn Watching c.in_ok-pid.pid z r) k.reference h);
     })
     c.told_watched.ensures

@@ -2,7 +2,6 @@ use Rattle.std.proofs.Common.{◌≡◌, ◌<◌, ◌≤◌, refl, ap, subst, ar
 use Rattle.std.proofs.lemmas.Result.{IfOk-weaker}
 use Rattle.pf_terms.specs.Term.{value_of, elements_of}
 use Rattle.pf_model.specs.Actions.{start_of}
-use Rattle.pf_stepper.specs.Acts.{bond_of}
 use Rattle.pf_system.specs.Acts.{LifeBegins, answer}
 use Rattle.pf_system.specs.Processes.{checked_in, module_in}
 use Rattle.pf_system.proofs.Acting.{not_atom}
@@ -15,7 +14,7 @@ pub returns-in_default : goal.returns-in_default
 returns-in_default c =
     let x = c.args in
     record {
-      acts = home_refused x.pid (bond_of x.bond) x.self.now _ (value_of x.home) (value_of x.function) (value_of x.arguments)
+      acts = home_refused x.pid x.bond x.self.now _ (value_of x.home) (value_of x.function) (value_of x.arguments)
           (not_atom x.home c.in_default.not-Atom) c.raising.ensures;
       keeps = keeps_slot x.pid x.self.now x.self.now refl;
     }
@@ -24,7 +23,7 @@ pub returns-in_default-function : goal.returns-in_default-function
 returns-in_default-function c =
     let x = c.args in
     record {
-      acts = function_refused x.pid (bond_of x.bond) x.self.now _ (value_of x.home) (value_of x.function) (value_of x.arguments)
+      acts = function_refused x.pid x.bond x.self.now _ (value_of x.home) (value_of x.function) (value_of x.arguments)
           c.in-Atom.home.0 (ap value_of c.in-Atom.is) (not_atom x.function c.in_default-function.not-Atom) c.raising-in_default-function.ensures;
       keeps = keeps_slot x.pid x.self.now x.self.now refl;
     }
@@ -33,7 +32,7 @@ pub returns-in_default-arguments : goal.returns-in_default-arguments
 returns-in_default-arguments c =
     let x = c.args in
     record {
-      acts = arguments_refused x.pid (bond_of x.bond) x.self.now _ (value_of x.home) (value_of x.function) (value_of x.arguments)
+      acts = arguments_refused x.pid x.bond x.self.now _ (value_of x.home) (value_of x.function) (value_of x.arguments)
           c.in-Atom.home.0 c.in-Atom-function.name.0 (ap value_of c.in-Atom.is) (ap value_of c.in-Atom-function.is)
           (not_list x.arguments c.in_default-arguments.not-List) c.raising-in_default-arguments.ensures;
       keeps = keeps_slot x.pid x.self.now x.self.now refl;
@@ -43,7 +42,7 @@ pub returns-then-len-self-clause-acts : goal.returns-then-len-self-clause-acts
 returns-then-len-self-clause-acts c =
     let x = c.args in
     let many : x.self.now.basis.most ≤ length x.self.now.slots.items = omega (arith, c.len.ensures, c.if-len-self.true) in
-    limit_refused x.pid (bond_of x.bond) x.self.now _ (value_of x.home) (value_of x.function) (value_of x.arguments)
+    limit_refused x.pid x.bond x.self.now _ (value_of x.home) (value_of x.function) (value_of x.arguments)
     c.in-Atom.home.0 c.in-Atom-function.name.0 (elements_of c.in-List.arguments) (ap value_of c.in-Atom.is) (ap value_of c.in-Atom-function.is)
     (ap value_of c.in-List.is) many c.raising-then-len-self.ensures
 
@@ -62,14 +61,14 @@ returns-clause-acts c =
     let few : length w.slots.items < w.basis.most = omega (arith, c.len.ensures, c.if-len-self.false) in
     let begins = subst (λ k. LifeBegins (checked_in w) k (start_of (module_in w) c.in-Atom.home.0 c.in-Atom-function.name.0 vs) life) n c.in_ok-life.ensures in
     IfOk-weaker c.open_by.result _ _
-    (λ v h. spawns_so x.pid (bond_of x.bond) w (answer v c.open_by.new.shown) (value_of x.home) (value_of x.function) (value_of x.arguments) c.in-Atom.home.0 c.in-Atom-function.name.0 vs
+    (λ v h. spawns_so x.pid x.bond w (answer v c.open_by.new.shown) (value_of x.home) (value_of x.function) (value_of x.arguments) c.in-Atom.home.0 c.in-Atom-function.name.0 vs
     (ap value_of c.in-Atom.is) (ap value_of c.in-Atom-function.is) (ap value_of c.in-List.is) c.open_by.new.self life few begins
-    (opens_alike (bond_of x.bond) x.pid w c.open_by.new.self c.begun.new.spare life (answer v c.open_by.new.shown) h))
+    (opens_alike x.bond x.pid w c.open_by.new.self c.begun.new.spare life (answer v c.open_by.new.shown) h))
     c.open_by.ensures
 
 pub returns-clause-keeps : goal.returns-clause-keeps
 returns-clause-keeps c =
     let x = c.args in
     IfOk-weaker c.open_by.result _ _ (λ v h. let r = answer v c.open_by.new.shown in
-    keeps_opened x.pid (bond_of x.bond) x.self.now c.open_by.new.self c.in_ok-life.life r c.requires.there
-    (opens_alike (bond_of x.bond) x.pid x.self.now c.open_by.new.self c.begun.new.spare c.in_ok-life.life r h)) c.open_by.ensures
+    keeps_opened x.pid x.bond x.self.now c.open_by.new.self c.in_ok-life.life r c.requires.there
+    (opens_alike x.bond x.pid x.self.now c.open_by.new.self c.begun.new.spare c.in_ok-life.life r h)) c.open_by.ensures

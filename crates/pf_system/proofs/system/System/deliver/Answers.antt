@@ -1,5 +1,5 @@
 use Rattle.std.proofs.Common.{◌+◌, Some, sym, subst, arith}
-use Rattle.pf_model.specs.Runs.{channel}
+use Rattle.pf_model.specs.declared.report.Actor.TheVariants.{Channel}
 use Rattle.pf_model.specs.Reports.{label_of}
 use Rattle.pf_system.specs.View.{view_of_system}
 use Rattle.pf_system.specs.Steps.{MayGo, SimulatesTransition}
@@ -13,7 +13,7 @@ deliver-requires-clause-there c =
     let f = c.self.inside in
     let d = configuration_of f.processes in
     let v = unspent c.args.self.now f.module.value f.steps f.spent d c.self.view_is c.if-self.false in
-    has_signal c.args.from c.args.to d (subst (λ s. MayGo (channel c.args.from c.args.to) s.standing) v c.requires.enabled)
+    has_signal c.args.from c.args.to d (subst (λ s. MayGo (Channel c.args.from c.args.to) s.standing) v c.requires.enabled)
 
 pub overflow_add-self : goal.overflow_add-self
 overflow_add-self c =
@@ -31,7 +31,7 @@ returns-clause-passed c =
     let m = f.module.value in
     let d = configuration_of f.processes in
     let e = configuration_of c.deliver.new.self in
-    let x = channel c.args.from c.args.to in
+    let x = Channel c.args.from c.args.to in
     let l = label_of c.deliver.new.shown in
     subst (λ s. SimulatesTransition 1 s x l 1 (view_of_system m (f.steps + 1) (Some e)))
     (sym (unspent c.args.self.now m f.steps f.spent d c.self.view_is c.if-self.false))

@@ -1,5 +1,5 @@
 use Rattle.std.proofs.Common.{◌≡◌, ◌+◌, ◌-◌, Some, sym, ap, ◌∙◌, subst, arith}
-use Rattle.pf_model.specs.Runs.{process}
+use Rattle.pf_model.specs.declared.report.Actor.TheVariants.{Process}
 use Rattle.pf_model.specs.Reports.{label_of}
 use Rattle.pf_system.specs.View.{view_of_system}
 use Rattle.pf_system.specs.Steps.{MayGo, SimulatesTransition, unless_spent}
@@ -17,7 +17,7 @@ turn-requires-clause-enabled c =
     let w : Processes = c.self.inside.processes in
     let v : c.args.self.now ≡ view_of_system m c.self.inside.steps (Some (configuration_of w)) =
     sym c.self.view_is ∙ ap (λ t. view_of_system m c.self.inside.steps (unless_spent t (configuration_of w))) c.if-self.false in
-    can_go_of c.args.pid (configuration_of w) (subst (λ s. MayGo (process c.args.pid) s.standing) v c.requires.enabled)
+    can_go_of c.args.pid (configuration_of w) (subst (λ s. MayGo (Process c.args.pid) s.standing) v c.requires.enabled)
 
 pub turn-requires-clause-left : goal.turn-requires-clause-left
 turn-requires-clause-left c = let h = rw (← c.self.view_is) at c.requires.left in omega arith
@@ -38,7 +38,7 @@ returns-clause-passed c =
     let w : Processes = c.self.inside.processes in
     let w' : Processes = c.turn.new.self in
     let k = c.self.inside.steps in
-    let x = process c.args.pid in
+    let x = Process c.args.pid in
     let u = c.in_ok-used.used in
     let n = c.args.limit in
     let l = label_of c.turn.new.shown in
