@@ -1,4 +1,6 @@
-"""The order in which crates are proved: which there are, what each needs, which goes next, and how long all of it takes by the table."""
+"""The order in which crates are proved: which there are, what each needs, which goes next, and how long all of it takes
+by the table.
+"""
 import os
 import re
 import sys
@@ -61,7 +63,9 @@ def chains_of(left, below, seconds):
 
 
 class Order:
-    """The crates that are left, of which each may begin once none of those below it is left; first those with the longest chain."""
+    """The crates that are left, of which each may begin once none of those below it is left; first those with the
+    longest chain.
+    """
 
     def __init__(self, left, below, seconds):
         chains = chains_of(left, below, seconds)
@@ -83,7 +87,9 @@ class Order:
 
 
 def lanes_of(processors, memory):
-    """Returns how many jobs each lane has. The first, in which the longest chain goes, has half of the processors, as rt gives them to a proof that it runs alone."""
+    """Returns how many jobs each lane has. The first, in which the longest chain goes, has half of the processors, as
+    rt gives them to a proof that it runs alone.
+    """
     count = max(1, min(processors, memory // BYTES_OF_A_PROOF))
     first = max(1, min(MOST_JOBS, count // 2))
     return [first] + [1] * (count - first)
@@ -105,7 +111,9 @@ def seconds_by(jobs, seconds):
 
 
 def reckoned(left, below, seconds, lanes_there, begun):
-    """Returns how long the crates that are left take in these lanes by the table, in seconds. By lane `begun` has the seconds that a crate there still takes, and it."""
+    """Returns how long the crates that are left take in these lanes by the table, in seconds. By lane `begun` has the
+    seconds that a crate there still takes, and it.
+    """
     order, running, now = Order(left, below, seconds), dict(begun), 0
     for _, crate in begun.values():
         order.waiting.remove(crate)

@@ -1,5 +1,6 @@
 #!/usr/bin/env python3
-"""prove.py TREE: proves the program of TREE and the crates below it, side by side, and leaves the program in crates/pulsefarm/out.
+"""prove.py TREE: proves the program of TREE and the crates below it, side by side, and leaves the program in
+crates/pulsefarm/out.
 
 `rt ci` does the work, crate by crate, in a copy that has these crates alone. They go in the order of need, first those with the longest chain of others
 after them, as many at once as processors and memory hold; the first has half of the processors, as all wait for that chain. `rt` keeps each as soon as it is proved, beside
@@ -40,7 +41,9 @@ class Failed(Exception):
 
 
 class NotKept(Exception):
-    """A run proved again what another had proved, or took no name: `rt` keeps nothing, as where the disk is full or the kit is an old one."""
+    """A run proved again what another had proved, or took no name: `rt` keeps nothing, as where the disk is full or the
+    kit is an old one.
+    """
 
 
 class Progress:
@@ -77,7 +80,9 @@ class Progress:
         return time.monotonic() - self.start
 
     def minutes_left(self):
-        """Returns the minutes that are left, by the table, by the pace so far, and by how long what is proved now has taken."""
+        """Returns the minutes that are left, by the table, by the pace so far, and by how long what is proved now has
+        taken.
+        """
         pace = self.took / self.of_table if self.took > 60 else 1
         now = time.monotonic()
         running = {
@@ -232,7 +237,9 @@ def newest(paths):
 
 
 def unkept(tree, crates):
-    """Returns the crates but the program of which nothing is kept since they, or crates below, were changed. (Of the others rt itself sees whether they are as they were.)"""
+    """Returns the crates but the program of which nothing is kept since they, or crates below, were changed. (Of the
+    others rt itself sees whether they are as they were.)
+    """
     changed = {name: newest([f"{tree}/crates/{name}/{part}" for part in PARTS]) for name in crates}
     below = order.below_of(crates)
     kept = {name: newest(glob.glob(f"{glob.escape(store())}/proof-{name}-*")) for name in crates}

@@ -192,7 +192,8 @@ USE = re.compile(
 
 
 class AnttFile:
-    """An antt file, cut: `items`, texts by name; `part_of`, the item with a constructor, a field or a name of a group."""
+    """An antt file, cut: `items`, texts by name; `part_of`, the item with a constructor, a field or a name of a group.
+    """
 
     def __init__(self, text):
         self.items, self.part_of, self.head = {}, {}, []
