@@ -1,4 +1,4 @@
--- A desk put back into the map is the desk put into the world.
+-- A desk put back into the map is the desk put among the desks.
 use Rattle.std.proofs.Common.{◌≡◌, ℕ, zero, suc, nat_eq, Bool, true, false, cond, [], ◌∷◌, Some, None, position, slice_get, refl, sym, ap, ◌∙◌, subst, inl}
 use Rattle.std.specs.Prelude.{if◌then◌else◌, Option, Result, Ok, Err}
 use Rattle.std.specs.Bool.{OnTrue}
@@ -58,7 +58,7 @@ put_same p es d h = sym (put_set p es d d h) ∙ set_value_same (nat_eq p) es d 
 
 -- ---- where a project's desk is
 
--- a world is these entries, and the desk of a project is the one at an index of them
+-- the desks are these entries, and the desk of a project is the one at an index of them
 pub record IsDeskAt (p : ℕ) (es w : Desks) (i : ℕ) (d : Desk) : Type 0 where
   pub here : desk_at p w ≡ d
   pub put : (d' : Desk) → set_value_at es i d' ≡ put_desk p d' w
@@ -81,9 +81,9 @@ desk_at_index p es w i d index value seen = record {
 pub no_desk_at : (p : ℕ) (es w : Desks) → position (nat_eq p) (keys_of es) ≡ None → es ≡ w → desk_at p w ≡ no_desk
 no_desk_at p es w none seen = ap (desk_at p) (sym seen) ∙ at_none p es (Missing-position (nat_eq p) es none).value
 
--- ---- the steps of a world, where a project's desk is this one
+-- ---- the steps of desks, where a project's desk is this one
 
--- a desk's answer to a call is the world's
+-- a desk's answer to a call is that of all desks
 module _ (q : ℕ) (w : Desks) (c : Call) (d d' : Desk) (here : desk_at q w ≡ d) (w' : Desks) (put : w' ≡ put_desk q d' w) where
   pub answers : (r : Reply) → DeskAnswers d c (Ok r) d' → SimulatesCall w q c (Ok r) w'
   answers r h p right =
@@ -114,7 +114,7 @@ module _ (q : ℕ) (w : Desks) (t : ℕ) (d : Desk) (here : desk_at q w ≡ d) w
 
 -- ---- the work of workers
 
--- a claim at a desk is the world's
+-- a claim at a desk is that of all desks
 pub claims_at : (q : ℕ) (w : Desks) (t : ℕ) (d d' : Desk) → desk_at q w ≡ d → (w' : Desks) → w' ≡ put_desk q d' w → put_desk q d w ≡ w
     → (r : Result (Option (Arc Job Global)) NoMemory) → DeskClaims d t r d' → ClaimsAt w q t r w'
 claims_at q w t d d' here w' put same (Ok (Some j)) h = (
@@ -125,7 +125,7 @@ claims_at q w t d d' here w' put same (Ok None) h = no_claim q w t d here h.0 w'
 claims_at q w t d d' here w' put same (Err e) h =
     (ap (λ (k : Desk). is_queued (held_at k.trials t)) here ∙ h.0, put ∙ ap (λ (k : Desk). put_desk q k w) h.1 ∙ same)
 
--- a file at a desk is the world's
+-- a file at a desk is that of all desks
 pub files : (q : ℕ) (w : Desks) (t : ℕ) (f : FinishedView) (d d' : Desk) → desk_at q w ≡ d → (w' : Desks) → w' ≡ put_desk q d' w → put_desk q d w ≡ w
     → (b : Bool) → DeskFiles d t f b d' → SimulatesFile w q t f b w'
 files q w t f d d' here w' put same true h =
@@ -133,12 +133,12 @@ files q w t f d d' here w' put same true h =
 files q w t f d d' here w' put same false h =
     (subst (λ (k : Desk). IsStrayJob k.trials t f.job) (sym here) h.0, put ∙ ap (λ (k : Desk). put_desk q k w) h.1 ∙ same)
 
--- the job of a trial at a desk is that in the world
+-- the job of a trial at a desk is that among the desks
 pub own_job_at : (q : ℕ) (w : Desks) (t : ℕ) (j : Job) (d : Desk) → desk_at q w ≡ d → (b : Bool) → OnTrue b (JobAt d.trials t j)
     → OnTrue b (JobAt (desk_at q w).trials t j)
 own_job_at q w t j d here b h = subst (λ (k : Desk). OnTrue b (JobAt k.trials t j)) (sym here) h
 
--- a hand-back at a desk is the world's
+-- a hand-back at a desk is that of all desks
 pub takes_back : (q : ℕ) (w : Desks) (t : ℕ) (d d' : Desk) → desk_at q w ≡ d → (w' : Desks) → w' ≡ put_desk q d' w → put_desk q d w ≡ w
     → (b : Bool) → DeskHandsBack d t b d' → SimulatesHandBack w q t b w'
 takes_back q w t d d' here w' put same true h =

@@ -24,7 +24,7 @@ file_tickets d t r = tickets_in_state d t (λ j. done r)
 pub same_tickets : (d d' : Desk) → d' ≡ d → KeepsTickets d d'
 same_tickets d d' same = subst (KeepsTickets d) (sym same) (λ t j k. k)
 
--- a world in which nothing changed, and one with another desk for a project
+-- desks of which none changed, and those with another one for a project
 pub same_all_tickets : (w w' : Desks) → w' ≡ w → KeepsAllTickets w w'
 same_all_tickets w w' same = subst (KeepsAllTickets w) (sym same) (λ q t j k. k)
 

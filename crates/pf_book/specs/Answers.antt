@@ -50,20 +50,20 @@ abbrev pub DeskHandsBack : desk.Desk → ℕ → Bool → desk.Desk → Type 0
 DeskHandsBack d t true d' = hand_back_step d t ≡ Some d'
 DeskHandsBack d t false d' = (is_running (held_at d.trials t) ≡ false) × (d' ≡ d)
 
--- ---- in the world
+-- ---- among all desks
 
 -- what a worker is answered: its work is done, or it can't be done now
 abbrev pub work_answer : Bool → Answer
 work_answer b = if b then work_done else not_now
 
--- SimulatesCall w q c r w': a project's call is answered so, as the world's step says, and leads to the next world;
--- memory runs out only where the project's log has room for the call, and leaves the world as it was
+-- SimulatesCall w q c r w': a project's call is answered so, as the step of all desks says, and leads to the next desks;
+-- memory runs out only where the project's log has room for the call, and leaves the desks as they were
 abbrev pub SimulatesCall : Desks → ℕ → Call → Result Reply NoMemory → Desks → Type 0
 SimulatesCall w q c (Ok r) w' = ForRight (λ p. ◌≡◌ {A = Desks × Answer} (step p w (client q c)) (w', replied (view_of_reply r)))
 SimulatesCall w q c (Err e) w' = HasRoom (desk_at q w) × (w' ≡ w)
 
 -- ClaimsAt w q t r w': the trial of a project's ticket is claimed, and this is its job; or there is none, since it
--- isn't queued; memory runs out only where it is, and the world is as it was then
+-- isn't queued; memory runs out only where it is, and the desks are as they were then
 abbrev pub ClaimsAt : Desks → ℕ → ℕ → Result (Option (Arc Job Global)) NoMemory → Desks → Type 0
 ClaimsAt w q t (Ok (Some j)) w' =
     (job_at (desk_at q w).trials t ≡ Some j.value) × ◌≡◌ {A = Desks × Answer} (worked q w (claim_step (desk_at q w) t)) (w', work_done)
@@ -71,7 +71,7 @@ ClaimsAt w q t (Ok None) w' = ◌≡◌ {A = Desks × Answer} (worked q w (claim
 ClaimsAt w q t (Err e) w' = (is_queued (held_at (desk_at q w).trials t) ≡ true) × (w' ≡ w)
 
 -- SimulatesClaim w r w': some trial that is queued is claimed; or there is none, since no trial of any desk is queued;
--- memory runs out only where one is, and the world is as it was then
+-- memory runs out only where one is, and the desks are as they were then
 abbrev pub SimulatesClaim : Desks → Result (Option Claimed) NoMemory → Desks → Type 0
 SimulatesClaim w (Ok (Some c)) w' = ClaimsAt w c.project c.ticket (Ok (Some c.job)) w'
 SimulatesClaim w (Ok None) w' = ((q t : ℕ) → is_queued (held_at (desk_at q w).trials t) ≡ false) × (w' ≡ w)

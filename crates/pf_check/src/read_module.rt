@@ -23,10 +23,10 @@ impl Model for ReadModule {
     ghost use Rattle.std.specs.Arc.{arc_value};
     ghost use Rattle.pf_check.specs.Reads.{Reads, accepted_as};
     ghost use Rattle.pf_model.specs.Module.{module_of};
-    ghost use Rattle.pf_check.specs.Module as request;
+    ghost use Rattle.pf_check.specs.Module as checked;
     ghost use Rattle.pf_check.specs.Encoding.{coded_read_module};
 
-    ghost Value = { request.ReadModule };
+    ghost Value = { checked.ReadModule };
 
     ghost coded = { coded_read_module };
 

@@ -49,7 +49,7 @@ no_replies : (b : Bool) → (if b then silence else silence) ≡ silence
 no_replies true = refl
 no_replies false = refl
 
--- what a step with this world and answer does to one project
+-- what a step with these desks and this answer does to one project
 abbrev IsLocal : Profile → ℕ → Desks → DeskStep → Desks × Answer → Type 0
 IsLocal p q w s r =
     ((if project_named s == q then replies_in r.1 else []) ≡ (if belongs q s r.1 then desk_replies p (desk_at q w) s else []))
@@ -88,7 +88,7 @@ joined p q s a ss xs d d' said is rest = by (belongs q s a) said is
     by true said is = (λ i. said i ++ rest i) ∙ ap (λ k. desk_replies p d s ++ replies_along p k (own_steps q ss xs)) is
     by false said is = (λ i. said i ++ rest i) ∙ ap (λ k. replies_along p k (own_steps q ss xs)) is
 
--- from any world
+-- from any desks
 isolated_from : (p : Profile) (q : ℕ) (w : Desks) (ss : List DeskStep) → replies_to q ss (answers p w ss) ≡ replies_along p (desk_at q w) (own_steps q ss (answers p w ss))
 isolated_from p q w [] = refl
 isolated_from p q w (s ∷ ss) =

@@ -42,7 +42,7 @@ module _ (d : Desk) where
   pub tickets_called : (p : Profile) (c : Call) → KeepsTickets d (after_call p d c)
   tickets_called p c t j k = given_called (λ x. j ≡ x.job) d t k p c
 
--- ---- a desk in a world
+-- ---- a desk among all
 
 pub tickets_placed : (q r : ℕ) (d : Desk) (w : Desks) → KeepsTickets (desk_at r w) d → KeepsTickets (desk_at q w) (desk_at q (put_desk r d w))
 tickets_placed q r d w h = subst (KeepsTickets (desk_at q w)) (sym (desk_placed q r d w)) (by (r == q) refl)
@@ -71,7 +71,7 @@ module _ (p : Profile) where
   tickets_worked d d' (file t m) h = stays_file d d' t m h
   tickets_worked d d' (hand_back t) h = stays_back d d' t h
 
-  -- ---- worlds
+  -- ---- all desks
 
   pub tickets_stepped : (q : ℕ) (w : Desks) (s : DeskStep) → KeepsTickets (desk_at q w) (desk_at q (step p w s).0)
   tickets_stepped q w (client r c) = tickets_placed q r (after_call p (desk_at r w) c) w (tickets_called (desk_at r w) p c)

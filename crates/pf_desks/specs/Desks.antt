@@ -24,12 +24,12 @@ abbrev pub desk_at : ℕ → Desks → Desk
 desk_at q [] = no_desk
 desk_at q (e ∷ es) = if q == e.0 then e.1 else desk_at q es
 
--- the world with this desk for a project, all other desks as they were
+-- the desks with this one for a project, all other desks as they were
 abbrev pub put_desk : ℕ → Desk → Desks → Desks
 put_desk q d [] = (q, d) ∷ []
 put_desk q d (e ∷ es) = if q == e.0 then (e.0, d) ∷ es else e ∷ put_desk q d es
 
--- the world with the desk that a worker's step leads to, where the step can be done
+-- the desks with the one that a worker's step leads to, where the step can be done
 abbrev pub worked : ℕ → Desks → Option Desk → Desks × Answer
 worked q w (Some d) = (put_desk q d w, work_done)
 worked q w None = (w, not_now)
@@ -43,7 +43,7 @@ abbrev pub answers : Profile → Desks → List DeskStep → List Answer
 answers p w [] = []
 answers p w (s ∷ ss) = (step p w s).1 ∷ answers p (step p w s).0 ss
 
--- the answers to all steps, from the world in which no desk is open
+-- the answers to all steps, from no open desk
 abbrev pub all_answers : Profile → List DeskStep → List Answer
 all_answers p ss = answers p [] ss
 

@@ -13,10 +13,10 @@ IsTicketOf d t j = (t ≤ length d.trials) × IfSome (held_at d.trials t) (λ x.
 abbrev pub KeepsTickets : Desk → Desk → Type 0
 KeepsTickets d d' = (t : ℕ) (j : Job) → IsTicketOf d t j → IsTicketOf d' t j
 
--- from one world to the next, tickets of all projects that were given are still for their jobs
+-- from some desks to the next, tickets of all projects that were given are still for their jobs
 abbrev pub KeepsAllTickets : Desks → Desks → Type 0
 KeepsAllTickets w w' = (q : ℕ) → KeepsTickets (desk_at q w) (desk_at q w')
 
--- whatever steps there are, in whatever world, a ticket that was given is still for its job
+-- whatever steps there are, from whatever desks, a ticket that was given is still for its job
 abbrev pub TicketsStay : Type 0
 TicketsStay = (p : Profile) (w : Desks) (ss : List DeskStep) → KeepsAllTickets w (after_steps p w ss)

@@ -15,6 +15,6 @@ IsInLimits d = IsWithinLimits d.edition (usage_in d)
 abbrev pub LegalDesksAreInLimits : Type 0
 LegalDesksAreInLimits = (p : Profile) (d : Desk) → IsLegalDesk p d → IsInLimits d
 
--- whatever steps there are, from the world in which no desk is open, the desk of each project is within its limits
+-- whatever steps there are, from no open desk, the desk of each project is within its limits
 abbrev pub StaysInLimits : Type 0
 StaysInLimits = (p : Profile) (q : ℕ) (ss : List DeskStep) → IsInLimits (desk_at q (after_steps p [] ss))

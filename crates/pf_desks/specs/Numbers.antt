@@ -27,7 +27,7 @@ TellEachOnce rs = CountUp 1 (filter_map replied_number rs) × CountUp 1 (filter_
 abbrev pub LegalHistoriesTellEachOnce : Type 0
 LegalHistoriesTellEachOnce = (p : Profile) (d : Desk) → IsLegalDesk p d → TellEachOnce (replies_noted d.history)
 
--- whatever steps there are, from the world in which no desk is open, the modules' numbers that a project is given are
+-- whatever steps there are, from no open desk, the modules' numbers that a project is given are
 -- 1, 2, 3 and so on, and so are its tickets: none is given twice, whatever was given up
 abbrev pub NoNumberTwice : Type 0
 NoNumberTwice = (p : Profile) (q : ℕ) (ss : List DeskStep) → TellEachOnce (replies_to q ss (all_answers p ss))

@@ -42,8 +42,8 @@ pub fn no_number_twice()
     ensures { NoNumberTwice }
 {}
 
-/// Tickets: for every list of steps, in every world, a ticket that was given is for its job still: its trial, if it is
-/// held yet, is of that job.
+/// Tickets: for every list of steps, whatever desks there are, a ticket that was given is for its job still: its trial,
+/// if it is held yet, is of that job.
 pub fn tickets_stay()
     ensures { TicketsStay }
 {}

@@ -1,4 +1,4 @@
-//! What the farm holds for projects and answers them: the definitions of desks and worlds, and their laws.
+//! What the farm holds for projects and answers them: the definitions of a desk and of all desks, and their laws.
 #![tactic(auto)]
 
 pub mod laws;

@@ -22,8 +22,8 @@ use std::array::from_fn;
 use std::sync::atomic::{AtomicBool, Ordering};
 use std::sync::{Condvar, Mutex, Wait};
 
-/// What lies under the lock: the hall, how often something came for which a worker may wait, how many workers wait,
-/// which clients do, and whether the farm stops.
+/// What lies under the lock: book, ledgers and calls (`Hall`), how often something came for which a worker may wait,
+/// how many workers wait, which clients do, and whether the farm stops.
 #[derive(Drop)]
 pub(crate) struct SharedState<N: FarmNames> {
     pub hall: Hall<N>,
@@ -72,8 +72,8 @@ pub struct LastSeen {
     pub stops: bool,
 }
 
-/// What all threads share: the hall under its lock, and what they wait for. Workers wait for trials that are queued and
-/// runs that are parked, and clients for trials that are done or dropped.
+/// What all threads share: the state under its lock, and what they wait for. Workers wait for trials that are queued
+/// and runs that are parked, and clients for trials that are done or dropped.
 #[derive(Drop)]
 pub struct Floor<N: FarmNames> {
     pub(crate) shared: Mutex<SharedState<N>>,
@@ -84,7 +84,7 @@ pub struct Floor<N: FarmNames> {
 }
 
 impl<N: FarmNames> Floor<N> {
-    /// The floor of a hall.
+    /// The floor of such a state.
     pub(crate) fn new(hall: Hall<N>) -> Floor<N> {
         let shared = SharedState {
             hall,
@@ -101,7 +101,7 @@ impl<N: FarmNames> Floor<N> {
         }
     }
 
-    /// Its hall, when no thread is on it any more.
+    /// Its state, when no thread is on it any more.
     pub(crate) fn into_hall(self) -> Hall<N> {
         let Floor {
             shared,

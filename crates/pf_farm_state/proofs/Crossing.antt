@@ -1,4 +1,4 @@
--- The hall, open claims and clients' seats may go to another thread: a lemma for each type, from those of its parts.
+-- The state under the lock, open claims and clients' seats may go to another thread: a lemma for each type, from those of its parts.
 use denote.RattleType.{RattleType}
 use denote.Param.Send.{IsSend, recorded_send, sendable}
 use Rattle.std.proofs.Crossing as heap
@@ -51,7 +51,7 @@ module _ (N : RattleType) (g : names.Ghosts N.Denot) where
   pub client_seat_send : IsSend (ClientSeat.the_row N g)
   client_seat_send = search (seat_send, sendable) depth 30
 
-  -- ---- the hall
+  -- ---- the state under the lock
 
   ledger_send : IsSend (Ledger.the_row N Job.the_row g)
   ledger_send = search (row_send, book.the_send, register.the_send, heap.crosses, sendable) depth 30

@@ -59,7 +59,7 @@ impl<N: FarmNames> Model for Hall<N> {
 }
 
 impl<N: FarmNames> Hall<N> {
-    /// A hall with no desk and no claim, which hashes with these keys.
+    /// The state with no desk and no claim, which hashes with these keys.
     pub fn new(
         alloc: Global,
         keys: RandomState,

@@ -22,7 +22,7 @@ use pf_shrink::ShrinkingSearch;
 use pf_trace::WrittenReport;
 use std::alloc::Global;
 
-/// A shrinking so far: its hunt, the run of the hunt's next schedule, the report of the hunt's current schedule, which
+/// A shrinking so far: its search, the run of the search's next schedule, the report of the search's current schedule, which
 /// is none before the first run that failed, the number of events of all runs before this one, and its progress for the
 /// observer.
 #[derive(Drop)]
@@ -43,7 +43,7 @@ pub(crate) enum ShrinkingAdvance {
     Over(JobResult),
 }
 
-/// The choices of a hunt's next schedule; none at its end.
+/// The choices of a search's next schedule; none at its end.
 fn next_choices(alloc: Global, hunt: &ShrinkingSearch) -> Result<Option<Choices>, NoMemory>
     ensures { IfOk result (λ o. OpensNext (next_of hunt.now) o) }
 {
@@ -53,7 +53,7 @@ fn next_choices(alloc: Global, hunt: &ShrinkingSearch) -> Result<Option<Choices>
     }
 }
 
-/// What a hunt found, with the report of its schedule.
+/// What a search found, with the report of its schedule.
 fn found(
     alloc: Global,
     hunt: &ShrinkingSearch,
@@ -76,8 +76,8 @@ fn found(
     })
 }
 
-/// Answers a hunt whether its next schedule fails, by the report of its run; the report of the schedule that is the
-/// hunt's current one then.
+/// Answers a search whether its next schedule fails, by the report of its run; the report of the schedule that is the
+/// search's current one then.
 fn tell(
     hunt: &mut ShrinkingSearch,
     kept: Option<WrittenReport>,
@@ -92,7 +92,7 @@ fn tell(
     if fails { Some(ended) } else { kept }
 }
 
-/// The run of a hunt's next schedule, or what the hunt found, after n events.
+/// The run of a search's next schedule, or what the search found, after n events.
 fn begin(
     alloc: Global,
     job: &Job,
@@ -151,7 +151,7 @@ impl Shrinking {
         self.run.go_on(alloc, job, scratch, turns)
     }
 
-    /// What follows a run that is over: the hunt gets the answer whether it failed, and the report of one that did is
+    /// What follows a run that is over: the search gets the answer whether it failed, and the report of one that did is
     /// kept.
     fn follow(self, alloc: Global, job: &Job) -> Result<ShrinkingAdvance, NoMemory>
         requires valid { IsValid job.now }

@@ -1,4 +1,4 @@
--- The schedules that a hunt gives, answered truly, are those that are tried, in their order.
+-- The schedules that a search gives, answered truly, are those that are tried, in their order.
 use Rattle.std.proofs.Common.{◌≡◌, ◌≤◌, ◌<◌, ◌-◌, ℕ, zero, suc, Bool, true, false, List, [], ◌∷◌, Some, None, length, refl, sym, ap, ◌∙◌, arith, if◌then◌else◌}
 use Rattle.std.specs.Prelude.{◌↔◌}
 use Rattle.pf_model.specs.Shrinking.{candidates}
@@ -57,7 +57,7 @@ module _ (fails : List ℕ → Bool) where
       by true h = omega arith
       by false h = omega arith
 
-  -- a hunt that begins
+  -- a search that begins
   all_tried : (runs : ℕ) (ns : List ℕ) → 0 < runs → tried_from fails (begins (runs - 1) ns) ≡ tried fails runs ns
   all_tried zero ns h = absurd (omega arith)
   all_tried (suc k) ns h = let e : suc k - 1 ≡ k = omega arith in ap (λ n. tried fails (suc n) ns) e

@@ -1,9 +1,9 @@
--- Hunts: which schedule is run next, what an answer makes of a hunt, and what it finds.
+-- Searches: which schedule is run next, what an answer makes of a search, and what it finds.
 use Rattle.std.specs.Prelude.{◌≡◌, ℕ, zero, suc, Bool, true, false, if◌then◌else◌, List, [], ◌∷◌, Option, Some, None}
 use Rattle.pf_model.specs.Shrinking.{candidates, Found, found, search, shrunk}
 use Rattle.pf_model.specs.Laws.{IsSmaller}
 
--- a hunt, with n runs after that of the next schedule: before the run of the given schedule; within a search from a
+-- a search, with n runs after that of the next schedule: before the run of the given schedule; within a search from a
 -- schedule that fails, before the run of a candidate, with others left after it; or at its end, with what it found
 pub data Hunting : Type 0 where
   begins : (further : ℕ) (schedule : List ℕ) → Hunting
@@ -41,7 +41,7 @@ NextIsSmaller (begins k ns) = Unit {0}
 NextIsSmaller (searches k ns c cs) = IsSmaller c ns
 NextIsSmaller (ended f) = Unit {0}
 
--- what a hunt finds in the end, where this function says which schedules fail
+-- what a search finds in the end, where this function says which schedules fail
 abbrev pub search_result : (List ℕ → Bool) → Hunting → Option Found
 search_result fails (begins k ns) = shrunk fails (suc k) ns
 search_result fails (searches k ns c cs) = Some (search fails (suc k) ns (c ∷ cs))

@@ -1,4 +1,4 @@
--- How a hunt is kept: a round of its search, a phase, and the runs that are left.
+-- How a search is kept: its round, a phase, and the runs that are left.
 use Rattle.std.specs.Prelude.{◌≡◌, ℕ, zero, suc, ◌<◌, false, [], Some, None}
 use Rattle.pf_model.specs.Shrinking.{found}
 use Rattle.pf_shrink.specs.Hunts.{Hunting, begins, ended, searching}
@@ -6,7 +6,7 @@ use Rattle.pf_shrink.specs.Rounds.{Round, AreSmaller}
 use Rattle.pf_shrink.specs.declared.hunt.Phase.{Phase}
 use Rattle.pf_shrink.specs.declared.hunt.Phase.TheVariants.{Given, Search, Partial, Nothing}
 
--- the hunt, with n runs left
+-- the search, with n runs left
 abbrev pub standing : (runs : ℕ) → Phase → Round → Hunting
 standing zero Given r = ended None
 standing (suc k) Given r = begins k r.schedule

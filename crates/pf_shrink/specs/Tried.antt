@@ -14,13 +14,13 @@ abbrev pub tried : (List ℕ → Bool) → (runs : ℕ) → List ℕ → List (L
 tried fails zero ns = []
 tried fails (suc k) ns = ns ∷ (if fails ns then tried_of_search fails k (candidates ns) else [])
 
--- those that a hunt runs from here on
+-- those that a search runs from here on
 abbrev pub tried_from : (List ℕ → Bool) → Hunting → List (List ℕ)
 tried_from fails (begins k ns) = tried fails (suc k) ns
 tried_from fails (searches k ns c cs) = tried_of_search fails (suc k) (c ∷ cs)
 tried_from fails (ended f) = []
 
--- the next of a hunt is the first of them, and a true answer leaves the others; there are none exactly where there is
+-- the next of a search is the first of them, and a true answer leaves the others; there are none exactly where there is
 -- no next
 pub record TriesInOrder (fails : List ℕ → Bool) (h : Hunting) : Type 0 where
   pub first : (ns : List ℕ) → next_of h ≡ Some ns → tried_from fails h ≡ ns ∷ tried_from fails (after_answer (fails ns) h)

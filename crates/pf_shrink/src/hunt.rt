@@ -8,10 +8,10 @@ ghost use Rattle.pf_shrink.specs.Standing.{standing, IsRoundOf};
 use crate::round::Round;
 use std::marker::Model;
 
-/// The most runs that may be asked for. A hunt itself goes with any number of them.
+/// The most runs that may be asked for. A search itself goes with any number of them.
 pub const MOST_RUNS: u32 = 1_000;
 
-/// How far a hunt is.
+/// How far a search is.
 #[derive(Clone, Copy)]
 enum Phase {
     /// The given schedule is to be run.
@@ -46,7 +46,7 @@ impl Model for ShrinkingSearch {
 }
 
 impl ShrinkingSearch {
-    /// The hunt from this schedule, within n runs. The run of the schedule is the first of them.
+    /// The search from this schedule, within n runs. The run of the schedule is the first of them.
     pub fn new(schedule: Vec<u32>, runs: u32) -> ShrinkingSearch
         requires { 0 < runs }
         ensures begins { result ≡ begins (runs - 1) schedule.items }
@@ -60,7 +60,7 @@ impl ShrinkingSearch {
         }
     }
 
-    /// The schedule that is to be run next; none at the end of the hunt.
+    /// The schedule that is to be run next; none at the end of the search.
     pub fn next(&self) -> Option<&[u32]>
         ensures next { option_map (λ s. s.now) result ≡ next_of self.now }
         ensures smaller { NextIsSmaller self.now }
@@ -86,7 +86,7 @@ impl ShrinkingSearch {
         }
     }
 
-    /// What was found, at the end of the hunt: the schedule, and whether no candidate of it fails. None where
+    /// What was found, at the end of the search: the schedule, and whether no candidate of it fails. None where
     /// the given schedule doesn't fail.
     pub fn found(&self) -> Option<(&[u32], bool)>
         requires { IsNone (next_of self.now) }

@@ -1,4 +1,4 @@
-//! The hunt for a small schedule that fails: which schedule is to be run next, and what it finds.
+//! The search for a small schedule that fails: which schedule is to be run next, and what it finds.
 #![tactic(auto)]
 
 mod hunt;
