@@ -1,18 +1,19 @@
 -- Lines that are put one after another, and runs that are known by their reports.
-use Rattle.std.proofs.Common.{◌≡◌, ◌+◌, ◌<◌, ◌≤◌, ℕ, zero, suc, Bool, true, false, if◌then◌else◌, List, [], ◌∷◌, ◌++◌, Option, Some, None, Ok, Err, append_assoc, drop, get_or, length, refl, sym, ap, ◌∙◌, subst, arith}
+use Rattle.std.proofs.Common.{◌≡◌, ◌+◌, ◌<◌, ◌≤◌, ℕ, zero, suc, Bool, true, false, if◌then◌else◌, List, [], ◌∷◌, ◌++◌, Option, Some, None, Ok, Err, append_assoc, drop, get_or, length, map, refl, sym, ap, ◌∙◌, subst, arith}
 use Rattle.std.proofs.lemmas.List.{append-nil, at_drop_more}
 use Rattle.pf_errors.specs.declared.code.Code.TheVariants as code
+use Rattle.pf_model.specs.Choosers.{Picks, choose_by_picks}
 use Rattle.pf_model.specs.Configuration.{Configuration}
 use Rattle.pf_model.specs.Meaning as meaning
-use Rattle.pf_model.specs.Meaning.{Report, picks_of}
+use Rattle.pf_model.specs.Meaning.{Choices, Means, Report, picks_of, schedule}
 use Rattle.pf_model.specs.Properties.{Property}
-use Rattle.pf_model.specs.Runs.{Goes, Picks, Transition, start}
+use Rattle.pf_model.specs.Runs.{Goes, Transition, start}
 use Rattle.pf_positions.specs.declared.places.Position.{Position}
 use Rattle.pf_request.specs.Job.{Job, job_from, job_of, root_in, with_property, with_root}
 use Rattle.pf_check.specs.Module.{ReadModule}
 use Rattle.pf_request.specs.Request.{Request, choices_in, is_within, may_weigh}
-use Rattle.pf_strategy.proofs.Replayed.{by_numbers, choices, replayed}
-use Rattle.pf_cli_messages.specs.Explained.{AreStatusLines, IsKnownRunOf, MeansBy, ReportsProcesses, TellsRun}
+use Rattle.pf_strategy.proofs.Meant.{replay_of_priorities}
+use Rattle.pf_cli_messages.specs.Explained.{AreStatusLines, IsKnownRunOf, MeansAs, ReportsProcesses, TellsRun}
 use Rattle.pf_process_status.specs.Known.{RunLeadsTo, module_of_run}
 use Rattle.pf_process_status.specs.Lines.{IsLine, Puts}
 use Rattle.pf_process_status.specs.declared.known.KnownRun.{KnownRun}
@@ -46,41 +47,35 @@ all_lines k places xs i text l front =
 -- ---- runs
 
 module _ (j : meaning.Job) (r : Report) (k : KnownRun) (h : IsKnownRunOf j r k) where
-  goes_there : (ps : Picks) (ts : List Transition) (d : Configuration) → Goes j.code ps j.limit (start j.root j.edition) ts d r.steps
-      → Goes (module_of_run k) ps k.limit (start k.root.0 k.edition) ts d r.steps
-  goes_there ps ts d g =
-      subst (λ m. Goes m ps k.limit (start k.root.0 k.edition) ts d r.steps) (sym h.code)
-      (subst (λ n. Goes j.code ps n (start k.root.0 k.edition) ts d r.steps) (sym h.limit)
-      (subst (λ i. Goes j.code ps j.limit (start i k.edition) ts d r.steps) (sym h.root)
-      (subst (λ e. Goes j.code ps j.limit (start j.root e) ts d r.steps) (sym h.edition) g)))
+  goes_there : (ps : Picks) (ts : List Transition) (d : Configuration) (n : ℕ) → Goes j.code (choose_by_picks ps) zero j.limit (start j.root j.edition) ts d r.steps n
+      → Goes (module_of_run k) (choose_by_picks ps) zero k.limit (start k.root.0 k.edition) ts d r.steps n
+  goes_there ps ts d n g =
+      subst (λ m. Goes m (choose_by_picks ps) zero k.limit (start k.root.0 k.edition) ts d r.steps n) (sym h.code)
+      (subst (λ l. Goes j.code (choose_by_picks ps) zero l (start k.root.0 k.edition) ts d r.steps n) (sym h.limit)
+      (subst (λ i. Goes j.code (choose_by_picks ps) zero j.limit (start i k.edition) ts d r.steps n) (sym h.root)
+      (subst (λ e. Goes j.code (choose_by_picks ps) zero j.limit (start j.root e) ts d r.steps n) (sym h.edition) g)))
 
-  -- its events lead somewhere
-  pub comes_to : (by : Option ℕ) → MeansBy by j r → (d : Configuration) × RunLeadsTo k d
-  comes_to None m = (
+  -- the events of what it means by some choices lead somewhere
+  leads : (cs : Choices) → Means (record j { choices = cs }) r → (d : Configuration) × RunLeadsTo k d
+  leads cs m = (
     m.last,
     record {
-      picks = picks_of j.choices;
+      picks = picks_of cs;
       transitions = m.transitions;
       steps = r.steps;
-      goes = goes_there (picks_of j.choices) m.transitions m.last m.run.goes;
+      made = m.state;
+      goes = goes_there (picks_of cs) m.transitions m.last m.state m.run.goes;
       events = h.events ∙ ap (λ z. z.events) m.report;
     },
   )
-  comes_to (Some seed) m = (
-    m.last,
-    record {
-      picks = by_numbers (choices m.transitions);
-      transitions = m.transitions;
-      steps = r.steps;
-      goes =
-          goes_there (by_numbers (choices m.transitions)) m.transitions m.last
-          (replayed j.code _ j.limit (start j.root j.edition) m.transitions m.last r.steps m.behind m.goes);
-      events = h.events ∙ ap (λ z. z.events) m.report;
-    },
-  )
+
+  -- and so do those of what it means by priorities
+  pub comes_to : (by : Option ℕ) → MeansAs by j r → (d : Configuration) × RunLeadsTo k d
+  comes_to None m = leads j.choices m
+  comes_to (Some seed) m = leads (schedule (map (λ e. e.choice) r.events)) (replay_of_priorities j seed r m)
 
 -- what is said of a known run's processes is said of the job's
-pub tells_of : (j : meaning.Job) (r : Report) (by : Option ℕ) (source text : List ℕ) (k : KnownRun) → TellsRun k source text → MeansBy by j r → IsKnownRunOf j r k
+pub tells_of : (j : meaning.Job) (r : Report) (by : Option ℕ) (source text : List ℕ) (k : KnownRun) → TellsRun k source text → MeansAs by j r → IsKnownRunOf j r k
     → ReportsProcesses j by source text
 tells_of j r by source text k tells means is_run =
     let there = comes_to j r k is_run by means in

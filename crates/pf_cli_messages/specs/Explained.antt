@@ -21,9 +21,9 @@ use Rattle.pf_process_status.specs.declared.known.KnownRun.{KnownRun}
 use Rattle.pf_process_status.specs.declared.standing.ProcessStatus.{ProcessStatus}
 
 -- what a job means, by its own choices or by the priorities of a seed
-abbrev pub MeansBy : Option ℕ → meaning.Job → Report → Type 0
-MeansBy None j r = Means j r
-MeansBy (Some seed) j r = MeansByPriorities j seed r
+abbrev pub MeansAs : Option ℕ → meaning.Job → Report → Type 0
+MeansAs None j r = Means j r
+MeansAs (Some seed) j r = MeansByPriorities j seed r
 
 -- a run is that of a job and has these events
 pub record IsKnownRunOf (j : meaning.Job) (r : Report) (k : KnownRun) : Type 0 where
@@ -51,7 +51,7 @@ pub record TellsRun (k : KnownRun) (source text : List ℕ) : Type 0 where
 -- the same of the run that a job means
 pub record ReportsProcesses (j : meaning.Job) (priorities : Option ℕ) (source text : List ℕ) : Type 0 where
   pub report : Report
-  pub means : MeansBy priorities j report
+  pub means : MeansAs priorities j report
   pub run : KnownRun
   pub is_run : IsKnownRunOf j report run
   pub last : Configuration

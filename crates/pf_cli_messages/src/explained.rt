@@ -5,7 +5,7 @@ ghost use Rattle.pf_cli.specs.Args.{view_of_run_args};
 ghost use Rattle.pf_model.specs.Limits.{IsEdition};
 ghost use Rattle.pf_model.specs.Reports.{view_of_report};
 ghost use Rattle.pf_check.specs.Module.{ReadModule};
-ghost use Rattle.pf_cli_messages.specs.Explained.{AreStatusLines, AsksOf, ExplainsRun, FindsRun, MeansBy, ReportsProcesses, TellsRun};
+ghost use Rattle.pf_cli_messages.specs.Explained.{AreStatusLines, AsksOf, ExplainsRun, FindsRun, MeansAs, ReportsProcesses, TellsRun};
 ghost use Rattle.pf_check.specs.Reading.{IsModuleOf};
 
 use pf_check::ReadSource;
@@ -40,7 +40,7 @@ fn job_of(alloc: Global, args: &RunArgs, source: &ReadSource) -> Result<Option<J
 /// The report of the run that is asked for.
 fn report_by(alloc: Global, args: &RunArgs, job: &Job) -> Result<Report, NoMemory>
     requires { job.now.asked.runs ≡ zero }
-    ensures { IfOk result (λ r. MeansBy args.now.priorities job.now.asked (view_of_report r)) }
+    ensures { IfOk result (λ r. MeansAs args.now.priorities job.now.asked (view_of_report r)) }
 {
     let mut scratch = Scratch::new(alloc);
     match args.priorities {

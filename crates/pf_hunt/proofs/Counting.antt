@@ -11,7 +11,7 @@ use Rattle.pf_hunt.specs.Rows.{OutcomeRow, met, same_verdict, same_outcome, is_l
 use Rattle.pf_hunt.specs.Hashes.{outcome_hash}
 use Rattle.pf_strategy.specs.Strategies.{MeansBySeed}
 use Rattle.pf_strategy.specs.declared.strategy.Strategy.{Strategy}
-use Rattle.pf_strategy.proofs.OneRun.{one_report}
+use Rattle.pf_strategy.proofs.Meant.{one_report}
 use Rattle.pf_hunt.specs.Hunts.{Tallies, no_seed, and_seed}
 
 -- ---- sameness

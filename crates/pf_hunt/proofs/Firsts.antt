@@ -4,7 +4,7 @@ use Rattle.std.proofs.lemmas.Bool.{cases_lt, cases_order}
 use Rattle.pf_model.specs.Meaning.{Job, Report}
 use Rattle.pf_strategy.specs.Strategies.{MeansBySeed}
 use Rattle.pf_strategy.specs.declared.strategy.Strategy.{Strategy}
-use Rattle.pf_strategy.proofs.OneRun.{one_report}
+use Rattle.pf_strategy.proofs.Meant.{one_report}
 use Rattle.pf_hunt.specs.Hunts.{NoneIs, IsFirstSo, none_is, first, looked_to}
 
 module _ (so : Report → Bool) (w : Strategy) (j : Job) where

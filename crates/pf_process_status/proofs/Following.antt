@@ -5,6 +5,7 @@ use Rattle.std.proofs.lemmas.List.{length-map, take-map}
 use Rattle.std.proofs.lemmas.Option.{same_Some, slice_get-map, slice_get-get_or}
 use Rattle.pf_syntax.specs.Module.{Checked}
 use Rattle.pf_syntax.specs.declared.node.FunctionId.{FunctionId}
+use Rattle.pf_model.specs.Choosers.{choose_by_picks}
 use Rattle.pf_model.specs.Configuration.{Configuration, of}
 use Rattle.pf_model.specs.Context.{ProcessState}
 use Rattle.pf_model.specs.Labels.{Label}
@@ -27,7 +28,7 @@ use Rattle.pf_process_status.specs.declared.follow.Followed.{Followed}
 use Rattle.pf_process_status.specs.Known.{Comes, RunLeadsTo, checked_of, module_of_run, events_of}
 use Rattle.pf_process_status.specs.declared.known.KnownRun.{KnownRun}
 use Rattle.pf_process_status.proofs.Lives.{IsNext, as_many, pass_begins, pass_count}
-use Rattle.pf_process_status.proofs.Marked.{Behind, Marked, at_end, behind, front, here}
+use Rattle.pf_process_status.proofs.Marked.{IsNextTo, Marked, at_end, front, here, next_to}
 
 -- ---- lists
 
@@ -51,7 +52,8 @@ at_pushed P (z ∷ xs) x h k (suc p) y e = at_pushed (λ q. P (suc q)) xs x (λ 
 -- a system is after the first i events of a run, and it is known in whose calls the processes began that there are then
 pub record At (k : KnownRun) (d : Configuration) (h : RunLeadsTo k d) (i : ℕ) (s : SystemView) (fs : List Begun) : Type 0 where
   pub here : Configuration
-  pub marked : Marked (module_of_run k) d h.picks k.limit (start k.root.0 k.edition) h.transitions h.steps i here s.steps
+  pub made : ℕ
+  pub marked : Marked (module_of_run k) (choose_by_picks h.picks) d h.made 0 k.limit (start k.root.0 k.edition) h.transitions h.steps i here s.steps made
   pub module_is : s.checked ≡ checked_of k
   pub stands : s.standing ≡ Some here
   pub begun : AreBegun k here fs
@@ -69,9 +71,11 @@ pub at_start : (k : KnownRun) (d : Configuration) (h : RunLeadsTo k d) (s : Syst
 at_start k d h s fs e g =
     record {
       here = start k.root.0 k.edition;
+      made = 0;
       marked =
-          subst (Marked (module_of_run k) d h.picks k.limit (start k.root.0 k.edition) h.transitions h.steps zero (start k.root.0 k.edition)) (sym (ap (λ z. z.steps) e))
-          (here h.picks k.limit (start k.root.0 k.edition) h.transitions h.steps h.goes);
+          subst
+          (λ n. Marked (module_of_run k) (choose_by_picks h.picks) d h.made 0 k.limit (start k.root.0 k.edition) h.transitions h.steps zero (start k.root.0 k.edition) n 0)
+          (sym (ap (λ z. z.steps) e)) (here 0 k.limit (start k.root.0 k.edition) h.transitions h.steps h.goes);
       module_is = ap (λ z. z.checked) e;
       stands = ap (λ z. z.standing) e;
       begun = subst (AreBegun k (start k.root.0 k.edition)) (sym g) (record { count = refl; pids = λ p b q. (root_began k p b q).0; each = λ p b q. (root_began k p b q).1 });
@@ -80,7 +84,8 @@ at_start k d h s fs e g =
 -- after all events it is where the run leads
 pub at_last : (k : KnownRun) (d : Configuration) (h : RunLeadsTo k d) (i : ℕ) (s : SystemView) (fs : List Begun) (a : At k d h i s fs)
     → i ≡ length h.transitions → a.here ≡ d
-at_last k d h i s fs a e = at_end (module_of_run k) d h.picks k.limit (start k.root.0 k.edition) h.transitions h.steps i a.here s.steps a.marked e
+at_last k d h i s fs a e =
+    at_end (module_of_run k) (choose_by_picks h.picks) d h.made 0 k.limit (start k.root.0 k.edition) h.transitions h.steps i a.here s.steps a.made a.marked e
 
 -- ---- one event more
 
@@ -95,8 +100,9 @@ module _ (k : KnownRun) (d : Configuration) (h : RunLeadsTo k d) (i : ℕ) (s : 
   abbrev pub t : Transition
   t = its.0
 
-  pub b : Behind m d h.picks k.limit (start k.root.0 k.edition) h.transitions h.steps i a.here s.steps t
-  b = behind m d h.picks k.limit (start k.root.0 k.edition) h.transitions h.steps i a.here s.steps a.marked t its.1
+  pub b : IsNextTo m (choose_by_picks h.picks) d h.made 0 k.limit (start k.root.0 k.edition) h.transitions h.steps i a.here s.steps t
+  b =
+      next_to m (choose_by_picks h.picks) d h.made 0 k.limit (start k.root.0 k.edition) h.transitions h.steps i a.here s.steps a.made a.marked t its.1
 
   chosen_there : slice_get (enabled a.here) e.choice ≡ Some t.actor
   chosen_there = ap (λ z. slice_get (enabled a.here) z.choice) its.2 ∙ b.chosen
@@ -142,8 +148,10 @@ module _ (k : KnownRun) (d : Configuration) (h : RunLeadsTo k d) (i : ℕ) (s : 
     shows : l ≡ b.passed.label
     shows = passes.label ∙ ap (λ z. z.label) same
 
-    next : Marked m d h.picks k.limit (start k.root.0 k.edition) h.transitions h.steps (suc i) after s'.steps
-    next = subst (Marked m d h.picks k.limit (start k.root.0 k.edition) h.transitions h.steps (suc i) after) (sym steps) b.next
+    next : Marked m (choose_by_picks h.picks) d h.made 0 k.limit (start k.root.0 k.edition) h.transitions h.steps (suc i) after s'.steps b.later
+    next =
+        subst (λ n. Marked m (choose_by_picks h.picks) d h.made 0 k.limit (start k.root.0 k.edition) h.transitions h.steps (suc i) after n b.later)
+        (sym steps) b.next
 
     comes : Comes k (take (suc i) (events_of k)) after
     comes =
@@ -151,7 +159,8 @@ module _ (k : KnownRun) (d : Configuration) (h : RunLeadsTo k d) (i : ℕ) (s : 
           picks = h.picks;
           transitions = take (suc i) h.transitions;
           steps = s'.steps;
-          goes = front m d h.picks k.limit (start k.root.0 k.edition) h.transitions h.steps (suc i) after s'.steps next;
+          made = b.later;
+          goes = front m (choose_by_picks h.picks) d h.made 0 k.limit (start k.root.0 k.edition) h.transitions h.steps (suc i) after s'.steps b.later next;
           events = ap (take (suc i)) h.events ∙ take-map meaning.event_of_transition (suc i) h.transitions;
         }
 
@@ -169,7 +178,7 @@ module _ (k : KnownRun) (d : Configuration) (h : RunLeadsTo k d) (i : ℕ) (s : 
 
     there : (gs : List Begun) → AreBegun k after gs → At k d h (suc i) s' gs
     there gs g =
-        record { here = after; marked = next; module_is = ap (λ z. z.checked) passes.becomes ∙ a.module_is; stands = stands; begun = g }
+        record { here = after; made = b.later; marked = next; module_is = ap (λ z. z.checked) passes.becomes ∙ a.module_is; stands = stands; begun = g }
 
     -- where no process began
     pub none_began : begun_in l ≡ None → At k d h (suc i) s' fs

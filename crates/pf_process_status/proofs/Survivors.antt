@@ -3,6 +3,7 @@ use Rattle.std.proofs.Common.{◌≡◌, ◌⊎◌, ◌<◌, inl, inr, ℕ, suc,
 use Rattle.std.specs.Prelude.{IfOk, get_or, option_map, slice_get}
 use Rattle.std.proofs.lemmas.Option.{slice_get-get_or, slice_get-map, slice_get_within}
 use Rattle.pf_syntax.specs.Module.{Checked}
+use Rattle.pf_model.specs.Choosers.{choose_by_picks}
 use Rattle.pf_model.specs.Configuration.{Configuration, is_alive, of}
 use Rattle.pf_model.specs.Context.{ProcessState}
 use Rattle.pf_model.specs.Meaning as meaning
@@ -110,5 +111,5 @@ module _ (k : KnownRun) (d : Configuration) (h : RunLeadsTo k d) where
       by p x y z at e (inr r) =
           let within = slice_get_within xs p x at in
           let count = a.count in
-          let alive = lives_on (module_of_run k) h.picks k.limit k.root.0 k.edition h.transitions d h.steps h.goes p (none_ends p r.1) (omega arith) in
+          let alive = lives_on (module_of_run k) (choose_by_picks h.picks) 0 k.limit k.root.0 k.edition h.transitions d h.steps h.made h.goes p (none_ends p r.1) (omega arith) in
           inr (alike_lives (checked_of k) (of d.core p).state y z e (subst (LivesSo (checked_of k) (of d.core p).state) (sym r.0) (a.fates p x at alive)))

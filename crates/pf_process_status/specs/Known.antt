@@ -1,12 +1,13 @@
 -- The run that is known by its events, as the definition has it.
-use Rattle.std.specs.Prelude.{◌≡◌, ℕ, List, map}
+use Rattle.std.specs.Prelude.{◌≡◌, ℕ, zero, List, map}
 use Rattle.pf_syntax.specs.Module.{Checked}
+use Rattle.pf_model.specs.Choosers.{Picks, choose_by_picks}
 use Rattle.pf_model.specs.Configuration.{Configuration}
 use Rattle.pf_model.specs.Meaning as meaning
 use Rattle.pf_model.specs.Meaning.{Event}
 use Rattle.pf_model.specs.Module.{Module, module_of}
 use Rattle.pf_model.specs.Reports.{view_of_event}
-use Rattle.pf_model.specs.Runs.{Goes, Picks, Transition, start}
+use Rattle.pf_model.specs.Runs.{Goes, Transition, start}
 use Rattle.pf_process_status.specs.declared.known.KnownRun.{KnownRun}
 
 -- the module of a run: with its tables, and as the definition has it
@@ -25,7 +26,8 @@ pub record Comes (k : KnownRun) (es : List Event) (c : Configuration) : Type 0 w
   pub picks : Picks
   pub transitions : List Transition
   pub steps : ℕ
-  pub goes : Goes (module_of_run k) picks k.limit (start k.root.0 k.edition) transitions c steps
+  pub made : ℕ
+  pub goes : Goes (module_of_run k) (choose_by_picks picks) zero k.limit (start k.root.0 k.edition) transitions c steps made
   pub events : es ≡ map meaning.event_of_transition transitions
 
 -- all its events lead there

@@ -1,15 +1,14 @@
 -- A run that is made to its end.
-use Rattle.std.proofs.Common.{◌≡◌, ℕ, zero, ◌-◌, ◌≤◌, inr, Bool, false, List, [], length, subst, arith}
-use Rattle.pf_model.specs.Meaning.{Choices, Event, Means, picks_of}
+use Rattle.std.proofs.Common.{◌≡◌, ℕ, ◌-◌, Bool, false, List, [], length, sym, subst, arith}
+use Rattle.pf_model.specs.Meaning.{Choices, Event, Means}
 use Rattle.pf_model.specs.Reports.{view_of_report}
-use Rattle.pf_model.specs.Runs.{start}
+use Rattle.pf_model.specs.Runs.{Stops}
 use Rattle.pf_model.specs.declared.report.Report.{Report}
 use Rattle.pf_request.specs.Job.{Job}
 use Rattle.pf_sched.specs.Parts.{Executes}
 use Rattle.pf_sched.specs.Slices.{Advances, IsRunOver}
 use Rattle.pf_sched.specs.declared.execution.Execution.{Execution}
-use Rattle.pf_sched.proofs.Past.{as_many_steps}
-use Rattle.pf_sched.proofs.Sliced.{made}
+use Rattle.pf_sched.proofs.SoFar.{ends_by_limit}
 
 -- it is over after as many events as the limit has steps
 pub over_at_limit : (j : Job) (cs : Choices) (turns limit : ℕ) → turns ≡ j.asked.limit → limit ≡ j.asked.limit → (es : List Event) (x : Execution) → Executes j cs es x
@@ -17,11 +16,8 @@ pub over_at_limit : (j : Job) (cs : Choices) (turns limit : ℕ) → turns ≡ j
 over_at_limit j cs turns limit all same es x g over off went =
     let a : Advances 0 (length es) turns false (IsRunOver limit x) = subst (λ b. Advances 0 (length es) turns b (IsRunOver limit x)) off went in
     let count = a.0 in
-    let events = made j cs es x g in
-    let steps : length g.transitions ≤ x.system.steps =
-    as_many_steps j.asked.code (picks_of cs) j.asked.limit (start j.asked.root j.asked.edition) g.transitions g.last x.system.steps g.goes in
-    let none : limit - x.system.steps ≡ zero = omega arith in
-    a.1 (g.last, g.stands, inr none)
+    let stops : Stops (j.asked.limit - x.system.steps) g.run.last = ends_by_limit g.run (omega arith) in
+    a.1 (g.run.last, g.run.stands, subst (λ n. Stops (n - x.system.steps) g.run.last) (sym same) stops)
 
 -- what is a report by whichever choices a run begins by is so by these
 pub means_by : (j : Job) (cs : Choices) (x : Execution) → Executes j cs [] x → (r : Report)

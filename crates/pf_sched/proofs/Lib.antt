@@ -3,7 +3,7 @@ pub mod Evidenced
 pub mod Alive
 pub mod Living
 pub mod Longer
-pub mod GuidedRuns
+pub mod SoFar
 pub mod Past
 pub mod Traces
 pub mod Reported

@@ -5,6 +5,7 @@ use Rattle.std.proofs.lemmas.List.Sums.{sum_by-cons}
 use Rattle.pf_terms.specs.Value.{Value, same}
 use Rattle.pf_terms.specs.Fixed.{kill, killed, normal}
 use Rattle.pf_syntax.specs.Tree.{Clauses}
+use Rattle.pf_model.specs.Choosers.{Chooser}
 use Rattle.pf_model.specs.Module.{Module}
 use Rattle.pf_model.specs.Channels as signal
 use Rattle.pf_model.specs.Channels.{Signal, Channels, heads}
@@ -15,16 +16,16 @@ use Rattle.pf_model.specs.Deliveries.{Deed, at_ended, at_living, changes, delive
 use Rattle.pf_model.specs.Ends.{ended_by}
 use Rattle.pf_model.specs.Labels.{Label, as_message}
 use Rattle.pf_sorted.specs.Maps.{got, has, without_number}
-use Rattle.pf_model.specs.Meaning.{Job, Means, Report, outcome_of, outcome_with, picks_of}
+use Rattle.pf_model.specs.Meaning.{Job, MeansBy, Report, outcome_of, outcome_with}
 use Rattle.pf_model.specs.Properties.{is_finished}
 use Rattle.pf_model.specs.Receive.{Taken, selected}
-use Rattle.pf_model.specs.Runs.{Goes, stays, more, Passed, Passes, turn, delivery, Picks, Transition, can_go, enabled, is_waiting, pids_in_state, start}
+use Rattle.pf_model.specs.Runs.{Goes, stays, more, Passed, Passes, turn, delivery, Transition, can_go, enabled, is_waiting, pids_in_state, ready, start}
 use Rattle.pf_model.specs.declared.report.Actor.{Actor}
-use Rattle.pf_model.specs.declared.report.Actor.TheVariants as actors
+use Rattle.pf_model.specs.declared.report.Actor.TheVariants.{Channel}
 use Rattle.pf_model.specs.Turns.{Turn, cut_running, cut_ending, end, contraction, act, after_act, with_answer, ended_so, last_of_turn, received}
 use Rattle.pf_property.specs.Views.{labels_in}
 use Rattle.pf_property.proofs.Shown.{labels_of_run}
-use Rattle.pf_sched.specs.Waiting.{is_begin, is_end, living, waiting_in}
+use Rattle.pf_sched.specs.Waiting.{LivingIsRight, WaitingIsRight, is_begin, is_end, living, waiting_in}
 use Rattle.pf_sched.proofs.Alive.{acted_steady, alive, counts_fewer, counts_kept, lives, lives_on, one}
 
 -- as many more live as the label of a deed says
@@ -155,19 +156,18 @@ pass_counts m n c _ _ (delivery a b s cs e) = delivered_counts c.core a b s
 abbrev labels : List Transition → List Label
 labels ts = map (λ t. t.label) ts
 
-goes_count : (m : Module) (ps : Picks) (n : ℕ) (c : Configuration) (ts : List Transition) (d : Configuration) (k : ℕ) → Goes m ps n c ts d k
-    → alive d.core + count_by is_end (labels ts) ≡ alive c.core + count_by is_begin (labels ts)
-goes_count m _ _ _ _ _ _ (stays ps n c) = refl
-goes_count m _ _ _ _ _ _ (more ps n c x p ts d k e pass rest) =
+goes_count : {S : Type 0} (m : Module) (choose : Chooser S) (s : S) (n : ℕ) (c : Configuration) (ts : List Transition) (d : Configuration) (k : ℕ) (t : S)
+    → Goes m choose s n c ts d k t → alive d.core + count_by is_end (labels ts) ≡ alive c.core + count_by is_begin (labels ts)
+goes_count m choose _ _ _ _ _ _ _ (stays s n c) = refl
+goes_count m choose _ _ _ _ _ _ _ (more s n c x p ts d k t e pass rest) =
     let first = pass_counts m (suc n) c x p pass in
-    let others = goes_count m _ _ p.after ts d k rest in
+    let others = goes_count m choose _ _ p.after ts d k t rest in
     let ends = sum_by-cons (λ l. one (is_end l)) p.label (labels ts) in
     let begins = sum_by-cons (λ l. one (is_begin l)) p.label (labels ts) in
     omega arith
 
-pub living_is_right : (m : Module) (ps : Picks) (n root edition : ℕ) (ts : List Transition) (d : Configuration) (k : ℕ) → Goes m ps n (start root edition) ts d k
-    → alive d.core + count_by is_end (labels ts) ≡ suc (count_by is_begin (labels ts))
-living_is_right m ps n root edition ts d k goes = let counts = goes_count m ps n (start root edition) ts d k goes in omega arith
+pub living_is_right : (S : Type 0) → LivingIsRight S
+living_is_right S m choose s n root edition ts d k t goes = let counts = goes_count m choose s n (start root edition) ts d k t goes in omega arith
 
 -- ---- the end
 
@@ -203,12 +203,11 @@ empty_first [] xs h = refl
 empty_first (n ∷ ns) xs h = absurd (cc)
 
 -- where the root returned nobody can go
-none_goes : (c : Configuration) → is_finished (outcome_of c) ≡ true → pids_in_state can_go zero c.core.processes ≡ []
-none_goes c h = empty_first (pids_in_state can_go zero c.core.processes) (map (λ x. actors.Channel x.0 x.1) (heads c.channels)) (finished_none (enabled c) c.core h)
+none_goes : (c : Configuration) → is_finished (outcome_of c) ≡ true → ready c ≡ []
+none_goes c h = empty_first (ready c) (map (λ x. Channel x.0 x.1) (heads c.channels)) (finished_none (enabled c) c.core h)
 
-pub waiting_is_right : (j : Job) (r : Report) (h : Means j r)
-    → waiting_in r ≡ (if is_finished r.outcome then length (pids_in_state is_waiting zero h.last.core.processes) else 0)
-waiting_is_right j r h = by (is_finished r.outcome) refl
+pub waiting_is_right : (S : Type 0) → WaitingIsRight S
+waiting_is_right S choose s j r h = by (is_finished r.outcome) refl
   where
     ls : List Label
     ls = labels h.transitions
@@ -217,7 +216,7 @@ waiting_is_right j r h = by (is_finished r.outcome) refl
     same = labels_of_run r.events h.transitions (ap (λ z. z.events) h.report)
 
     left : living ls ≡ alive h.last.core
-    left = let counts = living_is_right j.code (picks_of j.choices) j.limit j.root j.edition h.transitions h.last r.steps h.run.goes in omega arith
+    left = let counts = living_is_right S j.code choose s j.limit j.root j.edition h.transitions h.last r.steps h.state h.run.goes in omega arith
 
     by : (b : Bool) → is_finished r.outcome ≡ b
         → (if b then living (labels_in r.events) else 0) ≡ (if b then length (pids_in_state is_waiting zero h.last.core.processes) else 0)

@@ -2,17 +2,15 @@
 use Rattle.std.proofs.Common.{◌≡◌, ◌<◌, ◌-◌, ℕ, List, [], ◌∷◌, ◌++◌, Bool, Option, map, refl, ap, sym, ◌∙◌, subst, arith}
 use Rattle.std.specs.Io.KnownBytes.{Appends}
 use Rattle.std.proofs.KnownBytes.{Appends-nil}
-use Rattle.std.proofs.lemmas.List.{map-append}
 use Rattle.pf_errors.specs.declared.fault.OrNoMemory.{OrNoMemory}
 use Rattle.pf_errors.specs.declared.fault.OrNoMemory.TheVariants.{NoMemory}
 use Rattle.pf_terms.specs.Atoms.{name_of}
 use Rattle.pf_streams.specs.Streams.{LeavesFront}
 use Rattle.pf_streams.specs.declared.stream.StreamFault.{StreamFault}
 use Rattle.pf_streams.proofs.Writes.{appends_both}
-use Rattle.pf_model.specs.Meaning.{Choices, Event, Means, Report, event_of_transition, picks_of, profile_of, words_of}
+use Rattle.pf_model.specs.Meaning.{Choices, Event, Means, Report}
 use Rattle.pf_model.specs.Reports.{view_of_event as code_event_of}
 use Rattle.pf_model.specs.Properties.{Outcome}
-use Rattle.pf_model.specs.Runs.{start}
 use Rattle.pf_model.proofs.Meanings.{one_meaning}
 use Rattle.pf_request.specs.Job.{Job}
 use Rattle.pf_trace.specs.Written.{AreWrittenSoFar, GoesOut, all_told, report_end_text, gone_from, last_lines, lines_text, told_so_far}
@@ -23,25 +21,19 @@ use Rattle.pf_sched.specs.Closing.{ClosesRun}
 use Rattle.pf_sched.specs.Parts.{Executes}
 use Rattle.pf_sched.specs.Printing.{CutsShort, HasPrinted, HasStopped, IsPrinted, PrintsRun, atom_names_of}
 use Rattle.pf_sched.specs.Slices.{IsRunOver}
-use Rattle.pf_sched.specs.Traces.{Went}
+use Rattle.pf_sched.specs.Traces.{WentByChoices}
 use Rattle.pf_sched.specs.Waiting.{waiting_in}
 use Rattle.pf_sched.specs.declared.execution.Execution.{Execution}
 use Rattle.pf_sched.specs.declared.printing.Printer.{Printer}
 use Rattle.pf_sched.proofs.Asking.{is_profile}
-use Rattle.pf_sched.proofs.Past.{first_transitions}
-use Rattle.pf_sched.proofs.Reported.{means}
-use Rattle.pf_sched.proofs.Traces.{next}
+use Rattle.pf_sched.proofs.Reported.{by_their_chooser, means}
+use Rattle.pf_sched.proofs.SoFar.{are_first}
+use Rattle.pf_sched.proofs.Traces.{executes_next}
 
 -- the events of a run so far are the first of those that the job means
 pub first_events : (j : Job) (cs : Choices) (es : List Event) (x : Execution) → Executes j cs es x → (r : Report) → Means (record j.asked { choices = cs }) r
     → (rest : List Event) × (r.events ≡ es ++ rest)
-first_events j cs es x g r h =
-    let f =
-    first_transitions j.asked.code (picks_of cs) j.asked.limit (start j.asked.root j.asked.edition) g.transitions g.last x.system.steps g.goes
-    h.transitions h.last r.steps h.run.goes h.run.stops in (
-      map event_of_transition f.0,
-      ap (λ z. z.events) h.report ∙ ap (map event_of_transition) f.1 ∙ map-append event_of_transition g.transitions f.0 ∙ ap (λ (xs : List Event). xs ++ map event_of_transition f.0) (sym g.events),
-    )
+first_events j cs es x g r h = are_first g.run r (by_their_chooser j.asked cs r h)
 
 -- the lines that wait are written by the names of the job's module
 pub waiting_written : (j : Job) (cs : Choices) (es : List Event) (x : Execution) (p : Printer) (w0 w : Option (List ℕ)) → IsPrinted j cs es x p w0 w
@@ -58,13 +50,13 @@ cut e j cs es x p w0 w w1 n0 n1 printed leaves r means =
 
 -- one event more was received, of which the line waits
 pub told_next : (j : Job) (cs : Choices) (es : List Event) (e : Event) (x x' : Execution) (p p' : Printer) (w0 w : Option (List ℕ)) (limit : ℕ)
-    → j.asked.limit ≡ limit → x.system.steps < limit → (printed : IsPrinted j cs es x p w0 w) → Went (limit - x.system.steps) printed.run.last x e x'
+    → j.asked.limit ≡ limit → x.system.steps < limit → (printed : IsPrinted j cs es x p w0 w) → WentByChoices (limit - x.system.steps) printed.run.run.last x e x'
     → (PrintsRun p j.asked es → PrintsRun p' j.asked (es ++ e ∷ [])) → p'.pieces.gone ≡ p.pieces.gone → IsPrinted j cs (es ++ e ∷ []) x' p' w0 w
 told_next j cs es e x x' p p' w0 w limit same some printed went told gone =
     record {
       run =
-          next j.asked.code (profile_of cs) (words_of cs) j.asked.limit (start j.asked.root j.asked.edition) es x x' printed.run e (omega arith)
-          (subst (λ n. Went (n - x.system.steps) printed.run.last x e x') (sym same) went);
+          executes_next j cs es x x' printed.run e (omega arith)
+          (subst (λ n. WentByChoices (n - x.system.steps) printed.run.run.last x e x') (sym same) went);
       told = told printed.told;
       out = subst (λ v. Appends w0 w (lines_text (atom_names_of j) (map (λ s. code_event_of s.value) v.items))) (sym gone) printed.out;
     }
@@ -98,7 +90,7 @@ module _ (j : Job) (es : List Event) (x : Execution) (p : Printer) (q : Pieces) 
     (same : p.pieces ≡ q) (printed : IsPrinted j j.asked.choices es x p w0 w) (over : IsRunOver j.asked.limit x) (closes : ClosesRun j es x.system r)
     (of_job : atoms ≡ j.asked.code.atoms) where
   it_means : Means j.asked r
-  it_means = means j j.asked.choices es x printed.run over r closes.events closes.outcome closes.steps closes.verdict
+  it_means = means j j.asked.choices es x printed.run over r closes
 
   all_events : r.events ≡ gone_from q ++ told_so_far q.lines
   all_events = closes.events ∙ sym printed.told.2 ∙ ap all_told same

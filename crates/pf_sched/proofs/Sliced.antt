@@ -1,13 +1,12 @@
 -- What a slice leaves of the run of a job.
 use Rattle.std.proofs.Common.{◌≡◌, ◌⊎◌, inl, inr, ℕ, zero, suc, ◌+◌, ◌-◌, ◌<◌, ◌≤◌, Bool, true, false, List, length, Some, sym, ap, ◌∙◌, subst, arith}
 use Rattle.std.specs.Prelude.{MatchBool}
-use Rattle.std.proofs.lemmas.List.{length-map}
 use Rattle.pf_terms.specs.Atoms.{name_of}
 use Rattle.pf_model.specs.Configuration.{Configuration}
 use Rattle.pf_model.specs.Meaning as meaning
-use Rattle.pf_model.specs.Meaning.{Means, picks_of}
+use Rattle.pf_model.specs.Meaning.{Means}
 use Rattle.pf_model.specs.Properties.{some_label}
-use Rattle.pf_model.specs.Runs.{Stops, start}
+use Rattle.pf_model.specs.Runs.{Stops}
 use Rattle.pf_model.specs.Shrinking as shrinking
 use Rattle.pf_property.specs.Judging.{rules_out}
 use Rattle.pf_property.specs.Views.{labels_in, property_of}
@@ -25,32 +24,14 @@ use Rattle.pf_sched.specs.declared.execution.Execution.{Execution}
 use Rattle.pf_sched.specs.declared.run.Run as code
 use Rattle.pf_sched.specs.declared.trace.Writer.{Writer}
 use Rattle.pf_sched.proofs.Hunted.{HasNoFewer, has_more}
-use Rattle.pf_sched.proofs.Past.{longer, within_steps}
-use Rattle.pf_sched.proofs.Reported.{one_stands}
-
--- as many events as transitions
-pub made : (j : Job) (cs : meaning.Choices) (es : List meaning.Event) (x : Execution) (g : Executes j cs es x) → length es ≡ length g.transitions
-made j cs es x g = ap length g.events ∙ length-map g.transitions meaning.event_of_transition
+use Rattle.pf_sched.proofs.Reported.{by_their_chooser, one_stands}
+use Rattle.pf_sched.proofs.SoFar.{has_more_to_come}
 
 -- a run that isn't over has more events to come
 pub run_goes_past : (j : Job) (cs : meaning.Choices) (es : List meaning.Event) (x : Execution) → Executes j cs es x → (IsRunOver j.asked.limit x → ⊥)
     → (report : meaning.Report) → Means (record j.asked { choices = cs }) report → length es < length report.events
-run_goes_past j cs es x g going report h = omega (arith, more, made j cs es x g, all)
-  where
-    more : length g.transitions < length h.transitions
-    more =
-        longer j.asked.code (picks_of cs) j.asked.limit (start j.asked.root j.asked.edition) g.transitions g.last x.system.steps g.goes (λ stops. going (g.last, g.stands, stops))
-        h.transitions h.last report.steps h.run.goes h.run.stops
-
-    all : length report.events ≡ length h.transitions
-    all = ap (λ z. length z.events) h.report ∙ length-map h.transitions meaning.event_of_transition
-
--- few events are those of a run so far
-pub few_so_far : (j : Job) (cs : meaning.Choices) (es : List meaning.Event) (x : Execution) → Executes j cs es x → length es ≤ j.asked.limit
-few_so_far j cs es x g = omega (arith, made j cs es x g, within)
-  where
-    within : length g.transitions ≤ j.asked.limit
-    within = within_steps j.asked.code (picks_of cs) j.asked.limit (start j.asked.root j.asked.edition) g.transitions g.last x.system.steps g.goes
+run_goes_past j cs es x g going report h =
+    has_more_to_come g.run (λ stops. going (g.run.last, g.run.stands, stops)) report (by_their_chooser j.asked cs report h)
 
 -- so has the job, where it is no shrinking
 goes_past : (j : Job) (es : List meaning.Event) (x : Execution) → j.asked.runs ≡ zero → Executes j j.asked.choices es x → (IsRunOver j.asked.limit x → ⊥) → HasNoFewer j (length es)

@@ -1,6 +1,7 @@
 -- The runs of a job by schedules: how many events they have in all, and which of them fail.
 use Rattle.std.proofs.Common.{◌≡◌, ℕ, zero, ◌+◌, ◌*◌, ◌≤◌, Bool, List, [], ◌∷◌, ◌++◌, length, refl, sym, ap, ◌∙◌, subst, arith}
 use Rattle.std.proofs.lemmas.List.{length-map}
+use Rattle.pf_model.specs.Choosers.{choose_by_picks}
 use Rattle.pf_model.specs.Meaning.{Job, Report, Means, event_of_transition, picks_of}
 use Rattle.pf_model.specs.Runs.{start}
 use Rattle.pf_model.specs.Shrinking.{by_schedule, is_failure, TellsFailures}
@@ -20,7 +21,8 @@ few_events j r h = omega (arith, all, within)
     all = ap (λ z. length z.events) h.report ∙ length-map h.transitions event_of_transition
 
     within : length h.transitions ≤ j.limit
-    within = within_steps j.code (picks_of j.choices) j.limit (start j.root j.edition) h.transitions h.last r.steps h.run.goes
+    within =
+        within_steps j.code (choose_by_picks (picks_of j.choices)) zero j.limit (start j.root j.edition) h.transitions h.last r.steps h.state h.run.goes
 
 module _ (j : Job) where
   -- ---- which fail

@@ -1,10 +1,10 @@
 -- What is true of a run, of a shrinking so far, and of the end of a job.
 use Rattle.std.specs.Prelude.{◌≡◌, ◌⊎◌, ℕ, zero, suc, ◌+◌, Bool, List, ◌++◌, length, Option, Some, None}
 use Rattle.pf_terms.specs.Atoms.{name_of}
+use Rattle.pf_model.specs.Choosers.{choose_by_picks}
 use Rattle.pf_model.specs.Meaning as meaning
-use Rattle.pf_model.specs.Meaning.{Choices, schedule, Event, Means, profile_of, words_of}
+use Rattle.pf_model.specs.Meaning.{Choices, schedule, Event, Means, picks_of}
 use Rattle.pf_model.specs.Properties.{some_label}
-use Rattle.pf_model.specs.Runs.{start}
 use Rattle.pf_model.specs.Shrinking as shrinking
 use Rattle.pf_model.specs.Shrinking.{by_schedule, shrunk, IsResult, TellsFailures}
 use Rattle.pf_property.specs.Judging.{rules_out}
@@ -19,11 +19,13 @@ use Rattle.pf_sched.specs.declared.run.Run.{Run}
 use Rattle.pf_sched.specs.declared.shrinking.Shrinking.{Shrinking}
 use Rattle.pf_sched.specs.Events.{RunsHave}
 use Rattle.pf_sched.specs.Views.{without_memory}
-use Rattle.pf_sched.specs.Traces.{Going}
+use Rattle.pf_sched.specs.Traces.{Going, MakesFrom}
 
--- a run of a job's module by these choices so far, with these events
-abbrev pub Executes : Job → Choices → List Event → Execution → Type 0
-Executes j cs es x = Going j.asked.code (profile_of cs) (words_of cs) j.asked.limit (start j.asked.root j.asked.edition) es x
+-- a run of a job by these choices so far, with these events, and the number of its next choice
+pub record Executes (j : Job) (cs : Choices) (es : List Event) (x : Execution) : Type 0 where
+  pub at : ℕ
+  pub run : Going (choose_by_picks (picks_of cs)) zero j es x.system at
+  pub choices : MakesFrom cs at x.choices
 
 -- the events of a run so far
 abbrev pub events_in : Run → List Event

@@ -2,10 +2,11 @@
 use Rattle.std.specs.Prelude.{◌≡◌, ℕ, zero, suc, ◌+◌, ◌-◌, Bool, true, false, if◌then◌else◌, List, map, length, count_by}
 use Rattle.pf_model.specs.Labels.{Label, spawns, spawns_watched, ends, delivers, ending_with}
 use Rattle.pf_model.specs.Configuration.{Configuration, is_alive}
-use Rattle.pf_model.specs.Meaning.{Job, Means, Report}
+use Rattle.pf_model.specs.Choosers.{Chooser}
+use Rattle.pf_model.specs.Meaning.{Job, MeansBy, Report}
 use Rattle.pf_model.specs.Module.{Module}
 use Rattle.pf_model.specs.Properties.{Outcome, is_finished}
-use Rattle.pf_model.specs.Runs.{Goes, Picks, Transition, is_waiting, pids_in_state, start}
+use Rattle.pf_model.specs.Runs.{Goes, Transition, is_waiting, pids_in_state, start}
 use Rattle.pf_property.specs.Views.{labels_in}
 
 -- a process begins; one that is refused shows that its spawn raises, and nothing begins
@@ -34,14 +35,15 @@ waiting_in r = waiting_at r.outcome (labels_in r.events)
 
 -- ---- the laws of these counts
 
--- at any point of a run, and whatever its choices, as many processes live as what it showed leaves
-abbrev pub LivingIsRight : Type 0
-LivingIsRight =
-    (m : Module) (ps : Picks) (n root edition : ℕ) (ts : List Transition) (d : Configuration) (k : ℕ) → Goes m ps n (start root edition) ts d k
-    → count_by (λ p. is_alive p.state) d.core.processes + count_by is_end (map (λ t. t.label) ts) ≡ suc (count_by is_begin (map (λ t. t.label) ts))
+-- at any point of a run, and whatever chooses, as many processes live as what it showed leaves
+abbrev pub LivingIsRight : (S : Type 0) → Type 0
+LivingIsRight S =
+    (m : Module) (choose : Chooser S) (s : S) (n root edition : ℕ) (ts : List Transition) (d : Configuration) (k : ℕ) (t : S)
+    → Goes m choose s n (start root edition) ts d k t
+    → count_by (λ p. is_alive p.state) d.core.processes + count_by is_end (map (λ u. u.label) ts) ≡ suc (count_by is_begin (map (λ u. u.label) ts))
 
 -- at the end of a run whose root returned as many processes wait as are reported
-abbrev pub WaitingIsRight : Type 0
-WaitingIsRight =
-    (j : Job) (r : Report) (h : Means j r)
+abbrev pub WaitingIsRight : (S : Type 0) → Type 0
+WaitingIsRight S =
+    (choose : Chooser S) (s : S) (j : Job) (r : Report) (h : MeansBy choose s j r)
     → waiting_in r ≡ (if is_finished r.outcome then length (pids_in_state is_waiting zero h.last.core.processes) else 0)

@@ -3,14 +3,15 @@
 ghost use Rattle.std.specs.Prelude.{◌≡◌, ◌<◌, ◌-◌, [], length, IfOk, MatchBool, OnOk, Some};
 ghost use Rattle.rand_pcg.specs.Pcg.{pcg32};
 ghost use Rattle.pf_choice.specs.Choices.{Chooses};
+ghost use Rattle.pf_model.specs.Channels.{heads};
 ghost use Rattle.pf_model.specs.Configuration.{Configuration};
 ghost use Rattle.pf_model.specs.Meaning as model;
 ghost use Rattle.pf_model.specs.Reports.{label_of};
-ghost use Rattle.pf_model.specs.Runs.{Stops};
+ghost use Rattle.pf_model.specs.Runs.{Stops, ready};
 ghost use Rattle.pf_system.specs.Steps.{IsNoteOf, noted_actors};
 ghost use Rattle.pf_sched.specs.Parts.{Executes};
 ghost use Rattle.pf_sched.specs.Slices.{SimulatesEvents, IsComplete};
-ghost use Rattle.pf_sched.specs.Traces.{Makes, MayHaveGone, MayHavePassed, heads_in, ready_in};
+ghost use Rattle.pf_sched.specs.Traces.{Makes, MayHaveGone, MayHavePassed};
 
 use crate::job::Job;
 use crate::scratch::Scratch;
@@ -32,7 +33,7 @@ pub(crate) struct Execution {
 fn choose(choices: &mut Choices, enabled: &Enabled<'_>) -> usize
     requires { 0 < length (noted_actors enabled.now) }
     ensures chooses { (c : Configuration) → IsNoteOf enabled.now c
-        → Chooses pcg32 choices.old (ready_in c) (heads_in c) result choices.new }
+        → Chooses pcg32 choices.old (length (ready c)) (length (heads c.channels)) result choices.new }
     ensures one { result < length (noted_actors enabled.now) }
 {
     choices.next_of(enabled.processes(), enabled.channels())

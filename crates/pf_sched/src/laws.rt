@@ -3,15 +3,15 @@
 ghost use Rattle.pf_sched.specs.One.{OneCount, OneResult, SomeCount, SomeResult};
 ghost use Rattle.pf_sched.specs.Waiting.{LivingIsRight, WaitingIsRight};
 
-/// At any point of a run, and whatever its choices, as many processes live as began, the root among them, less those
+/// At any point of a run, and whatever chooses, as many processes live as began, the root among them, less those
 /// that ended, as the run showed.
-pub fn living_is_right()
-    ensures { LivingIsRight }
+pub fn living_is_right<S>()
+    ensures { LivingIsRight S }
 {}
 
 /// At the end of a run whose root returned as many processes wait as are reported.
-pub fn waiting_is_right()
-    ensures { WaitingIsRight }
+pub fn waiting_is_right<S>()
+    ensures { WaitingIsRight S }
 {}
 
 /// A job has one result only, a shrinking too, and each valid job has one.

@@ -1,7 +1,7 @@
 use Rattle.std.proofs.Common.{◌≡◌, ◌+◌, suc, inl, inr, refl, sym, ap, ◌∙◌, subst, arith}
 use Rattle.std.specs.Prelude.{option_map}
 use Rattle.pf_model.specs.Reports.{view_of_report}
-use Rattle.pf_strategy.proofs.OneRun.{one_report}
+use Rattle.pf_strategy.proofs.Meant.{one_report}
 use Rattle.pf_hunt.specs.Hunts.{FirstLeaking, fails, first, none_is}
 use Rattle.pf_hunt.specs.Views.{leak_of}
 use Rattle.pf_hunt.proofs.Firsts.{no_seeds, one_more}

@@ -2,4 +2,4 @@ use Rattle.pf_sched.proofs.Living.{waiting_is_right}
 use Rattle.pf_sched.proofs.laws.waiting_is_right.Goals as goal
 
 pub returns : goal.returns
-returns c = waiting_is_right
+returns g c = waiting_is_right _

@@ -1,10 +1,7 @@
-use Rattle.std.proofs.Common.{◌≡◌, ◌≤◌, ◌-◌, ◌∷◌, ◌++◌, [], zero, inr, length, ◌∙◌, subst, arith}
-use Rattle.pf_model.specs.Meaning.{picks_of}
-use Rattle.pf_model.specs.Runs.{start}
+use Rattle.std.proofs.Common.{◌∷◌, ◌++◌, [], ◌∙◌, subst, arith}
 use Rattle.pf_trace.proofs.Fronts.{handed_on}
 use Rattle.pf_sched.specs.Printing.{CutsShort, PrintsOn}
-use Rattle.pf_sched.proofs.Past.{as_many_steps}
-use Rattle.pf_sched.proofs.Sliced.{made}
+use Rattle.pf_sched.proofs.SoFar.{ends_by_limit}
 use Rattle.pf_sched.proofs.Traces.{length_last}
 use Rattle.pf_sched.proofs.printing.print_events.Goals as goal
 
@@ -44,12 +41,7 @@ pub returns-clause-printed : goal.returns-clause-printed
 returns-clause-printed g c =
     let j = c.args.job.now in
     let i = c.loop.invariant in
-    let x = c.loop.execution in
-    let run = i.printed.2.run in
+    let run = i.printed.2.run.run in
     let count = i.printed.1 in
     let limit = c.requires.limit in
-    let events = made j j.asked.choices i.printed.0 x run in
-    let steps : length run.transitions ≤ x.system.steps =
-    as_many_steps j.asked.code (picks_of j.asked.choices) j.asked.limit (start j.asked.root j.asked.edition) run.transitions run.last x.system.steps run.goes in
-    let none : j.asked.limit - x.system.steps ≡ zero = omega arith in
-    (i.printed.0, i.printed.2, (run.last, run.stands, inr none))
+    (i.printed.0, i.printed.2, (run.last, run.stands, ends_by_limit run (omega arith)))

@@ -3,8 +3,7 @@ use Rattle.pf_model.specs.Meaning.{Report, outcome_of}
 use Rattle.pf_model.specs.Properties.{verdict}
 use Rattle.pf_property.specs.Views.{labels_in}
 use Rattle.pf_sched.specs.Closing.{ClosesRun}
-use Rattle.pf_sched.proofs.GuidedRuns.{means}
-use Rattle.pf_sched.proofs.Reported.{one_stands}
+use Rattle.pf_sched.proofs.Reported.{means_by, one_stands}
 use Rattle.pf_sched.proofs.whole.choices_by_priorities.Goals as goal
 
 pub returns : goal.returns
@@ -16,4 +15,4 @@ returns c =
     let r : Report = record { events = all.0; outcome = o; steps = x.system.steps; verdict = verdict j.asked.property (labels_in all.0) o } in
     let closes : ClosesRun j all.0 x.system r =
     record { events = refl; outcome = λ d stands. ap outcome_of (one_stands x.system.standing all.1.last d all.1.stands stands); steps = refl; verdict = refl } in
-    (r, means j c.args.seed all.0 x all.1 all.3 r closes, all.2)
+    (r, means_by all.1 all.3 r closes, all.2)

@@ -1,6 +1,6 @@
 use Rattle.std.proofs.Common.{refl, ap}
 use Rattle.pf_sched.proofs.Reported.{means}
-use Rattle.pf_sched.proofs.Sliced.{few_so_far}
+use Rattle.pf_sched.proofs.SoFar.{few_so_far}
 use Rattle.pf_sched.proofs.whole.judge_execution.Goals as goal
 
 pub complete-requires-clause-first : goal.complete-requires-clause-first
@@ -14,5 +14,5 @@ returns c =
     let j = c.args.job.now in
     let x = c.complete.new.self in
     let all = c.in_ok-complete.ensures j.asked.choices c.requires in
-    let told = c.in_ok-judged.ensures all.0 (few_so_far j j.asked.choices all.0 x all.1) ((refl, all.2.0.1), all.2.1) in
-    (told.0, means j j.asked.choices all.0 x all.1 all.3 told.0 told.1.events told.1.outcome told.1.steps told.1.verdict, told.2)
+    let told = c.in_ok-judged.ensures all.0 (few_so_far all.1.run) ((refl, all.2.0.1), all.2.1) in
+    (told.0, means j j.asked.choices all.0 x all.1 all.3 told.0 told.1, told.2)

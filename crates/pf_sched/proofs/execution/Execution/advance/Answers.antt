@@ -1,10 +1,8 @@
 use Rattle.std.proofs.Common.{◌≡◌, zero, ◌+◌, ◌-◌, ◌<◌, ◌≤◌, ◌∷◌, ◌++◌, [], inl, inr, Some, length, sym, subst, arith}
-use Rattle.pf_model.specs.Meaning.{profile_of, words_of}
-use Rattle.pf_model.specs.Runs.{start}
 use Rattle.pf_sched.specs.Parts.{Executes}
-use Rattle.pf_sched.specs.Traces.{MayHaveGone, Went}
+use Rattle.pf_sched.specs.Traces.{MayHaveGone, WentByChoices}
 use Rattle.pf_sched.proofs.Sliced.{ended}
-use Rattle.pf_sched.proofs.Traces.{length_last, next}
+use Rattle.pf_sched.proofs.Traces.{executes_next, length_last}
 use Rattle.pf_sched.proofs.execution.Execution.advance.Goals as goal
 
 pub returns-then-steps-limit : goal.returns-then-steps-limit
@@ -12,20 +10,20 @@ returns-then-steps-limit g c j cs es e run told =
     let i = c.loop.invariant j cs es e run told in
     let count : length i.0 ≤ length es + c.args.turns = omega arith in
     let none : c.args.limit - c.loop.self.system.steps ≡ zero = omega arith in
-    (i.0, i.1, i.2, (omega arith, count, (i.1.last, i.1.stands, inr none)))
+    (i.0, i.1, i.2, (omega arith, count, (i.1.run.last, i.1.run.stands, inr none)))
 
 pub returns-then-not-branch : goal.returns-then-not-branch
 returns-then-not-branch g c j cs es e run told =
     let i = c.loop.invariant j cs es e run told in
     let x = c.loop.self in
     let w =
-    subst (λ o. MayHaveGone g.T.Trace.Told (c.args.limit - x.system.steps) i.1.last x c.loop.trace o c.go.new.self c.go.new.trace) c.if-not-branch.true
-    (c.in_ok-go.ensures i.1.last i.1.stands) in
+    subst (λ o. MayHaveGone g.T.Trace.Told (c.args.limit - x.system.steps) i.1.run.last x c.loop.trace o c.go.new.self c.go.new.trace) c.if-not-branch.true
+    (c.in_ok-go.ensures i.1.run.last i.1.run.stands) in
     let count : length i.0 ≤ length es + c.args.turns = omega arith in (
       i.0,
       subst (Executes j cs i.0) (sym w.1) i.1,
       subst (λ t. g.T.Trace.Told t j.asked i.0) (sym w.2) i.2,
-      (omega arith, count, (i.1.last, subst (λ z. z.system.standing ≡ Some i.1.last) (sym w.1) i.1.stands, inl w.0)),
+      (omega arith, count, (i.1.run.last, subst (λ z. z.system.standing ≡ Some i.1.run.last) (sym w.1) i.1.run.stands, inl w.0)),
     )
 
 pub loop-preserved : goal.loop-preserved
@@ -33,13 +31,12 @@ loop-preserved g c j cs es e run told =
     let i = c.loop.invariant j cs es e run told in
     let x = c.loop.self in
     let w =
-    subst (λ o. MayHaveGone g.T.Trace.Told (c.args.limit - x.system.steps) i.1.last x c.loop.trace o c.go.new.self c.go.new.trace) c.if-not-branch.false
-    (c.in_ok-go.ensures i.1.last i.1.stands) in
+    subst (λ o. MayHaveGone g.T.Trace.Told (c.args.limit - x.system.steps) i.1.run.last x c.loop.trace o c.go.new.self c.go.new.trace) c.if-not-branch.false
+    (c.in_ok-go.ensures i.1.run.last i.1.run.stands) in
     let left : c.args.limit - x.system.steps ≡ j.asked.limit - x.system.steps = omega arith in
     let some : x.system.steps < j.asked.limit = omega arith in
-    let went = subst (λ n. Went n i.1.last x w.0 c.go.new.self) left w.1 in
-    let there =
-    next j.asked.code (profile_of cs) (words_of cs) j.asked.limit (start j.asked.root j.asked.edition) i.0 x c.go.new.self i.1 w.0 some went in
+    let went = subst (λ n. WentByChoices n i.1.run.last x w.0 c.go.new.self) left w.1 in
+    let there = executes_next j cs i.0 x c.go.new.self i.1 w.0 some went in
     let more = length_last i.0 w.0 in
     (i.0 ++ w.0 ∷ [], there, w.2 j.asked i.0 i.2, omega arith)
 
@@ -47,4 +44,4 @@ pub returns : goal.returns
 returns g c j cs es e run told =
     let i = c.loop.invariant j cs es e run told in
     let count : length i.0 ≡ length es + c.args.turns = omega arith in
-    (i.0, i.1, i.2, ended c.args.limit (length es) (length i.0) c.args.turns c.loop.self i.1.last i.1.stands count c.is_over.result (c.is_over.ensures i.1.last i.1.stands))
+    (i.0, i.1, i.2, ended c.args.limit (length es) (length i.0) c.args.turns c.loop.self i.1.run.last i.1.run.stands count c.is_over.result (c.is_over.ensures i.1.run.last i.1.run.stands))

@@ -2,6 +2,7 @@ use Rattle.std.proofs.Common.{length, sym, ap, ◌∙◌}
 use Rattle.std.specs.Prelude.{slice_get}
 use Rattle.pf_system.specs.Steps.{noted_actors}
 use Rattle.pf_system.proofs.WhoMayGo.{may_go}
+use Rattle.pf_sched.proofs.Traces.{chosen_by_picks}
 use Rattle.pf_sched.proofs.execution.Execution.pass_next.Goals as goal
 
 pub pass-requires-clause-enabled : goal.pass-requires-clause-enabled
@@ -10,11 +11,15 @@ pass-requires-clause-enabled c =
     c.actor-actor.ensures
 
 pub returns : goal.returns
-returns c d stands =
-    record {
-      used = c.in_ok-pass.field-0;
-      counts = c.len-among.ensures.count ∙ ap length (c.enabled-enabled.ensures.actors d stands);
-      chooses = c.choose-index.ensures.chooses d (c.enabled-enabled.ensures.both d stands);
-      chosen = ap (λ xs. slice_get xs c.choose-index.result) (sym (c.enabled-enabled.ensures.actors d stands)) ∙ c.actor-actor.ensures;
-      passes = c.in_ok-pass.ensures;
-    }
+returns c d stands cs i makes =
+    let chosen =
+    chosen_by_picks d c.args.self.now.choices c.choose-index.new.choices c.choose-index.result (c.choose-index.ensures.chooses d (c.enabled-enabled.ensures.both d stands)) cs i makes in (
+      record {
+        used = c.in_ok-pass.field-0;
+        counts = c.len-among.ensures.count ∙ ap length (c.enabled-enabled.ensures.actors d stands);
+        chooses = chosen.0;
+        chosen = ap (λ xs. slice_get xs c.choose-index.result) (sym (c.enabled-enabled.ensures.actors d stands)) ∙ c.actor-actor.ensures;
+        passes = c.in_ok-pass.ensures;
+      },
+      chosen.1,
+    )

@@ -6,7 +6,7 @@ use Rattle.pf_sched.specs.Parts.{events_in, events_so_far}
 use Rattle.pf_sched.specs.Slices.{runs_left}
 use Rattle.pf_sched.proofs.Asking.{within_bounds}
 use Rattle.pf_sched.proofs.Hunted.{few_before}
-use Rattle.pf_sched.proofs.Sliced.{few_so_far}
+use Rattle.pf_sched.proofs.SoFar.{few_so_far}
 use Rattle.pf_sched.proofs.Shrunk.{fewer_runs, follows_so, hunt_goes_on, report_goes_on}
 use Rattle.pf_sched.proofs.shrinking.Shrinking.follow.Goals as goal
 
@@ -17,7 +17,7 @@ overflow_add-after c =
     let x = c.requires.shrinking in
     let bounds = within_bounds j c.requires.valid in
     let made = few_before j c.requires.valid s.hunt s.before x.hunt in
-    let events = few_so_far j (schedule x.next) (events_in s.run) s.run.execution x.run.run in
+    let events = few_so_far x.run.run.run in
     omega (arith, made, events, bounds.0, c.len.ensures)
 
 pub begin-requires-clause-hunt : goal.begin-requires-clause-hunt
