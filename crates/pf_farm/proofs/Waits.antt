@@ -1,7 +1,5 @@
 -- Clients that waited.
 use Rattle.std.proofs.Common.{◌≡◌, Bool, true, false, Option, Some, None, sym, ◌∙◌}
-use Rattle.std.specs.Option.{option_map}
-use Rattle.pf_desks.specs.Desk as desk
 use Rattle.pf_desks.specs.declared.stage.TrialStage.{TrialStage}
 use Rattle.pf_desks.specs.declared.stage.TrialStage.TheVariants.{Queued, Running, Done}
 use Rattle.pf_farm.specs.Floors.{must_wait, IsTrialOver}

@@ -1,6 +1,5 @@
 -- What a client waits for.
 use Rattle.std.specs.Prelude.{⊤, Bool, true, false, not, ◌&&◌, Option, Some, None}
-use Rattle.pf_desks.specs.Desk as desk
 use Rattle.pf_desks.specs.declared.stage.TrialStage.{TrialStage}
 use Rattle.pf_desks.specs.declared.stage.TrialStage.TheVariants.{Queued, Running, Done}
 

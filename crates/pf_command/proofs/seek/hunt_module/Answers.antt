@@ -1,4 +1,4 @@
-use Rattle.std.proofs.Common.{IfOk, ap, subst, sym}
+use Rattle.std.proofs.Common.{IfOk, subst, sym}
 use Rattle.pf_hunt.specs.Notices.{HearsSome}
 use Rattle.pf_cli.specs.Args.{view_of_hunt_args}
 use Rattle.pf_command.specs.Hunts.{HuntEndsAs, OfEach, SoughtAnswers}
