@@ -16,7 +16,7 @@ use Rattle.pf_model.specs.Deliveries.{Deed, at_ended, at_living, changes, delive
 use Rattle.pf_model.specs.Ends.{ended_by}
 use Rattle.pf_model.specs.Labels.{Label, as_message}
 use Rattle.pf_sorted.specs.Maps.{got, has, without_number}
-use Rattle.pf_model.specs.Meaning.{Job, MeansBy, Report, outcome_of, outcome_with}
+use Rattle.pf_model.specs.Meaning.{outcome_of, outcome_with}
 use Rattle.pf_model.specs.Properties.{is_finished}
 use Rattle.pf_model.specs.Receive.{Taken, selected}
 use Rattle.pf_model.specs.Runs.{Goes, stays, more, Passed, Passes, turn, delivery, Transition, can_go, enabled, is_waiting, pids_in_state, ready, start}
@@ -25,7 +25,7 @@ use Rattle.pf_model.specs.declared.report.Actor.TheVariants.{Channel}
 use Rattle.pf_model.specs.Turns.{Turn, cut_running, cut_ending, end, contraction, act, after_act, with_answer, ended_so, last_of_turn, received}
 use Rattle.pf_property.specs.Views.{labels_in}
 use Rattle.pf_property.proofs.Shown.{labels_of_run}
-use Rattle.pf_sched.specs.Waiting.{LivingIsRight, WaitingIsRight, is_begin, is_end, living, waiting_in}
+use Rattle.pf_sched.specs.Waiting.{LivingIsRight, WaitingIsRight, is_begin, is_end, living}
 use Rattle.pf_sched.proofs.Alive.{acted_steady, alive, counts_fewer, counts_kept, lives, lives_on, one}
 
 -- as many more live as the label of a deed says

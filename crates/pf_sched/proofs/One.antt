@@ -1,15 +1,13 @@
 -- A job has one result and one number of events: a run since it means one report, a shrinking since one function says
 -- which schedules fail.
-use Rattle.std.proofs.Common.{◌≡◌, ◌⊎◌, inl, inr, ℕ, zero, suc, ◌+◌, Bool, List, Option, Some, None, length, refl, sym, ap, ◌∙◌}
+use Rattle.std.proofs.Common.{◌≡◌, ◌⊎◌, inl, inr, ℕ, zero, suc, Bool, List, Option, Some, None, length, refl, sym, ap, ◌∙◌}
 use Rattle.pf_choice.specs.Chosen.{IsProfile}
 use Rattle.pf_model.specs.Meaning as model
 use Rattle.pf_model.specs.Meaning.{Choices, Means, seed, schedule, weighted_seed, profile_of}
 use Rattle.pf_model.specs.Evaluation.{evaluated}
 use Rattle.pf_model.specs.Shrinking.{Found, Result, report, shrunk_to, nothing_fails, IsResult, plain, smaller, no_failure, by_schedule, shrunk}
 use Rattle.pf_model.proofs.Meanings.{one_meaning, only_evaluated}
-use Rattle.pf_request.specs.Job.{Job}
 use Rattle.pf_shrink.specs.Tried.{tried}
-use Rattle.pf_sched.specs.Asked.{IsValid}
 use Rattle.pf_sched.specs.Events.{RunsHave, HasEvents, of_run, of_shrinking}
 use Rattle.pf_sched.specs.One.{OneResult, OneCount, SomeResult, SomeCount}
 use Rattle.pf_sched.proofs.Asking.{is_profile}

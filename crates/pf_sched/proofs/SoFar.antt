@@ -1,5 +1,5 @@
 -- A run so far, by whichever chooser: how many events it has, and what comes after them in a run that stops.
-use Rattle.std.proofs.Common.{◌≡◌, inr, ℕ, zero, ◌+◌, ◌-◌, ◌<◌, ◌≤◌, List, ◌++◌, length, map, sym, ap, ◌∙◌, arith}
+use Rattle.std.proofs.Common.{◌≡◌, inr, ◌-◌, ◌<◌, ◌≤◌, List, ◌++◌, length, map, sym, ap, ◌∙◌, arith}
 use Rattle.std.proofs.lemmas.List.{length-map, map-append}
 use Rattle.pf_model.specs.Choosers.{Chooser}
 use Rattle.pf_model.specs.Meaning.{Event, MeansBy, Report, event_of_transition}

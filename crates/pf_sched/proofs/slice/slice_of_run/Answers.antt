@@ -8,6 +8,14 @@ use Rattle.pf_sched.specs.Views.{view_of_parked, without_memory}
 use Rattle.pf_sched.proofs.Sliced.{ends_sooner, goes_on, is_over}
 use Rattle.pf_sched.proofs.slice.slice_of_run.Goals as goal
 
+pub invariant_of-result : goal.invariant_of-result
+invariant_of-result c =
+    let j = c.args.job.value in
+    let made = c.go_on.new.self in
+    let advanced = subst (λ k. RunAdvances k c.deref_mut.result.now made c.args.turns c.in-Ok-false.field-0) c.deref.ensures c.in-Ok-false.ensures.run in
+    let went = (subst (λ k. RunAdvances j k made c.args.turns c.in-Ok-false.field-0) c.deref_mut.ensures.value advanced) j.asked.choices c.requires.1 in
+    (c.requires.0, went.0)
+
 pub returns-in-Ok-false : goal.returns-in-Ok-false
 returns-in-Ok-false c =
     let j = c.args.job.value in

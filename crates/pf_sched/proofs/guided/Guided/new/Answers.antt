@@ -1,4 +1,4 @@
-use Rattle.std.proofs.Common.{◌≡◌, Some, sym, ap, ◌∙◌, subst}
+use Rattle.std.proofs.Common.{◌≡◌, [], Some, sym, ap, ◌∙◌, subst}
 use Rattle.pf_model.specs.Module.{module_of}
 use Rattle.pf_model.specs.Runs.{start}
 use Rattle.pf_strategy.specs.Priorities.{first}
