@@ -198,7 +198,7 @@ finished_none : (xs : List Actor) (c : Core) → is_finished (outcome_with xs c)
 finished_none [] c h = refl
 finished_none (x ∷ xs) c h = absurd (cc)
 
-empty_first : (ns : List ℕ) (xs : List Actor) → map actors.Process ns ++ xs ≡ [] → ns ≡ []
+empty_first : (ns : List ℕ) (xs : List Actor) → map Process ns ++ xs ≡ [] → ns ≡ []
 empty_first [] xs h = refl
 empty_first (n ∷ ns) xs h = absurd (cc)
 
