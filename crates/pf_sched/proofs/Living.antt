@@ -21,7 +21,7 @@ use Rattle.pf_model.specs.Properties.{is_finished}
 use Rattle.pf_model.specs.Receive.{Taken, selected}
 use Rattle.pf_model.specs.Runs.{Goes, stays, more, Passed, Passes, turn, delivery, Transition, can_go, enabled, is_waiting, pids_in_state, ready, start}
 use Rattle.pf_model.specs.declared.report.Actor.{Actor}
-use Rattle.pf_model.specs.declared.report.Actor.TheVariants.{Channel}
+use Rattle.pf_model.specs.declared.report.Actor.TheVariants.{Channel, Process}
 use Rattle.pf_model.specs.Turns.{Turn, cut_running, cut_ending, end, contraction, act, after_act, with_answer, ended_so, last_of_turn, received}
 use Rattle.pf_property.specs.Views.{labels_in}
 use Rattle.pf_property.proofs.Shown.{labels_of_run}
