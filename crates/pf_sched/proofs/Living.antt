@@ -21,7 +21,7 @@ use Rattle.pf_model.specs.Properties.{is_finished}
 use Rattle.pf_model.specs.Receive.{Taken, selected}
 use Rattle.pf_model.specs.Runs.{Goes, stays, more, Passed, Passes, turn, delivery, Transition, can_go, enabled, is_waiting, pids_in_state, ready, start}
 use Rattle.pf_model.specs.declared.report.Actor.{Actor}
-use Rattle.pf_model.specs.declared.report.Actor.TheVariants.{Channel, Process}
+use Rattle.pf_model.specs.declared.report.Actor.TheVariants as actors
 use Rattle.pf_model.specs.Turns.{Turn, cut_running, cut_ending, end, contraction, act, after_act, with_answer, ended_so, last_of_turn, received}
 use Rattle.pf_property.specs.Views.{labels_in}
 use Rattle.pf_property.proofs.Shown.{labels_of_run}
@@ -198,13 +198,13 @@ finished_none : (xs : List Actor) (c : Core) → is_finished (outcome_with xs c)
 finished_none [] c h = refl
 finished_none (x ∷ xs) c h = absurd (cc)
 
-empty_first : (ns : List ℕ) (xs : List Actor) → map Process ns ++ xs ≡ [] → ns ≡ []
+empty_first : (ns : List ℕ) (xs : List Actor) → map actors.Process ns ++ xs ≡ [] → ns ≡ []
 empty_first [] xs h = refl
 empty_first (n ∷ ns) xs h = absurd (cc)
 
 -- where the root returned nobody can go
 none_goes : (c : Configuration) → is_finished (outcome_of c) ≡ true → ready c ≡ []
-none_goes c h = empty_first (ready c) (map (λ x. Channel x.0 x.1) (heads c.channels)) (finished_none (enabled c) c.core h)
+none_goes c h = empty_first (ready c) (map (λ x. actors.Channel x.0 x.1) (heads c.channels)) (finished_none (enabled c) c.core h)
 
 pub waiting_is_right : (S : Type 0) → WaitingIsRight S
 waiting_is_right S choose s j r h = by (is_finished r.outcome) refl
