@@ -7,10 +7,12 @@ complain(Text) -> io:put_chars(standard_error, unicode:characters_to_list(Text))
 
 -spec run(plain_words:asked()) -> 0..255.
 run(#{command := eunit} = Asked) -> plain_eunit:run(Asked);
+run(#{command := prop} = Asked) -> plain_prop:run(Asked);
 run(#{files := Files, options := Options, words := Words} = Asked) ->
-    case lists:member("--all-roots", Words) of
-        true -> plain_roots:hunt(Asked);
-        false -> one_root(Files, Options, Asked)
+    case {lists:member("--all-roots", Words), maps:take(mixed, Asked)} of
+        {true, _} -> plain_roots:hunt(Asked);
+        {false, error} -> one_root(Files, Options, Asked);
+        {false, {true, One}} -> plain_hunt:mixed(One, fun(#{options := Own} = Half) -> one_root(Files, Own, Half) end)
     end.
 
 -spec one_root([file:filename()], plain_translation:options(), plain_words:asked()) -> 0..255.
