@@ -217,7 +217,15 @@ of_erlang(Term) -> Term.
 smaller({Before, One, Other}, Module) ->
     Fewer = fun(Commands) -> [lists:delete(Command, Commands) || Command <- lists:reverse(Commands)] end,
     All = [{Before, One, Left} || Left <- Fewer(Other)] ++ [{Before, Left, Other} || Left <- Fewer(One)] ++ [{Left, One, Other} || Left <- Fewer(Before)],
-    [Test || Test <- All, is_closed(Test), is_possible(Test, Module)].
+    [renumbered(Test) || Test <- All, is_closed(Test), is_possible(Test, Module)].
+
+%% The same with results that are numbered from 1 on.
+-spec renumbered(commands()) -> commands().
+renumbered({Before, One, Other}) ->
+    All = Before ++ One ++ Other,
+    Numbers = maps:from_list([{Old, {var, New}} || {New, {Old, _}} <- lists:zip(lists:seq(1, length(All)), All)]),
+    Own = fun(Commands) -> [{element(2, maps:get(Old, Numbers)), substituted(Call, Numbers)} || {Old, Call} <- Commands] end,
+    {Own(Before), Own(One), Own(Other)}.
 
 %% Whether each result that a command uses is there before it.
 -spec is_closed(commands()) -> boolean().

@@ -56,12 +56,17 @@ options(Module) ->
         _ -> []
     end || Option <- proplists:get_value(options, Module:module_info(compile), [])]).
 
+%% The line that says why: a crash before the outcome.
 -spec why(binary()) -> string().
-why(Report) ->
-    case re:run(Report, <<"^(?:crash|refused|waits|ended|deadlock|limit).*$">>, [multiline, {capture, first, list}]) of
+why(Report) -> why(Report, [<<"^(?:crash|refused) .*$">>, <<"^waits .*$">>, <<"^(?:ended|deadlock|limit).*$">>]).
+
+-spec why(binary(), [binary()]) -> string().
+why(Report, [Expression | Others]) ->
+    case re:run(Report, Expression, [multiline, {capture, first, list}]) of
         {match, [Line]} -> Line;
-        nomatch -> "no answer"
-    end.
+        nomatch -> why(Report, Others)
+    end;
+why(_, []) -> "no answer".
 
 %% @doc The entry of a plugin of rebar3.
 -spec init(term()) -> {ok, term()}.

@@ -16,12 +16,13 @@ check() ->
           ["stock\\.erl exports no initial_state/0, so it is no state machine$"]),
     tells("no number", ["prop" | Files] ++ ["--tests", "many"], 2, ["--tests wants a number from 1 on$"]),
     case code:lib_dir(proper) of
-        {error, _} -> io:format("  there is no PropEr, so its generators are left out~n");
-        _ -> by_generators(Files)
+        Folder when is_list(Folder) -> by_generators(filelib:is_regular(filename:join(Folder, "include/proper.hrl")), Files);
+        {error, _} -> by_generators(false, Files)
     end.
 
--spec by_generators([file:filename()]) -> ok.
-by_generators([Model, Stock]) ->
+-spec by_generators(boolean(), [file:filename()]) -> ok.
+by_generators(false, _) -> io:format("  there is no PropEr with its header, so its generators are left out~n");
+by_generators(true, [Model, Stock]) ->
     tells("generators of PropEr", ["prop", checks:folder("prop/stock_proper.erl"), Model, Stock, "--tests", "12", "--seeds", "0..100"], 1,
           ["^no order of the commands explains these results$"]).
 
