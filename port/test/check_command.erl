@@ -81,16 +81,20 @@ replayed() ->
 %% A shrinking keeps the failure, and has no more events and no more switches of process than the run that it began from.
 -spec shrunk() -> boolean().
 shrunk() ->
-    Words = ["hunt", checks:folder("../examples/cache.erl"), "--verbose"],
+    Cache = checks:folder("../examples/cache.erl"),
+    [kept(["hunt", Cache, "--verbose" | Property]) || Property <- [[], ["--property", "nocrash"], ["--property", "returns"]]],
+    {Refused, 2} = checks:command(["shrink", Cache, "-D", "MENDED", "--schedule", "0,1,0"]),
+    has("a schedule that doesn't fail", "^S1$", Refused).
+
+-spec kept([string()]) -> boolean().
+kept(Words) ->
     {Found, 1} = checks:command(Words),
     {Shrunk, 1} = checks:command(Words ++ ["--shrink", "20"]),
     Crash = fun(Answer) -> re:run(Answer, "^crash .*$", [multiline, {capture, first, list}]) end,
     checks:expect("the failure is kept", Crash(Found), Crash(Shrunk)),
     [Before, After] = [size_of(Answer) || Answer <- [Found, Shrunk]],
     checks:expect(io_lib:format("events and switches: ~w, and ~w", [Before, After]),
-                  element(1, After) =< element(1, Before) andalso element(2, After) < element(2, Before)),
-    {Refused, 2} = checks:command(["shrink", checks:folder("../examples/cache.erl"), "-D", "MENDED", "--schedule", "0,1,0"]),
-    has("a schedule that doesn't fail", "^S1$", Refused).
+                  element(1, After) =< element(1, Before) andalso element(2, After) =< element(2, Before)).
 
 %% How many events an answer has, and how many switches of process.
 -spec size_of(string()) -> {non_neg_integer(), non_neg_integer()}.
