@@ -1,4 +1,5 @@
-%% @doc Commands of a state machine: made from its generators, written as the body of a root, and held against all orders of them.
+%% @doc Commands of a state machine: made from its generators, written as the body of a root, and held against all
+%% orders of them.
 -module(plain_commands).
 -export([load/2, generated/3, calls/2, body/2, failing_body/3, explained/3, smaller/2, shown/1]).
 
@@ -15,18 +16,22 @@
 %% @doc Compiles and loads the state machine of a file.
 -spec load(file:filename(), plain_translation:options()) -> {ok, module()} | {refused, iodata()}.
 load(File, #{includes := Includes, defines := Defines}) ->
-    Options = [binary, return_errors, nowarn_deprecated_function] ++ [{i, Folder} || Folder <- [filename:dirname(File) | Includes]]
+    Options = [binary, return_errors, nowarn_deprecated_function] ++ [{i,
+            Folder} || Folder <- [filename:dirname(File) | Includes]]
         ++ [case Define of {Name, Value} -> {d, Name, Value}; Name -> {d, Name} end || Define <- Defines],
     case compile:file(File, Options) of
         {ok, Module, Binary} ->
             {module, Module} = code:load_binary(Module, File, Binary),
-            Lacks = [Function || Function <- [{initial_state, 0}, {command, 1}, {precondition, 2}, {next_state, 3}, {postcondition, 3}],
+            Lacks = [Function || Function <- [{initial_state, 0}, {command, 1}, {precondition, 2}, {next_state, 3},
+                    {postcondition, 3}],
                                  not erlang:function_exported(Module, element(1, Function), element(2, Function))],
             case Lacks of
                 [] -> {ok, Module};
-                [{Name, Arity} | _] -> {refused, io_lib:format("~ts exports no ~w/~w, so it is no state machine", [File, Name, Arity])}
+                [{Name, Arity} | _] -> {refused, io_lib:format("~ts exports no ~w/~w, so it is no state machine",
+                        [File, Name, Arity])}
             end;
-        {error, [{Named, [{Location, Compiler, What} | _]} | _], _} -> {refused, [Named, ":", io_lib:format("~p", [Location]), ": ", Compiler:format_error(What)]};
+        {error, [{Named, [{Location, Compiler, What} | _]} | _], _} -> {refused, [Named, ":", io_lib:format("~p",
+                [Location]), ": ", Compiler:format_error(What)]};
         _ -> {refused, [File, ": it can't be compiled"]}
     end.
 
@@ -86,19 +91,22 @@ instance(Generator) ->
                 _ -> throw({refused, "command/1 makes no {call, Module, Function, Arguments}"})
             end;
         _ when element(1, Generator) =:= call -> Generator;
-        _ -> throw({refused, "PropEr isn't here, which makes commands of generators; without it command/1 may return a list of calls"})
+        _ -> throw({refused,
+                "PropEr isn't here, which makes commands of generators; without it command/1 returns a list of calls"})
     end.
 
 %% @doc Whether some command calls a module.
 -spec calls(module(), [commands()]) -> boolean().
 calls(Module, Tests) ->
     erlang:function_exported(Module, setup, 0) orelse
-        lists:any(fun({Before, One, Other}) -> [x || {_, {call, M, _, _}} <- Before ++ One ++ Other, M =:= Module] =/= [] end, Tests).
+        lists:any(fun({Before, One, Other}) -> [x || {_, {call, M, _, _}} <- Before ++ One ++ Other,
+                M =:= Module] =/= [] end, Tests).
 
 %% @doc The body of a root that runs these commands and returns their results, each list by itself.
 -spec body(commands(), module()) -> iodata().
 body({Before, One, Other}, Module) ->
-    Setup = case erlang:function_exported(Module, setup, 0) of true -> io_lib:format("    Setup = ~p:setup(),~n", [Module]); false -> "" end,
+    Setup = case erlang:function_exported(Module, setup, 0) of true -> io_lib:format("    Setup = ~p:setup(),~n",
+            [Module]); false -> "" end,
     Cleanup = case {Setup, erlang:function_exported(Module, cleanup, 1)} of
         {"", _} -> "";
         {_, true} -> io_lib:format("    ~p:cleanup(Setup),~n", [Module]);
@@ -106,11 +114,13 @@ body({Before, One, Other}, Module) ->
     end,
     ["\n", Setup, [["    ", line(Command), ",\n"] || Command <- Before], "    Root = self(),\n",
      beside("One", One), beside("Other", Other),
-     "    Results = {", results(Before), ", receive {One, Is} -> Is end, receive {Other, Too} -> Too end},\n", Cleanup, "    Results"].
+     "    Results = {", results(Before), ", receive {One, Is} -> Is end, receive {Other, Too} -> Too end},\n", Cleanup,
+             "    Results"].
 
 -spec beside(string(), [command()]) -> iodata().
 beside(Name, Commands) ->
-    ["    ", Name, " = spawn_link(fun() ->\n", [["        ", line(Command), ",\n"] || Command <- Commands], "        Root ! {self(), ", results(Commands), "}\n    end),\n"].
+    ["    ", Name, " = spawn_link(fun() ->\n", [["        ", line(Command), ",\n"] || Command <- Commands],
+            "        Root ! {self(), ", results(Commands), "}\n    end),\n"].
 
 -spec line(command()) -> iodata().
 line({Number, Call}) -> [io_lib:format("V~w = ", [Number]), written(Call)].
@@ -129,21 +139,25 @@ written([Head | Tail] = List) when is_list(Tail) ->
         true -> io_lib:format("~p", [List]);
         false -> ["[", written(Head), [[", ", written(X)] || X <- Tail], "]"]
     end;
-written(Map) when is_map(Map) -> ["#{", lists:join(", ", [[written(Key), " => ", written(Value)] || {Key, Value} <- maps:to_list(Map)]), "}"];
+written(Map) when is_map(Map) -> ["#{", lists:join(", ", [[written(Key), " => ", written(Value)] || {Key,
+        Value} <- maps:to_list(Map)]), "}"];
 written(Term) -> io_lib:format("~0p", [Term]).
 
 %% @doc The same, with an error in place of this outcome.
 -spec failing_body(commands(), binary(), module()) -> iodata().
 failing_body(Test, <<"finished ", Value/binary>>, Module) ->
-    Pattern = re:replace(re:replace(Value, <<"#Ref<[0-9]+>">>, <<"_">>, [global]), <<"<[0-9]+>">>, <<"_">>, [global, {return, binary}]),
+    Pattern = re:replace(re:replace(Value, <<"#Ref<[0-9]+>">>, <<"_">>, [global]), <<"<[0-9]+>">>, <<"_">>, [global,
+            {return, binary}]),
     {ok, Tokens, _} = erl_scan:string(binary_to_list(<<"X = ", Pattern/binary, ".">>)),
     {ok, [{match, _, _, Form}]} = erl_parse:parse_exprs(Tokens),
-    ["\n    case begin", body(Test, Module), "\n    end of\n        ", erl_pp:expr(plain(Form)), " = Outcome -> error({no_order_explains, Outcome});\n        Outcome -> Outcome\n    end"];
+    ["\n    case begin", body(Test, Module), "\n    end of\n        ", erl_pp:expr(plain(Form)),
+            " = Outcome -> error({no_order_explains, Outcome});\n        Outcome -> Outcome\n    end"];
 failing_body(Test, _, Module) -> body(Test, Module).
 
 %% A pattern of the source for a value of the profile.
 -spec plain(term()) -> term().
-plain({tuple, L, [{atom, _, '#bin'}, Bytes]}) -> {bin, L, [{bin_element, L, {string, L, list(Bytes)}, default, default}]};
+plain({tuple, L, [{atom, _, '#bin'}, Bytes]}) -> {bin, L, [{bin_element, L, {string, L, list(Bytes)}, default,
+        default}]};
 plain({tuple, L, [{atom, _, '#map'}, _]}) -> {var, L, '_'};
 plain({tuple, L, [{atom, _, '#fun'} | _]}) -> {var, L, '_'};
 plain(Form) when is_tuple(Form) -> list_to_tuple(plain(tuple_to_list(Form)));
@@ -167,7 +181,8 @@ explained(<<"finished ", Value/binary>>, {Before, One, Other}, Module) ->
                 false -> {false, "no order of the commands explains these results"}
             end
     end;
-explained(<<"ended {refused,", _/binary>> = Outcome, _, _) -> {refused, ["a run comes to what the translator lacks: ", Outcome]};
+explained(<<"ended {refused,", _/binary>> = Outcome, _, _) -> {refused, ["a run comes to what the translator lacks: ",
+        Outcome]};
 explained(_, _, _) -> {false, "the commands don't all return"}.
 
 -spec after_all([{call(), term()}], term(), module()) -> {ok, term()} | no.
@@ -184,7 +199,8 @@ some_order(One, Other, State, Module) -> first_of(One, Other, State, Module) ore
 
 -spec first_of([{call(), term()}], [{call(), term()}], term(), module()) -> boolean().
 first_of([{Call, Result} | Rest], Other, State, Module) ->
-    Module:postcondition(State, Call, Result) andalso some_order(Rest, Other, Module:next_state(State, Result, Call), Module);
+    Module:postcondition(State, Call, Result) andalso some_order(Rest, Other, Module:next_state(State, Result, Call),
+            Module);
 first_of([], _, _, _) -> false.
 
 -spec substituted(term(), #{pos_integer() => term()}) -> term().
@@ -216,7 +232,8 @@ of_erlang(Term) -> Term.
 -spec smaller(commands(), module()) -> [commands()].
 smaller({Before, One, Other}, Module) ->
     Fewer = fun(Commands) -> [lists:delete(Command, Commands) || Command <- lists:reverse(Commands)] end,
-    All = [{Before, One, Left} || Left <- Fewer(Other)] ++ [{Before, Left, Other} || Left <- Fewer(One)] ++ [{Left, One, Other} || Left <- Fewer(Before)],
+    All = [{Before, One, Left} || Left <- Fewer(Other)] ++ [{Before, Left, Other} || Left <- Fewer(One)] ++ [{Left,
+            One, Other} || Left <- Fewer(Before)],
     [renumbered(Test) || Test <- All, is_closed(Test), is_possible(Test, Module)].
 
 %% The same with results that are numbered from 1 on.
@@ -224,7 +241,8 @@ smaller({Before, One, Other}, Module) ->
 renumbered({Before, One, Other}) ->
     All = Before ++ One ++ Other,
     Numbers = maps:from_list([{Old, {var, New}} || {New, {Old, _}} <- lists:zip(lists:seq(1, length(All)), All)]),
-    Own = fun(Commands) -> [{element(2, maps:get(Old, Numbers)), substituted(Call, Numbers)} || {Old, Call} <- Commands] end,
+    Own = fun(Commands) -> [{element(2, maps:get(Old, Numbers)), substituted(Call, Numbers)} || {Old,
+            Call} <- Commands] end,
     {Own(Before), Own(One), Own(Other)}.
 
 %% Whether each result that a command uses is there before it.
@@ -245,14 +263,18 @@ used(_) -> [].
 -spec is_possible(commands(), module()) -> boolean().
 is_possible({Before, One, Other}, Module) -> all_orders(Before, [], [], Module:initial_state(), Module, {One, Other}).
 
--spec all_orders([command()], [command()], [command()], term(), module(), {[command()], [command()]} | none) -> boolean().
+-spec all_orders([command()], [command()], [command()], term(), module(), {[command()], [command()]} | none) ->
+        boolean().
 all_orders([{Number, Call} | Rest], One, Other, State, Module, Beside) ->
-    Module:precondition(State, Call) andalso all_orders(Rest, One, Other, Module:next_state(State, {var, Number}, Call), Module, Beside);
+    Module:precondition(State, Call) andalso all_orders(Rest, One, Other, Module:next_state(State, {var, Number},
+            Call), Module, Beside);
 all_orders([], [], [], State, Module, {One, Other}) -> all_orders([], One, Other, State, Module, none);
 all_orders([], One, Other, State, Module, none) ->
-    lists:all(fun({[Command | Rest], Left}) -> all_orders([Command], Rest, Left, State, Module, none); ({[], _}) -> true end, [{One, Other}, {Other, One}]).
+    lists:all(fun({[Command | Rest], Left}) -> all_orders([Command], Rest, Left, State, Module, none); ({[], _}) ->
+            true end, [{One, Other}, {Other, One}]).
 
 %% @doc The commands of a test, a line for each.
 -spec shown(commands()) -> iodata().
 shown({Before, One, Other}) ->
-    [[Head, ": ", line(Command), "\n"] || {Head, Commands} <- [{"before", Before}, {"one", One}, {"other", Other}], Command <- Commands].
+    [[Head, ": ", line(Command), "\n"] || {Head, Commands} <- [{"before", Before}, {"one", One}, {"other", Other}],
+            Command <- Commands].

@@ -1,17 +1,22 @@
-%% @doc What one node can't show. There a signal is in the mailbox as soon as it is sent, so signals to a process come in the order of their
-%% causes. A run is one of a node where its sends can be put into an order in which each delivery comes with its send, and each process still
-%% sees what it saw: the same signals in the same order before the same turns, and the same names.
+%% @doc What one node can't show. There a signal is in the mailbox as soon as it is sent, so signals to a process come
+%% in the order of their causes. A run is one of a node where its sends can be put into an order in which each delivery
+%% comes with its send, and each process still sees what it saw: the same signals in the same order before the same
+%% turns, and the same names.
 -module(plain_one_node).
 -export([crossed/1]).
 
 -type event() :: plain_report:event().
-%% What is known before an event: the sends of each channel that aren't delivered; the last turn of each process, with its last delivery and
-%% those since that turn; who has had a name, and the last event that goes by names; what has to come before what.
--type state() :: #{sent := #{{non_neg_integer(), non_neg_integer()} => [pos_integer()]}, turns := #{non_neg_integer() => pos_integer()},
+%% What is known before an event: the sends of each channel that aren't delivered; the last turn of each process, with
+%% its last delivery and those since that turn; who has had a name, and the last event that goes by names; what has to
+%% come before what.
+-type state() :: #{sent := #{{non_neg_integer(), non_neg_integer()} => [pos_integer()]},
+        turns := #{non_neg_integer() => pos_integer()},
                    last := #{non_neg_integer() => pos_integer()}, since := #{non_neg_integer() => [pos_integer()]},
-                   named := [non_neg_integer()], name := pos_integer() | none, edges := [{pos_integer(), pos_integer()}]}.
+                   named := [non_neg_integer()], name := pos_integer() | none, edges := [{pos_integer(),
+                           pos_integer()}]}.
 
-%% @doc Whether signals of a run crossed as one node doesn't show it. Where the report doesn't say what was delivered, they didn't.
+%% @doc Whether signals of a run crossed as one node doesn't show it. Where the report doesn't say what was delivered,
+%% they didn't.
 -spec crossed([event()]) -> boolean().
 crossed(Events) ->
     Effects = plain_order:effects(Events),
@@ -41,7 +46,8 @@ node(_, {delivery, A, B}, #{sent := Sent} = State) ->
 
 -spec sent([{non_neg_integer(), non_neg_integer()}], pos_integer(), state()) -> state().
 sent(Channels, Node, #{sent := Sent} = State) ->
-    State#{sent := lists:foldl(fun(Channel, Known) -> Known#{Channel => maps:get(Channel, Known, []) ++ [Node]} end, Sent, Channels)}.
+    State#{sent := lists:foldl(fun(Channel, Known) -> Known#{Channel => maps:get(Channel, Known, []) ++ [Node]} end,
+            Sent, Channels)}.
 
 -spec started(non_neg_integer() | none, pos_integer(), state()) -> state().
 started(none, _, State) -> State;
@@ -49,21 +55,26 @@ started(Process, Node, #{turns := Turns} = State) -> State#{turns := Turns#{Proc
 
 %% What has to come before an event.
 -spec seen(pos_integer(), event(), state()) -> state().
-seen(Node, #{subject := {turn, P}, label := Label} = Event, #{turns := Turns, since := Since, edges := Edges} = State) ->
+seen(Node, #{subject := {turn, P}, label := Label} = Event, #{turns := Turns, since := Since,
+        edges := Edges} = State) ->
     Before = [maps:get(P, Turns, Node) | maps:get(P, Since, [])],
-    Own = State#{turns := Turns#{P => Node}, since := Since#{P => []}, edges := [{Earlier, Node} || Earlier <- Before] ++ Edges},
+    Own = State#{turns := Turns#{P => Node}, since := Since#{P => []}, edges := [{Earlier,
+            Node} || Earlier <- Before] ++ Edges},
     with_names(names(Label, P, Own), Node, Event, Own);
-seen(Node, #{subject := {delivery, _, B}, label := Label} = Event, #{turns := Turns, last := Last, since := Since, edges := Edges} = State) ->
+seen(Node, #{subject := {delivery, _, B}, label := Label} = Event, #{turns := Turns, last := Last, since := Since,
+        edges := Edges} = State) ->
     Ends = re:run(Label, <<"^deliver (exit ends|[a-z]+ noproc)">>) =/= nomatch,
     Before = [maps:get(B, Last, Node)] ++ [maps:get(B, Turns, Node) || Ends],
-    Own = State#{last := Last#{B => Node}, since := Since#{B => [Node | maps:get(B, Since, [])]}, edges := [{Earlier, Node} || Earlier <- Before] ++ Edges},
+    Own = State#{last := Last#{B => Node}, since := Since#{B => [Node | maps:get(B, Since, [])]}, edges := [{Earlier,
+            Node} || Earlier <- Before] ++ Edges},
     with_names(Ends andalso lists:member(B, maps:get(named, Own)), Node, Event, Own).
 
 %% Whether an event goes by names: that of who had one ends it.
 -spec names(binary(), non_neg_integer(), state()) -> boolean().
 names(Label, P, #{named := Named}) ->
     case binary:split(Label, <<" ">>) of
-        [Word | _] when Word =:= <<"register">>; Word =:= <<"unregister">>; Word =:= <<"whereis">>; Word =:= <<"raise">> -> true;
+        [Word | _] when Word =:= <<"register">>; Word =:= <<"unregister">>; Word =:= <<"whereis">>;
+                Word =:= <<"raise">> -> true;
         [<<"end">> | _] -> lists:member(P, Named);
         _ -> false
     end.

@@ -1,6 +1,7 @@
-%% @doc Parallel commands of a state machine, as PropEr and QuickCheck have them: `initial_state', `command', `precondition', `next_state' and
-%% `postcondition' in the first file. Each test has commands before and two lists of commands beside each other. All outcomes of its runs are
-%% hunted; each has to be that of some order of the commands. A test that fails is made smaller, and its run is told.
+%% @doc Parallel commands of a state machine, as PropEr and QuickCheck have them: `initial_state', `command',
+%% `precondition', `next_state' and `postcondition' in the first file. Each test has commands before and two lists of
+%% commands beside each other. All outcomes of its runs are hunted; each has to be that of some order of the commands. A
+%% test that fails is made smaller, and its run is told.
 -module(plain_prop).
 -export([run/1]).
 
@@ -11,15 +12,18 @@
 -type commands() :: plain_commands:commands().
 -type failing() :: {commands(), non_neg_integer(), iodata(), binary()}.
 -type judged() :: holds | {fails, failing()} | {refused, iodata()}.
--type translated() :: {ok, [{plain_translation:translation(), [{commands(), atom()}]}]} | {refused, [plain_translation:refusal()]}.
+-type translated() :: {ok, [{plain_translation:translation(), [{commands(), atom()}]}]} | {refused,
+        [plain_translation:refusal()]}.
 
 %% @doc Tests the state machine of the first file; its status.
 -spec run(asked()) -> 0..255.
 run(#{files := [Model | Systems], options := Options, words := Words} = Asked) ->
     case {plain_commands:load(Model, Options), string:to_integer(plain_words:value("--tests", Words, ?TESTS))} of
         {{refused, Sentence}, _} -> plain_hunt:complained(Sentence);
-        {_, {Number, Rest}} when not is_integer(Number); Number < 1; Rest =/= "" -> plain_hunt:complained("--tests wants a number from 1 on");
-        {{ok, Module}, {Number, ""}} -> plain_eunit:with_room(fun(Room) -> tests(Module, Number, Systems, Room, Asked) end)
+        {_, {Number, Rest}} when not is_integer(Number); Number < 1; Rest =/= "" ->
+                plain_hunt:complained("--tests wants a number from 1 on");
+        {{ok, Module}, {Number, ""}} -> plain_eunit:with_room(fun(Room) -> tests(Module, Number, Systems, Room,
+                Asked) end)
     end.
 
 -spec tests(module(), pos_integer(), [file:filename()], file:filename(), asked()) -> 0..255.
@@ -63,7 +67,8 @@ halves({First, Second}, Place) ->
 
 %% The first test that fails, or is refused.
 -spec first([{plain_translation:translation(), [{commands(), atom()}]}], tuple()) -> judged().
-first(Groups, Place) -> first_of([{Translation, Test, Root} || {Translation, Roots} <- Groups, {Test, Root} <- Roots], Place).
+first(Groups, Place) -> first_of([{Translation, Test, Root} || {Translation, Roots} <- Groups, {Test, Root} <- Roots],
+        Place).
 
 -spec first_of([{plain_translation:translation(), commands(), atom()}], tuple()) -> judged().
 first_of([{Translation, Test, Root} | Rest], Place) ->
@@ -85,15 +90,18 @@ judged(Test, Root, #{text := Text} = Translation, {Module, _, _, #{words := Word
     case Answer of
         missing -> {refused, "the program pulsefarm is not on the path"};
         {Said, Status} when Status >= 2 -> {refused, string:trim(Said)};
-        {Lines, _} -> outcomes([outcome(Line) || Line <- binary:split(Lines, <<"\n">>, [global, trim]), binary:match(Line, <<" seeds, least ">>) =/= nomatch], Test, One, {Module, Asked})
+        {Lines, _} -> outcomes([outcome(Line) || Line <- binary:split(Lines, <<"\n">>, [global, trim]),
+                binary:match(Line, <<" seeds, least ">>) =/= nomatch], Test, One, {Module, Asked})
     end.
 
 -spec outcome(binary()) -> {non_neg_integer(), binary()}.
 outcome(Line) ->
-    {match, [Least, Outcome]} = re:run(Line, <<"^[a-z]+ [0-9]+ seeds, least ([0-9]+): (.*)$">>, [{capture, all_but_first, binary}, dotall]),
+    {match, [Least, Outcome]} = re:run(Line, <<"^[a-z]+ [0-9]+ seeds, least ([0-9]+): (.*)$">>, [{capture,
+            all_but_first, binary}, dotall]),
     {binary_to_integer(Least), Outcome}.
 
--spec outcomes([{non_neg_integer(), binary()}], commands(), plain_translation:translation(), {module(), asked()}) -> judged().
+-spec outcomes([{non_neg_integer(), binary()}], commands(), plain_translation:translation(), {module(), asked()}) ->
+        judged().
 outcomes([{Least, Outcome} | Rest], Test, One, {Module, Asked} = Place) ->
     case plain_commands:explained(Outcome, Test, Module) of
         true -> outcomes(Rest, Test, One, Place);
@@ -109,19 +117,24 @@ outcomes([], _, _, _) -> holds.
 %% Whether a time passes early in the run of a seed.
 -spec early(non_neg_integer(), plain_translation:translation(), asked()) -> boolean().
 early(Seed, #{text := Text} = One, #{words := Words} = Asked) ->
-    Given = [Word || Name <- ["--strategy", "--weights", "--edition"], Value <- [plain_words:value(Name, Words, none)], Value =/= none, Word <- [Name, Value]],
-    Strategy = ["--strategy" || not lists:member("--strategy", Given)] ++ ["pos" || not lists:member("--strategy", Given)],
+    Given = [Word || Name <- ["--strategy", "--weights", "--edition"], Value <- [plain_words:value(Name, Words, none)],
+            Value =/= none, Word <- [Name, Value]],
+    Strategy = ["--strategy" || not lists:member("--strategy", Given)] ++ ["pos" || not lists:member("--strategy",
+            Given)],
     Answer = plain_farm:with_file(Text, fun(File) ->
-        plain_farm:call(plain_words:base("run", File, Asked, One, "returns") ++ ["--seed", integer_to_list(Seed)] ++ Given ++ Strategy)
+        plain_farm:call(plain_words:base("run", File, Asked, One, "returns") ++ ["--seed", integer_to_list(Seed)] ++
+                Given ++ Strategy)
     end),
     case Answer of
-        {Report, Status} when Status < 2 -> plain_verdict:early(maps:get(events, plain_answer:report(Report)), Asked) =/= [];
+        {Report, Status} when Status < 2 -> plain_verdict:early(maps:get(events, plain_answer:report(Report)),
+                Asked) =/= [];
         _ -> false
     end.
 
 -spec told(judged(), pos_integer(), tuple()) -> 0..2.
 told(holds, Number, {_, _, _, #{words := Words}}) ->
-    plain_out:put(io_lib:format("no failure in ~w tests of ~ts seeds~n", [Number, plain_words:value("--seeds", Words, ?SEEDS)])),
+    plain_out:put(io_lib:format("no failure in ~w tests of ~ts seeds~n", [Number, plain_words:value("--seeds", Words,
+            ?SEEDS)])),
     0;
 told({refused, Sentence}, _, _) -> plain_hunt:complained(Sentence);
 told({fails, First}, _, Place) ->
@@ -152,4 +165,5 @@ run_of({Test, Seed, _, Outcome}, {Module, Files, Room, #{words := Words, options
     Kept = plain_words:without(["--seeds", "--tests", "--seed"], Words),
     Shrink = case plain_words:value("--shrink", Kept, none) of none -> ["--shrink", ?SHRINK]; _ -> [] end,
     Seeds = lists:flatten(io_lib:format("~w..~w", [Seed, Seed + 1])),
-    plain_hunt:hunt(Asked#{command := hunt, files := All, options := Own, words := ["--seeds", Seeds] ++ Shrink ++ Kept}, Translation).
+    plain_hunt:hunt(Asked#{command := hunt, files := All, options := Own, words := ["--seeds", Seeds] ++ Shrink ++
+            Kept}, Translation).

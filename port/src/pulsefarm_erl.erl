@@ -28,9 +28,9 @@ run(Words) ->
         {ok, Asked} -> plain_command:run(Asked)
     end.
 
-%% @doc For a case of Common Test, or another test: hunts a root, as the words of `hunt' say. The module of the root and the others are files, or
-%% modules that are loaded and whose sources are where they were compiled. `ok' where no run fails; else the report is printed, and the error
-%% has its line.
+%% @doc For a case of Common Test, or another test: hunts a root, as the words of `hunt' say. The module of the root and
+%% the others are files, or modules that are loaded and whose sources are where they were compiled. `ok' where no run
+%% fails; else the report is printed, and the error has its line.
 -spec hunt({module() | file:filename(), atom()}, [module() | file:filename()], [string()]) -> ok.
 hunt({Module, Root}, Others, Words) ->
     Files = [source(Name) || Name <- [Module | Others]],

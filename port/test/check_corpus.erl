@@ -1,6 +1,6 @@
-%% @doc Modules with processes that others wrote, as they stand: what `main' of a driver does holds in each seed, with the
-%% value that it has on Erlang, and a `race' is found. Debian's packages are fetched for it, and nothing of them is kept;
-%% where they can't be fetched the check is left out.
+%% @doc Modules with processes that others wrote, as they stand: what `main' of a driver does holds in each seed, with
+%% the value that it has on Erlang, and a `race' is found. Debian's packages are fetched for it, and nothing of them is
+%% kept; where they can't be fetched the check is left out.
 -module(check_corpus).
 -export([check/0]).
 
@@ -29,7 +29,8 @@ fetched(Package) ->
     case filelib:is_dir(Folder) of
         true -> {ok, Folder};
         false ->
-            Command = "mkdir -p ~ts.deb && cd ~ts.deb && timeout 120 apt-get download ~ts > /dev/null 2>&1 && dpkg -x ./*.deb ~ts && echo fetched",
+            Command = "mkdir -p ~ts.deb && cd ~ts.deb && timeout 120 apt-get download ~ts > /dev/null 2>&1 && "
+                "dpkg -x ./*.deb ~ts && echo fetched",
             case os:cmd(lists:flatten(io_lib:format(Command, [Folder, Folder, Package, Folder]))) of
                 "fetched\n" -> {ok, Folder};
                 _ -> none
@@ -54,7 +55,8 @@ one(Driver, {ok, Folder}) ->
 -spec race(string(), [file:filename()]) -> boolean().
 race(Name, Files) ->
     {Answer, Status} = checks:command(["hunt" | Files] ++ ["--root", "race"]),
-    checks:expect([Name, ": the race is found in 1,000 seeds: ", lists:nthtail(max(0, length(Answer) - 300), Answer)], 1, Status).
+    checks:expect([Name, ": the race is found in 1,000 seeds: ", lists:nthtail(max(0, length(Answer) - 300), Answer)],
+            1, Status).
 
 -spec found(file:filename(), string()) -> file:filename().
 found(Folder, Module) -> hd(filelib:wildcard(filename:join(Folder, "usr/lib/**/" ++ Module))).

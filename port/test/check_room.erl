@@ -1,5 +1,5 @@
-%% @doc What a translation takes of its 65,536 bytes: a supervisor with one child, and an application of eleven modules; and
-%% what is told where it doesn't fit.
+%% @doc What a translation takes of its 65,536 bytes: a supervisor with one child, and an application of eleven modules;
+%% and what is told where it doesn't fit.
 -module(check_room).
 -export([check/0]).
 
@@ -24,9 +24,12 @@ at_most(Name, Most, Files, Options) ->
 -spec too_large() -> ok.
 too_large() ->
     File = checks:room("too_large.erl"),
-    Functions = [io_lib:format("f~w(X) -> {~p, f~w(X)}.~n", [I, lists:duplicate(20, {I, some, longer, words}), I + 1]) || I <- lists:seq(1, 200)],
-    ok = file:write_file(File, ["-module(too_large).\n-export([main/0]).\nmain() -> f1(1).\nf201(X) -> X.\n", Functions]),
+    Functions = [io_lib:format("f~w(X) -> {~p, f~w(X)}.~n", [I, lists:duplicate(20, {I, some, longer, words}),
+            I + 1]) || I <- lists:seq(1, 200)],
+    ok = file:write_file(File, ["-module(too_large).\n-export([main/0]).\nmain() -> f1(1).\nf201(X) -> X.\n",
+            Functions]),
     {refused, [{_, 1, Sentence}]} = checks:translate([File]),
     checks:expect(["what takes the room: ", Sentence], match,
-                  re:run(Sentence, "^the module would have [0-9]+ bytes, over 65536 \\(too_large [0-9]+", [{capture, none}])),
+                  re:run(Sentence, "^the module would have [0-9]+ bytes, over 65536 \\(too_large [0-9]+", [{capture,
+                          none}])),
     ok.
