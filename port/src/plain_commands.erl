@@ -1,7 +1,7 @@
 %% @doc Commands of a state machine: made from its generators, written as the body of a root, and held against all
 %% orders of them.
 -module(plain_commands).
--export([load/2, generated/3, calls/2, body/2, failing_body/3, explained/3, smaller/2, shown/1]).
+-export([load/2, load_all/2, generated/3, calls/2, body/2, failing_body/3, explained/3, smaller/2, shown/1]).
 
 %% How often a command is drawn anew whose precondition doesn't hold.
 -define(TRIES, 50).
@@ -34,6 +34,10 @@ load(File, #{includes := Includes, defines := Defines}) ->
                 [Location]), ": ", Compiler:format_error(What)]};
         _ -> {refused, [File, ": it can't be compiled"]}
     end.
+
+%% @doc Compiles and loads the other files, since a state machine may call their functions. What can't be compiled isn't loaded.
+-spec load_all([file:filename()], plain_translation:options()) -> ok.
+load_all(Files, Options) -> lists:foreach(fun(File) -> load(File, Options) end, Files).
 
 %% @doc Tests of growing size, the same for the same seed.
 -spec generated(module(), pos_integer(), integer()) -> {ok, [commands()]} | {refused, iodata()}.
@@ -228,12 +232,14 @@ of_erlang(Tuple) when is_tuple(Tuple) -> list_to_tuple(of_erlang(tuple_to_list(T
 of_erlang([Head | Tail]) -> [of_erlang(Head) | of_erlang(Tail)];
 of_erlang(Term) -> Term.
 
-%% @doc The tests with one command less, whose result no other needs.
+%% @doc The tests with one command less, or with two of those before, whose results no other needs.
 -spec smaller(commands(), module()) -> [commands()].
 smaller({Before, One, Other}, Module) ->
     Fewer = fun(Commands) -> [lists:delete(Command, Commands) || Command <- lists:reverse(Commands)] end,
-    All = [{Before, One, Left} || Left <- Fewer(Other)] ++ [{Before, Left, Other} || Left <- Fewer(One)] ++ [{Left,
-            One, Other} || Left <- Fewer(Before)],
+    Single = Fewer(Before),
+    Pairs = lists:usort(lists:append([Fewer(Left) || Left <- Single])),
+    All = [{Before, One, Left} || Left <- Fewer(Other)] ++ [{Before, Left, Other} || Left <- Fewer(One)]
+        ++ [{Left, One, Other} || Left <- Single ++ Pairs],
     [renumbered(Test) || Test <- All, is_closed(Test), is_possible(Test, Module)].
 
 %% The same with results that are numbered from 1 on.

@@ -22,8 +22,9 @@ run(#{files := [Model | Systems], options := Options, words := Words} = Asked) -
         {{refused, Sentence}, _} -> plain_hunt:complained(Sentence);
         {_, {Number, Rest}} when not is_integer(Number); Number < 1; Rest =/= "" ->
                 plain_hunt:complained("--tests wants a number from 1 on");
-        {{ok, Module}, {Number, ""}} -> plain_eunit:with_room(fun(Room) -> tests(Module, Number, Systems, Room,
-                Asked) end)
+        {{ok, Module}, {Number, ""}} ->
+            ok = plain_commands:load_all(Systems, Options),
+            plain_eunit:with_room(fun(Room) -> tests(Module, Number, Systems, Room, Asked) end)
     end.
 
 -spec tests(module(), pos_integer(), [file:filename()], file:filename(), asked()) -> 0..255.
