@@ -11,7 +11,7 @@ check() ->
                   "^no order of the commands explains these results$",
            "^crash <0> at pf_tests_[0-9]+\\.erl:[0-9]+ "
             ".*error \\{no_order_explains,\\{\\[\\],\\[<<\"one\">>\\],\\[<<\"one\">>\\]\\}\\}$",
-           "^schedule [0-9,]+$", "stock\\.erl:[0-9]+ .*gen_server:call\\(\\?MODULE, left\\)"]),
+           "^schedule [0-9,]+$", "^[0-9]+ <[0-9]+> calls <[0-9]+>: left$"]),
     tells("the mended stock", ["prop" | Files] ++ ["-D", "MENDED", "--tests", "12", "--seeds", "0..60"], 0,
           ["^no failure in 12 tests of 0\\.\\.60 seeds$"]),
     tells("no state machine", ["prop", checks:folder("prop/stock.erl")], 2,
