@@ -1,0 +1,14 @@
+%% package: rabbitmq-server
+%% modules: ranch_server.beam
+-module(ranch_listeners).
+-export([main/0]).
+
+main() ->
+    ranch_server = ets:new(ranch_server, [ordered_set, public, named_table]),
+    {ok, _} = ranch_server:start_link(),
+    ok = ranch_server:set_new_listener_opts(web, 10, #{}, [], []),
+    Least = ranch_server:get_max_connections(web),
+    ok = ranch_server:set_max_connections(web, 20),
+    Most = ranch_server:get_max_connections(web),
+    ok = ranch_server:set_connections_sup(web, 1, self()),
+    {Least, Most, ranch_server:get_connections_sup(web, 1) =:= self(), ranch_server:get_protocol_options(web)}.
