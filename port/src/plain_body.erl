@@ -162,7 +162,7 @@ primitive(build_stacktrace, [Raw], _, Env, Mode) ->
     plain_refusal:note_once(stacktrace, "a stack trace is [] here"),
     {_, Stack} = plain_trace:raw_parts(plain_value:value(Raw, Env)),
     [returned(Stack, Mode)];
-primitive(bs_init_writable, _, _, _, Mode) -> [returned({tuple, [{atom, '#bin'}, nil]}, Mode)];
+primitive(bs_init_writable, _, Line, _, _) -> plain_refusal:refuse(Line, "a binary comprehension is not translated; take a list comprehension", []);
 primitive(Name, _, Line, _, _) -> plain_refusal:refuse(Line, "the primitive ~w has no translation; write it by other constructs", [Name]).
 
 -spec at(plain_tree:line()) -> ok.

@@ -7,12 +7,10 @@ complain(Text) -> io:put_chars(standard_error, unicode:characters_to_list(Text))
 
 -spec run(plain_words:asked()) -> 0..255.
 run(#{command := eunit} = Asked) -> plain_eunit:run(Asked);
-run(#{command := prop} = Asked) -> plain_prop:run(Asked);
 run(#{files := Files, options := Options, words := Words} = Asked) ->
-    case {lists:member("--all-roots", Words), maps:take(mixed, Asked)} of
-        {true, _} -> plain_roots:hunt(Asked);
-        {false, error} -> one_root(Files, Options, Asked);
-        {false, {true, One}} -> plain_hunt:mixed(One, fun(#{options := Own} = Half) -> one_root(Files, Own, Half) end)
+    case lists:member("--all-roots", Words) of
+        true -> plain_roots:hunt(Asked);
+        false -> one_root(Files, Options, Asked)
     end.
 
 -spec one_root([file:filename()], plain_translation:options(), plain_words:asked()) -> 0..255.
@@ -48,25 +46,8 @@ translated(#{command := Command} = Asked, Translation) ->
     case {Command, plain_verdict:own(plain_verdict:asked(Asked))} of
         {hunt, true} -> plain_hunt:hunt(Asked, Translation);
         {run, true} -> plain_hunt:judge(Asked, Translation);
-        {hunt, false} -> shrunk(plain_words:value("--shrink", maps:get(words, Asked), none), Asked, Translation);
         _ -> of_farm(Asked, Translation)
     end.
-
-%% A hunt by a property of the farm. What is to be shrunk is shrunk here, where the failure is kept and not only the property.
--spec shrunk(string() | none, plain_words:asked(), plain_translation:translation()) -> 0..255.
-shrunk(none, Asked, Translation) -> of_farm(Asked, Translation);
-shrunk(Runs, #{words := Words} = Asked, #{text := Text} = Translation) ->
-    Whole = Asked#{words := plain_words:without(["--shrink"], Words)},
-    plain_farm:with_file(Text, fun(File) ->
-        case plain_farm:call(plain_words:of_farm(File, Whole, Translation)) of
-            {<<"seed ", _/binary>> = Found, 1} = Answer ->
-                case plain_verdict:gaps(maps:get(events, plain_answer:report(Found))) of
-                    [] -> plain_shrink:found(Found, File, Runs, Asked, Translation);
-                    _ -> told(Answer, Whole, Translation)
-                end;
-            Answer -> told(Answer, Whole, Translation)
-        end
-    end).
 
 %% What the farm answers, in the words of the source.
 -spec of_farm(plain_words:asked(), plain_translation:translation()) -> 0..255.

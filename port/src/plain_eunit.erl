@@ -1,7 +1,7 @@
 %% @doc The tests of an application: each `_test' and each test of a `_test_' is a root of its own, hunted in turn. The tests of a generator
 %% are listed by a run of it, within their fixtures, and each is then run alone, within the same.
 -module(plain_eunit).
--export([run/1, with_room/1, with_roots/2]).
+-export([run/1]).
 
 -define(SEEDS, "0..200").
 %% How many seeds of a test are hunted in a round, where a time is set.
@@ -32,7 +32,7 @@ complained(Sentence) ->
 with(#{includes := Includes, defines := Defines}, #{options := #{includes := Own, defines := Given} = Options} = Asked) ->
     Asked#{options := Options#{includes := Own ++ Includes, defines := Given ++ Defines}}.
 
-%% @doc A folder of its own for the modules that are made here, taken away after it.
+%% A folder of its own for the modules that are made here, taken away behind it.
 -spec with_room(fun((file:filename()) -> Status)) -> Status.
 with_room(Use) ->
     Below = case os:getenv("TMPDIR") of false -> "/tmp"; Named -> Named end,
@@ -153,8 +153,8 @@ translated(Tests, Files, Room, #{options := Options} = Asked) ->
 parts(Tests, true) -> tuple_to_list(lists:split(length(Tests) div 2, Tests));
 parts(Tests, false) -> [[Test] || Test <- Tests].
 
-%% @doc A module with a root for each test, which has a body.
--spec with_roots([#{body := iodata(), atom() => term()}], file:filename()) -> {file:filename(), [atom()]}.
+%% A module with a root for each test.
+-spec with_roots([test()], file:filename()) -> {file:filename(), [atom()]}.
 with_roots(Tests, Room) ->
     Module = lists:concat(["pf_tests_", erlang:unique_integer([positive])]),
     File = filename:join(Room, Module ++ ".erl"),

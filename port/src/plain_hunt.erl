@@ -2,17 +2,15 @@
 %% strategy that it is given; each run that it finds is judged, and where it holds, or fails by a time that passes early, the hunt goes on after
 %% its seed.
 -module(plain_hunt).
--export([hunt/2, mixed/2, judge/2, least/5, within/1, search/4, left_out/2, seeds/1, time/1, complained/1]).
+-export([hunt/2, judge/2, least/5, within/1, search/4, left_out/2, seeds/1, time/1, complained/1]).
 
 %% How many seeds are hunted at once where a time is set.
 -define(BLOCK, 250).
 -define(DEFAULT, "0..1000").
 -type asked() :: plain_words:asked().
 -type translation() :: plain_translation:translation().
-%% Seeds that are left out, each with the reason: a time passes early, or signals crossed as one node doesn't show it.
--type left_out() :: [{early | crossed, non_neg_integer()}].
 %% A run that fails: its seed, and what the farm said of it; or none, and the seeds that are left out.
--type found() :: {found, non_neg_integer(), binary(), plain_verdict:verdict()} | {none, left_out()} | {answer, {binary(), 0..255} | missing}.
+-type found() :: {found, non_neg_integer(), binary(), plain_verdict:verdict()} | {none, [non_neg_integer()]} | {answer, {binary(), 0..255} | missing}.
 
 %% The seeds of a hunt, the last left out, and when it stops.
 -type within() :: {non_neg_integer(), pos_integer(), integer() | never}.
@@ -25,35 +23,6 @@ hunt(Asked, #{text := Text} = Translation) ->
     case within(Asked) of
         {no, Sentence} -> complained(Sentence);
         Within -> plain_farm:with_file(Text, fun(File) -> told(search(Within, File, Asked, Translation), File, Asked, Translation) end)
-    end.
-
-%% @doc Hunts the first half of the seeds, or of the time, in virtual time; and where nothing is found the second by times that pass at any
-%% moment. The second half has a translation of its own, which the function makes.
--spec mixed(asked(), fun((asked()) -> 0..255)) -> 0..255.
-mixed(Asked, Hunt) ->
-    case halves(Asked) of
-        {no, Sentence} -> complained(Sentence);
-        {First, Second} ->
-            case Hunt(First) of
-                0 ->
-                    plain_command:complain("pulsefarm-erl: the second half, by --patience early:\n"),
-                    Hunt(Second);
-                Status -> Status
-            end
-    end.
-
--spec halves(asked()) -> {asked(), asked()} | {no, string()}.
-halves(#{words := Words, options := #{library_defines := Own} = Options} = Asked) ->
-    Early = fun(Half) -> Half#{options := Options#{library_defines := [{'PATIENCE', 0} | Own]}} end,
-    Half = fun(Word, Value) -> Asked#{words := [Word, lists:flatten(Value) | plain_words:without([Word], Words)]} end,
-    Seeds = fun(A, B) -> Half("--seeds", io_lib:format("~w..~w", [A, B])) end,
-    case {within(Asked), plain_words:value("--for", Words, none)} of
-        {{no, Sentence}, _} -> {no, Sentence};
-        {{From, To, never}, none} when To - From < 2 -> {no, "--patience mixed wants two seeds or more"};
-        {{From, To, never}, none} -> {Seeds(From, (From + To) div 2), Early(Seeds((From + To) div 2, To))};
-        {_, Time} ->
-            Whole = Half("--for", io_lib:format("~ws", [max(1, time(Time) div 2000)])),
-            {Whole, Early(Whole)}
     end.
 
 %% @doc The seeds that are asked for, and the time in milliseconds at which the hunt stops.
@@ -99,17 +68,15 @@ time(Text) ->
         nomatch -> no
     end.
 
-%% @doc Says how many seeds are left out, and why.
--spec left_out(iodata(), left_out()) -> ok.
+%% @doc Says how many seeds are left out.
+-spec left_out(iodata(), [non_neg_integer()]) -> ok.
+left_out(_, []) -> ok;
 left_out(Hunted, Seeds) ->
-    Reasons = [{early, "by a time that passes while others may go, and are left out; --patience early counts such"},
-               {crossed, "by signals in an order that one node doesn't show, and are left out"}],
-    [plain_command:complain(["pulsefarm-erl: ", Hunted, io_lib:format("~w of these seeds fail ~s~n", [length(Own), Said])])
-     || {Reason, Said} <- Reasons, Own <- [[Seed || {Why, Seed} <- Seeds, Why =:= Reason]], Own =/= []],
-    ok.
+    plain_command:complain(["pulsefarm-erl: ", Hunted, io_lib:format("~w of these seeds fail by a time of a second or more that passes while others may go, "
+                                                                     "and are left out; --patience N counts such\n", [length(Seeds)])]).
 
 %% Blocks of seeds until the time is over.
--spec timed({non_neg_integer(), left_out()}, non_neg_integer(), pos_integer(), integer(), file:filename(), asked(), translation()) -> searched().
+-spec timed({non_neg_integer(), [non_neg_integer()]}, non_neg_integer(), pos_integer(), integer(), file:filename(), asked(), translation()) -> searched().
 timed({First, Early}, From, Last, End, File, Asked, Translation) ->
     case From >= Last orelse (From > First andalso erlang:monotonic_time(millisecond) >= End) of
         true -> {{none, Early}, From - First, case From < Last of true -> stopped; false -> whole end};
@@ -141,21 +108,21 @@ least(From, To, File, #{words := Words} = Asked, Translation) ->
     end.
 
 %% With more seeds that are left out.
--spec with(left_out(), found()) -> found().
+-spec with([non_neg_integer()], found()) -> found().
 with(Early, {none, More}) -> {none, lists:usort(Early ++ More)};
 with(_, Other) -> Other.
 
 -spec crashing(non_neg_integer(), pos_integer(), file:filename(), asked(), translation()) -> found().
 crashing(From, To, File, Asked, Translation) -> judged("nocrash", From, To, File, Asked, Translation).
 
-%% What the farm finds may hold here: an orderly end is no crash, and a service that waits is no leak; or it is left out. The hunt goes on
+%% What the farm finds may hold here: an orderly end is no crash, and a service that waits is no leak; or a time passes early. The hunt goes on
 %% behind it.
 -spec judged(string(), non_neg_integer(), pos_integer(), file:filename(), asked(), translation()) -> found().
 judged(_, From, To, _, _, _) when From >= To -> {none, []};
 judged(Property, From, To, File, Asked, Translation) ->
     case one(Property, From, To, File, Asked, Translation) of
         {found, Seed, _, holds} -> judged(Property, Seed + 1, To, File, Asked, Translation);
-        {found, Seed, _, Verdict} when Verdict =:= early; Verdict =:= crossed -> with([{Verdict, Seed}], judged(Property, Seed + 1, To, File, Asked, Translation));
+        {found, Seed, _, early} -> with([Seed], judged(Property, Seed + 1, To, File, Asked, Translation));
         Other -> Other
     end.
 
@@ -210,17 +177,18 @@ judge(#{command := run, words := Words} = Asked, #{text := Text} = Translation) 
 -spec passes_early(binary(), asked()) -> ok.
 passes_early(Report, Asked) ->
     #{events := Events} = plain_answer:report(Report),
-    Early = [io_lib:format("a time of ~w ms passes while others may go", [Time]) || {_, Time} <- lists:sublist(plain_verdict:early(Events, Asked), 1)],
-    Crossed = ["signals come in an order that one node doesn't show" || maps:get(one_node, Asked, false), plain_one_node:crossed(Events)],
-    [plain_command:complain(["pulsefarm-erl: here ", Said, "; a hunt leaves such a run out where it fails\n"]) || Said <- Early ++ Crossed],
-    ok.
+    case plain_verdict:early(Events, Asked) of
+        [] -> ok;
+        [{_, Time} | _] ->
+            plain_command:complain(io_lib:format("pulsefarm-erl: here a time of ~w ms passes while others may go; a hunt leaves such a run out where it fails~n", [Time]))
+    end.
 
 %% An answer whose last line is the verdict.
 -spec answered(binary(), plain_verdict:verdict(), asked(), translation()) -> 0..255.
 answered(Text, Verdict, Asked, Translation) ->
     {Line, Status} = case Verdict of
         holds -> {<<"property holds">>, 0};
-        Failing when Failing =:= fails; Failing =:= early; Failing =:= crossed -> {<<"property fails">>, 1};
+        Failing when Failing =:= fails; Failing =:= early -> {<<"property fails">>, 1};
         refused -> {<<"no verdict">>, 2}
     end,
     Told = re:replace(Text, <<"^(property (holds|fails)|no verdict)$">>, Line, [multiline, {return, binary}]),

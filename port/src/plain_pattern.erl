@@ -1,6 +1,6 @@
 %% @doc Patterns. The profile has no name for a part of a pattern, so such a part is built again in the body.
 -module(plain_pattern).
--export([patterns/4, is_plain/2, with_conditions/1, known_shape/2]).
+-export([patterns/4, is_plain/2, without_maps/1, known_shape/2]).
 
 -type environment() :: plain_tree:environment().
 -type aliases() :: [{plain_tree:tree(), plain_text:expression()}].
@@ -60,8 +60,7 @@ pattern({pbin, Bytes, {v, _} = Tail}, _, Used, Scope) ->
 pattern({pbin, Bytes, {lit, _, _}}, _, Used, Scope) ->
     {Written, After} = several(Bytes, Used, Scope),
     {bytes(Written, nil), After};
-pattern({pmap, _}, _, _, _) -> throw(complex);
-pattern({pbits, _, _}, _, _, _) -> throw(complex).
+pattern({pmap, _}, _, _, _) -> throw(complex).
 
 -spec several([plain_tree:tree()], sets:set(plain_tree:tree()), scope()) -> {[plain_text:expression()], scope()}.
 several(Patterns, Used, Scope) -> lists:mapfoldl(fun(P, S) -> pattern(P, none, Used, S) end, Scope, Patterns).
@@ -96,29 +95,24 @@ is_plain({Patterns, Guard, Body}, Env) ->
     plain_state:put(shapes, Shapes),
     Answer.
 
-%% @doc A pattern in which maps and binaries of parts are variables, with conditions {{Module, Function, Arguments}, Pattern}: the function
-%% of the library answers {ok, Value}, and the value fits the pattern.
--spec with_conditions(plain_tree:tree()) -> {plain_tree:tree(), [{{module(), atom(), [plain_tree:tree()]}, plain_tree:tree()}]}.
-with_conditions({pmap, Pairs}) ->
+%% @doc A pattern in which maps are variables, with conditions {Key, Map, Pattern}.
+-spec without_maps(plain_tree:tree()) -> {plain_tree:tree(), [{plain_tree:tree(), plain_tree:variable(), plain_tree:tree()}]}.
+without_maps({pmap, Pairs}) ->
     Map = {v, {'M', plain_state:fresh()}},
-    {Conditions, Deeper} = lists:unzip([begin {P, More} = with_conditions(Pattern), {{{maps, lookup, [Key, Map]}, P}, More} end || {Key, Pattern} <- Pairs]),
+    {Conditions, Deeper} = lists:unzip([begin {P, More} = without_maps(Pattern), {{Key, Map, P}, More} end || {Key, Pattern} <- Pairs]),
     Own = case Conditions of
-        [] -> [{{maps, lookup, [{lit, '$ismap', 0}, Map]}, {v, {'_', plain_state:fresh()}}}];
+        [] -> [{{lit, '$ismap', 0}, Map, {v, {'_', plain_state:fresh()}}}];
         _ -> Conditions
     end,
     {Map, Own ++ lists:append(Deeper)};
-with_conditions({pbits, Parts, Patterns}) ->
-    Binary = {v, {'B', plain_state:fresh()}},
-    Values = lists:foldr(fun(Pattern, Rest) -> {cons, Pattern, Rest} end, {lit, [], 0}, Patterns),
-    {Binary, [{{pf_bits, match, [Binary, Parts]}, Values}]};
-with_conditions({tup, Patterns}) ->
-    {Written, Conditions} = lists:unzip([with_conditions(P) || P <- Patterns]),
+without_maps({tup, Patterns}) ->
+    {Written, Conditions} = lists:unzip([without_maps(P) || P <- Patterns]),
     {{tup, Written}, lists:append(Conditions)};
-with_conditions({cons, Head, Tail}) ->
-    {H, First} = with_conditions(Head),
-    {T, Second} = with_conditions(Tail),
+without_maps({cons, Head, Tail}) ->
+    {H, First} = without_maps(Head),
+    {T, Second} = without_maps(Tail),
     {{cons, H, T}, First ++ Second};
-with_conditions({alias, Variable, Pattern}) ->
-    {P, Conditions} = with_conditions(Pattern),
+without_maps({alias, Variable, Pattern}) ->
+    {P, Conditions} = without_maps(Pattern),
     {{alias, Variable, P}, Conditions};
-with_conditions(Pattern) -> {Pattern, []}.
+without_maps(Pattern) -> {Pattern, []}.

@@ -83,8 +83,7 @@ text(flush) ->
     ["flush@(infinity,_)->ok;\nflush@(0,R)->", waiting(), "receive{'after',R}->ok end;\nflush@(_,R)->", action("!", ["'port@clock'", "{cancel,self(),R}"]), ",",
      waiting(), "receive{'after',R}->ok end.\n"];
 text(arm) ->
-    ["arm@(infinity,_)->ok;\narm@(0,R)->", action("!", ["self()", "{'after',R}"]), ";\narm@(T,R) when is_integer(T),T>0->", action("!", ["'port@clock'", "{arm,self(),R,T}"]),
-     ";\narm@(_,_)->", action("exit", ["{timeout_value,[]}"]), ".\n"];
+    ["arm@(infinity,_)->ok;\narm@(0,R)->", action("!", ["self()", "{'after',R}"]), ";\narm@(T,R)->", action("!", ["'port@clock'", "{arm,self(),R,T}"]), ".\n"];
 text(at) -> "at@(S,{x,C,R,[]})->{x,C,R,S};\nat@(_,V)->V.\n";
 text(enter) -> "enter@({v,V})->V;\nenter@({x,C,R,[P|S]})->whereis(P),raise@(C,R,[P|S]);\nenter@({x,C,R,S})->whereis('@0'),raise@(C,R,S).\n"
                "raise@(exit,R,_)->exit(R);\nraise@(throw,R,S)->exit({{nocatch,R},S});\nraise@(_,R,S)->exit({R,S}).\n".

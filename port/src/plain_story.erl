@@ -108,8 +108,7 @@ stands(_) -> "".
 source(File, Line) ->
     Lines = case get({?MODULE, File}) of
         undefined ->
-            Compiled = filename:extension(File) =:= ".beam",
-            Read = case file:read_file(File) of {ok, Text} when not Compiled -> binary:split(Text, <<"\n">>, [global]); _ -> [] end,
+            Read = case file:read_file(File) of {ok, Text} -> binary:split(Text, <<"\n">>, [global]); {error, _} -> [] end,
             _ = put({?MODULE, File}, Read),
             Read;
         Known -> Known

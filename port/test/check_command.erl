@@ -19,7 +19,6 @@ check() ->
     into_a_file(),
     timed(),
     early(),
-    one_node(),
     unread(),
     ok.
 
@@ -32,12 +31,11 @@ told(File) ->
         {match, [Named]} -> ["--property", Named];
         nomatch -> []
     end,
-    Patience = case re:run(Text, "^%% patience: early$", [multiline]) of nomatch -> []; _ -> ["--patience", "early"] end,
-    {Answer, Status} = checks:command(["hunt", File, "--shrink", "30"] ++ Property ++ Patience),
+    {Answer, Status} = checks:command(["hunt", File, "--shrink", "30"] ++ Property),
     checks:expect(["status of ", File], 1, Status),
     has(File, "^" ++ Line ++ "$", Answer).
 
--spec has(iodata(), string(), string()) -> boolean().
+-spec has(string(), string(), string()) -> boolean().
 has(Name, Expression, Answer) ->
     case re:run(Answer, Expression, [multiline]) of
         nomatch ->
@@ -81,20 +79,16 @@ replayed() ->
 %% A shrinking keeps the failure, and has no more events and no more switches of process than the run that it began from.
 -spec shrunk() -> boolean().
 shrunk() ->
-    Cache = checks:folder("../examples/cache.erl"),
-    [kept(["hunt", Cache, "--verbose" | Property]) || Property <- [[], ["--property", "nocrash"], ["--property", "returns"]]],
-    {Refused, 2} = checks:command(["shrink", Cache, "-D", "MENDED", "--schedule", "0,1,0"]),
-    has("a schedule that doesn't fail", "^S1$", Refused).
-
--spec kept([string()]) -> boolean().
-kept(Words) ->
+    Words = ["hunt", checks:folder("../examples/cache.erl"), "--verbose"],
     {Found, 1} = checks:command(Words),
     {Shrunk, 1} = checks:command(Words ++ ["--shrink", "20"]),
     Crash = fun(Answer) -> re:run(Answer, "^crash .*$", [multiline, {capture, first, list}]) end,
     checks:expect("the failure is kept", Crash(Found), Crash(Shrunk)),
     [Before, After] = [size_of(Answer) || Answer <- [Found, Shrunk]],
     checks:expect(io_lib:format("events and switches: ~w, and ~w", [Before, After]),
-                  element(1, After) =< element(1, Before) andalso element(2, After) =< element(2, Before)).
+                  element(1, After) =< element(1, Before) andalso element(2, After) < element(2, Before)),
+    {Refused, 2} = checks:command(["shrink", checks:folder("../examples/cache.erl"), "-D", "MENDED", "--schedule", "0,1,0"]),
+    has("a schedule that doesn't fail", "^S1$", Refused).
 
 %% How many events an answer has, and how many switches of process.
 -spec size_of(string()) -> {non_neg_integer(), non_neg_integer()}.
@@ -222,8 +216,6 @@ refused() ->
     Expect("a compiled file", ["check", code:which(plain_cut)], [], "^plain_cut\\.beam:1: this is compiled; name its source"),
     Expect("a root that isn't there", ["run", File, "--root", "nothing"], [], "^bank\\.erl:1: the module exports no function nothing/0"),
     Expect("a patience", ["run", File, "--patience", "much"], [], "^pulsefarm-erl: --patience wants a number"),
-    Expect("a patience of hunt", ["run", File, "--patience", "mixed"], [], "^pulsefarm-erl: --patience mixed is of hunt"),
-    Expect("one node by another property", ["hunt", File, "--one-node", "--property", "nocrash"], [], "^pulsefarm-erl: --one-node goes with "),
     Expect("a word that would be ignored", ["check", File, "--limit", "5"], [], "^pulsefarm-erl: check has no word --limit"),
     Expect("another", ["run", File, "--seeds", "0..5"], [], "^pulsefarm-erl: run has no word --seeds"),
     Expect("all outcomes by a property of this part", ["hunt", File, "--all", "--property", "sound"], [], "^pulsefarm-erl: --all goes with "),
@@ -233,59 +225,37 @@ refused() ->
     has("help", "tested and not proved", Help),
     {Version, 0} = checks:command(["--version"]),
     has("version", "^pulsefarm-erl [0-9.]+$", Version),
-    {Words, 0} = {os:cmd(lists:flatten(io_lib:format("bash -c '. ~ts; for c in translate check run hunt shrink chart eunit prop; do _pulsefarm_erl_words $c; done'",
+    {Words, 0} = {os:cmd(lists:flatten(io_lib:format("bash -c '. ~ts; for c in translate check run hunt shrink chart eunit; do _pulsefarm_erl_words $c; done'",
                                                      [checks:folder("../pulsefarm-erl.bash")]))), 0},
     Unknown = [Word || Word <- lists:usort(string:lexemes(Words, " \n")), string:find(Help ++ " --seed --schedule --strategy --weights --edition --workers --all --for "
                                                                                         "--runs --page --compact --explain --limit --shrink ", Word) =:= nomatch],
     checks:expect("the words of the completions stand in the help", [], Unknown).
 
-%% A time seldom passes while others go on: in less than one of twenty seeds.
+%% A time of seconds seldom passes while others go on: in less than one of twenty seeds.
 -spec timed() -> boolean().
 timed() ->
     File = checks:folder("commands/patient.erl"),
     {ok, Out, _} = checks:translate([File]),
     Late = lists:sum([Number || {fails, Number, _} <- checks:hunt(Out, "main", "nocrash", "0..1000")]),
-    checks:expect(io_lib:format("~w of 1000 seeds see a time pass", [Late]), Late < 50),
+    checks:expect(io_lib:format("~w of 1000 seeds see a time of seconds pass", [Late]), Late < 50),
     {ok, Eager, _} = checks:translate([File], #{library_defines => [{'PATIENCE', 0}]}),
     Early = lists:sum([Number || {fails, Number, _} <- checks:hunt(Eager, "main", "nocrash", "0..1000")]),
     checks:expect("without patience some pass", Early > 50),
     {ok, Never, _} = checks:translate([File], #{never => 1000}),
     checks:expect("and with --never none of the receive", true, is_list(checks:hunt(Never, "main", "nocrash", "0..10"))).
 
-%% A run that fails by a time which passes while others may go is left out, unless a patience is given.
+%% A run that fails by a time of seconds which passes while others may go is left out, unless a patience is given.
 -spec early() -> boolean().
 early() ->
     File = checks:folder("commands/seconds.erl"),
-    [answered(File, Root) || Root <- ["answered", "short"]],
+    {Answered, 0} = checks:command(["hunt", File, "--root", "answered", "--seeds", "0..40"]),
+    has("a time that passes early", "^pulsefarm-erl: [0-9]+ of these seeds fail by a time of a second or more that passes while others may go, and are left out", Answered),
+    has("and no other failure", "^no failure in 40 seeds$", Answered),
     {Eager, 1} = checks:command(["hunt", File, "--root", "answered", "--seeds", "0..40", "--patience", "0"]),
     has("with a patience it is one", "^crash <0> at seconds\\.erl:9 seconds:answered/0: exit too_late$", Eager),
-    {Mixed, 1} = checks:command(["hunt", File, "--root", "answered", "--seeds", "0..80", "--patience", "mixed"]),
-    has("by halves", "^no failure in 40 seeds$", Mixed),
-    has("by halves", "^pulsefarm-erl: the second half, by --patience early:$", Mixed),
-    has("by halves", "^crash <0> at seconds\\.erl:9 seconds:answered/0: exit too_late$", Mixed),
     {Lost, 1} = checks:command(["hunt", File, "--root", "lost", "--seeds", "0..40"]),
     has("a time that passes where nobody else may go", "^crash <0> at seconds\\.erl:14 seconds:lost/0: exit too_late$", Lost),
-    checks:expect("and that is told without a word", nomatch, string:find(Lost, "left out")),
-    {Ordered, 0} = checks:command(["hunt", File, "--root", "ordered", "--seeds", "0..40"]),
-    has("times pass in the order of their deadlines", "^no failure in 40 seeds$", Ordered).
-
-%% What one node can't show is left out, and what it can is found.
--spec one_node() -> boolean().
-one_node() ->
-    Words = ["hunt", checks:folder("commands/one_node.erl"), "--seeds", "0..60"],
-    {Crossed, 1} = checks:command(Words),
-    has("signals that cross", "^crash <0> at one_node\\.erl:9 one_node:main/0: error \\{badmatch,nothing\\}$", Crossed),
-    {One, 0} = checks:command(Words ++ ["--one-node"]),
-    has("one node", "^pulsefarm-erl: [0-9]+ of these seeds fail by signals in an order that one node doesn't show, and are left out$", One),
-    has("one node", "^no failure in 60 seeds$", One),
-    {Race, 1} = checks:command(Words ++ ["--one-node", "--root", "race"]),
-    has("a race on one node", "^crash <0> at one_node\\.erl:15 one_node:race/0: error \\{badmatch,nothing\\}$", Race).
-
--spec answered(file:filename(), string()) -> boolean().
-answered(File, Root) ->
-    {Answered, 0} = checks:command(["hunt", File, "--root", Root, "--seeds", "0..40"]),
-    has([Root, ": a time that passes early"], "^pulsefarm-erl: [0-9]+ of these seeds fail by a time that passes while others may go, and are left out", Answered),
-    has([Root, ": and no other failure"], "^no failure in 40 seeds$", Answered).
+    checks:expect("and that is told without a word", nomatch, string:find(Lost, "left out")).
 
 %% Where nobody reads its answer it ends as pulsefarm does, with 141, and where its output is full it says so.
 -spec unread() -> boolean().

@@ -19,7 +19,7 @@ check() ->
 one(File, Form) ->
     Name = lists:concat([filename:basename(File, ".erl"), " ", Form]),
     Defines = ['MENDED' || Form =:= mended],
-    {ok, Out, _} = checks:translate([File], #{defines => Defines, library_defines => [{'PATIENCE', 0} || is_early(File)]}),
+    {ok, Out, _} = checks:translate([File], #{defines => Defines}),
     Outcomes = checks:hunt(Out, "main", property(File), ?SEEDS),
     Failing = lists:sum([Number || {fails, Number, _} <- Outcomes]),
     case Form of
@@ -28,22 +28,15 @@ one(File, Form) ->
     end,
     Seen = on_erlang(File, Defines),
     Missing = [O || O <- Seen, not lists:keymember(O, 3, Outcomes)],
-    checks:expect([Name, ": outcomes of Erlang that the farm doesn't have"], [], further(Missing, Name, File, Defines)).
+    checks:expect([Name, ": outcomes of Erlang that the farm doesn't have"], [], further(Missing, Name, Out, property(File))).
 
-%% An outcome that virtual time doesn't have is one where a time passes while others go.
--spec further([string()], string(), file:filename(), [atom()]) -> [string()].
+%% An outcome that is rare on the farm may want more seeds: it is looked for in 90,000 more, and said to be.
+-spec further([string()], string(), file:filename(), string()) -> [string()].
 further([], _, _, _) -> [];
-further(Missing, Name, File, Defines) ->
-    io:format("  ~s: times that pass at any moment are hunted for ~s~n", [Name, lists:join(" ", Missing)]),
-    {ok, Out, _} = checks:translate([File], #{defines => Defines, library_defines => [{'PATIENCE', 0}]}),
-    Outcomes = checks:hunt(Out, "main", property(File), "0..100000"),
+further(Missing, Name, Out, Property) ->
+    io:format("  ~s: more seeds are hunted for ~s~n", [Name, lists:join(" ", Missing)]),
+    Outcomes = checks:hunt(Out, "main", Property, "10000..100000"),
     [O || O <- Missing, not lists:keymember(O, 3, Outcomes)].
-
-%% Whether a program's race is that of a time which passes while others go.
--spec is_early(file:filename()) -> boolean().
-is_early(File) ->
-    {ok, Text} = file:read_file(File),
-    re:run(Text, "^%% patience: early$", [multiline]) =/= nomatch.
 
 -spec property(file:filename()) -> string().
 property(File) ->
