@@ -11,9 +11,9 @@ import sys
 
 MOST = 120
 WHOLE = (".rt", ".antt", ".md")
-COMMENTS = (".sh", ".py", ".erl")
-# (reports of these modules name their lines)
-FIXED = ("port/test/", "examples/")
+COMMENTS = (".sh", ".py")
+# (reports name the lines of modules of Erlang)
+FIXED = ("port/", "examples/")
 QUOTED = re.compile(r'"(?:[^"\\]|\\.)*"')
 COMMENT = re.compile(r"\s*(?:#|%|\"\"\")")
 
