@@ -1,5 +1,6 @@
 #!/usr/bin/env python3
-"""proofs.py CRATE [COUNT]: checks a crate from nothing at one job, and prints which of its functions, and which of its own proofs, took longest.
+"""proofs.py CRATE [COUNT]: checks a crate from nothing at one job, and prints which of its functions, and which of its
+own proofs, took longest.
 
 What a check has proved it keeps at once, a file for each step of a function and for each module of specs and proofs. So the time since the
 file before is what a file took, but for a library that was read meanwhile. What is in crates/CRATE/out/incremental is lost."""
