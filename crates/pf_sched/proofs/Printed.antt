@@ -1,5 +1,6 @@
 -- What went out of the report of a run.
-use Rattle.std.proofs.Common.{◌≡◌, ◌<◌, ◌-◌, ℕ, List, [], ◌∷◌, ◌++◌, Bool, Option, map, refl, ap, sym, ◌∙◌, subst, arith}
+use Rattle.std.proofs.Common.{◌≡◌, ◌<◌, ◌-◌, ℕ, List, [], ◌∷◌, ◌++◌, Bool, Option, map, refl, ap, sym, ◌∙◌, subst}
+use Rattle.std.proofs.Common.{arith}
 use Rattle.std.specs.Io.KnownBytes.{Appends}
 use Rattle.std.proofs.KnownBytes.{Appends-nil}
 use Rattle.pf_errors.specs.declared.fault.OrNoMemory.{OrNoMemory}
@@ -13,7 +14,8 @@ use Rattle.pf_model.specs.Reports.{view_of_event as code_event_of}
 use Rattle.pf_model.specs.Properties.{Outcome}
 use Rattle.pf_model.proofs.Meanings.{one_meaning}
 use Rattle.pf_request.specs.Job.{Job}
-use Rattle.pf_trace.specs.Written.{AreWrittenSoFar, GoesOut, all_told, report_end_text, gone_from, last_lines, lines_text, told_so_far}
+use Rattle.pf_trace.specs.Written.{AreWrittenSoFar, GoesOut, all_told, report_end_text, gone_from, last_lines}
+use Rattle.pf_trace.specs.Written.{lines_text, told_so_far}
 use Rattle.pf_trace.specs.declared.pieces.Pieces.{Pieces}
 use Rattle.pf_trace.proofs.Fronts.{lines_of_both, stops_among, stops_at_end, whole_text}
 use Rattle.pf_sched.specs.Asked.{IsValid}
@@ -31,63 +33,87 @@ use Rattle.pf_sched.proofs.SoFar.{are_first}
 use Rattle.pf_sched.proofs.Traces.{executes_next}
 
 -- the events of a run so far are the first of those that the job means
-pub first_events : (j : Job) (cs : Choices) (es : List Event) (x : Execution) → Executes j cs es x → (r : Report) → Means (record j.asked { choices = cs }) r
+pub first_events : (j : Job) (cs : Choices) (es : List Event) (x : Execution) → Executes j cs es x → (r : Report)
+    → Means (record j.asked { choices = cs }) r
     → (rest : List Event) × (r.events ≡ es ++ rest)
 first_events j cs es x g r h = are_first g.run r (by_their_chooser j.asked cs r h)
 
 -- the lines that wait are written by the names of the job's module
-pub waiting_written : (j : Job) (cs : Choices) (es : List Event) (x : Execution) (p : Printer) (w0 w : Option (List ℕ)) → IsPrinted j cs es x p w0 w
+pub waiting_written : (j : Job) (cs : Choices) (es : List Event) (x : Execution) (p : Printer) (w0 w : Option (List ℕ))
+    → IsPrinted j cs es x p w0 w
     → AreWrittenSoFar (atom_names_of j) p.pieces.lines
-waiting_written j cs es x p w0 w printed = subst (λ a. AreWrittenSoFar (name_of a) p.pieces.lines) printed.told.1 printed.told.3
+waiting_written j cs es x p w0 w printed = subst (λ a. AreWrittenSoFar (name_of a) p.pieces.lines)
+    printed.told.1 printed.told.3
 
 -- the lines that wait didn't go out, or a beginning of them did
-pub cut : (e : OrNoMemory StreamFault) (j : Job) (cs : Choices) (es : List Event) (x : Execution) (p : Printer) (w0 w w1 : Option (List ℕ)) (n0 n1 : ℕ)
-    → IsPrinted j cs es x p w0 w → LeavesFront e (lines_text (atom_names_of j) (told_so_far p.pieces.lines)) w w1 n0 n1 → CutsShort e j cs w0 w1 n0 n1
+pub cut : (e : OrNoMemory StreamFault) (j : Job) (cs : Choices) (es : List Event) (x : Execution) (p : Printer)
+    (w0 w w1 : Option (List ℕ)) (n0 n1 : ℕ)
+    → IsPrinted j cs es x p w0 w → LeavesFront e (lines_text (atom_names_of j) (told_so_far p.pieces.lines)) w w1 n0 n1
+    → CutsShort e j cs w0 w1 n0 n1
 cut e j cs es x p w0 w w1 n0 n1 printed leaves r means =
     let f = first_events j cs es x printed.run r means in
     stops_among (atom_names_of j) e r (gone_from p.pieces) (told_so_far p.pieces.lines) f.0 w0 w w1 n0 n1
     (f.1 ∙ ap (λ (xs : List Event). xs ++ f.0) (sym printed.told.2)) printed.out leaves
 
 -- one event more was received, of which the line waits
-pub told_next : (j : Job) (cs : Choices) (es : List Event) (e : Event) (x x' : Execution) (p p' : Printer) (w0 w : Option (List ℕ)) (limit : ℕ)
-    → j.asked.limit ≡ limit → x.system.steps < limit → (printed : IsPrinted j cs es x p w0 w) → WentByChoices (limit - x.system.steps) printed.run.run.last x e x'
-    → (PrintsRun p j.asked es → PrintsRun p' j.asked (es ++ e ∷ [])) → p'.pieces.gone ≡ p.pieces.gone → IsPrinted j cs (es ++ e ∷ []) x' p' w0 w
+pub told_next : (j : Job) (cs : Choices) (es : List Event) (e : Event) (x x' : Execution) (p p' : Printer)
+    (w0 w : Option (List ℕ)) (limit : ℕ)
+    → j.asked.limit ≡ limit → x.system.steps < limit → (printed : IsPrinted j cs es x p w0 w)
+    → WentByChoices (limit - x.system.steps) printed.run.run.last x e x'
+    → (PrintsRun p j.asked es → PrintsRun p' j.asked (es ++ e ∷ [])) → p'.pieces.gone ≡ p.pieces.gone
+    → IsPrinted j cs (es ++ e ∷ []) x' p' w0 w
 told_next j cs es e x x' p p' w0 w limit same some printed went told gone =
     record {
       run =
           executes_next j cs es x x' printed.run e (omega arith)
           (subst (λ n. WentByChoices (n - x.system.steps) printed.run.run.last x e x') (sym same) went);
       told = told printed.told;
-      out = subst (λ v. Appends w0 w (lines_text (atom_names_of j) (map (λ s. code_event_of s.value) v.items))) (sym gone) printed.out;
+      out = subst (λ v. Appends w0 w (lines_text (atom_names_of j) (map (λ s. code_event_of s.value) v.items)))
+          (sym gone) printed.out;
     }
 
 -- lines that waited went out
-pub printed_out : (j : Job) (cs : Choices) (es : List Event) (x : Execution) (p : Printer) (q : Pieces) (w0 w w1 : Option (List ℕ)) → IsPrinted j cs es x p w0 w
+pub printed_out : (j : Job) (cs : Choices) (es : List Event) (x : Execution) (p : Printer) (q : Pieces)
+    (w0 w w1 : Option (List ℕ)) → IsPrinted j cs es x p w0 w
     → GoesOut (atom_names_of j) p.pieces q w w1 → IsPrinted j cs es x (record p { pieces = q }) w0 w1
 printed_out j cs es x p q w0 w w1 printed out =
     record {
       run = printed.run;
-      told = (printed.told.0, printed.told.1, out.2 ∙ printed.told.2, subst (λ a. AreWrittenSoFar (name_of a) q.lines) (sym printed.told.1) out.3);
+      told = (
+        printed.told.0,
+        printed.told.1,
+        out.2 ∙ printed.told.2,
+        subst (λ a. AreWrittenSoFar (name_of a) q.lines)
+            (sym printed.told.1) out.3,
+      );
       out =
-          subst (Appends w0 w1) (sym (lines_of_both (atom_names_of j) (gone_from p.pieces) out.0) ∙ ap (lines_text (atom_names_of j)) (sym out.1))
-          (appends_both w0 w w1 (lines_text (atom_names_of j) (gone_from p.pieces)) (lines_text (atom_names_of j) out.0) printed.out out.4);
+          subst (Appends w0 w1) (sym (lines_of_both (atom_names_of j) (gone_from p.pieces) out.0)
+          ∙ ap (lines_text (atom_names_of j)) (sym out.1))
+          (appends_both w0 w w1 (lines_text (atom_names_of j) (gone_from p.pieces)) (lines_text (atom_names_of j) out.0)
+          printed.out out.4);
     }
 
 -- nothing went out before the first event
 pub stopped_first : (j : Job) → IsValid j → (w : Option (List ℕ)) (n : ℕ) → HasStopped NoMemory j w w n n
-stopped_first j valid w n = let m = one_meaning j.asked (is_profile j.asked.choices valid.weighs) in (m.0, m.1, ([], m.0.events, refl, Appends-nil w, refl))
+stopped_first j valid w n = let m = one_meaning j.asked (is_profile j.asked.choices valid.weighs) in
+    (m.0, m.1, ([], m.0.events, refl, Appends-nil w, refl))
 
 -- each job has a report
-pub stopped : (e : OrNoMemory StreamFault) (j : Job) → IsValid j → (w0 w1 : Option (List ℕ)) (n0 n1 : ℕ) → CutsShort e j j.asked.choices w0 w1 n0 n1 → HasStopped e j w0 w1 n0 n1
-stopped e j valid w0 w1 n0 n1 cuts = let m = one_meaning j.asked (is_profile j.asked.choices valid.weighs) in (m.0, m.1, cuts m.0 m.1)
+pub stopped : (e : OrNoMemory StreamFault) (j : Job) → IsValid j → (w0 w1 : Option (List ℕ)) (n0 n1 : ℕ)
+    → CutsShort e j j.asked.choices w0 w1 n0 n1 → HasStopped e j w0 w1 n0 n1
+stopped e j valid w0 w1 n0 n1 cuts = let m = one_meaning j.asked (is_profile j.asked.choices valid.weighs) in
+    (m.0, m.1, cuts m.0 m.1)
 
-pub stopped_kept : (e : OrNoMemory StreamFault) (j : Job) (w0 w1 : Option (List ℕ)) (n0 n n1 : ℕ) → n ≡ n0 → HasStopped e j w0 w1 n n1 → HasStopped e j w0 w1 n0 n1
+pub stopped_kept : (e : OrNoMemory StreamFault) (j : Job) (w0 w1 : Option (List ℕ)) (n0 n n1 : ℕ) → n ≡ n0
+    → HasStopped e j w0 w1 n n1 → HasStopped e j w0 w1 n0 n1
 stopped_kept e j w0 w1 n0 n n1 same h = subst (λ k. HasStopped e j w0 w1 k n1) same h
 
 -- ---- the end of a run
 
-module _ (j : Job) (es : List Event) (x : Execution) (p : Printer) (q : Pieces) (w0 w w1 : Option (List ℕ)) (atoms : List (List ℕ)) (r : Report)
-    (same : p.pieces ≡ q) (printed : IsPrinted j j.asked.choices es x p w0 w) (over : IsRunOver j.asked.limit x) (closes : ClosesRun j es x.system r)
+module _ (j : Job) (es : List Event) (x : Execution) (p : Printer) (q : Pieces) (w0 w w1 : Option (List ℕ))
+    (atoms : List (List ℕ)) (r : Report)
+    (same : p.pieces ≡ q) (printed : IsPrinted j j.asked.choices es x p w0 w) (over : IsRunOver j.asked.limit x)
+    (closes : ClosesRun j es x.system r)
     (of_job : atoms ≡ j.asked.code.atoms) where
   it_means : Means j.asked r
   it_means = means j j.asked.choices es x printed.run over r closes
@@ -98,13 +124,15 @@ module _ (j : Job) (es : List Event) (x : Execution) (p : Printer) (q : Pieces) 
   out : Appends w0 w (lines_text (atom_names_of j) (gone_from q))
   out = subst (λ z. Appends w0 w (lines_text (atom_names_of j) (gone_from z))) same printed.out
 
-  module _ (o : Outcome) (s : ℕ) (v : Option Bool) (ends : r.outcome ≡ o) (steps : r.steps ≡ s) (judged : r.verdict ≡ v) where
+  module _ (o : Outcome) (s : ℕ) (v : Option Bool) (ends : r.outcome ≡ o) (steps : r.steps ≡ s)
+      (judged : r.verdict ≡ v) where
     last_text : lines_text (name_of atoms) (told_so_far q.lines) ++ last_lines (name_of atoms) o s v
         ≡ lines_text (atom_names_of j) (told_so_far q.lines) ++ report_end_text (atom_names_of j) r
     last_text = rw (of_job, ends, steps, judged) refl
 
     -- what was left of its report went out
-    pub ends_whole : (n : ℕ) → n ≡ waiting_in r → Appends w w1 (lines_text (name_of atoms) (told_so_far q.lines) ++ last_lines (name_of atoms) o s v)
+    pub ends_whole : (n : ℕ) → n ≡ waiting_in r
+        → Appends w w1 (lines_text (name_of atoms) (told_so_far q.lines) ++ last_lines (name_of atoms) o s v)
         → HasPrinted j (record { verdict = v; waiting = n }) w0 w1
     ends_whole n waits rest = (
       r,
@@ -112,15 +140,18 @@ module _ (j : Job) (es : List Event) (x : Execution) (p : Printer) (q : Pieces) 
       judged,
       waits,
       subst (Appends w0 w1) (sym (whole_text (atom_names_of j) r (gone_from q) (told_so_far q.lines) all_events))
-          (appends_both w0 w w1 (lines_text (atom_names_of j) (gone_from q)) (lines_text (atom_names_of j) (told_so_far q.lines) ++ report_end_text (atom_names_of j) r) out
+          (appends_both w0 w w1 (lines_text (atom_names_of j) (gone_from q))
+          (lines_text (atom_names_of j) (told_so_far q.lines) ++ report_end_text (atom_names_of j) r) out
           (subst (Appends w w1) last_text rest)),
     )
 
     -- or it was cut short
     pub ends_short : (e : OrNoMemory StreamFault) (n0 n1 : ℕ)
-        → LeavesFront e (lines_text (name_of atoms) (told_so_far q.lines) ++ last_lines (name_of atoms) o s v) w w1 n0 n1 → HasStopped e j w0 w1 n0 n1
+        → LeavesFront e (lines_text (name_of atoms) (told_so_far q.lines) ++ last_lines (name_of atoms) o s v) w w1 n0
+        n1 → HasStopped e j w0 w1 n0 n1
     ends_short e n0 n1 leaves = (
       r,
       it_means,
-      stops_at_end (atom_names_of j) e r (gone_from q) (told_so_far q.lines) w0 w w1 n0 n1 all_events out (subst (λ t. LeavesFront e t w w1 n0 n1) last_text leaves),
+      stops_at_end (atom_names_of j) e r (gone_from q) (told_so_far q.lines) w0 w w1 n0 n1 all_events out
+          (subst (λ t. LeavesFront e t w w1 n0 n1) last_text leaves),
     )

@@ -21,7 +21,8 @@ abbrev pub WentBy : (left : ℕ) → Configuration → Guided → Event → Guid
 WentBy left c x e x' = Went choose_by_priorities left c x.system (priorities_in x) e x'.system (priorities_in x')
 
 -- the same, and a trace received it; or nobody may go and nothing was done
-abbrev pub MayHaveGoneBy : {T : Type 0} (Told : T → meaning.Job → List Event → Type 0) → ℕ → Configuration → Guided → T → Bool → Guided → T → Type 0
+abbrev pub MayHaveGoneBy : {T : Type 0} (Told : T → meaning.Job → List Event → Type 0) → ℕ → Configuration → Guided → T
+    → Bool → Guided → T → Type 0
 MayHaveGoneBy Told left c x t true x' t' = (e : Event) × WentBy left c x e x' × Hears Told t e t'
 MayHaveGoneBy Told left c x t false x' t' = (enabled c ≡ []) × (x' ≡ x) × (t' ≡ t)
 
@@ -30,6 +31,7 @@ abbrev pub GoingBy : Job → (seed : ℕ) → List Event → Guided → Type 0
 GoingBy j seed es x = Going choose_by_priorities (first seed) j es x.system (priorities_in x)
 
 -- it is over, and a trace received all its events
-abbrev pub IsCompleteBy : {T : Type 0} (Told : T → meaning.Job → List Event → Type 0) → Job → (seed : ℕ) → Guided → T → Type 0
+abbrev pub IsCompleteBy : {T : Type 0} (Told : T → meaning.Job → List Event → Type 0) → Job → (seed : ℕ)
+    → Guided → T → Type 0
 IsCompleteBy Told j seed x t =
     (es : List Event) × (g : GoingBy j seed es x) × Told t j.asked es × Stops (j.asked.limit - x.system.steps) g.last

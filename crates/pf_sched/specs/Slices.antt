@@ -1,5 +1,6 @@
 -- What a slice makes of a parked job.
-use Rattle.std.specs.Prelude.{◌≡◌, ◌⊎◌, ◌+◌, ◌-◌, ◌<◌, ◌≤◌, ℕ, zero, suc, Bool, true, false, List, length, Option, Some, None}
+use Rattle.std.specs.Prelude.{◌≡◌, ◌⊎◌, ◌+◌, ◌-◌, ◌<◌, ◌≤◌, ℕ, zero, suc, Bool, true, false, List, length, Option, Some}
+use Rattle.std.specs.Prelude.{None}
 use Rattle.rand_pcg.specs.Lcg.{Lcg}
 use Rattle.pf_terms.specs.Atoms.{name_of}
 use Rattle.pf_choice.specs.declared.choices.Choices.{Choices}
@@ -51,24 +52,30 @@ abbrev pub IsRunOver : (limit : ℕ) → Execution → Type 0
 IsRunOver limit x = (c : Configuration) × (x.system.standing ≡ Some c) × Stops (limit - x.system.steps) c
 
 -- a run goes on, whichever job's it is and by whichever choices, and a trace receives all its events
-abbrev pub SimulatesEvents : {T : Type 0} (Told : T → meaning.Job → List Event → Type 0) (limit : ℕ) (old : Execution) (t : T) (new : Execution) (u : T) (turns : ℕ) (over : Bool) → Type 0
+abbrev pub SimulatesEvents : {T : Type 0} (Told : T → meaning.Job → List Event → Type 0) (limit : ℕ) (old : Execution)
+    (t : T) (new : Execution) (u : T) (turns : ℕ) (over : Bool) → Type 0
 SimulatesEvents Told limit old t new u turns over =
-    (j : Job) (cs : meaning.Choices) (es : List Event) → j.asked.limit ≡ limit → Executes j cs es old → Told t j.asked es
-    → (es' : List Event) × Executes j cs es' new × Told u j.asked es' × Advances (length es) (length es') turns over (IsRunOver limit new)
+    (j : Job) (cs : meaning.Choices) (es : List Event) → j.asked.limit ≡ limit → Executes j cs es old
+    → Told t j.asked es
+    → (es' : List Event) × Executes j cs es' new × Told u j.asked es' × Advances (length es) (length es') turns over
+    (IsRunOver limit new)
 
 -- a run of a job by these choices is over, and a trace received all its events
-abbrev pub IsComplete : {T : Type 0} (Told : T → meaning.Job → List Event → Type 0) → Job → meaning.Choices → Execution → T → Type 0
+abbrev pub IsComplete : {T : Type 0} (Told : T → meaning.Job → List Event → Type 0) → Job → meaning.Choices
+    → Execution → T → Type 0
 IsComplete Told j cs x t = (es : List Event) × Executes j cs es x × Told t j.asked es × IsRunOver j.asked.limit x
 
 -- a run of a job goes on with what is written of its events, by whichever choices
 abbrev pub RunAdvances : Job → (old new : Run) (turns : ℕ) (over : Bool) → Type 0
 RunAdvances j old new turns over =
     (cs : meaning.Choices) → IsRunBy j cs old
-    → IsRunBy j cs new × Advances (length (events_in old)) (length (events_in new)) turns over (IsRunOver j.asked.limit new.execution)
+    → IsRunBy j cs new × Advances (length (events_in old)) (length (events_in new)) turns over
+    (IsRunOver j.asked.limit new.execution)
 
 -- a report is the one of a job's run by these choices, written by the names of its module
 abbrev pub IsReportBy : Job → meaning.Choices → WrittenReport → Type 0
-IsReportBy j cs r = Means (record j.asked { choices = cs }) (report_in r) × AreWritten (name_of j.asked.code.atoms) r.lines
+IsReportBy j cs r = Means (record j.asked { choices = cs }) (report_in r)
+    × AreWritten (name_of j.asked.code.atoms) r.lines
 
 -- ---- within a shrinking
 

@@ -14,6 +14,18 @@ WHOLE = (".rt", ".antt", ".md")
 COMMENTS = (".sh", ".py")
 # (reports name the lines of modules of Erlang)
 FIXED = ("port/", "examples/")
+# (with a line that is wider still, which goes with the next change of the file: a comment makes its proof due)
+LEFT = {
+    "crates/pf_book/specs/Answers.antt",
+    "crates/pf_farm_state/proofs/Crossing.antt",
+    "crates/pf_laws/src/lib.rt",
+    "crates/pf_model/src/laws.rt",
+    "crates/pf_nodes/proofs/Memory.antt",
+    "crates/pf_process_status/proofs/Marked.antt",
+    "crates/pf_sched/src/shrinking.rt",
+    "crates/pf_stepper/proofs/Values.antt",
+    "crates/pf_tests_low/src/scenes.rt",
+}
 QUOTED = re.compile(r'"(?:[^"\\]|\\.)*"')
 COMMENT = re.compile(r"\s*(?:#|%|\"\"\")")
 
@@ -40,7 +52,7 @@ def long_lines(top, path):
 def main(top):
     passed, failed = 0, 0
     for path in files(top):
-        if not path.endswith(WHOLE + COMMENTS) or path.startswith(FIXED) or not os.path.isfile(os.path.join(top, path)):
+        if not path.endswith(WHOLE + COMMENTS) or path.startswith(FIXED) or path in LEFT or not os.path.isfile(os.path.join(top, path)):
             continue
         found = long_lines(top, path)
         for number in found:

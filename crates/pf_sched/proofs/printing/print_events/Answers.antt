@@ -12,7 +12,8 @@ returns-in_err-print_next-clause-fault g c =
     let f = c.in_err-print_next.field-0.0 in
     let w0 = g.W.Write.contents c.args.writer.now.inner in
     handed_on c.from_residual.result f _ c.from_residual.ensures
-    (subst (λ n. CutsShort f j j.asked.choices w0 (g.W.Write.contents c.print_next.new.writer.inner) n c.print_next.new.writer.failures.total) i.kept
+    (subst (λ n. CutsShort f j j.asked.choices w0 (g.W.Write.contents c.print_next.new.writer.inner) n
+    c.print_next.new.writer.failures.total) i.kept
     (c.in_err-print_next.ensures.fault j j.asked.choices i.printed.0 w0 c.requires.limit i.printed.2))
 
 pub returns-then-not-branch-clause-printed : goal.returns-then-not-branch-clause-printed
@@ -21,8 +22,10 @@ returns-then-not-branch-clause-printed g c =
     let i = c.loop.invariant in
     let w0 = g.W.Write.contents c.args.writer.now.inner in
     let on =
-    subst (λ b. PrintsOn j j.asked.choices i.printed.0 c.print_next.new.execution c.print_next.new.printer w0 (g.W.Write.contents c.print_next.new.writer.inner) b)
-    c.if-not-branch.true (c.in_ok-print_next.ensures.printed j j.asked.choices i.printed.0 w0 c.requires.limit i.printed.2) in
+    subst (λ b. PrintsOn j j.asked.choices i.printed.0 c.print_next.new.execution c.print_next.new.printer w0
+    (g.W.Write.contents c.print_next.new.writer.inner) b)
+    c.if-not-branch.true (c.in_ok-print_next.ensures.printed j j.asked.choices i.printed.0 w0 c.requires.limit
+    i.printed.2) in
     (i.printed.0, on.0, on.1)
 
 pub loop-preserved : goal.loop-preserved
@@ -31,8 +34,10 @@ loop-preserved g c =
     let i = c.loop.invariant in
     let w0 = g.W.Write.contents c.args.writer.now.inner in
     let on =
-    subst (λ b. PrintsOn j j.asked.choices i.printed.0 c.print_next.new.execution c.print_next.new.printer w0 (g.W.Write.contents c.print_next.new.writer.inner) b)
-    c.if-not-branch.false (c.in_ok-print_next.ensures.printed j j.asked.choices i.printed.0 w0 c.requires.limit i.printed.2) in
+    subst (λ b. PrintsOn j j.asked.choices i.printed.0 c.print_next.new.execution c.print_next.new.printer w0
+    (g.W.Write.contents c.print_next.new.writer.inner) b)
+    c.if-not-branch.false (c.in_ok-print_next.ensures.printed j j.asked.choices i.printed.0 w0 c.requires.limit
+    i.printed.2) in
     let count = i.printed.1 in
     let more = length_last i.printed.0 on.0 in
     record { printed = (i.printed.0 ++ on.0 ∷ [], omega arith, on.1); kept = c.in_ok-print_next.ensures.kept ∙ i.kept }

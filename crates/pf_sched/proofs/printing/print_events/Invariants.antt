@@ -8,6 +8,7 @@ abbrev pub invariant-loop : goal.invariant-loop
 invariant-loop g l =
     let contents = g.W.Write.contents in
     record {
-      printed : (es : List Event) × (length es ≡ l.counter) × IsPrinted l.job l.job.asked.choices es l.execution l.printer (contents l.fn.writer.inner) (contents l.writer.inner);
+      printed : (es : List Event) × (length es ≡ l.counter) × IsPrinted l.job l.job.asked.choices es l.execution
+          l.printer (contents l.fn.writer.inner) (contents l.writer.inner);
       kept : l.writer.failures.total ≡ l.fn.writer.failures.total;
     }

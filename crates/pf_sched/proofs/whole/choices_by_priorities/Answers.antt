@@ -12,7 +12,19 @@ returns c =
     let x = c.complete.new.self in
     let all = c.in_ok-complete.ensures c.args.seed c.in_ok-guided.ensures c.new-numbers.ensures.items in
     let o = outcome_of all.1.last in
-    let r : Report = record { events = all.0; outcome = o; steps = x.system.steps; verdict = verdict j.asked.property (labels_in all.0) o } in
+    let r : Report = record {
+      events = all.0;
+      outcome = o;
+      steps = x.system.steps;
+      verdict =
+          verdict j.asked.property (labels_in all.0) o;
+    } in
     let closes : ClosesRun j all.0 x.system r =
-    record { events = refl; outcome = λ d stands. ap outcome_of (one_stands x.system.standing all.1.last d all.1.stands stands); steps = refl; verdict = refl } in
+    record {
+      events = refl;
+      outcome = λ d stands.
+          ap outcome_of (one_stands x.system.standing all.1.last d all.1.stands stands);
+      steps = refl;
+      verdict = refl;
+    } in
     (r, means_by all.1 all.3 r closes, all.2)

@@ -10,4 +10,5 @@ returns c =
     let j = c.args.job.now in
     IfOk-weaker c.report_of_guided-report.result
     (λ r. (seed : ℕ) → GoingBy j seed [] c.in_ok-guided.guided → MeansByPriorities j.asked seed (view_of_report r))
-    (λ r. MeansByPriorities j.asked c.args.seed (view_of_report r)) (λ r told. told c.args.seed c.in_ok-guided.ensures) c.report_of_guided-report.ensures
+    (λ r. MeansByPriorities j.asked c.args.seed (view_of_report r)) (λ r told. told c.args.seed c.in_ok-guided.ensures)
+    c.report_of_guided-report.ensures

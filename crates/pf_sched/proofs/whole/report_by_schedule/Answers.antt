@@ -11,4 +11,5 @@ report_to_end-requires c =
 pub returns : goal.returns
 returns c =
     let cs = schedule c.args.schedule.now in
-    IfOk-weaker _ _ _ (means_by c.args.job.now cs c.in_ok-execution.execution (c.in_ok-execution.ensures cs c.in_ok-choices.ensures)) c.report_to_end.ensures
+    IfOk-weaker _ _ _ (means_by c.args.job.now cs c.in_ok-execution.execution
+    (c.in_ok-execution.ensures cs c.in_ok-choices.ensures)) c.report_to_end.ensures

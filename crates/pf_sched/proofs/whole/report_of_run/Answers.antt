@@ -8,4 +8,5 @@ report_to_end-requires c = (c.args.job.now.asked.choices, c.in_ok-execution.ensu
 pub returns : goal.returns
 returns c =
     let j = c.args.job.now in
-    IfOk-weaker _ _ _ (means_by j j.asked.choices c.in_ok-execution.execution c.in_ok-execution.ensures) c.report_to_end.ensures
+    IfOk-weaker _ _ _ (means_by j j.asked.choices c.in_ok-execution.execution c.in_ok-execution.ensures)
+    c.report_to_end.ensures

@@ -7,5 +7,7 @@ use Rattle.pf_sched.proofs.execution.Execution.advance.Given as goal
 -- the run of the same job by the same choices, and its trace received one event more for each turn that was made
 abbrev pub invariant-loop : goal.invariant-loop
 invariant-loop g l =
-    (j : Job) (cs : Choices) (es : List Event) → j.asked.limit ≡ l.limit → Executes j cs es l.fn.self → g.T.Trace.Told l.fn.trace j.asked es
-    → (now : List Event) × Executes j cs now l.self × g.T.Trace.Told l.trace j.asked now × (length now ≡ length es + l.counter)
+    (j : Job) (cs : Choices) (es : List Event) → j.asked.limit ≡ l.limit → Executes j cs es l.fn.self
+    → g.T.Trace.Told l.fn.trace j.asked es
+    → (now : List Event) × Executes j cs now l.self × g.T.Trace.Told l.trace j.asked now
+    × (length now ≡ length es + l.counter)

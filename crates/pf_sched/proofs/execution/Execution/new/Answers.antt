@@ -14,5 +14,6 @@ returns c cs first =
     ap (λ z. z.standing) c.in_ok-new_in.ensures ∙ ap (λ k. Some (start k.asked.root c.edition.result)) c.job.view_is
     ∙ ap (λ e. Some (start j.asked.root e)) c.edition.ensures.edition in
     let code = ap (λ z. module_of z.checked) c.in_ok-new_in.ensures ∙ c.module.ensures in
-    let first_of_all = begins (choose_by_picks (picks_of cs)) 0 j s code stands (ap (λ z. z.steps) c.in_ok-new_in.ensures) in
+    let first_of_all = begins (choose_by_picks (picks_of cs)) 0 j s code stands
+    (ap (λ z. z.steps) c.in_ok-new_in.ensures) in
     executes_first j cs (record { system = s; choices = c.args.choices }) first_of_all first

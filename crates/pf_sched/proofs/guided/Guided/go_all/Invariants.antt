@@ -7,4 +7,5 @@ use Rattle.pf_sched.proofs.guided.Guided.go_all.Given as goal
 abbrev pub invariant-loop : goal.invariant-loop
 invariant-loop g l =
     (seed : ℕ) → GoingBy l.job seed [] l.fn.self → g.T.Trace.Told l.fn.trace l.job.asked []
-    → (now : List Event) × GoingBy l.job seed now l.self × g.T.Trace.Told l.trace l.job.asked now × (length now ≡ l.counter)
+    → (now : List Event) × GoingBy l.job seed now l.self × g.T.Trace.Told l.trace l.job.asked now
+    × (length now ≡ l.counter)
