@@ -36,6 +36,12 @@ def files(top):
     return sorted(listed.stdout.decode().rstrip("\0").split("\0"))
 
 
+def is_judged(top, path):
+    if path.startswith(FIXED) or path in LEFT or not path.endswith(WHOLE + COMMENTS):
+        return False
+    return os.path.isfile(os.path.join(top, path))
+
+
 def is_long(path, line):
     if len(line) <= MOST or line.endswith("\\n\\") or line.lstrip().startswith("#["):
         return False
@@ -52,7 +58,7 @@ def long_lines(top, path):
 def main(top):
     passed, failed = 0, 0
     for path in files(top):
-        if not path.endswith(WHOLE + COMMENTS) or path.startswith(FIXED) or path in LEFT or not os.path.isfile(os.path.join(top, path)):
+        if not is_judged(top, path):
             continue
         found = long_lines(top, path)
         for number in found:
