@@ -12,8 +12,9 @@ use Rattle.pf_positions.specs.declared.places.Position.{Position}
 use Rattle.pf_request.specs.Job.{Job, job_from, job_of, root_in, with_property, with_root}
 use Rattle.pf_check.specs.Module.{ReadModule}
 use Rattle.pf_request.specs.Request.{Request, choices_in, is_within, may_weigh}
+use Rattle.pf_sched.specs.Choosing.{MeansFor, choosing_of}
 use Rattle.pf_strategy.proofs.Meant.{replay_of_priorities}
-use Rattle.pf_cli_messages.specs.Explained.{AreStatusLines, IsKnownRunOf, MeansAs, ReportsProcesses, TellsRun}
+use Rattle.pf_cli_messages.specs.Explained.{AreStatusLines, IsKnownRunOf, ReportsProcesses, TellsRun}
 use Rattle.pf_process_status.specs.Known.{RunLeadsTo, module_of_run}
 use Rattle.pf_process_status.specs.Lines.{IsLine, Puts}
 use Rattle.pf_process_status.specs.declared.known.KnownRun.{KnownRun}
@@ -70,12 +71,12 @@ module _ (j : meaning.Job) (r : Report) (k : KnownRun) (h : IsKnownRunOf j r k) 
   )
 
   -- and so do those of what it means by priorities
-  pub comes_to : (by : Option ℕ) → MeansAs by j r → (d : Configuration) × RunLeadsTo k d
+  pub comes_to : (by : Option ℕ) → MeansFor (choosing_of by j) j r → (d : Configuration) × RunLeadsTo k d
   comes_to None m = leads j.choices m
   comes_to (Some seed) m = leads (schedule (map (λ e. e.choice) r.events)) (replay_of_priorities j seed r m)
 
 -- what is said of a known run's processes is said of the job's
-pub tells_of : (j : meaning.Job) (r : Report) (by : Option ℕ) (source text : List ℕ) (k : KnownRun) → TellsRun k source text → MeansAs by j r → IsKnownRunOf j r k
+pub tells_of : (j : meaning.Job) (r : Report) (by : Option ℕ) (source text : List ℕ) (k : KnownRun) → TellsRun k source text → MeansFor (choosing_of by j) j r → IsKnownRunOf j r k
     → ReportsProcesses j by source text
 tells_of j r by source text k tells means is_run =
     let there = comes_to j r k is_run by means in

@@ -5,25 +5,20 @@ use Rattle.pf_check.specs.Reads.{Reads, refused}
 use Rattle.pf_cli.specs.Args.{RunArgs}
 use Rattle.pf_model.specs.Configuration.{Configuration}
 use Rattle.pf_model.specs.Meaning as meaning
-use Rattle.pf_model.specs.Meaning.{Means, Report}
+use Rattle.pf_model.specs.Meaning.{Report}
 use Rattle.pf_check.specs.Reading.{IsModuleOf}
 use Rattle.pf_positions.specs.Placed.{ArePlaces}
 use Rattle.pf_positions.specs.declared.places.Position.{Position}
 use Rattle.pf_request.specs.Job.{Job}
 use Rattle.pf_check.specs.Module.{ReadModule}
 use Rattle.pf_sched.specs.Asked.{Asks}
-use Rattle.pf_strategy.specs.Runs.{MeansByPriorities}
+use Rattle.pf_sched.specs.Choosing.{MeansFor, choosing_of}
 use Rattle.pf_process_status.specs.Fates.{AreStandings}
 use Rattle.pf_process_status.specs.Known.{RunLeadsTo, module_of_run, events_of}
 use Rattle.pf_process_status.specs.Lines.{IsLine}
 use Rattle.pf_process_status.specs.Noted.{TellPoints}
 use Rattle.pf_process_status.specs.declared.known.KnownRun.{KnownRun}
 use Rattle.pf_process_status.specs.declared.standing.ProcessStatus.{ProcessStatus}
-
--- what a job means, by its own choices or by the priorities of a seed
-abbrev pub MeansAs : Option ℕ → meaning.Job → Report → Type 0
-MeansAs None j r = Means j r
-MeansAs (Some seed) j r = MeansByPriorities j seed r
 
 -- a run is that of a job and has these events
 pub record IsKnownRunOf (j : meaning.Job) (r : Report) (k : KnownRun) : Type 0 where
@@ -51,7 +46,7 @@ pub record TellsRun (k : KnownRun) (source text : List ℕ) : Type 0 where
 -- the same of the run that a job means
 pub record ReportsProcesses (j : meaning.Job) (priorities : Option ℕ) (source text : List ℕ) : Type 0 where
   pub report : Report
-  pub means : MeansAs priorities j report
+  pub means : MeansFor (choosing_of priorities j) j report
   pub run : KnownRun
   pub is_run : IsKnownRunOf j report run
   pub last : Configuration

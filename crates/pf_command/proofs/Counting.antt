@@ -14,6 +14,7 @@ use Rattle.pf_request.specs.Request.{Request}
 use Rattle.pf_request.specs.Job.{Job}
 use Rattle.pf_trace.specs.Written.{lines_text}
 use Rattle.pf_sched.specs.Asked.{Asks}
+use Rattle.pf_sched.specs.Choosing.{choosing_of}
 use Rattle.pf_sched.specs.Printing.{HasPrinted, HasStopped}
 use Rattle.pf_sched.specs.Waiting.{waiting_in}
 use Rattle.pf_sched.specs.declared.printing.PrintedRun.{PrintedRun}
@@ -38,7 +39,7 @@ went_refused P words w0 w1 n0 n1 f (Ok s) h = (h.0, subst (P h.0) (sym h.1.1) (f
 went_refused P words w0 w1 n0 n1 f (Err e) h = tt
 
 module _ (j : Job) (plain : j.asked.runs ≡ zero) (old : ℕ) (w0 w w1 : Option (List ℕ)) (n0 n n1 : ℕ) where
-  pub run_counted : (p : PrintedRun) (s : ℕ) → HasPrinted j p w0 w1 → s ≡ run_status p.verdict → WentOut (Counts j old p.waiting) w0 w1 s
+  pub run_counted : (p : PrintedRun) (s : ℕ) → HasPrinted j (choosing_of None j.asked) p w0 w1 → s ≡ run_status p.verdict → WentOut (Counts j old p.waiting) w0 w1 s
   run_counted p s h is = (
     report_text (atom_names_of j) h.0,
     subst (λ k. Counts j old k (report_text (atom_names_of j) h.0) s) (sym h.3)
@@ -46,7 +47,7 @@ module _ (j : Job) (plain : j.asked.runs ≡ zero) (old : ℕ) (w0 w w1 : Option
     h.4,
   )
 
-  pub run_uncounted : (r : Result ℕ StreamFault) → HasStopped NoMemory j w0 w n0 n → PrintsAnswer IsNoMemory w w1 n n1 r
+  pub run_uncounted : (r : Result ℕ StreamFault) → HasStopped NoMemory j (choosing_of None j.asked) w0 w n0 n → PrintsAnswer IsNoMemory w w1 n n1 r
       → IfOk r (WentOut (Counts j old old) w0 w1)
   run_uncounted (Ok s) h told =
       let lines = lines_text (atom_names_of j) h.2.0 in

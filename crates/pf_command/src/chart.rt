@@ -86,7 +86,7 @@ fn draw_one_run(alloc: Global, root: &[u8], manner: Manner, job: &Job) -> Result
     requires root { IsRootOf job.now root.now }
     ensures { IfOk result (DrawsMeaning job.now.asked root.now manner) }
 {
-    let run = report_of_run(alloc, job, &mut Scratch::new(alloc))?;
+    let run = report_of_run(alloc, job, None, &mut Scratch::new(alloc))?;
     draw_run(alloc, job, root, manner, &run)
 }
 

@@ -88,7 +88,7 @@ fn print_one_run<W: Write, M: Ledger>(
     ensures waits { IfOk result (WentOut (Counts job.now waiting.old waiting.new)
         (W.contents writer.old.inner) (W.contents writer.new.inner)) }
 {
-    match print_run(alloc, job, &mut Scratch::new(alloc), writer) {
+    match print_run(alloc, job, None, &mut Scratch::new(alloc), writer) {
         Ok(printed) => {
             *waiting = printed.waiting;
             Ok(run_status(printed.verdict))

@@ -1,15 +1,16 @@
 -- The report of a run that is over.
 use Rattle.std.proofs.Common.{◌≡◌, ◌-◌, List, map, Option, Some, Bool, sym, ap, ◌∙◌, subst}
-use Rattle.pf_model.specs.Choosers.{Chooser, choose_by_picks}
+use Rattle.pf_model.specs.Choosers.{Chooser}
 use Rattle.pf_model.specs.Configuration.{Configuration}
 use Rattle.pf_model.specs.Meaning as model
-use Rattle.pf_model.specs.Meaning.{Choices, Event, Means, MeansBy, Report, event_of_transition, outcome_of, picks_of}
+use Rattle.pf_model.specs.Meaning.{Choices, Event, Means, MeansBy, Report, event_of_transition, outcome_of}
 use Rattle.pf_model.specs.Properties.{Outcome, verdict}
 use Rattle.pf_model.specs.Runs.{Run, Stops, start}
 use Rattle.pf_property.proofs.Shown.{labels_of_run}
 use Rattle.pf_request.specs.Job.{Job}
 use Rattle.pf_system.specs.View.{SystemView}
 use Rattle.pf_sched.specs.declared.execution.Execution.{Execution}
+use Rattle.pf_sched.specs.Choosing.{Choosing, MeansFor, choices}
 use Rattle.pf_sched.specs.Closing.{ClosesRun}
 use Rattle.pf_sched.specs.Parts.{Executes}
 use Rattle.pf_sched.specs.Slices.{IsRunOver}
@@ -45,14 +46,17 @@ means_by {choose = choose} {s = s} {j = j} {es = es} {x = x} {t = t} g over r to
         told.verdict ∙ ap (λ ls. verdict j.asked.property ls r.outcome) (labels_of_run es g.transitions g.events)
         ∙ ap (verdict j.asked.property (map (λ u. u.label) g.transitions)) (told.outcome g.last g.stands)
 
--- what a job means by these choices is what it means by their chooser
-pub by_their_chooser : (j : model.Job) (cs : Choices) (r : Report) → Means (record j { choices = cs }) r → MeansBy (choose_by_picks (picks_of cs)) 0 j r
-by_their_chooser j cs r h = record { transitions = h.transitions; last = h.last; state = h.state; run = h.run; report = h.report }
+-- where these choices choose a job means what it means with them in place of its own
+pub with_choices : (j : model.Job) (cs : Choices) (r : Report) → MeansFor (choices cs) j r → Means (record j { choices = cs }) r
+with_choices j cs r h = record { transitions = h.transitions; last = h.last; state = h.state; run = h.run; report = h.report }
 
--- and what it means by the choices of the run
-pub means : (j : Job) (cs : Choices) (es : List Event) (x : Execution) → Executes j cs es x → IsRunOver j.asked.limit x → (r : Report) → ClosesRun j es x.system r
-    → Means (record j.asked { choices = cs }) r
-means j cs es x g over r told =
+pub for_choices : (j : model.Job) (cs : Choices) (r : Report) → Means (record j { choices = cs }) r → MeansFor (choices cs) j r
+for_choices j cs r h = record { transitions = h.transitions; last = h.last; state = h.state; run = h.run; report = h.report }
+
+-- and what a job means by what chooses in the run
+pub means : (j : Job) (w : Choosing) (es : List Event) (x : Execution) → Executes j w es x → IsRunOver j.asked.limit x → (r : Report) → ClosesRun j es x.system r
+    → MeansFor w j.asked r
+means j w es x g over r told =
     let stops : Stops (j.asked.limit - x.system.steps) g.run.last =
     subst (Stops (j.asked.limit - x.system.steps)) (one_stands x.system.standing over.0 g.run.last over.1 g.run.stands) over.2 in
-    let h = means_by g.run stops r told in record { transitions = h.transitions; last = h.last; state = h.state; run = h.run; report = h.report }
+    means_by g.run stops r told

@@ -16,9 +16,11 @@ use Rattle.pf_sched.specs.declared.shrinking.ShrinkingAdvance.{ShrinkingAdvance}
 use Rattle.pf_sched.specs.declared.shrinking.ShrinkingAdvance.TheVariants as advance
 use Rattle.pf_sched.specs.declared.shrinking.Shrinking.{Shrinking}
 use Rattle.pf_sched.specs.Asked.{IsValid}
+use Rattle.pf_sched.specs.Choosing.{choices}
 use Rattle.pf_sched.specs.Parts.{IsHuntOf, IsRunBy, IsShrinkingOf, KeepsReport, events_in, events_so_far, stands_at}
 use Rattle.pf_sched.specs.Slices.{Advances, JobEvaluatesTo, NextRunFollows, ShrinkingGoesOn, IsRunOver, OpensNext, RunAdvances, runs_left}
 use Rattle.pf_sched.specs.Traces.{Makes}
+use Rattle.pf_sched.proofs.Reported.{for_choices}
 use Rattle.pf_sched.proofs.Sliced.{run_goes_past}
 use Rattle.pf_sched.proofs.Hunted.{HasNoFewer, has_more, hunt_begins, hunt_told, hunt_goes_past, stands_at_failed, stands_as_it_was}
 
@@ -62,7 +64,7 @@ module _ (j : meaning.Job) where
 
 module _ (j : Job) where
   -- with another run by the same schedule
-  pub with_run : (s t : Shrinking) (x : IsShrinkingOf j s) → t ≡ record s { run = t.run } → IsRunBy j (schedule x.next) t.run → IsShrinkingOf j t
+  pub with_run : (s t : Shrinking) (x : IsShrinkingOf j s) → t ≡ record s { run = t.run } → IsRunBy j (choices (schedule x.next)) t.run → IsShrinkingOf j t
   with_run s t x e run =
       let same : IsShrinkingOf j (record s { run = t.run }) =
       record { hunt = x.hunt; report = x.report; next = x.next; is_next = x.is_next; run = run } in
@@ -72,11 +74,11 @@ module _ (j : Job) where
   pub shrinking_goes_past : (s : Shrinking) → IsShrinkingOf j s → (IsRunOver j.asked.limit s.run.execution → ⊥) → HasNoFewer j (events_so_far s)
   shrinking_goes_past s x going m has =
       hunt_goes_past j.asked s.hunt s.before x.hunt x.next x.is_next (length (events_in s.run))
-      (λ r means. run_goes_past j (schedule x.next) (events_in s.run) s.run.execution x.run.run going r means) m has
+      (λ r means. run_goes_past j (choices (schedule x.next)) (events_in s.run) s.run.execution x.run.run going r (for_choices j.asked (schedule x.next) r means)) m has
 
   -- before its first event
   pub shrinking_begins : (h : Hunting) (r : Run) (c : ShrinkingProgress) (runs : ℕ) (ns items : List ℕ) → 0 < runs → j.asked.runs ≡ runs → j.asked.choices ≡ schedule ns → items ≡ ns
-      → h ≡ begins (runs - 1) items → IsRunBy j (schedule ns) r → IsShrinkingOf j (record { hunt = h; run = r; report = None; before = zero; progress = c })
+      → h ≡ begins (runs - 1) items → IsRunBy j (choices (schedule ns)) r → IsShrinkingOf j (record { hunt = h; run = r; report = None; before = zero; progress = c })
   shrinking_begins h r c runs ns items some asked shrinks same is run =
       let begun : begins (runs - 1) ns ≡ h = ap (begins (runs - 1)) (sym same) ∙ sym is in
       let counted : j.asked.runs ≡ suc (runs - 1) = omega arith in
@@ -110,7 +112,7 @@ module _ (j : Job) where
     -- its run isn't over
     pub goes_further : IsValid j → (over : Bool) → over ≡ false → RunAdvances j s.run t.run turns over → ShrinkingGoesOn j (events_so_far s + turns) (advance.More t)
     goes_further valid over off went =
-        let a = went (schedule x.next) x.run in
+        let a = went (choices (schedule x.next)) x.run in
         let b : Advances (length (events_in s.run)) (length (events_in t.run)) turns false (IsRunOver j.asked.limit t.run.execution) =
         subst (λ v. Advances (length (events_in s.run)) (length (events_in t.run)) turns v (IsRunOver j.asked.limit t.run.execution)) off a.1 in
         let y = with_run s t x rest a.0 in
@@ -130,7 +132,7 @@ module _ (j : Job) where
 
     pub at_edge : (over : Bool) → over ≡ true → RunAdvances j s.run t.run turns over → AtEdge
     at_edge over on went =
-        let a = went (schedule x.next) x.run in
+        let a = went (choices (schedule x.next)) x.run in
         let b : Advances (length (events_in s.run)) (length (events_in t.run)) turns true (IsRunOver j.asked.limit t.run.execution) =
         subst (λ v. Advances (length (events_in s.run)) (length (events_in t.run)) turns v (IsRunOver j.asked.limit t.run.execution)) on a.1 in
         record {

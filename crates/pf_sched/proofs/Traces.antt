@@ -1,5 +1,5 @@
 -- A run by a chooser, transition by transition.
-use Rattle.std.proofs.Common.{◌≡◌, ℕ, zero, suc, ◌+◌, ◌-◌, ◌<◌, List, [], ◌∷◌, ◌++◌, length, map, Some, refl, sym, ap, ◌∙◌, subst, arith}
+use Rattle.std.proofs.Common.{◌≡◌, ℕ, zero, suc, ◌+◌, ◌-◌, ◌<◌, List, [], ◌∷◌, ◌++◌, length, map, Some, refl, sym, ap, ◌∙◌, subst, arith, add-zero}
 use Rattle.std.specs.Prelude.{slice_get}
 use Rattle.std.proofs.lemmas.Option.{same_Some}
 use Rattle.rand_pcg.specs.Pcg.{pcg32}
@@ -8,21 +8,25 @@ use Rattle.pf_choice.specs.Choices.{Chooses, IsAt}
 use Rattle.pf_choice.specs.Chosen.{chosen}
 use Rattle.pf_choice.specs.declared.choices.Choices.{Choices}
 use Rattle.pf_model.specs.Channels.{heads}
-use Rattle.pf_model.specs.Choosers.{Chooser, choose_by_picks}
+use Rattle.pf_model.specs.Choosers.{Chooser}
 use Rattle.pf_model.specs.Configuration.{Configuration}
-use Rattle.pf_model.specs.Meaning as meaning
 use Rattle.pf_model.specs.Meaning.{Event, event_of_transition, picks_of, words_of}
 use Rattle.pf_model.specs.Module.{Module, module_of}
 use Rattle.pf_model.specs.Runs.{enabled, next_choice, next_state, Goes, stays, Passes, ready, start, transition, Transition}
 use Rattle.pf_request.specs.Job.{Job}
+use Rattle.pf_strategy.specs.Priorities.{state_of}
+use Rattle.pf_strategy.specs.Runs.{choose_by_priorities}
 use Rattle.pf_system.specs.Steps.{IsNoteOf, SimulatesTransition}
 use Rattle.pf_system.specs.View.{SystemView}
 use Rattle.pf_system.specs.declared.enabled.Enabled.{Enabled}
 use Rattle.pf_system.proofs.Bodies.{map_more}
+use Rattle.pf_sched.specs.Choosing.{Choosing, chooser_of, choices, first_of, priorities}
+use Rattle.pf_sched.specs.declared.chooser.ActorChooser.TheVariants as code
+use Rattle.pf_sched.specs.declared.chooser.ActorPriorities.{ActorPriorities}
 use Rattle.pf_sched.specs.declared.execution.Execution.{Execution}
 use Rattle.pf_sched.specs.Parts.{Executes}
 use Rattle.pf_sched.specs.Told.{event}
-use Rattle.pf_sched.specs.Traces.{Going, MakesFrom, Went, WentByChoices}
+use Rattle.pf_sched.specs.Traces.{ChoosesFor, Going, IsFirst, Went, WentOn}
 use Rattle.pf_sched.proofs.Longer.{goes_on}
 
 pub length_last : {A : Type 0} (xs : List A) (x : A) → length (xs ++ x ∷ []) ≡ length xs + 1
@@ -108,25 +112,20 @@ module _ {S : Type 0} (choose : Chooser S) (first : S) (j : Job) where
           ∙ ap (λ n. event k n e.actor e.label) w.counts
           ∙ ap (event k (length (enabled g.last)) e.actor) p.label
 
--- ---- by choices
+-- ---- of a run
 
 -- before the first event
-pub executes_first : (j : Job) (cs : meaning.Choices) (x : Execution) → Going (choose_by_picks (picks_of cs)) zero j [] x.system zero → MakesFrom cs zero x.choices
-    → Executes j cs [] x
-executes_first j cs x going makes = record { at = zero; run = going; choices = makes }
+pub executes_first : (j : Job) (w : Choosing) (x : Execution) → Going (chooser_of w) (first_of w) j [] x.system (first_of w) → IsFirst w x.chooser → Executes j w [] x
+executes_first j w x going is = record { state = first_of w; run = going; is_in = is }
 
 -- one event more
-pub executes_next : (j : Job) (cs : meaning.Choices) (es : List Event) (x x' : Execution) (g : Executes j cs es x) (e : Event) → x.system.steps < j.asked.limit
-    → WentByChoices (j.asked.limit - x.system.steps) g.run.last x e x' → Executes j cs (es ++ e ∷ []) x'
-executes_next j cs es x x' g e some went =
-    let w = went cs g.at g.choices in
-    record {
-      at = suc g.at;
-      run = next (choose_by_picks (picks_of cs)) zero j es x.system g.at x'.system (suc g.at) g.run e some w.0;
-      choices = w.1;
-    }
+pub executes_next : (j : Job) (w : Choosing) (es : List Event) (x x' : Execution) (g : Executes j w es x) (e : Event) → x.system.steps < j.asked.limit
+    → WentOn (j.asked.limit - x.system.steps) g.run.last x e x' → Executes j w (es ++ e ∷ []) x'
+executes_next j w es x x' g e some went =
+    let t = went w g.state g.is_in in
+    record { state = t.0; run = next (chooser_of w) (first_of w) j es x.system g.state x'.system t.0 g.run e some t.1; is_in = t.2 }
 
--- ---- who may go
+-- ---- what is chosen
 
 module _ (e : Enabled) (c : Configuration) (note : IsNoteOf e c) where
   -- a choice among those that are noted is one among those that may go
@@ -136,13 +135,25 @@ module _ (e : Enabled) (c : Configuration) (note : IsNoteOf e c) where
       subst (λ n. Chooses pcg32 q n (length (heads c.channels)) k q') (a ∙ ap length note.processes)
       (subst (λ n. Chooses pcg32 q procs n k q') (b ∙ ap length note.channels) h)
 
--- which is what the chooser of choices chooses from their number i on
-pub chosen_by_picks : (c : Configuration) (q q' : Choices Lcg) (k : ℕ) → Chooses pcg32 q (length (ready c)) (length (heads c.channels)) k q'
-    → (cs : meaning.Choices) (i : ℕ) → MakesFrom cs i q → (choose_by_picks (picks_of cs) i (ready c) (heads c.channels) ≡ (k, suc i)) × MakesFrom cs (suc i) q'
-chosen_by_picks c q q' k h cs i makes =
+-- what choices choose, whichever they are
+pub chosen_by_choices : (c : Configuration) (q q' : Choices Lcg) (k : ℕ) → Chooses pcg32 q (length (ready c)) (length (heads c.channels)) k q'
+    → ChoosesFor (code.Choices q) c k (code.Choices q')
+chosen_by_choices c q q' k h (choices cs) i makes =
     let next : i + 1 ≡ suc i = omega arith in
     let same : k ≡ picks_of cs i (length (ready c)) (length (heads c.channels)) =
     h.choice_is (words_of cs) i makes.at ∙ ap (λ p. chosen p (words_of cs i) (length (ready c)) (length (heads c.channels))) makes.profile in (
+      suc i,
       ap (λ n. (n, suc i)) (sym same),
       record { at = subst (λ n. IsAt pcg32 (words_of cs) n q') next (h.moves (words_of cs) i makes.at); profile = h.keeps ∙ makes.profile },
     )
+chosen_by_choices c q q' k h (priorities seed) s is = absurd is
+
+-- and what priorities do
+pub chosen_by_priorities : (c : Configuration) (p p' : ActorPriorities) (k : ℕ)
+    → choose_by_priorities (state_of p.priorities) (ready c) (heads c.channels) ≡ (k, state_of p'.priorities) → ChoosesFor (code.Priorities p) c k (code.Priorities p')
+chosen_by_priorities c p p' k h (choices cs) i is = absurd is
+chosen_by_priorities c p p' k h (priorities seed) s is = (
+  state_of p'.priorities,
+  ap (λ z. choose_by_priorities z (ready c) (heads c.channels)) is ∙ h,
+  refl,
+)

@@ -13,6 +13,6 @@ pub mod InWhole
 pub mod InFinished
 pub mod Slices
 pub mod Judging
-pub mod Guided
+pub mod Choosing
 pub mod Closing
 pub mod Printing

@@ -1,11 +1,12 @@
 //! Runs whose reports go out as they are written: no event is kept, and of the lines those alone that haven't gone out.
 
-ghost use Rattle.std.specs.Prelude.{◌≡◌, ◌++◌, ◌∷◌, ◌<◌, [], List, ℕ, zero, IfErr, IfOk, Option, OnOk};
+ghost use Rattle.std.specs.Prelude.{◌≡◌, ◌++◌, ◌∷◌, ◌<◌, [], List, ℕ, zero, IfErr, IfOk, IsNone, Option, OnOk};
 ghost use Rattle.pf_model.specs.Meaning as model;
 ghost use Rattle.pf_model.specs.Reports.{view_of_event, label_of};
 ghost use Rattle.pf_request.specs.Job as request;
 ghost use Rattle.pf_trace.specs.Written.{AreWrittenSoFar, gone_from};
 ghost use Rattle.pf_sched.specs.Asked.{IsValid};
+ghost use Rattle.pf_sched.specs.Choosing.{Choosing, choosing_of};
 ghost use Rattle.pf_sched.specs.Parts.{Executes};
 ghost use Rattle.pf_sched.specs.Printing.{CutsShort, HasPrinted, HasStopped, IsPrinted, PrintsRun, PrintsOn, atom_names_of};
 ghost use Rattle.pf_sched.specs.Slices.{IsRunOver};
@@ -90,15 +91,15 @@ fn print_next<W: Write, M: Ledger>(
     writer: &mut Counted<W, M>,
 ) -> Result<bool, OrNoMemory<StreamFault>>
     requires { execution.old.system.steps < limit }
-    ensures printed { IfOk result (λ went. (j : request.Job) (cs : model.Choices) (es : List model.Event)
+    ensures printed { IfOk result (λ went. (j : request.Job) (u : Choosing) (es : List model.Event)
         (w0 : Option (List ℕ)) → j.asked.limit ≡ limit
-        → IsPrinted j cs es execution.old printer.old w0 (W.contents writer.old.inner)
-        → PrintsOn j cs es execution.new printer.new w0 (W.contents writer.new.inner) went) }
+        → IsPrinted j u es execution.old printer.old w0 (W.contents writer.old.inner)
+        → PrintsOn j u es execution.new printer.new w0 (W.contents writer.new.inner) went) }
     ensures kept { OnOk result (writer.new.failures.total ≡ writer.old.failures.total) }
-    ensures fault { IfErr result (λ e. (j : request.Job) (cs : model.Choices) (es : List model.Event)
+    ensures fault { IfErr result (λ e. (j : request.Job) (u : Choosing) (es : List model.Event)
         (w0 : Option (List ℕ)) → j.asked.limit ≡ limit
-        → IsPrinted j cs es execution.old printer.old w0 (W.contents writer.old.inner)
-        → CutsShort e j cs w0 (W.contents writer.new.inner)
+        → IsPrinted j u es execution.old printer.old w0 (W.contents writer.old.inner)
+        → CutsShort e j u w0 (W.contents writer.new.inner)
         writer.old.failures.total writer.new.failures.total) }
 {
     let Some(chosen) = execution.pass_next(alloc, limit, shown)? else {
@@ -120,14 +121,14 @@ fn print_events<W: Write, M: Ledger>(
     writer: &mut Counted<W, M>,
 ) -> Result<(), OrNoMemory<StreamFault>>
     requires limit { job.now.asked.limit ≡ limit }
-    requires first { Executes job.now job.now.asked.choices [] execution.old }
     requires told { PrintsRun printer.old job.now.asked [] }
     requires gone { gone_from printer.old.pieces ≡ [] }
-    ensures printed { OnOk result ((es : List model.Event) × IsPrinted job.now job.now.asked.choices es
+    ensures printed { OnOk result ((u : Choosing) → Executes job.now u [] execution.old
+        → (es : List model.Event) × IsPrinted job.now u es
         execution.new printer.new (W.contents writer.old.inner) (W.contents writer.new.inner)
         × IsRunOver job.now.asked.limit execution.new) }
     ensures kept { OnOk result (writer.new.failures.total ≡ writer.old.failures.total) }
-    ensures fault { IfErr result (λ e. CutsShort e job.now job.now.asked.choices
+    ensures fault { IfErr result (λ e. (u : Choosing) → Executes job.now u [] execution.old → CutsShort e job.now u
         (W.contents writer.old.inner) (W.contents writer.new.inner)
         writer.old.failures.total writer.new.failures.total) }
 {
@@ -162,17 +163,17 @@ fn print_rest<W: Write, M: Ledger>(
 ) -> Result<PrintedRun, OrNoMemory<StreamFault>>
     requires valid { IsValid job.now }
     requires written { AreWrittenSoFar (atom_names_of job.now) pieces.lines }
-    ensures printed { IfOk result (λ v. (es : List model.Event) (p : Printer) (w0 : Option (List ℕ))
-        → p.pieces ≡ pieces → p.evidence ≡ evidence
-        → IsPrinted job.now job.now.asked.choices es execution.now p w0 (W.contents writer.old.inner)
+    ensures printed { IfOk result (λ v. (u : Choosing) (es : List model.Event) (p : Printer)
+        (w0 : Option (List ℕ)) → p.pieces ≡ pieces → p.evidence ≡ evidence
+        → IsPrinted job.now u es execution.now p w0 (W.contents writer.old.inner)
         → IsRunOver job.now.asked.limit execution.now
-        → HasPrinted job.now v w0 (W.contents writer.new.inner)) }
+        → HasPrinted job.now u v w0 (W.contents writer.new.inner)) }
     ensures kept { OnOk result (writer.new.failures.total ≡ writer.old.failures.total) }
-    ensures fault { IfErr result (λ e. (es : List model.Event) (p : Printer) (w0 : Option (List ℕ))
-        → p.pieces ≡ pieces → p.evidence ≡ evidence
-        → IsPrinted job.now job.now.asked.choices es execution.now p w0 (W.contents writer.old.inner)
+    ensures fault { IfErr result (λ e. (u : Choosing) (es : List model.Event) (p : Printer)
+        (w0 : Option (List ℕ)) → p.pieces ≡ pieces → p.evidence ≡ evidence
+        → IsPrinted job.now u es execution.now p w0 (W.contents writer.old.inner)
         → IsRunOver job.now.asked.limit execution.now
-        → HasStopped e job.now w0 (W.contents writer.new.inner)
+        → CutsShort e job.now u w0 (W.contents writer.new.inner)
         writer.old.failures.total writer.new.failures.total) }
 {
     let system = &execution.system;
@@ -196,12 +197,12 @@ fn print_execution<W: Write, M: Ledger>(
 ) -> Result<PrintedRun, OrNoMemory<StreamFault>>
     requires limit { job.now.asked.limit ≡ limit }
     requires valid { IsValid job.now }
-    requires first { Executes job.now job.now.asked.choices [] execution.old }
-    ensures printed { IfOk result (λ p. HasPrinted job.now p
-        (W.contents writer.old.inner) (W.contents writer.new.inner)) }
+    requires first { (u : Choosing) × Executes job.now u [] execution.old }
+    ensures printed { IfOk result (λ p. (u : Choosing) → Executes job.now u [] execution.old
+        → HasPrinted job.now u p (W.contents writer.old.inner) (W.contents writer.new.inner)) }
     ensures kept { OnOk result (writer.new.failures.total ≡ writer.old.failures.total) }
-    ensures fault { IfErr result (λ e. HasStopped e job.now
-        (W.contents writer.old.inner) (W.contents writer.new.inner)
+    ensures fault { IfErr result (λ e. (u : Choosing) → Executes job.now u [] execution.old
+        → CutsShort e job.now u (W.contents writer.old.inner) (W.contents writer.new.inner)
         writer.old.failures.total writer.new.failures.total) }
 {
     let mut printer = Printer::new(alloc, job);
@@ -215,25 +216,27 @@ fn print_execution<W: Write, M: Ledger>(
     Ok(printed)
 }
 
-/// Prints the report of a job that is one run, as the run goes, and gives its verdict and how many processes still wait
-/// though its root returned. Where a write fails, a beginning of the report went out; where memory runs out, the lines
-/// of its first events did. What is in the scratch makes no difference.
+/// Prints the report of a job that is one run, by its own choices or by the priorities of a seed, as the run goes, and
+/// gives its verdict and how many processes still wait though its root returned. Where a write fails, a beginning of
+/// the report went out; where memory runs out, the lines of its first events did. What is in the scratch makes no
+/// difference.
 pub fn print_run<W: Write, M: Ledger>(
     alloc: Global,
     job: &Job,
+    priorities: Option<u64>,
     scratch: &mut Scratch,
     writer: &mut Counted<W, M>,
 ) -> Result<PrintedRun, OrNoMemory<StreamFault>>
-    requires { job.now.asked.runs ≡ zero }
-    ensures printed { IfOk result (λ p. HasPrinted job.now p
+    requires { IsNone priorities → job.now.asked.runs ≡ zero }
+    ensures printed { IfOk result (λ p. HasPrinted job.now (choosing_of priorities job.now.asked) p
         (W.contents writer.old.inner) (W.contents writer.new.inner)) }
     ensures kept { OnOk result (writer.new.failures.total ≡ writer.old.failures.total) }
-    ensures fault { IfErr result (λ e. HasStopped e job.now
+    ensures fault { IfErr result (λ e. HasStopped e job.now (choosing_of priorities job.now.asked)
         (W.contents writer.old.inner) (W.contents writer.new.inner)
         writer.old.failures.total writer.new.failures.total) }
 {
     let limit = job.limit();
-    let mut execution = first_execution(alloc, job, scratch.take_spare(alloc))?;
+    let mut execution = first_execution(alloc, job, priorities, scratch.take_spare(alloc))?;
     let printed = print_execution(alloc, job, limit, &mut execution, writer);
     scratch.put_spare(execution.system.into_spare());
     printed

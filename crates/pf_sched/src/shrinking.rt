@@ -11,6 +11,7 @@ ghost use Rattle.pf_sched.specs.Parts.{IsHuntOf, IsShrinkingOf, KeepsReport, eve
 ghost use Rattle.pf_sched.specs.Slices.{NextRunFollows, ShrinkingGoesOn, IsRunOver, OpensNext, RunAdvances, TellsFound, runs_left};
 ghost use Rattle.pf_sched.specs.Views.{IsWritten, result_of};
 
+use crate::chooser::ActorChooser;
 use crate::job::Job;
 use crate::progress::ShrinkingProgress;
 use crate::result::JobResult;
@@ -107,7 +108,7 @@ fn begin(
 {
     match next_choices(alloc, &hunt)? {
         Some(choices) => Ok(ShrinkingAdvance::More(Shrinking {
-            run: Run::new(alloc, job, choices)?,
+            run: Run::new(alloc, job, ActorChooser::Choices(choices))?,
             hunt,
             report,
             before,
@@ -129,7 +130,7 @@ impl Shrinking {
         let choices = Choices::schedule(Vec::from_slice(alloc, schedule)?);
         Ok(Shrinking {
             hunt: ShrinkingSearch::new(Vec::from_slice(alloc, schedule)?, runs),
-            run: Run::new(alloc, job, choices)?,
+            run: Run::new(alloc, job, ActorChooser::Choices(choices))?,
             report: None,
             before: 0,
             progress: ShrinkingProgress::new(schedule.len()),

@@ -5,6 +5,7 @@ use Rattle.pf_sched.specs.Views.{result_of}
 use Rattle.pf_sched.proofs.Hunted.{hunt_comes, hunt_has}
 use Rattle.pf_sched.proofs.Shrunk.{opens_next, opens_none}
 use Rattle.pf_model.specs.Meaning.{schedule}
+use Rattle.pf_sched.specs.Choosing.{choices}
 use Rattle.pf_sched.proofs.shrinking.begin.Goals as goal
 
 pub returns-in_ok-new-in-Some : goal.returns-in_ok-new-in-Some
@@ -12,7 +13,7 @@ returns-in_ok-new-in-Some c =
     let o = opens_next (next_of c.args.hunt) c.in-Some.choices (rw c.in-Some.is at c.in_ok-choices.ensures) in
     let first : length (events_in c.in_ok-new-in-Some.field-0) ≡ 0 = c.in_ok-new-in-Some.ensures.first in
     let at : c.args.before + length (events_in c.in_ok-new-in-Some.field-0) ≡ c.args.before = omega arith in
-    (record { hunt = c.requires.hunt; report = c.requires.report; next = o.0; is_next = o.1; run = c.in_ok-new-in-Some.ensures.run (schedule o.0) o.2 }, at, omega arith)
+    (record { hunt = c.requires.hunt; report = c.requires.report; next = o.0; is_next = o.1; run = c.in_ok-new-in-Some.ensures.run (choices (schedule o.0)) o.2 }, at, omega arith)
 
 pub returns-in_ok-found-in-None : goal.returns-in_ok-found-in-None
 returns-in_ok-found-in-None c =

@@ -1,6 +1,6 @@
 use Rattle.std.proofs.Common.{◌≡◌, zero, ◌+◌, ◌-◌, ◌<◌, ◌≤◌, ◌∷◌, ◌++◌, [], inl, inr, Some, length, sym, subst, arith}
 use Rattle.pf_sched.specs.Parts.{Executes}
-use Rattle.pf_sched.specs.Traces.{MayHaveGone, WentByChoices}
+use Rattle.pf_sched.specs.Traces.{MayHaveGone, WentOn}
 use Rattle.pf_sched.proofs.Sliced.{ended}
 use Rattle.pf_sched.proofs.Traces.{executes_next, length_last}
 use Rattle.pf_sched.proofs.execution.Execution.advance.Goals as goal
@@ -35,7 +35,7 @@ loop-preserved g c j cs es e run told =
     (c.in_ok-go.ensures i.1.run.last i.1.run.stands) in
     let left : c.args.limit - x.system.steps ≡ j.asked.limit - x.system.steps = omega arith in
     let some : x.system.steps < j.asked.limit = omega arith in
-    let went = subst (λ n. WentByChoices n i.1.run.last x w.0 c.go.new.self) left w.1 in
+    let went = subst (λ n. WentOn n i.1.run.last x w.0 c.go.new.self) left w.1 in
     let there = executes_next j cs i.0 x c.go.new.self i.1 w.0 some went in
     let more = length_last i.0 w.0 in
     (i.0 ++ w.0 ∷ [], there, w.2 j.asked i.0 i.2, omega arith)

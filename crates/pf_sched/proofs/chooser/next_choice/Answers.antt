@@ -1,7 +1,7 @@
 use Rattle.std.proofs.Common.{arith}
 use Rattle.pf_system.proofs.WhoMayGo.{noted_count}
 use Rattle.pf_sched.proofs.Traces.{chooses_among}
-use Rattle.pf_sched.proofs.execution.choose.Goals as goal
+use Rattle.pf_sched.proofs.chooser.next_choice.Goals as goal
 
 pub next_of-requires : goal.next_of-requires
 next_of-requires c = omega (arith, c.requires, noted_count c.args.enabled.now, c.processes.ensures, c.channels.ensures)

@@ -1,0 +1,32 @@
+use Rattle.std.proofs.Common.{◌≡◌, length, sym, ap, ◌∙◌, arith}
+use Rattle.std.proofs.lemmas.Result.{IfOk-weaker}
+use Rattle.rand_pcg.specs.Pcg.{pcg32}
+use Rattle.pf_model.specs.Channels.{heads}
+use Rattle.pf_model.specs.Configuration.{Configuration}
+use Rattle.pf_model.specs.Runs.{ready}
+use Rattle.pf_strategy.specs.Keys.{keys_among}
+use Rattle.pf_strategy.specs.Priorities.{choice, state_of}
+use Rattle.pf_system.specs.Steps.{IsNoteOf}
+use Rattle.pf_system.proofs.WhoMayGo.{noted_count}
+use Rattle.pf_sched.proofs.chooser.ActorPriorities.choose.Goals as goal
+
+pub choose-requires : goal.choose-requires
+choose-requires c =
+    let pids = ap length c.pids.ensures in
+    let channels = ap length (c.as_slice.ensures.value ∙ c.in_ok-put_channels.ensures) in
+    omega (arith, c.requires, noted_count c.args.enabled.now, pids, channels)
+
+pub returns-clause-chooses : goal.returns-clause-chooses
+returns-clause-chooses c =
+    IfOk-weaker _ _ _ (λ i chosen d note.
+    let keys : keys_among c.pids.result.now c.as_slice.result.now ≡ keys_among (ready d) (heads d.channels) =
+    ap (λ xs. keys_among xs c.as_slice.result.now) (c.pids.ensures ∙ note.processes)
+    ∙ ap (keys_among (ready d)) (c.as_slice.ensures.value ∙ c.in_ok-put_channels.ensures ∙ note.channels) in
+    ap (choice pcg32 (state_of c.args.self.now.priorities)) (sym keys) ∙ chosen)
+    c.choose.ensures.choice
+
+pub returns-clause-one : goal.returns-clause-one
+returns-clause-one c =
+    let pids = ap length c.pids.ensures in
+    let channels = ap length (c.as_slice.ensures.value ∙ c.in_ok-put_channels.ensures) in
+    IfOk-weaker _ _ _ (λ i below. omega (arith, below, noted_count c.args.enabled.now, pids, channels)) c.choose.ensures.one
