@@ -1,5 +1,6 @@
 -- What a desk keeps is kept by a call.
-use Rattle.std.proofs.Common.{◌≡◌, ℕ, List, [], ◌∷◌, ◌++◌, map, Option, Some, None, Ok, refl, sym, ap, ◌∙◌, subst, arith, ◌+◌, ◌≤◌}
+use Rattle.std.proofs.Common.{◌≡◌, ℕ, List, [], ◌∷◌, ◌++◌, map, Option, Some, None, Ok, refl, sym, ap, ◌∙◌, subst}
+use Rattle.std.proofs.Common.{arith, ◌+◌, ◌≤◌}
 use Rattle.std.specs.Option.{option_map}
 use Rattle.std.specs.Vec.{vec_len, vec_capacity}
 use Rattle.pf_errors.specs.declared.code.Code.{Code}
@@ -14,7 +15,8 @@ use Rattle.pf_request.specs.Calls.{Call}
 use Rattle.pf_check.specs.Module.{ReadModule}
 use Rattle.pf_desks.specs.Desk as desk
 use Rattle.pf_desks.specs.Desk.{Profile, Desk, Trial, called}
-use Rattle.pf_desks.specs.Calls.{answer_of_call, within_limits, noted, passed_by, HasRoom, after_call, reply_to, with_entry, usage_in, held_by}
+use Rattle.pf_desks.specs.Calls.{answer_of_call, within_limits, noted, passed_by, HasRoom, after_call, reply_to}
+use Rattle.pf_desks.specs.Calls.{with_entry, usage_in, held_by}
 use Rattle.pf_desks.specs.History.{IsLegalDesk}
 use Rattle.pf_desks.proofs.Histories.{desk_more}
 use Rattle.pf_book.specs.Answers.{DeskAnswers}
@@ -36,14 +38,25 @@ use Rattle.pf_desks.proofs.Sums.{calls_more}
 -- ---- the same desk in other lists
 
 -- what is kept is kept where the lists hold the same, and the history has its room
-pub same_valid : (b b' : Inside) → b'.edition ≡ b.edition → b'.modules.items ≡ b.modules.items → b'.trials.items ≡ b.trials.items → b'.history.items ≡ b.history.items
-    → b'.users.items ≡ b.users.items → b'.usage ≡ b.usage → b'.running ≡ b.running → vec_len b'.history + b'.running ≤ vec_capacity b'.history → IsValid b → IsValid b'
+pub same_valid : (b b' : Inside) → b'.edition ≡ b.edition → b'.modules.items ≡ b.modules.items
+    → b'.trials.items ≡ b.trials.items → b'.history.items ≡ b.history.items
+    → b'.users.items ≡ b.users.items → b'.usage ≡ b.usage → b'.running ≡ b.running
+    → vec_len b'.history + b'.running ≤ vec_capacity b'.history → IsValid b → IsValid b'
 same_valid b b' edition modules trials history users usage running room h =
-    let same : desk_in b' ≡ desk_in b = λ i. record { edition = edition i; modules = modules i; trials = trials i; history = map view_of_entry (history i) } in
-    let counts : CountUsers b.users.items b.modules.items b.trials.items = record { counted = h.counted; exact = h.users; used = h.used } in
-    let one : CountUsers b'.users.items b.modules.items b.trials.items = subst (λ (l : List ℕ). CountUsers l b.modules.items b.trials.items) (sym users) counts in
-    let two : CountUsers b'.users.items b'.modules.items b.trials.items = subst (λ (l : List (Option ReadModule)). CountUsers b'.users.items l b.trials.items) (sym modules) one in
-    let all : CountUsers b'.users.items b'.modules.items b'.trials.items = subst (λ (l : List (Option Trial)). CountUsers b'.users.items b'.modules.items l) (sym trials) two in
+    let same : desk_in b' ≡ desk_in b = λ i. record {
+      edition = edition i;
+      modules = modules i;
+      trials = trials i;
+      history = map view_of_entry (history i);
+    } in
+    let counts : CountUsers b.users.items b.modules.items b.trials.items =
+    record { counted = h.counted; exact = h.users; used = h.used } in
+    let one : CountUsers b'.users.items b.modules.items b.trials.items =
+    subst (λ (l : List ℕ). CountUsers l b.modules.items b.trials.items) (sym users) counts in
+    let two : CountUsers b'.users.items b'.modules.items b.trials.items =
+    subst (λ (l : List (Option ReadModule)). CountUsers b'.users.items l b.trials.items) (sym modules) one in
+    let all : CountUsers b'.users.items b'.modules.items b'.trials.items =
+    subst (λ (l : List (Option Trial)). CountUsers b'.users.items b'.modules.items l) (sym trials) two in
     record {
       legal = λ p right. subst (IsLegalDesk p) (sym same) (h.legal p right);
       edition = subst IsEdition (sym edition) h.edition;
@@ -58,14 +71,16 @@ same_valid b b' edition modules trials history users usage running room h =
 -- ---- a call that the log has room for, or none
 
 module _ (d : Desk) (u : Usage) (sums : u ≡ usage_in d) where
-  told_limit : (o : Option Limit) → refusal_of d.edition u charge.Call ≡ o → passed_by d charge.Call ≡ option_map quota.code_of o
+  told_limit : (o : Option Limit) → refusal_of d.edition u charge.Call ≡ o
+      → passed_by d charge.Call ≡ option_map quota.code_of o
   told_limit o h = ap (option_map quota.code_of) (ap (λ (v : Usage). refusal_of d.edition v charge.Call) (sym sums) ∙ h)
 
   pub has_room : refusal_of d.edition u charge.Call ≡ None → HasRoom d
   has_room h = told_limit None h
 
   -- a call that the log has no room for is answered so, and the desk stays
-  pub full_answers : (limit : Limit) (c : Call) (r : Reply) → refusal_of d.edition u charge.Call ≡ Some limit → view_of_reply r ≡ desk.refused (quota.code_of limit)
+  pub full_answers : (limit : Limit) (c : Call) (r : Reply) → refusal_of d.edition u charge.Call ≡ Some limit
+      → view_of_reply r ≡ desk.refused (quota.code_of limit)
       → (d' : Desk) → d' ≡ d → DeskAnswers d c (Ok r) d'
   full_answers limit c r h told d' same p right =
       let full = told_limit (Some limit) h in (
@@ -76,7 +91,8 @@ module _ (d : Desk) (u : Usage) (sums : u ≡ usage_in d) where
 -- ---- a call that is noted
 
 -- a change leaves what was noted, and looks at modules and trials alone
-with_history : (d : Desk) (a : DeskChange) → with_change d a ≡ record (with_change (holding d.edition d.modules d.trials) a) { history = d.history }
+with_history : (d : Desk) (a : DeskChange) → with_change d a
+    ≡ record (with_change (holding d.edition d.modules d.trials) a) { history = d.history }
 with_history d change.Nothing = refl
 with_history d (change.Module m) = refl
 with_history d (change.Trial n j) = refl
@@ -88,11 +104,18 @@ same_history : (d : Desk) (a : DeskChange) → (with_change d a).history ≡ d.h
 same_history d a = ap (λ (k : Desk). k.history) (with_history d a)
 
 -- the desk of the lists that a change was carried out in, and of what was noted
-pub changed_desk : (d : Desk) (a : DeskChange) (e : desk.Entry) (edition : ℕ) (ms : List (Option ReadModule)) (ts : List (Option Trial)) (es : List desk.Entry)
+pub changed_desk : (d : Desk) (a : DeskChange) (e : desk.Entry) (edition : ℕ) (ms : List (Option ReadModule))
+    (ts : List (Option Trial)) (es : List desk.Entry)
     → holding edition ms ts ≡ with_change (holding d.edition d.modules d.trials) a → es ≡ d.history ++ e ∷ []
-    → ◌≡◌ {A = Desk} (record { edition = edition; modules = ms; trials = ts; history = es }) (with_entry (with_change d a) e)
+    → ◌≡◌ {A = Desk} (record { edition = edition; modules = ms; trials = ts; history = es })
+    (with_entry (with_change d a) e)
 changed_desk d a e edition ms ts es made noted =
-    (λ i. record { edition = (made i).edition; modules = (made i).modules; trials = (made i).trials; history = noted i })
+    (λ i. record {
+      edition = (made i).edition;
+      modules = (made i).modules;
+      trials = (made i).trials;
+      history = noted i;
+    })
     ∙ ap (λ (k : Desk). with_entry k e) (sym (with_history d a))
 
 module _ (d : Desk) (c : Call) (plan : Plan) (planned : IsPlan d c plan) (room : HasRoom d) (d' : Desk)
@@ -119,17 +142,24 @@ module _ (d : Desk) (c : Call) (plan : Plan) (planned : IsPlan d c plan) (room :
   called_answers reply same p right = (ap view_of_reply same ∙ reply_is p right, called_is p right)
 
   called_legal : ForRight (λ p. IsLegalDesk p d) → ForRight (λ p. IsLegalDesk p d')
-  called_legal h p right = desk_more p d d' (called c told) (h p right) (room, reply_is p right, called_is p right) longer
+  called_legal h p right = desk_more p d d' (called c told) (h p right) (
+    room,
+    reply_is p right,
+    called_is p right,
+  ) longer
 
   called_sums : plan.usage ≡ usage_in d'
   called_sums =
       planned.usage
-      ∙ ap (usage_of (held_by (with_change d plan.change))) (sym (calls_more (with_change d plan.change).history c told))
+      ∙ ap (usage_of (held_by (with_change d plan.change)))
+      (sym (calls_more (with_change d plan.change).history c told))
       ∙ ap usage_in (sym is)
 
   -- what a desk keeps, where it is this desk
-  pub called_valid : (b' : Inside) → desk_in b' ≡ d' → b'.usage ≡ plan.usage → IsEdition b'.edition → CountUsers b'.users.items b'.modules.items b'.trials.items
-      → b'.running + trials_dropped_by d.trials plan.change ≡ running_in d → vec_len b'.history + b'.running ≤ vec_capacity b'.history
+  pub called_valid : (b' : Inside) → desk_in b' ≡ d' → b'.usage ≡ plan.usage → IsEdition b'.edition
+      → CountUsers b'.users.items b'.modules.items b'.trials.items
+      → b'.running + trials_dropped_by d.trials plan.change ≡ running_in d
+      → vec_len b'.history + b'.running ≤ vec_capacity b'.history
       → ForRight (λ p. IsLegalDesk p d) → IsValid b'
   called_valid b' here uses edition counts running room legal = record {
     legal = λ p right. subst (IsLegalDesk p) (sym here) (called_legal legal p right);

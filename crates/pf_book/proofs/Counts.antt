@@ -13,7 +13,8 @@ its f e = f e.1
 
 module _ (f : Desk → ℕ) (none : f no_desk ≡ 0) where
   -- all desks but one, and that one
-  pub put_sum : (q : ℕ) (d' : Desk) (w : Desks) → sum_by (its f) (put_desk q d' w) + f (desk_at q w) ≡ sum_by (its f) w + f d'
+  pub put_sum : (q : ℕ) (d' : Desk) (w : Desks)
+      → sum_by (its f) (put_desk q d' w) + f (desk_at q w) ≡ sum_by (its f) w + f d'
   put_sum q d' [] = omega (arith, none, sum_by-cons (its f) (q, d') [])
   put_sum q d' (e ∷ w) = by (nat_eq q e.0) (put_sum q d' w)
     where
@@ -28,15 +29,19 @@ module _ (f : Desk → ℕ) (none : f no_desk ≡ 0) where
 
 -- the store counts those of each desk
 pub counts_one : (k : Kept) (q : ℕ) (w : Desks) (d : Desk) → desk_at q w ≡ d → CountsAll k w → Counts k d
-counts_one k q w d here all = subst (Counts k) here (λ source. omega (arith, all source, at_most_all (modules_of source) refl q w))
+counts_one k q w d here all = subst (Counts k) here
+    (λ source. omega (arith, all source, at_most_all (modules_of source) refl q w))
 
 -- it counts all of them once more, where it followed one desk
-pub counts_put : (k k' : Kept) (q : ℕ) (w : Desks) (d d' : Desk) → desk_at q w ≡ d → CountsAll k w → FollowsDesk k d k' d' → CountsAll k' (put_desk q d' w)
+pub counts_put : (k k' : Kept) (q : ℕ) (w : Desks) (d d' : Desk) → desk_at q w ≡ d → CountsAll k w
+    → FollowsDesk k d k' d' → CountsAll k' (put_desk q d' w)
 counts_put k k' q w d d' here all follows source =
     let same : modules_of source (desk_at q w) ≡ modules_of source d = ap (modules_of source) here in
     omega (arith, all source, follows source, put_sum (modules_of source) refl q d' w, same)
 
 -- also where the desk has the modules that it had
-pub counts_kept : (k : Kept) (q : ℕ) (w : Desks) (d d' : Desk) → desk_at q w ≡ d → CountsAll k w → d'.modules ≡ d.modules → CountsAll k (put_desk q d' w)
+pub counts_kept : (k : Kept) (q : ℕ) (w : Desks) (d d' : Desk) → desk_at q w ≡ d → CountsAll k w
+    → d'.modules ≡ d.modules → CountsAll k (put_desk q d' w)
 counts_kept k q w d d' here all same =
-    counts_put k k q w d d' here all (λ source. ap (λ ms. holders k source + modules_of source (record d { modules = ms })) (sym same))
+    counts_put k k q w d d' here all (λ source.
+    ap (λ ms. holders k source + modules_of source (record d { modules = ms })) (sym same))

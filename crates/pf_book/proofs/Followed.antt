@@ -1,5 +1,6 @@
 -- How many hold a source, where a desk's modules change.
-use Rattle.std.proofs.Common.{◌≡◌, ◌≤◌, ℕ, ◌+◌, Bool, true, cond, List, [], ◌∷◌, ◌++◌, Option, Some, None, refl, sym, ap, arith}
+use Rattle.std.proofs.Common.{◌≡◌, ◌≤◌, ℕ, ◌+◌, Bool, true, cond, List, [], ◌∷◌, ◌++◌, Option, Some, None, refl, sym}
+use Rattle.std.proofs.Common.{ap, arith}
 use Rattle.std.specs.Prelude.{if◌then◌else◌, sum_by}
 use Rattle.std.specs.Str.{bytes_eq}
 use Rattle.std.proofs.lemmas.Bool.Decides.{same_from_decides}
@@ -30,7 +31,14 @@ one_of d ms m one source =
     let f : ReadModule → ℕ = λ m. cond (bytes_eq source m.source) 1 0 in
     let more = ap (λ (l : List ReadModule). sum_by f l) one.more in
     let less = ap (λ (l : List ReadModule). sum_by f l) one.less in
-    omega (arith, more, less, sum_by-append f one.before (m ∷ one.after), sum_by-cons f m one.after, sum_by-append f one.before one.after)
+    omega (
+      arith,
+      more,
+      less,
+      sum_by-append f one.before (m ∷ one.after),
+      sum_by-cons f m one.after,
+      sum_by-append f one.before one.after,
+    )
 
 turned : (source s : List ℕ) → ◌≡◌ {A = ℕ} (if bytes_eq source s then 1 else 0) (cond (bytes_eq s source) 1 0)
 turned source s = ap (λ (b : Bool). cond b 1 0) (bytes_eq_turned source s)
@@ -41,11 +49,13 @@ module _ (d : Desk) where
   follows_none k k' same source = ap (λ (x : Kept). holders x source + modules_of source d) same
 
   -- one holds a source more, and one gives it up
-  pub follows_back : (k k' k'' : Kept) (source : List ℕ) → HeldOnceMore source k k' → HeldOnceLess source k' k'' → FollowsDesk k d k'' d
+  pub follows_back : (k k' k'' : Kept) (source : List ℕ) → HeldOnceMore source k k' → HeldOnceLess source k' k''
+      → FollowsDesk k d k'' d
   follows_back k k' k'' source more less s = omega (arith, more s, less s)
 
   -- a module more
-  pub follows_module : (k k' : Kept) (m : ReadModule) → HeldOnceMore m.source k k' → FollowsDesk k d k' (record d { modules = d.modules ++ Some m ∷ [] })
+  pub follows_module : (k k' : Kept) (m : ReadModule) → HeldOnceMore m.source k k'
+      → FollowsDesk k d k' (record d { modules = d.modules ++ Some m ∷ [] })
   follows_module k k' m more s =
       omega (arith, more s, turned m.source s, one_of d (d.modules ++ Some m ∷ []) m (one_pushed d.modules m) s)
 
@@ -59,11 +69,13 @@ module _ (d : Desk) where
     -- the store counts a module that a desk holds
     pub counts_held : (k : Kept) → Counts k d → 1 ≤ holders k m.source
     counts_held k counts =
-        let own : ◌≡◌ {A = ℕ} (cond (bytes_eq m.source m.source) 1 0) 1 = ap (λ (b : Bool). cond b 1 0) (bytes_eq_same m.source) in
+        let own : ◌≡◌ {A = ℕ} (cond (bytes_eq m.source m.source) 1 0) 1 =
+        ap (λ (b : Bool). cond b 1 0) (bytes_eq_same m.source) in
         omega (arith, counts m.source, one_less m.source, own)
 
     -- a module less
-    pub follows_withdrawal : (k k' : Kept) → HeldOnceLess m.source k k' → FollowsDesk k d k' (record d { modules = with_held d.modules n None })
+    pub follows_withdrawal : (k k' : Kept) → HeldOnceLess m.source k k'
+        → FollowsDesk k d k' (record d { modules = with_held d.modules n None })
     follows_withdrawal k k' less s = omega (arith, less s, turned m.source s, one_less s)
 
   -- a change that keeps the modules

@@ -19,7 +19,8 @@ use Rattle.pf_book.specs.Profile.{IsRight}
 module _ (p : Profile) (right : IsRight p) where
   -- what a source is answered with that was read as a module
   pub submitted_read : (d : Desk) (bytes : List ℕ) (s : ReadModule) → s.source ≡ bytes → IsReadAs bytes s
-      → ◌≡◌ {A = Desk × Reply} (record d { modules = d.modules ++ Some s ∷ [] }, number (length d.modules + 1)) (submitted d bytes (p.reading bytes))
+      → ◌≡◌ {A = Desk × Reply} (record d { modules = d.modules ++ Some s ∷ [] }, number (length d.modules + 1))
+      (submitted d bytes (p.reading bytes))
   submitted_read d bytes s same h =
       let text : s ≡ record { source = bytes; code = s.code } = λ i. record { source = same i; code = s.code } in
       ap (λ (m : ReadModule). (record d { modules = d.modules ++ Some m ∷ [] }, number (length d.modules + 1))) text
@@ -31,8 +32,10 @@ module _ (p : Profile) (right : IsRight p) where
   submitted_refused d bytes code index h = ap (submitted d bytes) (sym (right.reads bytes (refused code index) h))
 
   -- a request that results in this job, or is refused for this, does so to the profile
-  request_so : (m : ReadModule) (e : ℕ) (r : Request) (x : Result Job Code) → Asks m e r x → job_ordered p e (Some m) r ≡ x
-  request_so m e r x h = ap (λ (q : Option Property). job_of m e q r) (right.properties m.code.atoms r.property h.0 h.1) ∙ h.2
+  request_so : (m : ReadModule) (e : ℕ) (r : Request) (x : Result Job Code) → Asks m e r x
+      → job_ordered p e (Some m) r ≡ x
+  request_so m e r x h = ap (λ (q : Option Property). job_of m e q r) (right.properties m.code.atoms r.property h.0 h.1)
+      ∙ h.2
 
 -- an order asks for what its request of its module results in
 pub order_asks : (e : ℕ) (modules : List (Option ReadModule)) (o : Order) (m : ReadModule) (x : Result Job Code)

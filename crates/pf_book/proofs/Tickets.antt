@@ -28,6 +28,8 @@ same_tickets d d' same = subst (KeepsTickets d) (sym same) (λ t j k. k)
 pub same_all_tickets : (w w' : Desks) → w' ≡ w → KeepsAllTickets w w'
 same_all_tickets w w' same = subst (KeepsAllTickets w) (sym same) (λ q t j k. k)
 
-pub put_tickets : (q : ℕ) (w w' : Desks) (d d' : Desk) → desk_at q w ≡ d → w' ≡ put_desk q d' w → KeepsTickets d d' → KeepsAllTickets w w'
+pub put_tickets : (q : ℕ) (w w' : Desks) (d d' : Desk) → desk_at q w ≡ d → w' ≡ put_desk q d' w → KeepsTickets d d'
+    → KeepsAllTickets w w'
 put_tickets q w w' d d' here put keeps =
-    subst (KeepsAllTickets w) (sym put) (λ r. tickets_placed r q d' w (subst (λ (k : Desk). KeepsTickets k d') (sym here) keeps))
+    subst (KeepsAllTickets w) (sym put) (λ r.
+    tickets_placed r q d' w (subst (λ (k : Desk). KeepsTickets k d') (sym here) keeps))

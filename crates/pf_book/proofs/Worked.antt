@@ -1,5 +1,6 @@
 -- What a desk keeps is kept where a worker claims a trial, files its result or hands it back.
-use Rattle.std.proofs.Common.{◌≡◌, ◌≤◌, ◌+◌, ℕ, zero, suc, Bool, true, false, cond, List, [], ◌∷◌, ◌++◌, map, Option, Some, None, refl, sym, ap, ◌∙◌, subst, arith}
+use Rattle.std.proofs.Common.{◌≡◌, ◌≤◌, ◌+◌, ℕ, zero, suc, Bool, true, false, cond, List, [], ◌∷◌, ◌++◌, map, Option}
+use Rattle.std.proofs.Common.{Some, None, refl, sym, ap, ◌∙◌, subst, arith}
 use Rattle.std.specs.Prelude.{if◌then◌else◌, IfSome, slice_get, slice_set, sum_by}
 use Rattle.std.specs.Option.{option_map, option_flatten}
 use Rattle.std.specs.Vec.{vec_len, vec_capacity}
@@ -9,11 +10,14 @@ use Rattle.pf_model.specs.Shrinking.{Result}
 use Rattle.pf_request.specs.Job.{Job}
 use Rattle.pf_check.specs.Module.{ReadModule}
 use Rattle.pf_desks.specs.Desk as desk
-use Rattle.pf_desks.specs.Desk.{Profile, TrialState, queued, running, done, Trial, Desk, claimed, filed, handed_back, held_at, with_held, all_held}
+use Rattle.pf_desks.specs.Desk.{Profile, TrialState, queued, running, done, Trial, Desk, claimed, filed, handed_back}
+use Rattle.pf_desks.specs.Desk.{held_at, with_held, all_held}
 use Rattle.pf_desks.specs.declared.mark.FileMark.{FileMark}
 use Rattle.pf_desks.specs.Calls.{calls_in, usage_in, with_entry}
 use Rattle.pf_desks.specs.History.{IsLegalDesk}
-use Rattle.pf_desks.specs.Work.{is_queued_state, is_queued, is_running_state, is_running, in_state, with_state, result_marked, after_claim, after_file, after_hand_back, claim_step, file_step, hand_back_step}
+use Rattle.pf_desks.specs.Work.{is_queued_state, is_queued, is_running_state, is_running, in_state, with_state}
+use Rattle.pf_desks.specs.Work.{result_marked, after_claim, after_file, after_hand_back, claim_step, file_step}
+use Rattle.pf_desks.specs.Work.{hand_back_step}
 use Rattle.pf_book.specs.Kept.{desk_in, IsValid}
 use Rattle.pf_book.specs.Profile.{ForRight}
 use Rattle.pf_book.specs.Queued.{job_in_state, job_of_trial, job_at, is_undone}
@@ -29,16 +33,19 @@ use Rattle.pf_desks.proofs.Sums.{calls_worked, held_module, held_trial, trial_sa
 
 -- ---- what is written under a number
 
-set_found : {X : Type 0} (xs : List X) (i : ℕ) (x y : X) → slice_get xs i ≡ Some x → slice_get (slice_set xs i y) i ≡ Some y
+set_found : {X : Type 0} (xs : List X) (i : ℕ) (x y : X) → slice_get xs i ≡ Some x
+    → slice_get (slice_set xs i y) i ≡ Some y
 set_found [] i x y h = absurd (cc)
 set_found (z ∷ xs) zero x y h = refl
 set_found (z ∷ xs) (suc i) x y h = set_found xs i x y h
 
-pub held_found : (ts : List (Option Trial)) (t : ℕ) (x y : Trial) → held_at ts t ≡ Some x → held_at (with_held ts t (Some y)) t ≡ Some y
+pub held_found : (ts : List (Option Trial)) (t : ℕ) (x y : Trial) → held_at ts t ≡ Some x
+    → held_at (with_held ts t (Some y)) t ≡ Some y
 held_found ts zero x y h = absurd (cc)
 held_found ts (suc i) x y h = by (slice_get ts i) refl
   where
-    by : (o : Option (Option Trial)) → slice_get ts i ≡ o → option_flatten (slice_get (slice_set ts i (Some y)) i) ≡ Some y
+    by : (o : Option (Option Trial)) → slice_get ts i ≡ o
+        → option_flatten (slice_get (slice_set ts i (Some y)) i) ≡ Some y
     by None e = let no : None ≡ Some x = sym (ap (λ (o : Option (Option Trial)). option_flatten o) e) ∙ h in absurd (cc)
     by (Some o) e = ap (λ (o : Option (Option Trial)). option_flatten o) (set_found ts i o (Some y) e)
 
@@ -78,7 +85,8 @@ running_at (Some x) h = by x.state refl h
     by (done r) e h = absurd (cc)
 
 -- a trial that waits for a worker is queued, and of its job
-job_queued : (x : Trial) (s : TrialState) (j : Job) → job_in_state x.job s ≡ Some j → (is_queued_state s ≡ true) × (x.job ≡ j)
+job_queued : (x : Trial) (s : TrialState) (j : Job) → job_in_state x.job s ≡ Some j
+    → (is_queued_state s ≡ true) × (x.job ≡ j)
 job_queued x queued j h = (refl, cc)
 job_queued x running j h = absurd (cc)
 job_queued x (done r) j h = absurd (cc)
@@ -93,7 +101,8 @@ is_waiting ts t j h = queued_so (held_at ts t) j h
 
 -- a trial stays of a job, however the trials and the job are written
 pub same_job_at : (ts us : List (Option Trial)) (t : ℕ) (j k : Job) → ts ≡ us → j ≡ k → JobAt ts t j → JobAt us t k
-same_job_at ts us t j k trials job h = subst (JobAt us t) job (subst (λ (l : List (Option Trial)). JobAt l t j) trials h)
+same_job_at ts us t j k trials job h = subst (JobAt us t) job
+    (subst (λ (l : List (Option Trial)). JobAt l t j) trials h)
 
 not_queued : (x : Trial) (s : TrialState) → job_in_state x.job s ≡ None → is_queued_state s ≡ false
 not_queued x queued h = absurd (cc)
@@ -108,12 +117,15 @@ unqueued_so (Some x) h = not_queued x x.state h
 pub none_waiting : (ts : List (Option Trial)) (t : ℕ) → job_at ts t ≡ None → is_queued (held_at ts t) ≡ false
 none_waiting ts t h = unqueued_so (held_at ts t) h
 
-pub undone_at : (o : Option Trial) (s : TrialState) → is_undone s ≡ true → IsAt o s → IfSome o (λ x. is_undone x.state ≡ true)
-undone_at o s h a = subst (λ (o : Option Trial). IfSome o (λ x. is_undone x.state ≡ true)) (sym a.is) (ap is_undone a.state ∙ h)
+pub undone_at : (o : Option Trial) (s : TrialState) → is_undone s ≡ true → IsAt o s
+    → IfSome o (λ x. is_undone x.state ≡ true)
+undone_at o s h a = subst (λ (o : Option Trial). IfSome o (λ x. is_undone x.state ≡ true)) (sym a.is)
+    (ap is_undone a.state ∙ h)
 
 -- ---- a trial whose state is set
 
-state_set : (ts : List (Option Trial)) (t : ℕ) (x : Trial) (f : Job → TrialState) → held_at ts t ≡ Some x → with_state ts t f ≡ with_held ts t (Some (in_state f x))
+state_set : (ts : List (Option Trial)) (t : ℕ) (x : Trial) (f : Job → TrialState) → held_at ts t ≡ Some x
+    → with_state ts t f ≡ with_held ts t (Some (in_state f x))
 state_set ts t x f h = ap (λ (o : Option Trial). with_held ts t (option_map (in_state f) o)) h
 
 -- ---- how many run
@@ -124,7 +136,8 @@ ran s = cond (is_running_state s) 1 0
 abbrev pub runs : Trial → ℕ
 runs x = ran x.state
 
-running_written : (ts : List (Option Trial)) (t : ℕ) (x y : Trial) → held_at ts t ≡ Some x → running_among (with_held ts t (Some y)) + runs x ≡ running_among ts + runs y
+running_written : (ts : List (Option Trial)) (t : ℕ) (x y : Trial) → held_at ts t ≡ Some x
+    → running_among (with_held ts t (Some y)) + runs x ≡ running_among ts + runs y
 running_written ts t x y h =
     let a : Around ts t x = around ts t x h in
     omega (
@@ -135,7 +148,8 @@ running_written ts t x y h =
       sum_around runs a.before a.after x,
     )
 
-pub running_set : (ts : List (Option Trial)) (t : ℕ) (s s' : TrialState) → IsAt (held_at ts t) s → running_among (with_state ts t (λ j. s')) + ran s ≡ running_among ts + ran s'
+pub running_set : (ts : List (Option Trial)) (t : ℕ) (s s' : TrialState) → IsAt (held_at ts t) s
+    → running_among (with_state ts t (λ j. s')) + ran s ≡ running_among ts + ran s'
 running_set ts t s s' a =
     ap (λ (l : List (Option Trial)). running_among l + ran s) (state_set ts t a.trial (λ j. s') a.is)
     ∙ ap (λ (k : TrialState). running_among (with_held ts t (Some (in_state (λ j. s') a.trial))) + ran k) (sym a.state)
@@ -144,14 +158,18 @@ running_set ts t s s' a =
 -- a trial that runs is one of those
 pub some_run : (ts : List (Option Trial)) (t : ℕ) → is_running (held_at ts t) ≡ true → 1 ≤ running_among ts
 some_run ts t h =
-    let e : running_among (with_state ts t (λ j. queued)) + 1 ≡ running_among ts + 0 = running_set ts t running queued (running_at (held_at ts t) h) in
+    let e : running_among (with_state ts t (λ j. queued)) + 1 ≡ running_among ts + 0 =
+    running_set ts t running queued (running_at (held_at ts t) h) in
     omega (arith, e)
 
 -- ---- what a desk keeps, where the trial of a ticket was given a state, and that is noted
 
-module _ (b b' : Inside) (t : ℕ) (s s' : TrialState) (e : desk.Entry) (a : IsAt (held_at b.trials.items t) s) (of : OfWork e)
-    (edition : b'.edition ≡ b.edition) (modules : b'.modules.items ≡ b.modules.items) (trials : b'.trials.items ≡ with_state b.trials.items t (λ j. s'))
-    (history : map view_of_entry b'.history.items ≡ map view_of_entry b.history.items ++ e ∷ []) (users : b'.users.items ≡ b.users.items) (usage : b'.usage ≡ b.usage) where
+module _ (b b' : Inside) (t : ℕ) (s s' : TrialState) (e : desk.Entry) (a : IsAt (held_at b.trials.items t) s)
+    (of : OfWork e)
+    (edition : b'.edition ≡ b.edition) (modules : b'.modules.items ≡ b.modules.items)
+    (trials : b'.trials.items ≡ with_state b.trials.items t (λ j. s'))
+    (history : map view_of_entry b'.history.items ≡ map view_of_entry b.history.items ++ e ∷ [])
+    (users : b'.users.items ≡ b.users.items) (usage : b'.usage ≡ b.usage) where
   abbrev now : Trial
   now = in_state (λ j. s') a.trial
 
@@ -160,13 +178,15 @@ module _ (b b' : Inside) (t : ℕ) (s s' : TrialState) (e : desk.Entry) (a : IsA
 
   same_sums : usage_in (desk_in b') ≡ usage_in (desk_in b)
   same_sums =
-      let held = ap (λ (l : List (Option Trial)). map held_trial (all_held l)) set ∙ trial_same (desk_in b) t a.trial a.is now refl in
+      let held = ap (λ (l : List (Option Trial)). map held_trial (all_held l)) set ∙ trial_same (desk_in b) t a.trial
+      a.is now refl in
       let calls = ap calls_in history ∙ calls_worked (map view_of_entry b.history.items) e of in
       λ k. usage_of (map held_module (all_held (modules k)) ++ held k) (calls k)
 
   same_users : IsValid b → CountUsers b'.users.items b'.modules.items b'.trials.items
   same_users h =
-      let counts : CountUsers b.users.items b.modules.items b.trials.items = record { counted = h.counted; exact = h.users; used = h.used } in
+      let counts : CountUsers b.users.items b.modules.items b.trials.items =
+      record { counted = h.counted; exact = h.users; used = h.used } in
       let one = trial_again b.users.items b.modules.items b.trials.items t a.trial now a.is refl counts in
       subst (λ (l : List ℕ). CountUsers l b'.modules.items b'.trials.items) (sym users)
       (subst (λ (l : List (Option ReadModule)). CountUsers b.users.items l b'.trials.items) (sym modules)
@@ -177,8 +197,10 @@ module _ (b b' : Inside) (t : ℕ) (s s' : TrialState) (e : desk.Entry) (a : IsA
   worked_valid as_many room legal h =
       let counts = same_users h in
       let was : b.running ≡ running_among b.trials.items = h.running in
-      let set_so : running_among b'.trials.items ≡ running_among (with_state b.trials.items t (λ j. s')) = ap running_among trials in
-      let all : b'.running ≡ running_among b'.trials.items = omega (arith, as_many, was, running_set b.trials.items t s s' a, set_so) in
+      let set_so : running_among b'.trials.items ≡ running_among (with_state b.trials.items t (λ j. s')) =
+      ap running_among trials in
+      let all : b'.running ≡ running_among b'.trials.items =
+      omega (arith, as_many, was, running_set b.trials.items t s s' a, set_so) in
       record {
         legal = legal;
         edition = subst IsEdition (sym edition) h.edition;
@@ -203,13 +225,16 @@ module _ (d d' : Desk) (t : ℕ) where
   pub taken_runs : hand_back_step d t ≡ Some d' → (is_running (held_at d.trials t) ≡ true) × (d' ≡ after_hand_back d t)
   taken_runs h = by (is_running (held_at d.trials t)) refl h
     where
-      by : (b : Bool) → is_running (held_at d.trials t) ≡ b → (if b then Some (after_hand_back d t) else None) ≡ Some d' → (b ≡ true) × (d' ≡ after_hand_back d t)
+      by : (b : Bool) → is_running (held_at d.trials t) ≡ b → (if b then Some (after_hand_back d t) else None) ≡ Some d'
+          → (b ≡ true) × (d' ≡ after_hand_back d t)
       by true e h = (refl, cc)
       by false e h = absurd (cc)
 
   -- what is filed is what the mark puts, for the trial's own job
-  pub file_is : (p : Profile) (m : FileMark) (r : Result) (j : Job) → is_running (held_at d.trials t) ≡ true → JobAt d.trials t j → result_marked p m j ≡ r
-      → d' ≡ with_entry (record d { trials = with_state d.trials t (λ j. done r) }) (filed t m) → file_step p d t m ≡ Some d'
+  pub file_is : (p : Profile) (m : FileMark) (r : Result) (j : Job) → is_running (held_at d.trials t) ≡ true
+      → JobAt d.trials t j → result_marked p m j ≡ r
+      → d' ≡ with_entry (record d { trials = with_state d.trials t (λ j. done r) }) (filed t m)
+      → file_step p d t m ≡ Some d'
   file_is p m r j runs own puts is =
       let a = running_at (held_at d.trials t) runs in
       let same : j ≡ a.trial.job = subst (λ (o : Option Trial). IfSome o (λ x. j ≡ x.job)) a.is own in

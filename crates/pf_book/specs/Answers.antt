@@ -42,7 +42,8 @@ with_result d t r = with_entry (record d { trials = with_state d.trials t (λ j.
 -- job
 abbrev pub DeskFiles : desk.Desk → ℕ → FinishedView → Bool → desk.Desk → Type 0
 DeskFiles d t f true d' =
-    (is_running (held_at d.trials t) ≡ true) × (d' ≡ with_result d t f.result) × ForRight (λ p. file_step p d t (mark_of f.result) ≡ Some d')
+    (is_running (held_at d.trials t) ≡ true) × (d' ≡ with_result d t f.result)
+    × ForRight (λ p. file_step p d t (mark_of f.result) ≡ Some d')
 DeskFiles d t f false d' = IsStrayJob d.trials t f.job × (d' ≡ d)
 
 -- DeskHandsBack d t b d': the trial of a ticket is handed back, or it isn't running
@@ -59,14 +60,16 @@ work_answer b = if b then work_done else not_now
 -- SimulatesCall w q c r w': a project's call is answered so, as the step of all desks says, and leads to the next desks;
 -- memory runs out only where the project's log has room for the call, and leaves the desks as they were
 abbrev pub SimulatesCall : Desks → ℕ → Call → Result Reply NoMemory → Desks → Type 0
-SimulatesCall w q c (Ok r) w' = ForRight (λ p. ◌≡◌ {A = Desks × Answer} (step p w (client q c)) (w', replied (view_of_reply r)))
+SimulatesCall w q c (Ok r) w' = ForRight (λ p. ◌≡◌ {A = Desks × Answer} (step p w (client q c))
+    (w', replied (view_of_reply r)))
 SimulatesCall w q c (Err e) w' = HasRoom (desk_at q w) × (w' ≡ w)
 
 -- ClaimsAt w q t r w': the trial of a project's ticket is claimed, and this is its job; or there is none, since it
 -- isn't queued; memory runs out only where it is, and the desks are as they were then
 abbrev pub ClaimsAt : Desks → ℕ → ℕ → Result (Option (Arc Job Global)) NoMemory → Desks → Type 0
 ClaimsAt w q t (Ok (Some j)) w' =
-    (job_at (desk_at q w).trials t ≡ Some j.value) × ◌≡◌ {A = Desks × Answer} (worked q w (claim_step (desk_at q w) t)) (w', work_done)
+    (job_at (desk_at q w).trials t ≡ Some j.value) × ◌≡◌ {A = Desks × Answer} (worked q w (claim_step (desk_at q w) t))
+    (w', work_done)
 ClaimsAt w q t (Ok None) w' = ◌≡◌ {A = Desks × Answer} (worked q w (claim_step (desk_at q w) t)) (w', not_now)
 ClaimsAt w q t (Err e) w' = (is_queued (held_at (desk_at q w).trials t) ≡ true) × (w' ≡ w)
 
@@ -80,9 +83,11 @@ SimulatesClaim w (Err e) w' = ((q : ℕ) × (t : ℕ) × (is_queued (held_at (de
 -- SimulatesFile w q t f b w': the result of a project's ticket is filed under its mark, or the trial isn't running or
 -- is of another job
 abbrev pub SimulatesFile : Desks → ℕ → ℕ → FinishedView → Bool → Desks → Type 0
-SimulatesFile w q t f true w' = ForRight (λ p. ◌≡◌ {A = Desks × Answer} (worked q w (file_step p (desk_at q w) t (mark_of f.result))) (w', work_done))
+SimulatesFile w q t f true w' = ForRight (λ p.
+    ◌≡◌ {A = Desks × Answer} (worked q w (file_step p (desk_at q w) t (mark_of f.result))) (w', work_done))
 SimulatesFile w q t f false w' = IsStrayJob (desk_at q w).trials t f.job × (w' ≡ w)
 
 -- SimulatesHandBack w q t b w': the trial of a project's ticket is handed back, or it isn't running
 abbrev pub SimulatesHandBack : Desks → ℕ → ℕ → Bool → Desks → Type 0
-SimulatesHandBack w q t b w' = ◌≡◌ {A = Desks × Answer} (worked q w (hand_back_step (desk_at q w) t)) (w', work_answer b)
+SimulatesHandBack w q t b w' = ◌≡◌ {A = Desks × Answer} (worked q w (hand_back_step (desk_at q w) t))
+    (w', work_answer b)

@@ -1,5 +1,6 @@
 -- What the fields of a desk and of a book stand for, and what is true of them.
-use Rattle.std.specs.Prelude.{◌≡◌, ◌≤◌, ◌+◌, ℕ, suc, List, length, map, All, IfSome, IsSome, slice_get, sum_by, count_by}
+use Rattle.std.specs.Prelude.{◌≡◌, ◌≤◌, ◌+◌, ℕ, suc, List, length, map, All, IfSome, IsSome, slice_get, sum_by}
+use Rattle.std.specs.Prelude.{count_by}
 use Rattle.std.specs.Str.{bytes_eq}
 use Rattle.std.specs.Vec.{vec_len, vec_capacity}
 use Rattle.pf_store.specs.Sources.{Kept, holders}
@@ -14,7 +15,13 @@ use Rattle.pf_book.specs.View.{view_of_entry}
 use Rattle.pf_book.specs.declared.desk.Desk.TheInside.{Inside}
 
 abbrev pub desk_in : Inside → Desk
-desk_in b = record { edition = b.edition; modules = b.modules.items; trials = b.trials.items; history = map view_of_entry b.history.items }
+desk_in b = record {
+  edition = b.edition;
+  modules = b.modules.items;
+  trials = b.trials.items;
+  history =
+      map view_of_entry b.history.items;
+}
 
 -- the desk is what its history makes of an empty one, in an edition that there is; its sums are those over what it
 -- holds; it counts for each module number the held trials that use it, and each held trial uses a module that is held;
@@ -45,4 +52,5 @@ Counts kept d = (source : List ℕ) → modules_of source d ≤ holders kept sou
 
 -- FollowsDesk k d k' d': from one desk to the next the holders of each source change as the desk's modules of it do
 abbrev pub FollowsDesk : Kept → Desk → Kept → Desk → Type 0
-FollowsDesk k d k' d' = (source : List ℕ) → holders k' source + modules_of source d ≡ holders k source + modules_of source d'
+FollowsDesk k d k' d' = (source : List ℕ) → holders k' source + modules_of source d ≡ holders k source
+    + modules_of source d'

@@ -28,7 +28,8 @@ with_change d (change.Edition e) = record d { edition = e }
 -- the result of a call to a desk is what it is answered with, which is noted so; and what is used then, with the call
 -- itself
 pub record IsPlan (d : desk.Desk) (c : Call) (plan : Plan) : Type 0 where
-  pub answers : ForRight (λ p. ◌≡◌ {A = desk.Desk × desk.Reply} (with_change d plan.change, view_of_reply plan.reply) (answer_of_call p d c))
+  pub answers : ForRight (λ p. ◌≡◌ {A = desk.Desk × desk.Reply} (with_change d plan.change, view_of_reply plan.reply)
+      (answer_of_call p d c))
   pub notes : view_of_entry plan.noted ≡ desk.called c (view_of_reply plan.reply)
   pub usage : plan.usage ≡ charged (usage_in (with_change d plan.change)) charge.Call
 

@@ -17,7 +17,8 @@ reading_from (refused code index) = faulty code
 -- whatever result a job has in the language, it has that to the profile
 pub record IsRight (p : Profile) : Type 0 where
   pub reads : (bytes : List ℕ) (o : ReadOutcome) → Reads bytes o → p.reading bytes ≡ reading_from o
-  pub properties : (names : List (List ℕ)) (bytes : List ℕ) (o : Option Property) → IsPropertyOf names bytes o → p.property names bytes ≡ o
+  pub properties : (names : List (List ℕ)) (bytes : List ℕ) (o : Option Property) → IsPropertyOf names bytes o
+      → p.property names bytes ≡ o
   pub means : (j : Job) (r : Result) → IsResult j r → p.meaning j ≡ r
 
 -- it holds for each profile that is right

@@ -29,8 +29,10 @@ pub record QueuesAll (k : TrialQueue) (w : Desks) : Type 0 where
 pub record FollowsQueue (q : ℕ) (k : TrialQueue) (d : Desk) (k' : TrialQueue) (d' : Desk) : Type 0 where
   pub room : HoldsRoom k' 0
   pub running : k'.running + running_in d ≡ k.running + running_in d'
-  pub stays : (r t : ℕ) → IsQueuedIn r t k.waiting.items → IsQueuedIn r t k'.waiting.items ⊎ ((r ≡ q) × (is_queued (held_at d'.trials t) ≡ false))
-  pub new : (t : ℕ) → is_queued (held_at d'.trials t) ≡ true → (is_queued (held_at d.trials t) ≡ true) ⊎ IsQueuedIn q t k'.waiting.items
+  pub stays : (r t : ℕ) → IsQueuedIn r t k.waiting.items
+      → IsQueuedIn r t k'.waiting.items ⊎ ((r ≡ q) × (is_queued (held_at d'.trials t) ≡ false))
+  pub new : (t : ℕ) → is_queued (held_at d'.trials t) ≡ true
+      → (is_queued (held_at d.trials t) ≡ true) ⊎ IsQueuedIn q t k'.waiting.items
 
 -- nothing waits, or what is at the front is queued
 abbrev pub FrontIsQueued : List (ℕ × ℕ) → Desks → Type 0

@@ -8,7 +8,8 @@ abbrev pub holding : (edition : ℕ) → List (Option ReadModule) → List (Opti
 holding edition modules trials = record { edition = edition; modules = modules; trials = trials; history = [] }
 
 -- a count for each module number: that of the held trials that use it, each of which uses a module that is held
-pub record CountUsers (users : List ℕ) (modules : List (Option ReadModule)) (trials : List (Option Trial)) : Type 0 where
+pub record CountUsers (users : List ℕ) (modules : List (Option ReadModule))
+    (trials : List (Option Trial)) : Type 0 where
   pub counted : length users ≡ length modules
   pub exact : (i : ℕ) → IfSome (slice_get users i) (λ k. k ≡ count_by (λ t. t.module_number == suc i) (all_held trials))
   pub used : All (λ t. IsSome (held_at modules t.module_number)) (all_held trials)

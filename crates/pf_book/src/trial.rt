@@ -45,7 +45,12 @@ impl Model for Trial {
 
     ghost coded = { coded_trial };
 
-    ghost view = { λ t. record { module_number = t.module_number; job = job_within t.state; state = view_of_state t.state } };
+    ghost view = { λ t. record {
+      module_number = t.module_number;
+      job = job_within t.state;
+      state =
+          view_of_state t.state;
+    } };
 }
 
 impl Trial {

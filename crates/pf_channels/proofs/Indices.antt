@@ -1,6 +1,8 @@
 -- All rows: what the definitions say of one row that is at its index, and of a change of it.
-use Rattle.std.proofs.Common.{◌≡◌, ℕ, zero, suc, ◌+◌, ◌<◌, ◌≤◌, [], ◌∷◌, ◌++◌, Option, Some, None, IfSome, IfNone, refl, sym, ap, ◌∙◌, arith, add-one, length, slice_index_or, slice_set}
-use Rattle.pf_model.specs.Channels.{Signal, Queue, SenderRow, Channels, row_of, with_row, with_last, sent, row_with_left, taken_from, taken, with_senders}
+use Rattle.std.proofs.Common.{◌≡◌, ℕ, zero, suc, ◌+◌, ◌<◌, ◌≤◌, [], ◌∷◌, ◌++◌, Option, Some, None, IfSome, IfNone, refl}
+use Rattle.std.proofs.Common.{sym, ap, ◌∙◌, arith, add-one, length, slice_index_or, slice_set}
+use Rattle.pf_model.specs.Channels.{Signal, Queue, SenderRow, Channels, row_of, with_row, with_last, sent}
+use Rattle.pf_model.specs.Channels.{row_with_left, taken_from, taken, with_senders}
 use Rattle.pf_sorted.specs.Maps.{got, put}
 use Rattle.pf_model.specs.Signals.{signal_of}
 use Rattle.pf_model.specs.declared.signal.Signal.{Signal as Program}
@@ -45,18 +47,22 @@ taken_by a b s rs r (Some q) l e =
     let both : ◌≡◌ {A = Signal × SenderRow} (q.first, row_with_left b q.rest (row_of a rs)) (s, r) = cc in
     ap (λ p. given p.0 (with_row a p.1 rs)) both ∙ ap (given s) (with_row_at a r rs l)
 
-none_by : (a b : ℕ) (rs : Channels) (r : SenderRow) (o : Option Queue) → taken_in b r o ≡ None → taken_from a b rs o ≡ None
+none_by : (a b : ℕ) (rs : Channels) (r : SenderRow) (o : Option Queue) → taken_in b r o ≡ None
+    → taken_from a b rs o ≡ None
 none_by a b rs r None e = refl
 none_by a b rs r (Some q) e = absurd (cc)
 
-pub taken_at : (a b : ℕ) (rs : Channels) (old r : SenderRow) (o : Option Program) → a < length rs → old ≡ slice_index_or rs a old
-    → IfSome o (λ s. taken_in b old (got b old) ≡ Some (signal_of s, r)) → IfSome o (λ s. taken a b rs ≡ Some (signal_of s, slice_set rs a r))
+pub taken_at : (a b : ℕ) (rs : Channels) (old r : SenderRow) (o : Option Program) → a < length rs
+    → old ≡ slice_index_or rs a old
+    → IfSome o (λ s. taken_in b old (got b old) ≡ Some (signal_of s, r))
+    → IfSome o (λ s. taken a b rs ≡ Some (signal_of s, slice_set rs a r))
 taken_at a b rs old r None l read e = tt
 taken_at a b rs old r (Some s) l read e =
     let here : row_of a rs ≡ old = row_at a rs old l ∙ sym read in
     taken_by a b (signal_of s) rs r (got b (row_of a rs)) l (ap (λ x. taken_in b x (got b x)) here ∙ e)
 
-pub nothing_at : (a b : ℕ) (rs : Channels) (old : SenderRow) (o : Option Program) → a < length rs → old ≡ slice_index_or rs a old
+pub nothing_at : (a b : ℕ) (rs : Channels) (old : SenderRow) (o : Option Program) → a < length rs
+    → old ≡ slice_index_or rs a old
     → IfNone o (taken_in b old (got b old) ≡ None) → IfNone o (taken a b rs ≡ None)
 nothing_at a b rs old (Some s) l read e = tt
 nothing_at a b rs old None l read e =

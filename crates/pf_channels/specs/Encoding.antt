@@ -4,7 +4,8 @@ use Rattle.std.proofs.Common.{inl, inr}
 use Rattle.std.specs.Coded.{Coded, code_by, coded×, coded⊎, coded_ℕ, coded_list, coded_bool}
 use Rattle.pf_terms.specs.Value.{Value}
 use Rattle.pf_terms.specs.Encoding.{coded_value}
-use Rattle.pf_model.specs.Channels.{Signal, message, link, unlink, monitor, demonitor, down, exit, Queue, SenderRow, Channels}
+use Rattle.pf_model.specs.Channels.{Signal, message, link, unlink, monitor, demonitor, down, exit, Queue, SenderRow}
+use Rattle.pf_model.specs.Channels.{Channels}
 
 -- a message; a monitor; a demonitor; a down; an exit; a link or an unlink
 abbrev pub Parts : Type 0
@@ -44,12 +45,14 @@ abbrev pub coded_signal : Coded Signal
 coded_signal =
     code_by _
     (coded⊎ coded_value
-    (coded⊎ coded_ℕ (coded⊎ coded_ℕ (coded⊎ (coded× coded_ℕ coded_value) (coded⊎ (coded× coded_bool coded_value) coded_ℕ)))))
+    (coded⊎ coded_ℕ (coded⊎ coded_ℕ (coded⊎ (coded× coded_ℕ coded_value)
+    (coded⊎ (coded× coded_bool coded_value) coded_ℕ)))))
     parts_of signal_from signal_from-parts_of
 
 abbrev pub coded_queue : Coded Queue
 coded_queue =
-    code_by _ (coded× coded_signal (coded_list coded_signal)) (λ q. (q.first, q.rest)) (λ p. record { first = p.0; rest = p.1 }) (λ _. refl)
+    code_by _ (coded× coded_signal (coded_list coded_signal)) (λ q. (q.first, q.rest))
+    (λ p. record { first = p.0; rest = p.1 }) (λ _. refl)
 
 abbrev pub coded_row : Coded SenderRow
 coded_row = coded_list (coded× coded_ℕ coded_queue)

@@ -38,7 +38,11 @@ impl Model for Queue {
 
     ghost coded = { coded_queue };
 
-    ghost view = { λ q. record { first = signal_of q.waiting.value.first; rest = map signal_of q.waiting.value.rest.items } };
+    ghost view = { λ q. record {
+      first = signal_of q.waiting.value.first;
+      rest =
+          map signal_of q.waiting.value.rest.items;
+    } };
 }
 
 impl Queue {

@@ -1,6 +1,7 @@
 //! What one process has on its way to others.
 
-ghost use Rattle.std.specs.Prelude.{◌≡◌, ◌+◌, ◌<◌, ◌≤◌, ◌++◌, length, map, [], Some, None, slice_get, IfSome, IfNone, OnOk, OnErr};
+ghost use Rattle.std.specs.Prelude.{◌≡◌, ◌+◌, ◌<◌, ◌≤◌, ◌++◌, length, map, [], Some, None, slice_get, IfSome, IfNone};
+ghost use Rattle.std.specs.Prelude.{OnOk, OnErr};
 ghost use Rattle.pf_model.specs.Channels.{heads_of, with_last};
 ghost use Rattle.pf_sorted.specs.Maps.{got, put};
 ghost use Rattle.pf_model.specs.Signals.{signal_of};

@@ -1,5 +1,7 @@
 -- The parts of a chart in turn are a chart.
-use Rattle.std.proofs.Common.{◌≡◌, ◌≢◌, ◌<◌, ◌≤◌, ◌+◌, ◌-◌, ℕ, arith, inl, inr, min, length-drop, Bool, true, false, List, [], ◌∷◌, ◌++◌, refl, sym, ◌∙◌, ap, append_assoc, length, get_or, take, drop, map, add-one, suc}
+use Rattle.std.proofs.Common.{◌≡◌, ◌≢◌, ◌<◌, ◌≤◌, ◌+◌, ◌-◌, ℕ, arith, inl, inr, min, length-drop, Bool, true, false}
+use Rattle.std.proofs.Common.{List, [], ◌∷◌, ◌++◌, refl, sym, ◌∙◌, ap, append_assoc, length, get_or, take, drop, map}
+use Rattle.std.proofs.Common.{add-one, suc}
 use Rattle.std.specs.Prelude.{flat_map, nat_lt, if◌then◌else◌}
 use Rattle.std.specs.List.{filter}
 use Rattle.std.proofs.lemmas.List.{drop-map, map-append, take-map, take_all, take_more}
@@ -16,7 +18,9 @@ use Rattle.pf_model.specs.Text.{outcome_text}
 use Rattle.pf_chart.specs.declared.columns.Column.{Column}
 use Rattle.pf_chart.specs.declared.manner.Manner.{Manner}
 use Rattle.pf_chart.specs.declared.rows.EventRow.{EventRow}
-use Rattle.pf_chart.specs.Chart.{AreColumns, IsChart, ShowsSignals, chart, choice_labels, choice_text, copies, event_labels, first_row, has_row, page_of, process_labels, rows_from, shown_events, twice}
+use Rattle.pf_chart.specs.Chart.{AreColumns, IsChart, ShowsSignals, chart, choice_labels, choice_text, copies}
+use Rattle.pf_chart.specs.Chart.{event_labels, first_row, has_row, page_of, process_labels, rows_from, shown_events}
+use Rattle.pf_chart.specs.Chart.{twice}
 use Rattle.pf_chart.specs.Origins.{process_of}
 use Rattle.pf_chart.specs.Pages.{page_in}
 use Rattle.pf_chart.specs.Sheets.{Page}
@@ -65,37 +69,52 @@ cut rows first end within is = elim (cases_lt (length rows) (first + 500)) [
 
 -- one event more
 pub rows_more : (compact : Bool) (es : List Event) (i : ℕ) (e : Event) → i < length es → e ≡ get_or es i e
-    → filter (has_row compact) (map view_of_event (take i es)) ++ filter (has_row compact) (view_of_event e ∷ []) ≡ filter (has_row compact) (map view_of_event (take (i + 1) es))
+    → filter (has_row compact) (map view_of_event (take i es)) ++ filter (has_row compact) (view_of_event e ∷ [])
+    ≡ filter (has_row compact) (map view_of_event (take (i + 1) es))
 rows_more compact es i e lt is =
-    let all : take (i + 1) es ≡ take i es ++ e ∷ [] = take_more es i e lt ∙ ap (λ (x : Event). take i es ++ x ∷ []) (sym is) in
-    let events : map view_of_event (take (i + 1) es) ≡ map view_of_event (take i es) ++ view_of_event e ∷ [] = ap (map view_of_event) all ∙ grind (arith, common_steps) in
-    sym (ap (filter (has_row compact)) events ∙ filter-append (has_row compact) (map view_of_event (take i es)) (view_of_event e ∷ []))
+    let all : take (i + 1) es ≡ take i es ++ e ∷ [] =
+    take_more es i e lt ∙ ap (λ (x : Event). take i es ++ x ∷ []) (sym is) in
+    let events : map view_of_event (take (i + 1) es) ≡ map view_of_event (take i es) ++ view_of_event e ∷ [] =
+    ap (map view_of_event) all ∙ grind (arith, common_steps) in
+    sym (ap (filter (has_row compact)) events ∙ filter-append (has_row compact) (map view_of_event (take i es))
+    (view_of_event e ∷ []))
 
-pub row_kept : (compact : Bool) (e : meaning.Event) → has_row compact e ≡ true → e ∷ [] ≡ filter (has_row compact) (e ∷ [])
+pub row_kept : (compact : Bool) (e : meaning.Event) → has_row compact e ≡ true
+    → e ∷ [] ≡ filter (has_row compact) (e ∷ [])
 row_kept compact e is = rw is refl
 
 pub row_left : (compact : Bool) (e : meaning.Event) → has_row compact e ≡ false → [] ≡ filter (has_row compact) (e ∷ [])
 row_left compact e is = rw is refl
 
 -- the row of one event more, if it has one
-pub row_next : (compact : Bool) (es : List Event) (i : ℕ) (e : Event) (xs ys : List EventRow) (row : EventRow) (has : Bool) → i < length es → e ≡ get_or es i e
-    → row.index ≡ i → row.event.now ≡ e → has ≡ has_row compact (view_of_event e) → ys ≡ xs ++ (if has then row ∷ [] else [])
-    → map told xs ≡ filter (has_row compact) (map view_of_event (take i es)) → map (λ r. r.index) xs ≡ rows_from compact 0 (map view_of_event (take i es))
-    → (map told ys ≡ filter (has_row compact) (map view_of_event (take (i + 1) es))) × (map (λ r. r.index) ys ≡ rows_from compact 0 (map view_of_event (take (i + 1) es)))
+pub row_next : (compact : Bool) (es : List Event) (i : ℕ) (e : Event) (xs ys : List EventRow) (row : EventRow)
+    (has : Bool) → i < length es → e ≡ get_or es i e
+    → row.index ≡ i → row.event.now ≡ e → has ≡ has_row compact (view_of_event e)
+    → ys ≡ xs ++ (if has then row ∷ [] else [])
+    → map told xs ≡ filter (has_row compact) (map view_of_event (take i es))
+    → map (λ r. r.index) xs ≡ rows_from compact 0 (map view_of_event (take i es))
+    → (map told ys ≡ filter (has_row compact) (map view_of_event (take (i + 1) es)))
+    × (map (λ r. r.index) ys ≡ rows_from compact 0 (map view_of_event (take (i + 1) es)))
 row_next compact es i e xs ys row true low read index event is put events places =
     let kept : has_row compact (view_of_event e) ≡ true = sym is in
-    let next = place_next view_of_event compact es i e low ∙ ap (λ (b : Bool). rows_from compact 0 (map view_of_event (take i es)) ++ (if b then i ∷ [] else [])) (ap (λ (x : Event). has_row compact (view_of_event x)) (sym read) ∙ kept) in (
+    let next = place_next view_of_event compact es i e low
+    ∙ ap (λ (b : Bool). rows_from compact 0 (map view_of_event (take i es)) ++ (if b then i ∷ [] else []))
+    (ap (λ (x : Event). has_row compact (view_of_event x)) (sym read) ∙ kept) in (
       ap (map told) put ∙ map-append told xs (row ∷ []) ∙ ap (λ t. t ++ told row ∷ []) events
           ∙ ap (λ (x : Event). filter (has_row compact) (map view_of_event (take i es)) ++ view_of_event x ∷ []) event
-          ∙ ap (λ t. filter (has_row compact) (map view_of_event (take i es)) ++ t) (row_kept compact (view_of_event e) kept) ∙ rows_more compact es i e low read,
+          ∙ ap (λ t. filter (has_row compact) (map view_of_event (take i es)) ++ t)
+          (row_kept compact (view_of_event e) kept) ∙ rows_more compact es i e low read,
       ap (map (λ r. r.index)) put ∙ map-append (λ r. r.index) xs (row ∷ []) ∙ ap (λ t. t ++ row.index ∷ []) places
           ∙ ap (λ (n : ℕ). rows_from compact 0 (map view_of_event (take i es)) ++ n ∷ []) index ∙ sym next,
     )
 row_next compact es i e xs ys row false low read index event is put events places =
     let left : has_row compact (view_of_event e) ≡ false = sym is in
-    let next = place_next view_of_event compact es i e low ∙ ap (λ (b : Bool). rows_from compact 0 (map view_of_event (take i es)) ++ (if b then i ∷ [] else [])) (ap (λ (x : Event). has_row compact (view_of_event x)) (sym read) ∙ left) in (
+    let next = place_next view_of_event compact es i e low
+    ∙ ap (λ (b : Bool). rows_from compact 0 (map view_of_event (take i es)) ++ (if b then i ∷ [] else []))
+    (ap (λ (x : Event). has_row compact (view_of_event x)) (sym read) ∙ left) in (
       ap (map told) put ∙ map-append told xs [] ∙ ap (λ t. t ++ []) events
-          ∙ ap (λ t. filter (has_row compact) (map view_of_event (take i es)) ++ t) (row_left compact (view_of_event e) left) ∙ rows_more compact es i e low read,
+          ∙ ap (λ t. filter (has_row compact) (map view_of_event (take i es)) ++ t)
+          (row_left compact (view_of_event e) left) ∙ rows_more compact es i e low read,
       ap (map (λ r. r.index)) put ∙ map-append (λ r. r.index) xs [] ∙ ap (λ t. t ++ []) places ∙ sym next,
     )
 
@@ -117,20 +136,25 @@ abbrev page_by : (pitch : ℕ) (events : List ℕ) (above count : ℕ) → Page
 page_by pitch events above count = record { pitch = pitch; events = events; above = above; count = count }
 
 -- a sheet's page, by its parts
-pub page_is : (s : Sheet) (pitch : ℕ) (events : List ℕ) (above count : ℕ) → s.pitch ≡ pitch → map (λ r. r.index) s.rows.now ≡ events → s.above ≡ above → s.count ≡ count
+pub page_is : (s : Sheet) (pitch : ℕ) (events : List ℕ) (above count : ℕ) → s.pitch ≡ pitch
+    → map (λ r. r.index) s.rows.now ≡ events → s.above ≡ above → s.count ≡ count
     → page_in s ≡ page_by pitch events above count
 page_is s pitch events above count a b c d =
-    ap (λ (n : ℕ). page_by n (map (λ r. r.index) s.rows.now) s.above s.count) a ∙ ap (λ (ns : List ℕ). page_by pitch ns s.above s.count) b
+    ap (λ (n : ℕ). page_by n (map (λ r. r.index) s.rows.now) s.above s.count) a
+    ∙ ap (λ (ns : List ℕ). page_by pitch ns s.above s.count) b
     ∙ ap (λ (n : ℕ). page_by pitch events n s.count) c ∙ ap (λ (n : ℕ). page_by pitch events above n) d
 
 -- ---- the whole
 
 -- the document is a chart of the report
-pub chart_of : (name : ℕ → List ℕ) (root : List ℕ) (names : List (List ℕ)) (m : Manner) (r : Report) (cs : List Column) (rows : List EventRow) (n : ℕ) (o p : List ℕ) (width height : ℕ) {x y z w : List ℕ}
-    → AreColumns (view_of_report r) (map process_of cs) → ShowsSignals m (view_of_report r) (map process_of cs) x w → map told rows ≡ shown_events m (view_of_report r) → n ≡ length rows
+pub chart_of : (name : ℕ → List ℕ) (root : List ℕ) (names : List (List ℕ)) (m : Manner) (r : Report) (cs : List Column)
+    (rows : List EventRow) (n : ℕ) (o p : List ℕ) (width height : ℕ) {x y z w : List ℕ}
+    → AreColumns (view_of_report r) (map process_of cs) → ShowsSignals m (view_of_report r) (map process_of cs) x w
+    → map told rows ≡ shown_events m (view_of_report r) → n ≡ length rows
     → o ≡ outcome_text name (view_of_outcome r.outcome) → p ≡ outcome_text name (view_of_outcome r.outcome)
     → y ≡ x ++ start_text width height
-    → DrawsInChart ((root ∷ root ∷ o ∷ []) ++ ((of_columns n root names cs ++ (of_choices rows ++ of_rows name rows)) ++ twice p)) y z
+    → DrawsInChart ((root ∷ root ∷ o ∷ []) ++ ((of_columns n root names cs ++ (of_choices rows ++ of_rows name rows))
+    ++ twice p)) y z
     → w ≡ z ++ document_end
     → IsChart name root names m (view_of_report r) x w
 chart_of name root names m r cs rows n o p width height all shows are count e e' begins d ends =
@@ -138,32 +162,44 @@ chart_of name root names m r cs rows n o p width height all shows are count e e'
     let events = shown_events m (view_of_report r) in
     let processes = map process_of cs in
     let number : n ≡ length events = count ∙ sym (length_told rows) ∙ ap length are in
-    let labels_of_processes : of_columns n root names cs ≡ flat_map (process_labels (length events) root names) processes =
-    sym (flat_map-map (process_labels n root names) process_of cs) ∙ ap (λ (k : ℕ). flat_map (process_labels k root names) processes) number in
-    let choices : of_choices rows ≡ flat_map choice_labels events = sym (flat_map-map choice_labels told rows) ∙ ap (flat_map choice_labels) are in
-    let labels : of_rows name rows ≡ flat_map (event_labels name) events = sym (flat_map-map (event_labels name) told rows) ∙ ap (flat_map (event_labels name)) are in
+    let labels_of_processes : of_columns n root names cs
+    ≡ flat_map (process_labels (length events) root names) processes =
+    sym (flat_map-map (process_labels n root names) process_of cs)
+    ∙ ap (λ (k : ℕ). flat_map (process_labels k root names) processes) number in
+    let choices : of_choices rows ≡ flat_map choice_labels events = sym (flat_map-map choice_labels told rows)
+    ∙ ap (flat_map choice_labels) are in
+    let labels : of_rows name rows ≡ flat_map (event_labels name) events =
+    sym (flat_map-map (event_labels name) told rows) ∙ ap (flat_map (event_labels name)) are in
     let parted : (of_columns n root names cs ++ (of_choices rows ++ of_rows name rows)) ++ twice p
     ≡ of_columns n root names cs ++ (of_choices rows ++ (of_rows name rows ++ twice p)) =
     append_assoc (of_columns n root names cs) (of_choices rows ++ of_rows name rows) (twice p)
-    ∙ ap (λ (t : List (List ℕ)). of_columns n root names cs ++ t) (append_assoc (of_choices rows) (of_rows name rows) (twice p)) in
+    ∙ ap (λ (t : List (List ℕ)). of_columns n root names cs ++ t)
+    (append_assoc (of_choices rows) (of_rows name rows) (twice p)) in
     let rest : (of_columns n root names cs ++ (of_choices rows ++ of_rows name rows)) ++ twice p
-    ≡ flat_map (process_labels (length events) root names) processes ++ (flat_map choice_labels events ++ (flat_map (event_labels name) events ++ twice outcome)) =
+    ≡ flat_map (process_labels (length events) root names) processes
+    ++ (flat_map choice_labels events ++ (flat_map (event_labels name) events ++ twice outcome)) =
     parted
     ∙ ap (λ (t : List (List ℕ)). t ++ (of_choices rows ++ (of_rows name rows ++ twice p))) labels_of_processes
-    ∙ ap (λ (t : List (List ℕ)). flat_map (process_labels (length events) root names) processes ++ (t ++ (of_rows name rows ++ twice p))) choices
-    ∙ ap (λ (t : List (List ℕ)). flat_map (process_labels (length events) root names) processes ++ (flat_map choice_labels events ++ (t ++ twice p))) labels
-    ∙ ap (λ (t : List ℕ). flat_map (process_labels (length events) root names) processes ++ (flat_map choice_labels events ++ (flat_map (event_labels name) events ++ twice t))) e' in
+    ∙ ap (λ (t : List (List ℕ)). flat_map (process_labels (length events) root names) processes
+    ++ (t ++ (of_rows name rows ++ twice p))) choices
+    ∙ ap (λ (t : List (List ℕ)). flat_map (process_labels (length events) root names) processes
+    ++ (flat_map choice_labels events ++ (t ++ twice p))) labels
+    ∙ ap (λ (t : List ℕ). flat_map (process_labels (length events) root names) processes
+    ++ (flat_map choice_labels events ++ (flat_map (event_labels name) events ++ twice t))) e' in
     chart processes all (whole width height begins
-    (renamed (ap (λ (t : List ℕ). (root ∷ root ∷ t ∷ []) ++ ((of_columns n root names cs ++ (of_choices rows ++ of_rows name rows)) ++ twice p)) e
+    (renamed (ap (λ (t : List ℕ). (root ∷ root ∷ t ∷ [])
+    ++ ((of_columns n root names cs ++ (of_choices rows ++ of_rows name rows)) ++ twice p)) e
     ∙ ap (λ (t : List (List ℕ)). (root ∷ root ∷ outcome ∷ []) ++ t) rest) d) ends) shows
 
 -- a chart that was made by itself, after what is elsewhere
-pub moved : {name : ℕ → List ℕ} {root : List ℕ} {names : List (List ℕ)} {m : Manner} {r : _} {x y : List ℕ} (before after : List ℕ) → x ≡ [] → after ≡ before ++ y
+pub moved : {name : ℕ → List ℕ} {root : List ℕ} {names : List (List ℕ)} {m : Manner} {r : _} {x y : List ℕ}
+    (before after : List ℕ) → x ≡ [] → after ≡ before ++ y
     → IsChart name root names m r x y → IsChart name root names m r before after
-moved before after none e (chart processes all d shows) = chart processes all (elsewhere before after none e d) (record {
-  signals = shows.signals;
-  are = shows.are;
-  arrows = shows.arrows;
-  manner = shows.manner;
-  lines = λ i a at from to here. holds_elsewhere before after none e (shows.lines i a at from to here);
-})
+moved before after none e (chart processes all d shows) =
+    chart processes all (elsewhere before after none e d) (record {
+      signals = shows.signals;
+      are = shows.are;
+      arrows = shows.arrows;
+      manner = shows.manner;
+      lines = λ i a at from to here. holds_elsewhere before after none e (shows.lines i a at from to here);
+    })

@@ -1,5 +1,6 @@
 -- Arrows are joined with receipts, one after another.
-use Rattle.std.proofs.Common.{◌≡◌, ◌+◌, ◌<◌, ◌≤◌, inl, inr, ℕ, zero, suc, List, [], ◌∷◌, Option, Some, length, get_or, set, refl, sym, ap, ◌∙◌, subst, arith}
+use Rattle.std.proofs.Common.{◌≡◌, ◌+◌, ◌<◌, ◌≤◌, inl, inr, ℕ, zero, suc, List, [], ◌∷◌, Option, Some, length, get_or}
+use Rattle.std.proofs.Common.{set, refl, sym, ap, ◌∙◌, subst, arith}
 use Rattle.std.specs.Prelude.{slice_get}
 use Rattle.std.proofs.lemmas.Bool.Decides.{eqb_tells}
 use Rattle.std.proofs.lemmas.List.{length-set}
@@ -23,13 +24,15 @@ set_besides (x ∷ xs) (suc n) (suc i) b other = set_besides xs n i b (λ e. oth
 -- the first of them are joined, and the others are as they were
 pub record AreJoinedTo (rs : List (Option ℕ)) (n : ℕ) (xs ys : List Arrow) : Type 0 where
   pub count : length ys ≡ length xs
-  pub front : (i : ℕ) (b : Arrow) → i < n → slice_get ys i ≡ Some b → (a : Arrow) × (slice_get xs i ≡ Some a) × IsJoinedBy rs a.kind a.reach a b
+  pub front : (i : ℕ) (b : Arrow) → i < n → slice_get ys i ≡ Some b
+      → (a : Arrow) × (slice_get xs i ≡ Some a) × IsJoinedBy rs a.kind a.reach a b
   pub behind : (i : ℕ) → n ≤ i → slice_get ys i ≡ slice_get xs i
 
 pub joined_none : (rs : List (Option ℕ)) (xs : List Arrow) → AreJoinedTo rs 0 xs xs
 joined_none rs xs = record { count = refl; front = λ i b low is. absurd (omega arith); behind = λ i high. refl }
 
-pub joined_next : (rs : List (Option ℕ)) (n : ℕ) (xs ys : List Arrow) (a b : Arrow) → AreJoinedTo rs n xs ys → n < length ys → a ≡ get_or ys n a
+pub joined_next : (rs : List (Option ℕ)) (n : ℕ) (xs ys : List Arrow) (a b : Arrow) → AreJoinedTo rs n xs ys
+    → n < length ys → a ≡ get_or ys n a
     → IsJoinedBy rs a.kind a.reach a b → AreJoinedTo rs (n + 1) xs (set ys n b)
 joined_next rs n xs ys a b h low read joined = record {
   count = length-set ys n b ∙ h.count;
@@ -40,13 +43,15 @@ joined_next rs n xs ys a b h low read joined = record {
     there : slice_get xs n ≡ Some a
     there = sym (h.behind n (omega arith)) ∙ slice_get-get_or ys n a low ∙ ap Some (sym read)
 
-    front : (i : ℕ) (c : Arrow) → i < n + 1 → slice_get (set ys n b) i ≡ Some c → Tells i n → (z : Arrow) × (slice_get xs i ≡ Some z) × IsJoinedBy rs z.kind z.reach z c
+    front : (i : ℕ) (c : Arrow) → i < n + 1 → slice_get (set ys n b) i ≡ Some c → Tells i n
+        → (z : Arrow) × (slice_get xs i ≡ Some z) × IsJoinedBy rs z.kind z.reach z c
     front i c less is (inl same) =
         let one : b ≡ c = same_Some b c (sym (set_there ys n b low) ∙ ap (slice_get (set ys n b)) (sym same.1) ∙ is) in
         (a, ap (slice_get xs) same.1 ∙ there, subst (λ z. IsJoinedBy rs a.kind a.reach a z) one joined)
     front i c less is (inr other) = h.front i c (omega (arith, less, other.1)) (sym (set_besides ys n i b other.1) ∙ is)
 
-pub joined_all : (rs : List (Option ℕ)) (n : ℕ) (xs ys : List Arrow) → AreJoinedTo rs n xs ys → length ys ≤ n → AreJoined xs ys
+pub joined_all : (rs : List (Option ℕ)) (n : ℕ) (xs ys : List Arrow) → AreJoinedTo rs n xs ys → length ys ≤ n
+    → AreJoined xs ys
 joined_all rs n xs ys h all = record {
   receipts = rs;
   count = h.count;

@@ -1,12 +1,15 @@
 -- What one event adds to a layout.
-use Rattle.std.proofs.Common.{◌≡◌, ◌≢◌, ◌+◌, ◌<◌, ◌≤◌, ◌⊎◌, inl, inr, ℕ, zero, suc, Bool, List, [], ◌∷◌, Option, Some, None, length, get_or, map, refl, sym, ap, ◌∙◌, subst, arith}
+use Rattle.std.proofs.Common.{◌≡◌, ◌≢◌, ◌+◌, ◌<◌, ◌≤◌, ◌⊎◌, inl, inr, ℕ, zero, suc, Bool, List, [], ◌∷◌, Option, Some}
+use Rattle.std.proofs.Common.{None, length, get_or, map, refl, sym, ap, ◌∙◌, subst, arith}
 use Rattle.std.specs.Prelude.{All, option_map, slice_get}
 use Rattle.std.specs.List.{HoldsAt}
 use Rattle.std.specs.List.Sorted.{IsNonDecreasingBy}
 use Rattle.std.proofs.lemmas.List.{length-map}
 use Rattle.std.proofs.lemmas.Option.{same_Some, slice_get-get_or, slice_get-map}
 use Rattle.pf_model.specs.Channels.{Signal}
-use Rattle.pf_model.specs.Labels.{Label, Suffix, sends, spawns, spawns_watched, links, unlinks, monitors, demonitors, exits, sets_flag, registers, unregisters, looks_up, makes_reference, takes, waits, raises, ends, cut, delivers}
+use Rattle.pf_model.specs.Labels.{Label, Suffix, sends, spawns, spawns_watched, links, unlinks, monitors, demonitors}
+use Rattle.pf_model.specs.Labels.{exits, sets_flag, registers, unregisters, looks_up, makes_reference, takes, waits}
+use Rattle.pf_model.specs.Labels.{raises, ends, cut, delivers}
 use Rattle.pf_model.specs.Meaning.{Event}
 use Rattle.pf_model.specs.declared.report.Actor.{Actor}
 use Rattle.pf_model.specs.declared.report.Actor.TheVariants as actors
@@ -71,19 +74,23 @@ has_pid (c ∷ cs) (suc i) p (low, at) = has_pid cs i p (let less : i < length c
 
 no_pid : (cs : List Column) (p : ℕ) → All (λ c. c.pid ≢ p) cs → (i : ℕ) → HasPid (map process_of cs) i p → ⊥
 no_pid [] p all i (q, at, is) = absurd (cc)
-no_pid (c ∷ cs) p all zero (q, at, is) = all 0 c (omega arith) (ap (λ (x : Process). x.pid) (same_Some (process_of c) q at) ∙ is)
+no_pid (c ∷ cs) p all zero (q, at, is) = all 0 c (omega arith)
+    (ap (λ (x : Process). x.pid) (same_Some (process_of c) q at) ∙ is)
 no_pid (c ∷ cs) p all (suc i) h = no_pid cs p (λ k d low. all (suc k) d (omega arith)) i h
 
 -- who has no column by a search among those that rise
 pub lacks : (cs ds : List Column) (p : ℕ) → ds ≡ cs → IsNonDecreasingBy (λ (q : Process). q.pid) (map process_of cs)
-    → (IsNonDecreasingBy (λ (c : Column). c.pid) ds → All (λ (c : Column). c.pid ≢ p) ds) → All (λ (c : Column). c.pid ≢ p) cs
+    → (IsNonDecreasingBy (λ (c : Column). c.pid) ds → All (λ (c : Column). c.pid ≢ p) ds)
+    → All (λ (c : Column). c.pid ≢ p) cs
 lacks cs ds p same sorted h =
     subst (λ (xs : List Column). All (λ (c : Column). c.pid ≢ p) xs) same
-    (h (subst (λ (xs : List Column). IsNonDecreasingBy (λ (c : Column). c.pid) xs) (sym same) (columns_by_pid cs sorted)))
+    (h (subst (λ (xs : List Column). IsNonDecreasingBy (λ (c : Column). c.pid) xs) (sym same)
+    (columns_by_pid cs sorted)))
 
 -- a turn delivers nothing
 pub no_delivery : (e : Event) (p : ℕ) → e.actor ≡ actors.Process p → (ps : List Process)
-    → (v w i j : ℕ) (g : Signal) (x : Suffix) → e.actor ≡ actors.Channel v w → e.label ≡ delivers g x → HasPid ps i v → HasPid ps j w → ⊥
+    → (v w i j : ℕ) (g : Signal) (x : Suffix) → e.actor ≡ actors.Channel v w → e.label ≡ delivers g x → HasPid ps i v
+    → HasPid ps j w → ⊥
 no_delivery e p actor ps v w i j g x acts label from into = no_channel p v w (sym actor ∙ acts)
 
 module _ (n : ℕ) (e : Event) (l m : Layout) (same : SameProcesses l.columns.items m.columns.items) (es : List Event)
@@ -99,9 +106,11 @@ module _ (n : ℕ) (e : Event) (l m : Layout) (same : SameProcesses l.columns.it
   }
 
   -- a turn of a process
-  pub turn_laid : (p a : ℕ) → e.actor ≡ actors.Process p → HasColumn l.columns.items p a → Sends n a l.traffic m.traffic → IsLaid es (n + 1) m
+  pub turn_laid : (p a : ℕ) → e.actor ≡ actors.Process p → HasColumn l.columns.items p a → Sends n a l.traffic m.traffic
+      → IsLaid es (n + 1) m
   turn_laid p a actor column goes =
-      let has : HasPid ps a (marked e.actor) = subst (λ x. HasPid ps a (marked x)) (sym actor) (has_pid l.columns.items a p column) in
+      let has : HasPid ps a (marked e.actor) = subst (λ x. HasPid ps a (marked x)) (sym actor)
+      (has_pid l.columns.items a p column) in
       onto
       (one_more es ps n e m.traffic.arrows.items at (no_delivery e p actor ps)
       (sends_drawn es ps n a n e l.traffic m.traffic at has goes laid.arrows))
@@ -109,35 +118,44 @@ module _ (n : ℕ) (e : Event) (l m : Layout) (same : SameProcesses l.columns.it
 
   -- nothing is drawn
   pub none_laid : m.traffic ≡ l.traffic
-      → ((v w i j : ℕ) (g : Signal) (x : Suffix) → e.actor ≡ actors.Channel v w → e.label ≡ delivers g x → HasPid ps i v → HasPid ps j w → ⊥) → IsLaid es (n + 1) m
+      → ((v w i j : ℕ) (g : Signal) (x : Suffix) → e.actor ≡ actors.Channel v w → e.label ≡ delivers g x → HasPid ps i v
+      → HasPid ps j w → ⊥) → IsLaid es (n + 1) m
   none_laid traffic never =
-      onto (one_more es ps n e m.traffic.arrows.items at never (subst (λ (t : Traffic). AreArrows es ps n t.arrows.items) (sym traffic) laid.arrows))
+      onto (one_more es ps n e m.traffic.arrows.items at never
+      (subst (λ (t : Traffic). AreArrows es ps n t.arrows.items) (sym traffic) laid.arrows))
       (subst (λ (t : Traffic). AreWaiting t) (sym traffic) laid.wait)
 
   -- a delivery
-  pub carried_laid : (p q a b : ℕ) → e.actor ≡ actors.Channel p q → HasColumn l.columns.items p a → HasColumn l.columns.items q b
+  pub carried_laid : (p q a b : ℕ) → e.actor ≡ actors.Channel p q → HasColumn l.columns.items p a
+      → HasColumn l.columns.items q b
       → IsCarried n a b (delivery_in e.label) l.traffic m.traffic → IsLaid es (n + 1) m
   carried_laid p q a b actor sender receiver = by (delivery_in e.label) refl
     where
       to : HasPid ps b (marked e.actor)
       to = subst (λ x. HasPid ps b (marked x)) (sym actor) (has_pid l.columns.items b q receiver)
 
-      by : (d : Option (Signal × Suffix)) → delivery_in e.label ≡ d → IsCarried n a b d l.traffic m.traffic → IsLaid es (n + 1) m
+      by : (d : Option (Signal × Suffix)) → delivery_in e.label ≡ d → IsCarried n a b d l.traffic m.traffic
+          → IsLaid es (n + 1) m
       by None is goes =
           onto
           (one_more es ps n e m.traffic.arrows.items at
-          (λ v w i j g x acts label from into. (let never : None ≡ Some (g, x) = sym is ∙ ap delivery_in label in absurd (cc)))
+          (λ v w i j g x acts label from into.
+          (let never : None ≡ Some (g, x) = sym is ∙ ap delivery_in label in absurd (cc)))
           (sends_drawn es ps n b n e l.traffic m.traffic at to goes laid.arrows))
           (goes.wait laid.wait)
       by (Some (g, x)) is (t, delivered, goes) =
           let label : e.label ≡ delivers g x = delivery_is e.label g x is in
           let arrived : AreArrows es ps (n + 1) t.arrows.items =
-          arrived_drawn es ps n a b p q e g x at actor label (has_pid l.columns.items a p sender) (has_pid l.columns.items b q receiver) l.traffic t delivered laid.wait laid.arrows in
-          onto (sends_drawn es ps n b (n + 1) e t m.traffic at to goes arrived) (goes.wait (arrived_wait _ _ l.traffic t delivered laid.wait))
+          arrived_drawn es ps n a b p q e g x at actor label (has_pid l.columns.items a p sender)
+          (has_pid l.columns.items b q receiver) l.traffic t delivered laid.wait laid.arrows in
+          onto (sends_drawn es ps n b (n + 1) e t m.traffic at to goes arrived)
+          (goes.wait (arrived_wait _ _ l.traffic t delivered laid.wait))
 
   -- who isn't there takes part in nothing
-  pub missing : (p q : ℕ) → e.actor ≡ actors.Channel p q → All (λ c. c.pid ≢ p) l.columns.items ⊎ All (λ c. c.pid ≢ q) l.columns.items
-      → (v w i j : ℕ) (g : Signal) (x : Suffix) → e.actor ≡ actors.Channel v w → e.label ≡ delivers g x → HasPid ps i v → HasPid ps j w → ⊥
+  pub missing : (p q : ℕ) → e.actor ≡ actors.Channel p q
+      → All (λ c. c.pid ≢ p) l.columns.items ⊎ All (λ c. c.pid ≢ q) l.columns.items
+      → (v w i j : ℕ) (g : Signal) (x : Suffix) → e.actor ≡ actors.Channel v w → e.label ≡ delivers g x → HasPid ps i v
+      → HasPid ps j w → ⊥
   missing p q actor none v w i j g x acts label from into =
       let same : actors.Channel p q ≡ actors.Channel v w = sym actor ∙ acts in
       elim none [
@@ -155,19 +173,24 @@ none_yet es ps xs none = subst (λ (ys : List Arrow). AreArrows es ps 0 ys) (sym
 })
 
 -- the event at a place
-pub event_at : {X : Type 0} (g : X → Event) (es : List X) (i : ℕ) (e : X) → i < length es → e ≡ get_or es i e → slice_get (map g es) i ≡ Some (g e)
+pub event_at : {X : Type 0} (g : X → Event) (es : List X) (i : ℕ) (e : X) → i < length es → e ≡ get_or es i e
+    → slice_get (map g es) i ≡ Some (g e)
 event_at g es i e low read = slice_get-map g es i ∙ ap (option_map g) (slice_get-get_or es i e low ∙ ap Some (sym read))
 
 -- all are laid out
-pub all_laid : {X : Type 0} (g : X → Event) (es : List X) (n : ℕ) (compact : Bool) (l m : Layout) → IsLaid (map g es) n l → length es ≤ n → m.columns ≡ l.columns
+pub all_laid : {X : Type 0} (g : X → Event) (es : List X) (n : ℕ) (compact : Bool) (l m : Layout)
+    → IsLaid (map g es) n l → length es ≤ n → m.columns ≡ l.columns
     → IsManner compact l.traffic.arrows.items m.traffic.arrows.items → IsLayout (map g es) compact m
 all_laid g es n compact l m laid all columns manner = record {
   by_pid = subst (λ cs. IsNonDecreasingBy (λ (p : Process). p.pid) (map process_of cs.items)) (sym columns) laid.by_pid;
   signals = l.traffic.arrows.items;
-  are = subst (λ cs. AreArrows (map g es) (map process_of cs.items) (length (map g es)) l.traffic.arrows.items) (sym columns) (record {
-    each = laid.arrows.each;
-    all = λ m f p q i j signal x low is actor label sender receiver.
-        laid.arrows.all m f p q i j signal x (let less : m < n = omega (arith, low, all, length-map es g) in less) is actor label sender receiver;
-  });
+  are = subst (λ cs. AreArrows (map g es) (map process_of cs.items) (length (map g es)) l.traffic.arrows.items)
+      (sym columns) (record {
+        each = laid.arrows.each;
+        all = λ m f p q i j signal x low is actor label sender receiver.
+            laid.arrows.all m f p q i j signal x
+            (let less : m < n = omega (arith, low, all, length-map es g) in less) is
+            actor label sender receiver;
+      });
   manner = manner;
 }

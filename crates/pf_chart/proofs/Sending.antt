@@ -1,5 +1,7 @@
 -- Signals go out one after another, and all that wait are arrows of their ways.
-use Rattle.std.proofs.Common.{◌≡◌, ◌≢◌, ◌<◌, ◌⊎◌, inl, inr, ℕ, zero, suc, Bool, true, false, List, [], ◌∷◌, ◌++◌, Some, None, Result, Ok, Err, eqb, length, get_or, refl, sym, ap, ◌∙◌, subst, append_assoc, append-nil, arith}
+use Rattle.std.proofs.Common.{◌≡◌, ◌≢◌, ◌<◌, ◌⊎◌, inl, inr, ℕ, zero, suc, Bool, true, false, List, [], ◌∷◌, ◌++◌, Some}
+use Rattle.std.proofs.Common.{None, Result, Ok, Err, eqb, length, get_or, refl, sym, ap, ◌∙◌, subst, append_assoc}
+use Rattle.std.proofs.Common.{append-nil, arith}
 use Rattle.std.specs.Prelude.{OnOk, if◌then◌else◌, slice_get}
 use Rattle.std.specs.declared.cmp.Ordering.{Ordering}
 use Rattle.std.specs.declared.cmp.Ordering.TheVariants.{Less, Equal, Greater}
@@ -8,7 +10,8 @@ use Rattle.std.specs.Cmp.{nat_cmp_is}
 use Rattle.std.proofs.lemmas.Bool.Decides.{eqb_tells}
 use Rattle.std.proofs.lemmas.Map.Lookups.{exact_unsigned}
 use Rattle.std.proofs.lemmas.Option.{same_Some, slice_get-get_or, slice_get_within}
-use Rattle.pf_chart.specs.Traffic.{AllAbove, AreOnWay, AreSentIn, AreWaiting, IsDelivered, IsEnded, IsOnWay, KeepsOthers, Sends, Way, is_way, open_arrow, waiting_signals, way_of}
+use Rattle.pf_chart.specs.Traffic.{AllAbove, AreOnWay, AreSentIn, AreWaiting, IsDelivered, IsEnded, IsOnWay}
+use Rattle.pf_chart.specs.Traffic.{KeepsOthers, Sends, Way, is_way, open_arrow, waiting_signals, way_of}
 use Rattle.pf_chart.specs.declared.arrows.Arrow.{Arrow}
 use Rattle.pf_chart.specs.declared.arrows.ArrowEnd.{ArrowEnd}
 use Rattle.pf_chart.specs.declared.arrows.ArrowEnd.TheVariants as reach
@@ -53,7 +56,8 @@ own_way w = rw (itself w.0, itself w.1, itself w.2) refl
 
 -- ---- lists of arrows
 
-pub stays_in : {X : Type 0} (xs more : List X) (i : ℕ) (x : X) → slice_get xs i ≡ Some x → slice_get (xs ++ more) i ≡ Some x
+pub stays_in : {X : Type 0} (xs more : List X) (i : ℕ) (x : X) → slice_get xs i ≡ Some x
+    → slice_get (xs ++ more) i ≡ Some x
 stays_in [] more i x h = absurd (cc)
 stays_in (y ∷ xs) more zero x h = h
 stays_in (y ∷ xs) more (suc i) x h = stays_in xs more i x h
@@ -63,7 +67,8 @@ at_seam [] x more = refl
 at_seam (y ∷ xs) x more = at_seam xs x more
 
 -- all but the arrow that ends stay
-pub other_stays : (j : ℕ) (r : ArrowEnd) (xs ys : List Arrow) → IsEnded j r xs ys → (i : ℕ) (x : Arrow) → slice_get xs i ≡ Some x → (i ≡ j → ⊥) → slice_get ys i ≡ Some x
+pub other_stays : (j : ℕ) (r : ArrowEnd) (xs ys : List Arrow) → IsEnded j r xs ys → (i : ℕ) (x : Arrow)
+    → slice_get xs i ≡ Some x → (i ≡ j → ⊥) → slice_get ys i ≡ Some x
 other_stays j r xs ys h i x at other =
     let within : i < length ys = omega (arith, h.0, slice_get_within xs i x at) in
     let is = slice_get-get_or ys i x within in
@@ -74,14 +79,16 @@ other_stays j r xs ys h i x at other =
       | inr n ↦ is ∙ ap Some (from.2 ∙ ap (λ (b : Bool). if b then record from.0 { reach = r } else from.0) n.0 ∙ same)
     ]
 
-pub one_ends : (j : ℕ) (r : ArrowEnd) (xs ys : List Arrow) → IsEnded j r xs ys → (x : Arrow) → slice_get xs j ≡ Some x → slice_get ys j ≡ Some (record x { reach = r })
+pub one_ends : (j : ℕ) (r : ArrowEnd) (xs ys : List Arrow) → IsEnded j r xs ys → (x : Arrow) → slice_get xs j ≡ Some x
+    → slice_get ys j ≡ Some (record x { reach = r })
 one_ends j r xs ys h x at =
     let within : j < length ys = omega (arith, h.0, slice_get_within xs j x at) in
     let is = slice_get-get_or ys j x within in
     let from = h.1 j (get_or ys j x) is in
     let same : from.0 ≡ x = same_Some from.0 x (sym from.1 ∙ at) in
     elim (eqb_tells j j) [
-      | inl e ↦ is ∙ ap Some (from.2 ∙ ap (λ (b : Bool). if b then record from.0 { reach = r } else from.0) e.0 ∙ ap (λ (z : Arrow). record z { reach = r }) same)
+      | inl e ↦ is ∙ ap Some (from.2 ∙ ap (λ (b : Bool). if b then record from.0 { reach = r } else from.0) e.0
+          ∙ ap (λ (z : Arrow). record z { reach = r }) same)
       | inr n ↦ absurd (n.1 refl)
     ]
 
@@ -96,7 +103,8 @@ above_push : (i n : ℕ) (is : List ℕ) → i < n → AllAbove i is → AllAbov
 above_push i n [] low h = (low, tt)
 above_push i n (j ∷ is) low (one, rest) = (one, above_push i n is low rest)
 
-on_way_push : (xs : List Arrow) (x : Arrow) (w : Way) (is : List ℕ) → way_of x.from x.to x.kind ≡ w → x.reach ≡ reach.Nowhere → AreOnWay xs w is
+on_way_push : (xs : List Arrow) (x : Arrow) (w : Way) (is : List ℕ) → way_of x.from x.to x.kind ≡ w
+    → x.reach ≡ reach.Nowhere → AreOnWay xs w is
     → AreOnWay (xs ++ x ∷ []) w (is ++ length xs ∷ [])
 on_way_push xs x w [] way ends h = ((x, at_seam xs x [], way, ends), tt, tt)
 on_way_push xs x w (i ∷ is) way ends (one, above, rest) = (
@@ -106,16 +114,24 @@ on_way_push xs x w (i ∷ is) way ends (one, above, rest) = (
 )
 
 -- none of them ends
-on_way_besides : (j : ℕ) (r : ArrowEnd) (xs ys : List Arrow) → IsEnded j r xs ys → (w : Way) (is : List ℕ) → AreOnWay xs w is
+on_way_besides : (j : ℕ) (r : ArrowEnd) (xs ys : List Arrow) → IsEnded j r xs ys → (w : Way) (is : List ℕ)
+    → AreOnWay xs w is
     → ((i : ℕ) → IsOnWay xs w i → i ≡ j → ⊥) → AreOnWay ys w is
 on_way_besides j r xs ys h w [] are others = tt
-on_way_besides j r xs ys h w (i ∷ is) (one, above, rest) others =
-    ((one.0, other_stays j r xs ys h i one.0 one.1 (others i one), one.2, one.3), above, on_way_besides j r xs ys h w is rest others)
+on_way_besides j r xs ys h w (i ∷ is) (one, above, rest) others = (
+  (one.0, other_stays j r xs ys h i one.0 one.1 (others i one), one.2, one.3),
+  above,
+  on_way_besides j r xs ys h w is rest others,
+)
 
-on_way_behind : (j : ℕ) (r : ArrowEnd) (xs ys : List Arrow) → IsEnded j r xs ys → (w : Way) (is : List ℕ) → AreOnWay xs w is → AllAbove j is → AreOnWay ys w is
+on_way_behind : (j : ℕ) (r : ArrowEnd) (xs ys : List Arrow) → IsEnded j r xs ys → (w : Way) (is : List ℕ)
+    → AreOnWay xs w is → AllAbove j is → AreOnWay ys w is
 on_way_behind j r xs ys h w [] are low = tt
-on_way_behind j r xs ys h w (i ∷ is) (one, above, rest) (first, low) =
-    ((one.0, other_stays j r xs ys h i one.0 one.1 (λ e. omega (arith, first, e)), one.2, one.3), above, on_way_behind j r xs ys h w is rest low)
+on_way_behind j r xs ys h w (i ∷ is) (one, above, rest) (first, low) = (
+  (one.0, other_stays j r xs ys h i one.0 one.1 (λ e. omega (arith, first, e)), one.2, one.3),
+  above,
+  on_way_behind j r xs ys h w is rest low,
+)
 
 -- ---- what goes out in an event
 
@@ -142,13 +158,16 @@ sends_both n a s t u h k = record {
 }
 
 -- one goes out
-pub sends_one : (n a b : ℕ) (k : SignalKind) (s t : Traffic) → t.arrows.items ≡ s.arrows.items ++ open_arrow n a b k ∷ []
-    → waiting_signals t.on_way (way_of a b k) ≡ waiting_signals s.on_way (way_of a b k) ++ length s.arrows.items ∷ [] → KeepsOthers (way_of a b k) s.on_way t.on_way → Sends n a s t
+pub sends_one : (n a b : ℕ) (k : SignalKind) (s t : Traffic)
+    → t.arrows.items ≡ s.arrows.items ++ open_arrow n a b k ∷ []
+    → waiting_signals t.on_way (way_of a b k) ≡ waiting_signals s.on_way (way_of a b k) ++ length s.arrows.items ∷ []
+    → KeepsOthers (way_of a b k) s.on_way t.on_way → Sends n a s t
 sends_one n a b k s t arrow last others = record {
   more = open_arrow n a b k ∷ [];
   after = arrow;
   are_sent = ((b, k, refl), tt);
-  wait = λ h v. subst (λ (xs : List Arrow). AreOnWay xs v (waiting_signals t.on_way v)) (sym arrow) (goes h v (is_way w v) refl);
+  wait = λ h v. subst (λ (xs : List Arrow). AreOnWay xs v (waiting_signals t.on_way v)) (sym arrow)
+      (goes h v (is_way w v) refl);
 }
   where
     w : Way
@@ -157,12 +176,15 @@ sends_one n a b k s t arrow last others = record {
     xs : List Arrow
     xs = s.arrows.items
 
-    goes : AreWaiting s → (v : Way) (own : Bool) → is_way w v ≡ own → AreOnWay (xs ++ open_arrow n a b k ∷ []) v (waiting_signals t.on_way v)
+    goes : AreWaiting s → (v : Way) (own : Bool) → is_way w v ≡ own
+        → AreOnWay (xs ++ open_arrow n a b k ∷ []) v (waiting_signals t.on_way v)
     goes h v true is =
         subst (λ (u : Way). AreOnWay (xs ++ open_arrow n a b k ∷ []) u (waiting_signals t.on_way u)) (same_way w v is)
-        (subst (AreOnWay (xs ++ open_arrow n a b k ∷ []) w) (sym last) (on_way_push xs (open_arrow n a b k) w (waiting_signals s.on_way w) refl refl (h w)))
+        (subst (AreOnWay (xs ++ open_arrow n a b k ∷ []) w) (sym last)
+        (on_way_push xs (open_arrow n a b k) w (waiting_signals s.on_way w) refl refl (h w)))
     goes h v false is =
-        subst (AreOnWay (xs ++ open_arrow n a b k ∷ []) v) (sym (others v is)) (on_way_more xs (open_arrow n a b k ∷ []) v (waiting_signals s.on_way v) (h v))
+        subst (AreOnWay (xs ++ open_arrow n a b k ∷ []) v) (sym (others v is))
+        (on_way_more xs (open_arrow n a b k ∷ []) v (waiting_signals s.on_way v) (h v))
 
 -- ---- what is delivered
 
@@ -173,7 +195,8 @@ arrived_wait w alone s t (None, first, others, arrows) h v =
     (on_way_more s.arrows.items (alone ∷ []) v (waiting_signals t.on_way v) (old v (is_way w v) refl))
   where
     old : (v : Way) (own : Bool) → is_way w v ≡ own → AreOnWay s.arrows.items v (waiting_signals t.on_way v)
-    old v true is = subst (λ (u : Way). AreOnWay s.arrows.items u (waiting_signals t.on_way u)) (same_way w v is) (subst (AreOnWay s.arrows.items w) first (h w))
+    old v true is = subst (λ (u : Way). AreOnWay s.arrows.items u (waiting_signals t.on_way u)) (same_way w v is)
+        (subst (AreOnWay s.arrows.items w) first (h w))
     old v false is = subst (AreOnWay s.arrows.items v) (sym (others v is)) (h v)
 arrived_wait w alone s t (Some j, first, others, ended) h v = rest v (is_way w v) refl
   where
@@ -207,6 +230,7 @@ pub both_ok_then : {X E : Type 0} {P Q R : Type 0} (r : Result X E) → (P → Q
 both_ok_then (Ok x) f p q = f p q
 both_ok_then (Err e) f p q = tt
 
-pub all_ok_then : {X E : Type 0} {P Q R S : Type 0} (r : Result X E) → (P → Q → R → S) → OnOk r P → OnOk r Q → OnOk r R → OnOk r S
+pub all_ok_then : {X E : Type 0} {P Q R S : Type 0} (r : Result X E) → (P → Q → R → S) → OnOk r P → OnOk r Q
+    → OnOk r R → OnOk r S
 all_ok_then (Ok x) f p q h = f p q h
 all_ok_then (Err e) f p q h = tt

@@ -15,7 +15,8 @@ pub same_others : (o p : OnWay) (w : Way) → p.ways ≡ o.ways → KeepsOthers 
 same_others o p w e = λ v h. same_waiting o p v e
 
 -- a signal of a way was taken, and its arrow ended
-pub delivered : (w : Way) (a : Arrow) (s t : Traffic) (o : Option ℕ) (p : OnWay) → waiting_signals s.on_way w ≡ option_to_list o ++ waiting_signals p w
+pub delivered : (w : Way) (a : Arrow) (s t : Traffic) (o : Option ℕ) (p : OnWay)
+    → waiting_signals s.on_way w ≡ option_to_list o ++ waiting_signals p w
     → KeepsOthers w s.on_way p → t.on_way ≡ p → Reaches o a s.arrows.items t.arrows.items → IsDelivered w a s t
 delivered w a s t o p first others same reaches = (
   o,

@@ -1,5 +1,7 @@
 -- What a chart shows, as its labels.
-use Rattle.std.specs.Prelude.{ℕ, zero, suc, ◌-◌, ◌*◌, ◌/◌, Bool, true, false, not, ◌&&◌, nat_lt, min, if◌then◌else◌, List, [], ◌∷◌, ◌++◌, Option, Some, None, length, take, drop, flat_map, slice_index_or, codes}
+use Rattle.std.specs.Prelude.{ℕ, zero, suc, ◌-◌, ◌*◌, ◌/◌, Bool, true, false, not, ◌&&◌, nat_lt, min, if◌then◌else◌}
+use Rattle.std.specs.Prelude.{List, [], ◌∷◌, ◌++◌, Option, Some, None, length, take, drop, flat_map, slice_index_or}
+use Rattle.std.specs.Prelude.{codes}
 use Rattle.std.specs.List.{filter}
 use Rattle.std.specs.List.Sorted.{IsNonDecreasingBy, IsPermutation}
 use Rattle.std.specs.Fmt.{decimal}
@@ -37,7 +39,8 @@ page_of page rows = take 500 (drop (first_row page (length rows)) rows)
 -- the places of those that have one, among events of which the first has this number
 abbrev pub rows_from : (compact : Bool) → (event : ℕ) → List Event → List ℕ
 rows_from compact n [] = []
-rows_from compact n (e ∷ es) = if has_row compact e then n ∷ rows_from compact (suc n) es else rows_from compact (suc n) es
+rows_from compact n (e ∷ es) = if has_row compact e then n ∷ rows_from compact (suc n) es
+    else rows_from compact (suc n) es
 
 -- the events that have a row on the page
 abbrev pub shown_events : Manner → Report → List Event
@@ -83,7 +86,8 @@ event_labels name e = twice (label_text name e.label)
 
 -- all labels in their order: the root function in the title; this and the outcome in the words on the document; those
 -- of each process; the choices above 0; the label of each event; and the outcome
-abbrev pub chart_labels : (name : ℕ → List ℕ) (root : List ℕ) (names : List (List ℕ)) (outcome : List ℕ) (rows : List Event) (processes : List Process) → List (List ℕ)
+abbrev pub chart_labels : (name : ℕ → List ℕ) (root : List ℕ) (names : List (List ℕ)) (outcome : List ℕ)
+    (rows : List Event) (processes : List Process) → List (List ℕ)
 chart_labels name root names outcome rows processes =
     (root ∷ root ∷ outcome ∷ [])
     ++ (flat_map (process_labels (length rows) root names) processes
@@ -115,8 +119,10 @@ pub record ShowsSignals (m : Manner) (r : Report) (processes : List Process) (be
 
 -- after what was there comes a chart of this report, drawn in this manner, of the processes of its run, whose functions
 -- have these names
-pub data IsChart (name : ℕ → List ℕ) (root : List ℕ) (names : List (List ℕ)) (m : Manner) (r : Report) (before after : List ℕ) : Type 0 where
+pub data IsChart (name : ℕ → List ℕ) (root : List ℕ) (names : List (List ℕ)) (m : Manner) (r : Report)
+    (before after : List ℕ) : Type 0 where
   chart : (processes : List Process) → AreColumns r processes
-      → IsDocument (chart_labels name root names (outcome_text name r.outcome) (shown_events m r) processes) before after
+      → IsDocument (chart_labels name root names (outcome_text name r.outcome) (shown_events m r) processes) before
+      after
       → ShowsSignals m r processes before after
       → IsChart name root names m r before after

@@ -2,7 +2,8 @@
 use Rattle.std.specs.Prelude.{ℕ, Bool, List, Option, Some, None, length, map}
 use Rattle.std.specs.List.Sorted.{IsNonDecreasingBy}
 use Rattle.pf_model.specs.Channels.{Signal}
-use Rattle.pf_model.specs.Labels.{Label, Suffix, delivers, exits, links, monitors, sends, spawns, spawns_watched, unlinks}
+use Rattle.pf_model.specs.Labels.{Label, Suffix, delivers, exits, links, monitors, sends, spawns, spawns_watched}
+use Rattle.pf_model.specs.Labels.{unlinks}
 use Rattle.pf_model.specs.Meaning.{Event}
 use Rattle.pf_chart.specs.Origins.{process_of}
 use Rattle.pf_chart.specs.Signals.{AreArrows, IsManner}
@@ -31,7 +32,8 @@ delivery_in l = None
 abbrev pub IsCarried : (event from to : ℕ) → Option (Signal × Suffix) → (old new : Traffic) → Type 0
 IsCarried n a b None s u = Sends n b s u
 IsCarried n a b (Some d) s u =
-    (t : Traffic) × IsDelivered (way_of a b (kind_of d.0)) (untold n a b (kind_of d.0) (reach_of d.1 n)) s t × Sends n b t u
+    (t : Traffic) × IsDelivered (way_of a b (kind_of d.0)) (untold n a b (kind_of d.0) (reach_of d.1 n)) s t
+    × Sends n b t u
 
 -- the signals of the first events of a run are laid out
 pub record IsLaid (es : List Event) (count : ℕ) (l : Layout) : Type 0 where

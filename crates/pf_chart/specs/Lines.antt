@@ -13,4 +13,5 @@ pub record Holds (text before after : List ℕ) : Type 0 where
 -- where it ends
 abbrev pub HaveLines : Page → (columns : ℕ) → List Arrow → (before after : List ℕ) → Type 0
 HaveLines p n arrows before after =
-    (i : ℕ) (a : Arrow) → slice_get arrows i ≡ Some a → a.from < n → a.to < n → is_here p a ≡ true → Holds (line_of p a) before after
+    (i : ℕ) (a : Arrow) → slice_get arrows i ≡ Some a → a.from < n → a.to < n → is_here p a ≡ true
+    → Holds (line_of p a) before after

@@ -1,5 +1,6 @@
 -- Where things are on the sheet, in pixels.
-use Rattle.std.specs.Prelude.{◌+◌, ◌-◌, ◌*◌, ◌/◌, ◌^◌, ◌==◌, ℕ, Bool, true, false, nat_lt, min, max, if◌then◌else◌, List, Option, Some, None}
+use Rattle.std.specs.Prelude.{◌+◌, ◌-◌, ◌*◌, ◌/◌, ◌^◌, ◌==◌, ℕ, Bool, true, false, nat_lt, min, max, if◌then◌else◌}
+use Rattle.std.specs.Prelude.{List, Option, Some, None}
 use Rattle.std.specs.List.{count_by}
 use Rattle.pf_svg.specs.Document.{curve_text, stroke_text}
 use Rattle.pf_chart.specs.declared.arrows.Arrow.{Arrow}
@@ -72,7 +73,8 @@ rows_before events e = count_by (λ n. nat_lt n e) events
 
 -- an event before which so many rows are is on the page, or on one side of it
 abbrev pub side_at : (above count n : ℕ) → PageSide
-side_at above count n = if nat_lt n above then side.Above else (if nat_lt (n - above) count then side.Here else side.Below)
+side_at above count n = if nat_lt n above then side.Above
+    else (if nat_lt (n - above) count then side.Here else side.Below)
 
 abbrev pub side_of : Page → (event : ℕ) → PageSide
 side_of p e = side_at p.above p.count (rows_before p.events e)
@@ -124,7 +126,8 @@ beginning_of p a = beginning_by p a.from a.start
 abbrev pub in_the_air : ℕ × ℕ → (to pitch : ℕ) → ℕ × ℕ
 in_the_air from to pitch =
     if from.0 == to then (from.0 - 22, edge (from.1 + 20))
-    else (if nat_lt from.0 to then (edge (from.0 + pitch / 2), edge (from.1 + 20)) else (from.0 - pitch / 2, edge (from.1 + 20)))
+    else (if nat_lt from.0 to then (edge (from.0 + pitch / 2), edge (from.1 + 20))
+    else (from.0 - pitch / 2, edge (from.1 + 20)))
 
 -- an arrow ends in the column of its receiver and the row of this event, or in the air beside its sender
 abbrev pub end_by : Page → Arrow → Option ℕ → ℕ × ℕ
@@ -150,7 +153,8 @@ is_here p a = is_here_by p (side_of p (event_of_start a.start)) (event_of_reach 
 
 -- the line from point to point: one within a column swings out to the left
 abbrev pub path_text : (from to : ℕ × ℕ) → List ℕ
-path_text from to = if from.0 == to.0 then curve_text from (from.0 - 22, from.1) (from.0 - 22, to.1) to else stroke_text from to
+path_text from to = if from.0 == to.0 then curve_text from (from.0 - 22, from.1) (from.0 - 22, to.1) to
+    else stroke_text from to
 
 abbrev pub line_of : Page → Arrow → List ℕ
 line_of p a = path_text (beginning_of p a) (end_of p a)

@@ -72,14 +72,16 @@ receipt_at receipts n = reach_by (slice_get receipts n)
 
 -- a message that came into a mailbox goes on to the event that takes it, or to none; all other arrows stay
 abbrev pub IsJoinedBy : (receipts : List (Option ℕ)) → SignalKind → ArrowEnd → (old new : Arrow) → Type 0
-IsJoinedBy receipts kind.Message (reach.Taken n) a b = (chosen : Bool) × (b ≡ record a { reach = receipt_at receipts n; chosen = chosen })
+IsJoinedBy receipts kind.Message (reach.Taken n) a b =
+    (chosen : Bool) × (b ≡ record a { reach = receipt_at receipts n; chosen = chosen })
 IsJoinedBy receipts k r a b = b ≡ a
 
 -- in a compact chart arrows are joined so
 pub record AreJoined (old new : List Arrow) : Type 0 where
   pub receipts : List (Option ℕ)
   pub count : length new ≡ length old
-  pub each : (i : ℕ) (b : Arrow) → slice_get new i ≡ Some b → (a : Arrow) × (slice_get old i ≡ Some a) × IsJoinedBy receipts a.kind a.reach a b
+  pub each : (i : ℕ) (b : Arrow) → slice_get new i ≡ Some b
+      → (a : Arrow) × (slice_get old i ≡ Some a) × IsJoinedBy receipts a.kind a.reach a b
 
 abbrev pub IsManner : (compact : Bool) → (old new : List Arrow) → Type 0
 IsManner true xs ys = AreJoined xs ys

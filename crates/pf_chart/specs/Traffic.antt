@@ -1,5 +1,6 @@
 -- The signals that are on their way while a chart is laid out, and the arrows that they have.
-use Rattle.std.specs.Prelude.{⊤, ◌≡◌, ◌<◌, ◌==◌, if◌then◌else◌, Bool, false, ℕ, List, [], Option, Some, None, ◌++◌, ◌∷◌, length, option_map, option_to_list, slice_get}
+use Rattle.std.specs.Prelude.{⊤, ◌≡◌, ◌<◌, ◌==◌, if◌then◌else◌, Bool, false, ℕ, List, [], Option, Some, None, ◌++◌, ◌∷◌}
+use Rattle.std.specs.Prelude.{length, option_map, option_to_list, slice_get}
 use Rattle.std.specs.declared.cmp.Ordering.{Ordering}
 use Rattle.std.specs.Ordering.{is_eq, nat_cmp, ordering_then}
 use Rattle.std.specs.BTreeMap.{get}
@@ -92,7 +93,8 @@ with_return_arrow n a b o xs = xs ++ option_to_list (option_map (open_arrow n a 
 abbrev pub IsEnded : (number : ℕ) → ArrowEnd → (old new : List Arrow) → Type 0
 IsEnded i r xs ys =
     (length ys ≡ length xs)
-    × ((j : ℕ) (y : Arrow) → slice_get ys j ≡ Some y → (x : Arrow) × (slice_get xs j ≡ Some x) × (y ≡ (if j == i then record x { reach = r } else x)))
+    × ((j : ℕ) (y : Arrow) → slice_get ys j ≡ Some y
+    → (x : Arrow) × (slice_get xs j ≡ Some x) × (y ≡ (if j == i then record x { reach = r } else x)))
 
 abbrev pub Reaches : Option ℕ → (alone : Arrow) → (old new : List Arrow) → Type 0
 Reaches None a xs ys = ys ≡ xs ++ a ∷ []
@@ -102,7 +104,8 @@ Reaches (Some i) a xs ys = IsEnded i a.reach xs ys
 -- is an arrow for the delivery alone
 abbrev pub IsDelivered : Way → (alone : Arrow) → (old new : Traffic) → Type 0
 IsDelivered w a s t =
-    (o : Option ℕ) × (waiting_signals s.on_way w ≡ option_to_list o ++ waiting_signals t.on_way w) × KeepsOthers w s.on_way t.on_way
+    (o : Option ℕ) × (waiting_signals s.on_way w ≡ option_to_list o ++ waiting_signals t.on_way w)
+    × KeepsOthers w s.on_way t.on_way
     × Reaches o a s.arrows.items t.arrows.items
 
 -- ---- what one event adds

@@ -1,9 +1,11 @@
 -- The words of a chart: with those of each document in SVG, all that a chart is made of, but for numbers and labels.
 use Rattle.std.specs.Prelude.{ℕ, Bool, List, [], ◌∷◌, ◌++◌, codes}
-use Rattle.pf_svg.specs.Document.{ClosesElement as ClosesIn, DrawsDocument as DrawsIn, IsDocument as IsDocumentIn, OpensElement as OpensIn}
+use Rattle.pf_svg.specs.Document.{ClosesElement as ClosesIn, DrawsDocument as DrawsIn, IsDocument as IsDocumentIn}
+use Rattle.pf_svg.specs.Document.{OpensElement as OpensIn}
 use Rattle.pf_svg.specs.Words.{is_phrase as is_phrase_of}
 use Rattle.pf_chart.specs.declared.marks.TheConstants.{LINKED, UNLINKED}
-use Rattle.pf_chart.specs.declared.style.TheConstants.{DEFINITIONS, LEGEND, LEGEND_OF_CHOICES, LEGEND_OF_RECEIPTS, LEGEND_OF_SPAWNS, STYLE}
+use Rattle.pf_chart.specs.declared.style.TheConstants.{DEFINITIONS, LEGEND, LEGEND_OF_CHOICES, LEGEND_OF_RECEIPTS}
+use Rattle.pf_chart.specs.declared.style.TheConstants.{LEGEND_OF_SPAWNS, STYLE}
 
 -- tags, or beginnings and ends of tags
 abbrev pub markup : List (List ℕ)
@@ -24,7 +26,8 @@ classes =
     ∷ codes "monitor" ∷ codes "demonitor" ∷ codes "exit" ∷ codes "flag" ∷ codes "name" ∷ codes "reference"
     ∷ codes "receive" ∷ codes "wait" ∷ codes "raise" ∷ codes "end" ∷ codes "cut" ∷ codes "delivery"
     ∷ codes "dropped" ∷ codes "ending" ∷ codes "arrow " ∷ codes "arrow spawn" ∷ codes "message" ∷ codes "down"
-    ∷ codes " lost" ∷ codes " dropped" ∷ codes " chosen" ∷ codes "number chosen" ∷ codes "choice" ∷ codes "page" ∷ codes "" ∷ []
+    ∷ codes " lost" ∷ codes " dropped" ∷ codes " chosen" ∷ codes "number chosen" ∷ codes "choice" ∷ codes "page"
+    ∷ codes "" ∷ []
 
 -- outlines of marks
 abbrev pub outlines : List (List ℕ)

@@ -161,7 +161,8 @@ fn put_layout(
     sheet: Sheet,
 ) -> Result<(), NoMemory>
     ensures drawn { OnOk result (DrawsInChart
-        (flat_map (λ c. process_labels sheet.entry.count names.entry.root.now (texts names.entry.known.now) (process_of c))
+        (flat_map (λ c. process_labels sheet.entry.count names.entry.root.now (texts names.entry.known.now)
+        (process_of c))
         layout.now.columns.items
         ++ (flat_map (λ r. choice_labels (view_of_event r.event.now)) rows.now
         ++ flat_map (λ r. event_labels (name_of atoms.now) (view_of_event r.event.now)) rows.now))

@@ -1,6 +1,7 @@
 //! The processes of a run, a column each.
 
-ghost use Rattle.std.specs.Prelude.{◌≡◌, ◌≢◌, ◌<◌, ◌++◌, All, IfOk, IfSome, None, OnOk, length, map, option_map, option_to_list};
+ghost use Rattle.std.specs.Prelude.{◌≡◌, ◌≢◌, ◌<◌, ◌++◌, All, IfOk, IfSome, None, OnOk, length, map, option_map};
+ghost use Rattle.std.specs.Prelude.{option_to_list};
 ghost use Rattle.std.specs.List.{HoldsAt};
 ghost use Rattle.std.specs.List.Sorted.{IsNonDecreasingBy, IsPermutation};
 ghost use Rattle.pf_model.specs.Reports.{view_of_event, label_of, view_of_report};
@@ -144,7 +145,8 @@ fn mark_outcome(columns: &mut Vec<Column>, outcome: &Outcome)
 
 /// The columns of a report, by pid.
 pub(crate) fn columns_of(alloc: Global, report: &Report) -> Result<Vec<Column>, NoMemory>
-    ensures all { IfOk result (λ v. IsPermutation (processes_of (view_of_report report.now).events) (map process_of v.items)) }
+    ensures all { IfOk result (λ v. IsPermutation (processes_of (view_of_report report.now).events)
+        (map process_of v.items)) }
     ensures by_pid { IfOk result (λ v. IsNonDecreasingBy (λ p. p.pid) (map process_of v.items)) }
 {
     let mut columns = spawned_in(alloc, &report.events)?;

@@ -206,7 +206,8 @@ pub(crate) fn put_columns(
     sheet: Sheet,
 ) -> Result<(), NoMemory>
     ensures { OnOk result (DrawsInChart (flat_map
-        (λ c. process_labels sheet.entry.count names.entry.root.now (texts names.entry.known.now) (process_of c)) columns.now)
+        (λ c. process_labels sheet.entry.count names.entry.root.now (texts names.entry.known.now) (process_of c))
+        columns.now)
         svg.old svg.new) }
 {
     for (index, column) in columns.iter().enumerate() {

@@ -126,7 +126,8 @@ impl Layout {
         label: &Label,
     ) -> Result<(), NoMemory>
         ensures processes { SameProcesses self.old.columns.items self.new.columns.items }
-        ensures carried { OnOk result (IsCarried row a b (delivery_in (label_of label.now)) self.old.traffic self.new.traffic) }
+        ensures carried { OnOk result (IsCarried row a b (delivery_in (label_of label.now)) self.old.traffic
+            self.new.traffic) }
     {
         let Some((signal, suffix)) = delivery_in(label) else {
             return Ok(());

@@ -192,7 +192,8 @@ fn put_signal(
 ) -> Result<(), NoMemory>
     ensures drawn { OnOk result (DrawsInChart [] svg.old svg.new) }
     ensures line { OnOk result (arrow.now.from < length columns.now → arrow.now.to < length columns.now
-        → is_here (page_in sheet.entry) arrow.now ≡ true → Holds (line_of (page_in sheet.entry) arrow.now) svg.old svg.new) }
+        → is_here (page_in sheet.entry) arrow.now ≡ true
+        → Holds (line_of (page_in sheet.entry) arrow.now) svg.old svg.new) }
 {
     let (from, to) = (arrow.from, arrow.to);
     if from >= columns.len() {

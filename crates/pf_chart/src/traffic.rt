@@ -76,7 +76,8 @@ impl Traffic {
 
     /// A signal goes out.
     fn send(&mut self, row: usize, from: usize, to: usize, kind: SignalKind) -> Result<(), NoMemory>
-        ensures arrow { OnOk result (self.new.arrows.items ≡ self.old.arrows.items ++ open_arrow row from to kind ∷ []) }
+        ensures arrow { OnOk result (self.new.arrows.items ≡ self.old.arrows.items
+            ++ open_arrow row from to kind ∷ []) }
         ensures last { OnOk result (waiting_signals self.new.on_way (way_of from to kind)
             ≡ waiting_signals self.old.on_way (way_of from to kind) ++ length self.old.arrows.items ∷ []) }
         ensures others { OnOk result (KeepsOthers (way_of from to kind) self.old.on_way self.new.on_way) }
@@ -236,7 +237,8 @@ impl Traffic {
         suffix: &Suffix,
     ) -> Result<(), NoMemory>
         ensures answered { OnOk result (self.new.arrows.items
-            ≡ with_return_arrow row to from (answer_to (signal_of signal.now) (suffix_of suffix.now)) self.old.arrows.items) }
+            ≡ with_return_arrow row to from (answer_to (signal_of signal.now) (suffix_of suffix.now))
+            self.old.arrows.items) }
         ensures sends { OnOk result (Sends row to self.old self.new) }
     {
         match answer_to(signal, suffix) {
@@ -259,7 +261,8 @@ impl Traffic {
     ) -> Result<(), NoMemory>
         ensures { OnOk result ((t : Traffic) × IsDelivered (way_of from to (kind_of (signal_of signal.now)))
             (untold row from to (kind_of (signal_of signal.now)) (reach_of (suffix_of suffix.now) row)) self.old t
-            × (self.new.arrows.items ≡ with_return_arrow row to from (answer_to (signal_of signal.now) (suffix_of suffix.now)) t.arrows.items)
+            × (self.new.arrows.items ≡ with_return_arrow row to from
+            (answer_to (signal_of signal.now) (suffix_of suffix.now)) t.arrows.items)
             × Sends row to t self.new) }
     {
         self.arrive(row, from, to, SignalKind::of(signal), reach_of(suffix, row))?;

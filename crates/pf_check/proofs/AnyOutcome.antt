@@ -1,5 +1,6 @@
 -- Every source is read in some way.
-use Rattle.std.proofs.Common.{◌≡◌, ◌⊎◌, inl, inr, ℕ, zero, suc, ◌<◌, List, [], ◌∷◌, Option, Some, None, Ok, Err, Contains, length, refl, sym, ap, ◌∙◌, subst, arith}
+use Rattle.std.proofs.Common.{◌≡◌, ◌⊎◌, inl, inr, ℕ, zero, suc, ◌<◌, List, [], ◌∷◌, Option, Some, None, Ok, Err}
+use Rattle.std.proofs.Common.{Contains, length, refl, sym, ap, ◌∙◌, subst, arith}
 use Rattle.pf_tokens.specs.TokenKinds.{PlacedToken}
 use Rattle.pf_tokens.specs.Rules.{HasTokens}
 use Rattle.pf_tokens.specs.Scan.{Read, tokens}
@@ -15,7 +16,8 @@ use Rattle.pf_errors.specs.declared.code.Code.TheVariants.{NoHead, NotGrammar}
 use Rattle.pf_errors.specs.declared.refusal.SourceRefusal.{SourceRefusal}
 use Rattle.pf_rules.specs.Static.{faults_of, names_of_module, NotAfter, IsFirst}
 use Rattle.pf_rules.specs.Checks.{IsModule}
-use Rattle.pf_check.specs.Reads.{ReadOutcome, refused, Reads, token_fault, no_head, no_tree, static, checked, accepted_as}
+use Rattle.pf_check.specs.Reads.{ReadOutcome, refused, Reads, token_fault, no_head, no_tree, static, checked}
+use Rattle.pf_check.specs.Reads.{accepted_as}
 use Rattle.pf_check.proofs.Derived.{tree_formed}
 use Rattle.pf_check.proofs.NoFaults.{none_in_clauses}
 use Rattle.pf_lower.proofs.Exists.{some_functions}
@@ -36,7 +38,8 @@ compare (suc a) (suc b) = further (compare a b)
 either_first : (f g : SourceRefusal) → NotAfter f g ⊎ NotAfter g f
 either_first f g = by_offset (compare f.offset g.offset)
   where
-    by_rank : f.offset ≡ g.offset → (rank_of f.code < rank_of g.code) ⊎ ((rank_of f.code ≡ rank_of g.code) ⊎ (rank_of g.code < rank_of f.code)) → NotAfter f g ⊎ NotAfter g f
+    by_rank : f.offset ≡ g.offset → (rank_of f.code < rank_of g.code)
+        ⊎ ((rank_of f.code ≡ rank_of g.code) ⊎ (rank_of g.code < rank_of f.code)) → NotAfter f g ⊎ NotAfter g f
     by_rank e (inl h) = inl (inr (e, omega (arith, h)))
     by_rank e (inr (inl h)) = inl (inr (e, omega (arith, h)))
     by_rank e (inr (inr h)) = inr (inr (sym e, omega (arith, h)))
@@ -55,7 +58,8 @@ through f g h (inr a) (inr b) = let j = a.1 in let k = b.1 in inr (a.0 ∙ b.0, 
 not_after_itself : (f : SourceRefusal) → NotAfter f f
 not_after_itself f = inr (refl, omega arith)
 
-first_or_later : (f : SourceRefusal) (fs : List SourceRefusal) (g : SourceRefusal) → Contains (f ∷ fs) g → (f ≡ g) ⊎ Contains fs g
+first_or_later : (f : SourceRefusal) (fs : List SourceRefusal) (g : SourceRefusal) → Contains (f ∷ fs) g
+    → (f ≡ g) ⊎ Contains fs g
 first_or_later f fs g (zero, lt, e) = inl e
 first_or_later f fs g (suc k, lt, e) = inr (k, omega (arith, lt), e)
 
@@ -69,7 +73,8 @@ not_there : (f : SourceRefusal) → Contains [] f → ⊥
 not_there f h = let lt = h.1 in omega (arith, lt)
 
 -- of one fault and the first of others, which comes first
-sooner_of : (f g : SourceRefusal) (gs : List SourceRefusal) → (h : SourceRefusal) × IsFirst (g ∷ gs) h → (h : SourceRefusal) × IsFirst (f ∷ g ∷ gs) h
+sooner_of : (f g : SourceRefusal) (gs : List SourceRefusal) → (h : SourceRefusal) × IsFirst (g ∷ gs) h
+    → (h : SourceRefusal) × IsFirst (f ∷ g ∷ gs) h
 sooner_of f g gs h = sooner (either_first f h.0)
   where
     this : NotAfter f h.0 → (other : SourceRefusal) → (f ≡ other) ⊎ Contains (g ∷ gs) other → NotAfter f other
@@ -82,7 +87,14 @@ sooner_of f g gs h = sooner (either_first f h.0)
 
     sooner : NotAfter f h.0 ⊎ NotAfter h.0 f → (o : SourceRefusal) × IsFirst (f ∷ g ∷ gs) o
     sooner (inl a) = (f, (in_front f (g ∷ gs), λ other k. this a other (first_or_later f (g ∷ gs) other k)))
-    sooner (inr a) = (h.0, (further_on f h.0 (g ∷ gs) h.1.0, λ other k. that a other (first_or_later f (g ∷ gs) other k)))
+    sooner (inr a) = (
+      h.0,
+      (
+        further_on f h.0 (g ∷ gs) h.1.0,
+        λ other k.
+            that a other (first_or_later f (g ∷ gs) other k),
+      ),
+    )
 
 some_first : (f : SourceRefusal) (fs : List SourceRefusal) → (g : SourceRefusal) × IsFirst (f ∷ fs) g
 some_first f [] = (f, (in_front f [], λ other h. alone other (first_or_later f [] other h)))
@@ -94,9 +106,11 @@ some_first f (g ∷ gs) = sooner_of f g gs (some_first g gs)
 
 -- ---- the module
 
-some_module : (atoms : List (List ℕ)) (m : Tree) (ts : List NumberedToken) → DerivesTree atoms m ts → faults_of atoms m ≡ [] → (c : Checked) × IsModule atoms m c
+some_module : (atoms : List (List ℕ)) (m : Tree) (ts : List NumberedToken) → DerivesTree atoms m ts
+    → faults_of atoms m ≡ [] → (c : Checked) × IsModule atoms m c
 some_module atoms m ts d none =
-    let made = some_functions (names_of_module atoms m.functions) m.exports m.functions (tree_formed atoms m ts d) (none_in_clauses atoms m none) in
+    let made = some_functions (names_of_module atoms m.functions) m.exports m.functions (tree_formed atoms m ts d)
+    (none_in_clauses atoms m none) in
     (record (empty m.name atoms) { functions = made.0 }, record { name = refl; atoms_are = refl; functions = made.1 })
 
 -- ---- the outcome
@@ -106,24 +120,37 @@ module _ (bytes : List ℕ) where
   Outcomes = (o : ReadOutcome) × Reads bytes o
 
   module _ (ts : List PlacedToken) (has : HasTokens bytes ts) where
-    by_faults : (m : Tree) (all : List SourceRefusal) → faults_of (atoms_of ts) m ≡ all → DerivesTree (atoms_of ts) m (numbered_tokens ts) → Outcomes
-    by_faults m [] e d = let c = some_module (atoms_of ts) m (numbered_tokens ts) d e in (accepted_as c.0, checked ts m c.0 has d e c.1)
+    by_faults : (m : Tree) (all : List SourceRefusal) → faults_of (atoms_of ts) m ≡ all
+        → DerivesTree (atoms_of ts) m (numbered_tokens ts) → Outcomes
+    by_faults m [] e d = let c = some_module (atoms_of ts) m (numbered_tokens ts) d e in
+        (accepted_as c.0, checked ts m c.0 has d e c.1)
     by_faults m (f ∷ fs) e d =
-        let g = some_first f fs in (refused g.0.code g.0.offset, static ts m g.0 has d (subst (λ l. IsFirst l g.0) (sym e) g.1))
+        let g = some_first f fs in (
+          refused g.0.code g.0.offset,
+          static ts m g.0 has d (subst (λ l. IsFirst l g.0) (sym e) g.1),
+        )
 
-    no_derivation : (m : Tree) → tree (atoms_of ts) (numbered_tokens ts) ≡ None → DerivesTree (atoms_of ts) m (numbered_tokens ts) → ⊥
+    no_derivation : (m : Tree) → tree (atoms_of ts) (numbered_tokens ts) ≡ None
+        → DerivesTree (atoms_of ts) m (numbered_tokens ts) → ⊥
     no_derivation m e d = let k = tree_complete (atoms_of ts) (numbered_tokens ts) m d in cc
 
-    by_tree : HasHead (atoms_of ts) (numbered_tokens ts) → (o : Option Tree) → tree (atoms_of ts) (numbered_tokens ts) ≡ o → Outcomes
-    by_tree head None e = (refused NotGrammar (length bytes), no_tree ts (length bytes) has head (λ m. no_derivation m e) (inl refl))
-    by_tree head (Some m) e = by_faults m (faults_of (atoms_of ts) m) refl (tree_sound (atoms_of ts) (numbered_tokens ts) m e)
+    by_tree : HasHead (atoms_of ts) (numbered_tokens ts) → (o : Option Tree)
+        → tree (atoms_of ts) (numbered_tokens ts) ≡ o → Outcomes
+    by_tree head None e = (
+      refused NotGrammar (length bytes),
+      no_tree ts (length bytes) has head (λ m. no_derivation m e) (inl refl),
+    )
+    by_tree head (Some m) e = by_faults m (faults_of (atoms_of ts) m) refl
+        (tree_sound (atoms_of ts) (numbered_tokens ts) m e)
 
-    no_first_form : first_form (atoms_of ts) (numbered_tokens ts) ≡ None → HasHead (atoms_of ts) (numbered_tokens ts) → ⊥
+    no_first_form : first_form (atoms_of ts) (numbered_tokens ts) ≡ None
+        → HasHead (atoms_of ts) (numbered_tokens ts) → ⊥
     no_first_form e h = let k = begins_complete (atoms_of ts) (numbered_tokens ts) h.0 h.1 h.2 in cc
 
     by_head : (o : Option (ℕ × List NumberedToken)) → first_form (atoms_of ts) (numbered_tokens ts) ≡ o → Outcomes
     by_head None e = (refused NoHead 0, no_head ts has (no_first_form e))
-    by_head (Some x) e = by_tree (x.0, x.1, begins_sound (atoms_of ts) (numbered_tokens ts) x e) (tree (atoms_of ts) (numbered_tokens ts)) refl
+    by_head (Some x) e = by_tree (x.0, x.1, begins_sound (atoms_of ts) (numbered_tokens ts) x e)
+        (tree (atoms_of ts) (numbered_tokens ts)) refl
 
   by_tokens : (read : Read (List PlacedToken)) → Tells bytes read → Outcomes
   by_tokens (Ok ts) has = by_head ts has (first_form (atoms_of ts) (numbered_tokens ts)) refl

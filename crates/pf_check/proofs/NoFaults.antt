@@ -13,14 +13,16 @@ abbrev clauses_faults : List (List ℕ) → Tree → List SourceRefusal
 clauses_faults atoms m = flat_map (flat_map (head_faults (names_of_module atoms m.functions))) m.functions
 
 pub none_in_clauses : (atoms : List (List ℕ)) (m : Tree) → faults_of atoms m ≡ [] → clauses_faults atoms m ≡ []
-none_in_clauses atoms m e = right_empty (names_faults atoms m ++ flat_map unlike_faults m.functions) (clauses_faults atoms m) e
+none_in_clauses atoms m e = right_empty (names_faults atoms m ++ flat_map unlike_faults m.functions)
+    (clauses_faults atoms m) e
 
 pub none_unlike : (atoms : List (List ℕ)) (m : Tree) → faults_of atoms m ≡ [] → flat_map unlike_faults m.functions ≡ []
 none_unlike atoms m e =
     right_empty (names_faults atoms m) (flat_map unlike_faults m.functions)
     (left_empty (names_faults atoms m ++ flat_map unlike_faults m.functions) (clauses_faults atoms m) e)
 
-pub none_defined_twice : (atoms : List (List ℕ)) (m : Tree) → faults_of atoms m ≡ [] → defined_faults atoms [] m.functions ≡ []
+pub none_defined_twice : (atoms : List (List ℕ)) (m : Tree) → faults_of atoms m ≡ []
+    → defined_faults atoms [] m.functions ≡ []
 none_defined_twice atoms m e =
     right_empty (flat_map (export_fault m.functions) m.exports) (defined_faults atoms [] m.functions)
     (left_empty (names_faults atoms m) (flat_map unlike_faults m.functions)

@@ -1,12 +1,14 @@
 -- No name is bound twice, so the slot of a bound variable is one slot.
-use Rattle.std.proofs.Common.{◌≡◌, ◌⊎◌, inl, inr, ℕ, zero, suc, List, [], ◌∷◌, ◌++◌, length, Bool, true, false, Some, refl, sym, ap, ◌∙◌, arith, IsTrue}
+use Rattle.std.proofs.Common.{◌≡◌, ◌⊎◌, inl, inr, ℕ, zero, suc, List, [], ◌∷◌, ◌++◌, length, Bool, true, false, Some}
+use Rattle.std.proofs.Common.{refl, sym, ap, ◌∙◌, arith, IsTrue}
 use Rattle.std.specs.Prelude.{slice_get, ◌==◌, ◌||◌, not, nat_eq, if◌then◌else◌}
 use Rattle.std.proofs.lemmas.Bool.Decides.{nat_tests}
 use Rattle.pf_syntax.specs.ExprPattern as s
 use Rattle.pf_syntax.specs.ExprPattern.{ExprPattern, ExprPatterns, no_expr_patterns, expr_pattern}
 use Rattle.pf_syntax.specs.Expr as p
 use Rattle.pf_syntax.specs.Expr.{Expr, Exprs, no_exprs, expr}
-use Rattle.pf_syntax.specs.Scope.{Scope, no_scope, has, is_unsafe, is_new, binding, after_expr_pattern, after_expr_patterns, after, after_all}
+use Rattle.pf_syntax.specs.Scope.{Scope, no_scope, has, is_unsafe, is_new, binding, after_expr_pattern}
+use Rattle.pf_syntax.specs.Scope.{after_expr_patterns, after, after_all}
 
 -- each name is in one slot
 pub Once : List ℕ → Type 0
@@ -38,13 +40,15 @@ pub new_has_no_offset : (g : Scope) (x k : ℕ) → IsTrue (is_new g x) → slic
 new_has_no_offset g x k new e = not_new (has g.bound x) (is_unsafe g x) (there x g.bound k e) new
 
 -- a slot among names and one more after them is one of theirs, or the last
-last_or_before : (names : List ℕ) (x y i : ℕ) → slice_get (names ++ x ∷ []) i ≡ Some y → (slice_get names i ≡ Some y) ⊎ ((i ≡ length names) × (y ≡ x))
+last_or_before : (names : List ℕ) (x y i : ℕ) → slice_get (names ++ x ∷ []) i ≡ Some y
+    → (slice_get names i ≡ Some y) ⊎ ((i ≡ length names) × (y ≡ x))
 last_or_before [] x y zero e = inr (refl, cc)
 last_or_before [] x y (suc i) e = cc
 last_or_before (z ∷ names) x y zero e = inl e
 last_or_before (z ∷ names) x y (suc i) e = further (last_or_before names x y i e)
   where
-    further : (slice_get names i ≡ Some y) ⊎ ((i ≡ length names) × (y ≡ x)) → (slice_get names i ≡ Some y) ⊎ ((suc i ≡ length (z ∷ names)) × (y ≡ x))
+    further : (slice_get names i ≡ Some y) ⊎ ((i ≡ length names) × (y ≡ x))
+        → (slice_get names i ≡ Some y) ⊎ ((suc i ≡ length (z ∷ names)) × (y ≡ x))
     further (inl h) = inl h
     further (inr h) = inr (ap suc h.0, h.1)
 
@@ -52,7 +56,8 @@ with_new : (g : Scope) (x : ℕ) → SeenOnce g → IsTrue (is_new g x) → Once
 unfolding Once
 with_new g x once new y i j e f = either_way (last_or_before g.bound x y i e) (last_or_before g.bound x y j f)
   where
-    either_way : (slice_get g.bound i ≡ Some y) ⊎ ((i ≡ length g.bound) × (y ≡ x)) → (slice_get g.bound j ≡ Some y) ⊎ ((j ≡ length g.bound) × (y ≡ x)) → i ≡ j
+    either_way : (slice_get g.bound i ≡ Some y) ⊎ ((i ≡ length g.bound) × (y ≡ x))
+        → (slice_get g.bound j ≡ Some y) ⊎ ((j ≡ length g.bound) × (y ≡ x)) → i ≡ j
     either_way (inl a) (inl b) = once y i j a b
     either_way (inl a) (inr b) = absurd (new_has_no_offset g x i new (a ∙ ap Some b.1))
     either_way (inr a) (inl b) = absurd (new_has_no_offset g x j new (b ∙ ap Some a.1))
@@ -115,6 +120,7 @@ pub none_seen : SeenOnce no_scope
 unfolding Once
 none_seen x i j e f = absurd (nothing_there x i e)
 
-pub one_offset : (g : Scope) → SeenOnce g → (x i j : ℕ) → slice_get g.bound i ≡ Some x → slice_get g.bound j ≡ Some x → i ≡ j
+pub one_offset : (g : Scope) → SeenOnce g → (x i j : ℕ) → slice_get g.bound i ≡ Some x
+    → slice_get g.bound j ≡ Some x → i ≡ j
 unfolding Once
 one_offset g h x i j e f = h x i j e f

@@ -14,4 +14,5 @@ coded_module =
     (λ m. (m.name, (m.atoms, m.functions))) (λ p. record { name = p.0; atoms = p.1.0; functions = p.1.1 }) (λ _. refl)
 
 abbrev pub coded_read_module : Coded ReadModule
-coded_read_module = code_by _ (coded× (coded_list coded_ℕ) coded_module) (λ m. (m.source, m.code)) (λ p. record { source = p.0; code = p.1 }) (λ _. refl)
+coded_read_module = code_by _ (coded× (coded_list coded_ℕ) coded_module) (λ m. (m.source, m.code))
+    (λ p. record { source = p.0; code = p.1 }) (λ _. refl)

@@ -29,12 +29,16 @@ accepted_as m = accepted m.name m.atoms m.functions
 -- offset; else the checked module
 pub data Reads (bytes : List ℕ) : ReadOutcome → Type 0 where
   token_fault : (code : Code) (at : ℕ) → HasFault bytes code at → Reads bytes (refused code at)
-  no_head : (ts : List PlacedToken) → HasTokens bytes ts → (HasHead (atoms_of ts) (numbered_tokens ts) → ⊥) → Reads bytes (refused NoHead 0)
+  no_head : (ts : List PlacedToken) → HasTokens bytes ts → (HasHead (atoms_of ts) (numbered_tokens ts) → ⊥)
+      → Reads bytes (refused NoHead 0)
   no_tree : (ts : List PlacedToken) (at : ℕ) → HasTokens bytes ts → HasHead (atoms_of ts) (numbered_tokens ts)
-      → ((m : Tree) → DerivesTree (atoms_of ts) m (numbered_tokens ts) → ⊥) → IsOffsetOf (numbered_tokens ts) (length bytes) at → Reads bytes (refused NotGrammar at)
-  static : (ts : List PlacedToken) (m : Tree) (f : SourceRefusal) → HasTokens bytes ts → DerivesTree (atoms_of ts) m (numbered_tokens ts)
+      → ((m : Tree) → DerivesTree (atoms_of ts) m (numbered_tokens ts) → ⊥)
+      → IsOffsetOf (numbered_tokens ts) (length bytes) at → Reads bytes (refused NotGrammar at)
+  static : (ts : List PlacedToken) (m : Tree) (f : SourceRefusal) → HasTokens bytes ts
+      → DerivesTree (atoms_of ts) m (numbered_tokens ts)
       → IsFirst (faults_of (atoms_of ts) m) f → Reads bytes (refused f.code f.offset)
-  checked : (ts : List PlacedToken) (m : Tree) (c : Checked) → HasTokens bytes ts → DerivesTree (atoms_of ts) m (numbered_tokens ts)
+  checked : (ts : List PlacedToken) (m : Tree) (c : Checked) → HasTokens bytes ts
+      → DerivesTree (atoms_of ts) m (numbered_tokens ts)
       → faults_of (atoms_of ts) m ≡ [] → IsModule (atoms_of ts) m c → Reads bytes (accepted_as c)
 
 -- out of memory says nothing of the bytes, and a refusal is what they are read as
@@ -49,6 +53,8 @@ IsFirstOf found (Fault r) = IsFirst found r
 
 -- the same module, or the same refusal at the same offset, but for the offset of E5
 abbrev pub SameOutcome : ReadOutcome → ReadOutcome → Type 0
-SameOutcome (accepted name atoms functions) (accepted other_name other_atoms other_functions) = (name ≡ other_name) × (atoms ≡ other_atoms) × (functions ≡ other_functions)
-SameOutcome (refused code offset) (refused other_code other_offset) = (code ≡ other_code) × ((code ≡ NotGrammar → ⊥) → offset ≡ other_offset)
+SameOutcome (accepted name atoms functions) (accepted other_name other_atoms other_functions) =
+    (name ≡ other_name) × (atoms ≡ other_atoms) × (functions ≡ other_functions)
+SameOutcome (refused code offset) (refused other_code other_offset) = (code ≡ other_code) × ((code ≡ NotGrammar → ⊥)
+    → offset ≡ other_offset)
 SameOutcome _ _ = ⊥

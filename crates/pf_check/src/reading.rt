@@ -37,7 +37,8 @@ fn check(
     syntax: &SyntaxTree,
     atoms: AtomTable,
 ) -> Result<Module, OrNoMemory<SourceRefusal>>
-    ensures checked { IfOk result (λ m. (faults_of atoms (tree_of syntax.now) ≡ []) × (AreFormed syntax.now.functions → IsModule atoms (tree_of syntax.now) m)) }
+    ensures checked { IfOk result (λ m. (faults_of atoms (tree_of syntax.now) ≡ []) × (AreFormed syntax.now.functions
+        → IsModule atoms (tree_of syntax.now) m)) }
     ensures fault { IfErr result (IsFirstOf (faults_of atoms (tree_of syntax.now))) }
 {
     no_fault(alloc, syntax, &atoms)?;

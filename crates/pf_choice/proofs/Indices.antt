@@ -1,5 +1,6 @@
 -- Indices of weighted things, and that each chooses one of them.
-use Rattle.std.proofs.Common.{◌≡◌, ℕ, ◌+◌, ◌-◌, ◌*◌, ◌/◌, ◌%◌, ◌≤◌, ◌<◌, Bool, true, false, nat_lt, if◌then◌else◌, refl, ap, ◌∙◌, arith}
+use Rattle.std.proofs.Common.{◌≡◌, ℕ, ◌+◌, ◌-◌, ◌*◌, ◌/◌, ◌%◌, ◌≤◌, ◌<◌, Bool, true, false, nat_lt, if◌then◌else◌, refl}
+use Rattle.std.proofs.Common.{ap, ◌∙◌, arith}
 use Rattle.std.proofs.Math.Nat.{le-mul_of_pos_right, lt_of_mul-lt-mul_right, div-mul-le_self, mul-one, div-one}
 use Rattle.std.proofs.lemmas.Nat.{mod_below}
 use Rattle.std.proofs.lemmas.Bool.Decides.{nat_tests}
@@ -33,7 +34,8 @@ at_index_below a b r d index h = by (nat_lt index (a * r)) refl
 pub chosen_below : (p : Weighting) (word a b : ℕ) → IsProfile p → 0 < a + b → chosen p word a b < a + b
 chosen_below alike word a b h l = mod_below word (a + b) l
 chosen_below (weighted r d) word a b h l =
-    at_index_below a b r d (word % (a * r + b * d)) (mod_below word (a * r + b * d) (has_index a b r d h.run_least h.deliver_least l))
+    at_index_below a b r d (word % (a * r + b * d))
+    (mod_below word (a * r + b * d) (has_index a b r d h.run_least h.deliver_least l))
 
 at_index_one : (a index : ℕ) → at_index 1 1 a index ≡ index
 at_index_one a index = by (nat_lt index (a * 1)) refl
@@ -46,4 +48,5 @@ at_index_one a index = by (nat_lt index (a * 1)) refl
         omega arith
 
 pub weights_one : WeightsOne
-weights_one word a b = at_index_one a (word % (a * 1 + b * 1)) ∙ ap (λ n. word % n) (let x = mul-one a in let y = mul-one b in omega arith)
+weights_one word a b = at_index_one a (word % (a * 1 + b * 1)) ∙ ap (λ n. word % n) (let x = mul-one a in
+    let y = mul-one b in omega arith)

@@ -4,10 +4,12 @@ use Rattle.clap.specs.Words.{Text, Row, first_of}
 use Rattle.clap.specs.declared.error.kind.ErrorKind.TheVariants as kind
 use Rattle.std.specs.Prelude.{Bool, codes, ℕ}
 use Rattle.pf_model.specs.Meaning.{Choices}
-use Rattle.pf_cli.specs.Args.{RunArgs, bounds_in, chart_asked, choices_in, choices_named, guided_in, property_named, root_named, run_asked, run_fault, run_args_of, values_fault}
+use Rattle.pf_cli.specs.Args.{RunArgs, bounds_in, chart_asked, choices_in, choices_named, guided_in, property_named}
+use Rattle.pf_cli.specs.Args.{root_named, run_asked, run_fault, run_args_of, values_fault}
 
 -- where a seed or a schedule is read the fault is a value's
-pub values_chosen : (text s w t : Option Text) (cs : Choices) → choices_named text s w t ≡ Some cs → values_fault s w t ≡ kind.InvalidValue
+pub values_chosen : (text s w t : Option Text) (cs : Choices) → choices_named text s w t ≡ Some cs
+    → values_fault s w t ≡ kind.InvalidValue
 values_chosen text (Some a) w None cs e = refl
 values_chosen text None None (Some b) cs e = refl
 values_chosen text None None None cs e = absurd (cc)
@@ -15,31 +17,38 @@ values_chosen text None (Some v) None cs e = absurd (cc)
 values_chosen text None (Some v) (Some b) cs e = absurd (cc)
 values_chosen text (Some a) w (Some b) cs e = absurd (cc)
 
-unasked : (root : Text) (bounds : Option (ℕ × ℕ)) (property : Text) (a : RunArgs) → run_asked root bounds None None property ≡ Some a → ⊥
+unasked : (root : Text) (bounds : Option (ℕ × ℕ)) (property : Text) (a : RunArgs)
+    → run_asked root bounds None None property ≡ Some a → ⊥
 unasked root None property a e = absurd cc
 unasked root (Some b) property a e = absurd cc
 
 -- a run that is asked for has choices
-pub run_chosen : (text : Option Text) (rows : List Row) (a : RunArgs) → run_args_of text rows ≡ Some a → run_fault rows ≡ kind.InvalidValue
+pub run_chosen : (text : Option Text) (rows : List Row) (a : RunArgs) → run_args_of text rows ≡ Some a
+    → run_fault rows ≡ kind.InvalidValue
 run_chosen text rows a e = by (choices_in text rows) refl e
   where
     by : (cs : Option Choices) → choices_in text rows ≡ cs
-        → run_asked (root_named (first_of (codes "root") rows)) (bounds_in rows) cs (guided_in cs rows) (property_named (first_of (codes "property") rows)) ≡ Some a
+        → run_asked (root_named (first_of (codes "root") rows)) (bounds_in rows) cs (guided_in cs rows)
+        (property_named (first_of (codes "property") rows)) ≡ Some a
         → run_fault rows ≡ kind.InvalidValue
-    by (Some cs) chosen h = values_chosen text (first_of (codes "seed") rows) (first_of (codes "weights") rows) (first_of (codes "schedule") rows) cs chosen
-    by None chosen h = absurd (unasked (root_named (first_of (codes "root") rows)) (bounds_in rows) (property_named (first_of (codes "property") rows)) a h)
+    by (Some cs) chosen h = values_chosen text (first_of (codes "seed") rows) (first_of (codes "weights") rows)
+        (first_of (codes "schedule") rows) cs chosen
+    by None chosen h = absurd (unasked (root_named (first_of (codes "root") rows)) (bounds_in rows)
+        (property_named (first_of (codes "property") rows)) a h)
 
 -- nor is a chart whose page is invalid
 pub unpaged : (r : Option RunArgs) (compact : Bool) → chart_asked r compact None ≡ None
 unpaged None compact = refl
 unpaged (Some a) compact = refl
 
-none_asked : (root : Text) (bounds : Option (ℕ × ℕ)) (cs : Choices) (property : Text) → run_asked root bounds (Some cs) None property ≡ None
+none_asked : (root : Text) (bounds : Option (ℕ × ℕ)) (cs : Choices) (property : Text)
+    → run_asked root bounds (Some cs) None property ≡ None
 none_asked root None cs property = refl
 none_asked root (Some b) cs property = refl
 
 -- nothing is asked for
-pub none_guided : (text : Option Text) (rows : List Row) (cs : Choices) → choices_in text rows ≡ Some cs → guided_in (Some cs) rows ≡ None → run_args_of text rows ≡ None
+pub none_guided : (text : Option Text) (rows : List Row) (cs : Choices) → choices_in text rows ≡ Some cs
+    → guided_in (Some cs) rows ≡ None → run_args_of text rows ≡ None
 none_guided text rows cs e h =
     let root = root_named (first_of (codes "root") rows) in
     let property = property_named (first_of (codes "property") rows) in

@@ -27,7 +27,8 @@ module _ (rows : List Row) where
   values_refused (Err x) e (inr h) = inr (h.0 ∙ sym (valued e), taken e ∙ h.1)
 
   -- and those that don't ask for nothing
-  pub clashing : (x : Error) → true ≡ clashes_in rows → (kind_of x ≡ kind.OutOfMemory) ⊎ (kind_of x ≡ kind.ArgumentConflict)
+  pub clashing : (x : Error) → true ≡ clashes_in rows
+      → (kind_of x ≡ kind.OutOfMemory) ⊎ (kind_of x ≡ kind.ArgumentConflict)
       → (kind_of x ≡ kind.OutOfMemory) ⊎ ((kind_of x ≡ hunt_fault rows) × (hunt_of rows ≡ None))
   clashing x e (inl h) = inl h
   clashing x e (inr h) = inr (

@@ -14,8 +14,10 @@ undotted text h =
     list_any_none is_dot_byte text (λ k d lt. fails_before_first is_dot_byte text k d (omega (arith, whole)))
 
 -- it is the number of the seeds
-pub counted : (text : List ℕ) → IsSplitOnceResult 46 text None → seeds_between (Some 0) (long_number_of text) ≡ seeds_of text
+pub counted : (text : List ℕ) → IsSplitOnceResult 46 text None
+    → seeds_between (Some 0) (long_number_of text) ≡ seeds_of text
 counted text h =
     sym (ap
-    (λ (dotted : Bool). if dotted then seeds_between (long_number_of (before_first is_dot_byte text)) (after_dot (after_first is_dot_byte text))
+    (λ (dotted : Bool). if dotted then seeds_between (long_number_of (before_first is_dot_byte text))
+    (after_dot (after_first is_dot_byte text))
     else seeds_between (Some 0) (long_number_of text)) (undotted text h))

@@ -1,8 +1,11 @@
 -- What the words of the command line ask for.
-use Rattle.std.specs.Prelude.{◌≡◌, ◌⊎◌, ℕ, List, [], ◌∷◌, Option, Some, None, is_some, option_map, option_and_then, codes, length, map, Bool, true, false, not, ◌==◌, ◌&&◌, ◌||◌, nat_le, nat_lt, if◌then◌else◌}
+use Rattle.std.specs.Prelude.{◌≡◌, ◌⊎◌, ℕ, List, [], ◌∷◌, Option, Some, None, is_some, option_map, option_and_then}
+use Rattle.std.specs.Prelude.{codes, length, map, Bool, true, false, not, ◌==◌, ◌&&◌, ◌||◌, nat_le, nat_lt}
+use Rattle.std.specs.Prelude.{if◌then◌else◌}
 use Rattle.std.specs.List.{list_any, before_first, after_first}
 use Rattle.std.specs.Str.{bytes_eq}
-use Rattle.clap.specs.Words.{IsAmong, App, Shape, Rule, Row, Text, all_of, new_app, new_rule, with_rule, with_subcommand, Kinds, first_of, subcommand_of, fault_of}
+use Rattle.clap.specs.Words.{IsAmong, App, Shape, Rule, Row, Text, all_of, new_app, new_rule, with_rule}
+use Rattle.clap.specs.Words.{with_subcommand, Kinds, first_of, subcommand_of, fault_of}
 use Rattle.clap.specs.Lexer.{usize_max}
 use Rattle.clap.specs.declared.builder.action.ArgAction.TheVariants.{SetTrue}
 use Rattle.clap.specs.declared.error.kind.ErrorKind.{ErrorKind}
@@ -78,16 +81,19 @@ rooted_app source wanted name = with_rule (with_rule (new_app name) source) (wan
 -- and bounds, whatever their choices are: --limit N [--edition E]
 abbrev pub bounded_app : (source : Rule) → (wanted : Bool) → Text → App
 bounded_app source wanted name =
-    with_rule (with_rule (rooted_app source wanted name) (wanted_rule wanted (codes "limit"))) (option_rule (codes "edition"))
+    with_rule (with_rule (rooted_app source wanted name) (wanted_rule wanted (codes "limit")))
+    (option_rule (codes "edition"))
 
 -- a command of one run: after these [--seed N] [--weights R:D] [--strategy S]
 abbrev pub weighted_app : (wanted : Bool) → Text → App
 weighted_app wanted name =
-    with_rule (with_rule (with_rule (bounded_app file_rule wanted name) (option_rule (codes "seed"))) (option_rule (codes "weights"))) (option_rule (codes "strategy"))
+    with_rule (with_rule (with_rule (bounded_app file_rule wanted name) (option_rule (codes "seed")))
+    (option_rule (codes "weights"))) (option_rule (codes "strategy"))
 
 -- and then [--schedule L] [--property P]
 abbrev pub one_run_app : (wanted : Bool) → Text → App
-one_run_app wanted name = with_rule (with_rule (weighted_app wanted name) (option_rule (codes "schedule"))) (option_rule (codes "property"))
+one_run_app wanted name = with_rule (with_rule (weighted_app wanted name) (option_rule (codes "schedule")))
+    (option_rule (codes "property"))
 
 -- the form of what goes out may be named: [--format FORM]
 abbrev pub format_rule : Rule
@@ -99,7 +105,8 @@ run_app = with_rule (with_rule (one_run_app true (codes "run")) format_rule) (fl
 
 -- `chart` takes the same words, and wants neither; and then [--compact] [--page K]
 abbrev pub chart_app : App
-chart_app = with_rule (with_rule (one_run_app false (codes "chart")) (flag_rule (codes "compact"))) (option_rule (codes "page"))
+chart_app = with_rule (with_rule (one_run_app false (codes "chart")) (flag_rule (codes "compact")))
+    (option_rule (codes "page"))
 
 -- what is hunted: hunt [FILE].. [--root F] [--limit N] [--edition E] [--property P]
 abbrev pub judged_app : App
@@ -112,7 +119,8 @@ seeded_app = with_rule (with_rule judged_app (option_rule (codes "seeds"))) (opt
 -- and how: after these [--weights R:D] [--strategy S] [--workers N]
 abbrev pub working_app : App
 working_app =
-    with_rule (with_rule (with_rule seeded_app (option_rule (codes "weights"))) (option_rule (codes "strategy"))) (option_rule (codes "workers"))
+    with_rule (with_rule (with_rule seeded_app (option_rule (codes "weights"))) (option_rule (codes "strategy")))
+    (option_rule (codes "workers"))
 
 -- and what is reported: [--all] [--shrink N]
 abbrev pub telling_app : App
@@ -121,7 +129,8 @@ telling_app = with_rule (with_rule working_app (flag_rule (codes "all"))) (optio
 -- and what is gone over: [--all-roots] [--fail-fast] [--leaks]
 abbrev pub reaching_app : App
 reaching_app =
-    with_rule (with_rule (with_rule telling_app (flag_rule (codes "all-roots"))) (flag_rule (codes "fail-fast"))) (flag_rule (codes "leaks"))
+    with_rule (with_rule (with_rule telling_app (flag_rule (codes "all-roots"))) (flag_rule (codes "fail-fast")))
+    (flag_rule (codes "leaks"))
 
 -- and in what form: [--format FORM]
 abbrev pub hunt_app : App
@@ -130,7 +139,8 @@ hunt_app = with_rule reaching_app format_rule
 -- what is shrunk: shrink [FILE] --root F --limit N [--edition E] --schedule L --property P --runs N
 abbrev pub shrinking_app : App
 shrinking_app =
-    with_rule (with_rule (with_rule (bounded_app file_rule true (codes "shrink")) (required_rule (codes "schedule"))) (required_rule (codes "property"))) (required_rule (codes "runs"))
+    with_rule (with_rule (with_rule (bounded_app file_rule true (codes "shrink")) (required_rule (codes "schedule")))
+    (required_rule (codes "property"))) (required_rule (codes "runs"))
 
 -- and in what form: [--format FORM]
 abbrev pub shrink_app : App
@@ -138,7 +148,8 @@ shrink_app = with_rule shrinking_app format_rule
 
 -- check [FILE] [--explain] [--format FORM]
 abbrev pub check_app : App
-check_app = with_rule (with_rule (with_rule (new_app (codes "check")) file_rule) (flag_rule (codes "explain"))) format_rule
+check_app = with_rule (with_rule (with_rule (new_app (codes "check")) file_rule) (flag_rule (codes "explain")))
+    format_rule
 
 -- steps [FILE]
 abbrev pub steps_app : App
@@ -146,12 +157,17 @@ steps_app = with_rule (new_app (codes "steps")) file_rule
 
 -- farm FILE.. --workers N [--summary]
 abbrev pub farm_app : App
-farm_app = with_rule (with_rule (with_rule (new_app (codes "farm")) files_rule) (required_rule (codes "workers"))) (flag_rule (codes "summary"))
+farm_app = with_rule (with_rule (with_rule (new_app (codes "farm")) files_rule) (required_rule (codes "workers")))
+    (flag_rule (codes "summary"))
 
 -- the program has a version, wants a command, and has no command `help`
 abbrev pub top_shape : Shape
 top_shape =
-    record (new_app (codes "pulsefarm")).top { has_version = true; subcommand_required = true; disable_help_subcommand = true }
+    record (new_app (codes "pulsefarm")).top {
+      has_version = true;
+      subcommand_required = true;
+      disable_help_subcommand = true;
+    }
 
 -- the program without its commands
 abbrev pub bare_app : App
@@ -251,7 +267,8 @@ limit_named (Some word) = number_of_digits word
 
 -- the limit and the edition
 abbrev pub bounds_in : List Row → Option (ℕ × ℕ)
-bounds_in rows = both_numbers (limit_named (first_of (codes "limit") rows)) (edition_named (first_of (codes "edition") rows))
+bounds_in rows = both_numbers (limit_named (first_of (codes "limit") rows))
+    (edition_named (first_of (codes "edition") rows))
 
 -- a weight is 1 to 9
 abbrev pub as_weight : ℕ → Option ℕ
@@ -265,7 +282,8 @@ abbrev pub is_colon : ℕ → Bool
 is_colon c = c == 58
 
 abbrev pub weights_of : Text → Option (ℕ × ℕ)
-weights_of text = both_numbers (weight_of_word (before_first is_colon text)) (weight_of_word (after_first is_colon text))
+weights_of text = both_numbers (weight_of_word (before_first is_colon text))
+    (weight_of_word (after_first is_colon text))
 
 -- where none are named it is left open which they are
 abbrev pub weights_named : Option Text → Option (Option (ℕ × ℕ))
@@ -307,7 +325,8 @@ choices_named text _ _ _ = None
 -- a strategy is `pos`, by priorities, or `uniform`
 abbrev pub strategy_of : Text → Option Strategy
 strategy_of word =
-    if bytes_eq word (codes "pos") then Some Priorities else (if bytes_eq word (codes "uniform") then Some Uniform else None)
+    if bytes_eq word (codes "pos") then Some Priorities
+    else (if bytes_eq word (codes "uniform") then Some Uniform else None)
 
 -- where none is named it is this one
 abbrev pub strategy_named : Strategy → Option Text → Option Strategy
@@ -329,21 +348,24 @@ abbrev pub property_named : Option Text → Text
 property_named None = codes "returns"
 property_named (Some word) = word
 
-abbrev pub run_asked : (root : Text) → (bounds : Option (ℕ × ℕ)) → Option Choices → (priorities : Option (Option ℕ)) → (property : Text) → Option RunArgs
+abbrev pub run_asked : (root : Text) → (bounds : Option (ℕ × ℕ)) → Option Choices → (priorities : Option (Option ℕ))
+    → (property : Text) → Option RunArgs
 run_asked root (Some bounds) (Some choices) (Some priorities) property =
     Some (args_by root property (requests.run choices) bounds priorities)
 run_asked root _ _ _ property = None
 
 abbrev pub choices_in : (text : Option Text) → List Row → Option Choices
 choices_in text rows =
-    choices_named text (first_of (codes "seed") rows) (first_of (codes "weights") rows) (first_of (codes "schedule") rows)
+    choices_named text (first_of (codes "seed") rows) (first_of (codes "weights") rows)
+    (first_of (codes "schedule") rows)
 
 abbrev pub guided_in : Option Choices → List Row → Option (Option ℕ)
 guided_in choices rows = guided (strategy_named Uniform (first_of (codes "strategy") rows)) choices
 
 abbrev pub run_args_of : (text : Option Text) → List Row → Option RunArgs
 run_args_of text rows =
-    run_asked (root_named (first_of (codes "root") rows)) (bounds_in rows) (choices_in text rows) (guided_in (choices_in text rows) rows)
+    run_asked (root_named (first_of (codes "root") rows)) (bounds_in rows) (choices_in text rows)
+    (guided_in (choices_in text rows) rows)
     (property_named (first_of (codes "property") rows))
 
 -- pages are counted from 1
@@ -361,9 +383,11 @@ chart_asked _ compact _ = None
 
 abbrev pub chart_of : (text : Option Text) → List Row → Option ChartArgs
 chart_of text rows =
-    chart_asked (run_args_of text rows) (is_given (first_of (codes "compact") rows)) (page_named (first_of (codes "page") rows))
+    chart_asked (run_args_of text rows) (is_given (first_of (codes "compact") rows))
+    (page_named (first_of (codes "page") rows))
 
-abbrev pub shrinking_asked : (root : Text) → (property : Option Text) → (bounds : Option (ℕ × ℕ)) → (runs : Option ℕ) → (schedule : Option (List ℕ)) → Option RunArgs
+abbrev pub shrinking_asked : (root : Text) → (property : Option Text) → (bounds : Option (ℕ × ℕ)) → (runs : Option ℕ)
+    → (schedule : Option (List ℕ)) → Option RunArgs
 shrinking_asked root (Some property) (Some bounds) (Some runs) (Some numbers) =
     Some (args_by root property (requests.shrink numbers runs) bounds None)
 shrinking_asked root _ _ _ _ = None
@@ -374,7 +398,8 @@ schedule_in text rows = option_and_then (schedule_numbers text) (first_of (codes
 
 abbrev pub shrink_of : (text : Option Text) → List Row → Option RunArgs
 shrink_of text rows =
-    shrinking_asked (root_named (first_of (codes "root") rows)) (first_of (codes "property") rows) (bounds_in rows) (option_number (codes "runs") rows)
+    shrinking_asked (root_named (first_of (codes "root") rows)) (first_of (codes "property") rows) (bounds_in rows)
+    (option_number (codes "runs") rows)
     (schedule_in text rows)
 
 -- workers are 1 to 64
@@ -405,7 +430,8 @@ abbrev pub hunt_strategy : (weights : Option (ℕ × ℕ)) → Option Text → O
 hunt_strategy None word = strategy_named Priorities word
 hunt_strategy (Some weights) word = unless_guided (strategy_named Uniform word)
 
-abbrev pub hunt_by : HuntScope → (root property : Text) → Choices → Strategy → (bounds seeds : ℕ × ℕ) → (time workers : Option ℕ) → HuntGoal → HuntArgs
+abbrev pub hunt_by : HuntScope → (root property : Text) → Choices → Strategy → (bounds seeds : ℕ × ℕ)
+    → (time workers : Option ℕ) → HuntGoal → HuntArgs
 hunt_by reach root property choices strategy bounds seeds time workers sought =
     record {
       more = reach.more;
@@ -421,8 +447,11 @@ hunt_by reach root property choices strategy bounds seeds time workers sought =
       sought = sought;
     }
 
-abbrev pub hunt_asked : Option HuntScope → Option HuntGoal → (root property : Text) → (bounds seeds : Option (ℕ × ℕ)) → (time : Option (Option ℕ)) → (weights : Option (Option (ℕ × ℕ))) → Option Strategy → (workers : Option (Option ℕ)) → Option HuntArgs
-hunt_asked (Some reach) (Some sought) root property (Some bounds) (Some seeds) (Some time) (Some weights) (Some strategy) (Some workers) =
+abbrev pub hunt_asked : Option HuntScope → Option HuntGoal → (root property : Text) → (bounds seeds : Option (ℕ × ℕ))
+    → (time : Option (Option ℕ)) → (weights : Option (Option (ℕ × ℕ))) → Option Strategy → (workers : Option (Option ℕ))
+    → Option HuntArgs
+hunt_asked (Some reach) (Some sought) root property (Some bounds) (Some seeds) (Some time) (Some weights)
+    (Some strategy) (Some workers) =
     Some (hunt_by reach root property (seeded weights 0) strategy bounds seeds time workers sought)
 hunt_asked _ _ root property _ _ _ _ _ _ = None
 
@@ -440,7 +469,8 @@ workers_in rows = workers_named (first_of (codes "workers") rows)
 
 -- with the weights that are named
 abbrev pub strategy_in : List Row → Option Strategy
-strategy_in rows = option_and_then (λ weights. hunt_strategy weights (first_of (codes "strategy") rows)) (weights_in rows)
+strategy_in rows = option_and_then (λ weights. hunt_strategy weights (first_of (codes "strategy") rows))
+    (weights_in rows)
 
 -- the names of the sources
 abbrev pub source_names : List Row → List Text
@@ -448,19 +478,22 @@ source_names rows = names_given (all_of (codes "file") rows)
 
 abbrev pub reach_in : List Row → Option HuntScope
 reach_in rows =
-    reach_asked (more_named (source_names rows)) (roots_named (is_given (first_of (codes "all-roots") rows)) (first_of (codes "root") rows))
+    reach_asked (more_named (source_names rows))
+    (roots_named (is_given (first_of (codes "all-roots") rows)) (first_of (codes "root") rows))
     (is_given (first_of (codes "fail-fast") rows)) (is_given (first_of (codes "leaks") rows))
 
 -- whether there are words that exclude each other
 abbrev pub clashes_in : List Row → Bool
 clashes_in rows =
-    clashes (is_given (first_of (codes "all-roots") rows)) (is_given (first_of (codes "leaks") rows)) (nat_lt 1 (length (source_names rows)))
+    clashes (is_given (first_of (codes "all-roots") rows)) (is_given (first_of (codes "leaks") rows))
+    (nat_lt 1 (length (source_names rows)))
     (is_given (first_of (codes "all") rows)) (first_of (codes "root") rows) (first_of (codes "shrink") rows)
 
 -- what a hunt's words ask for where they go together
 abbrev pub hunt_of_values : List Row → Option HuntArgs
 hunt_of_values rows =
-    hunt_asked (reach_in rows) (sought_in rows) (root_named (first_of (codes "root") rows)) (property_named (first_of (codes "property") rows))
+    hunt_asked (reach_in rows) (sought_in rows) (root_named (first_of (codes "root") rows))
+    (property_named (first_of (codes "property") rows))
     (bounds_in rows) (seeds_in rows) (time_in rows) (weights_in rows) (strategy_in rows) (workers_in rows)
 
 abbrev pub hunt_of : List Row → Option HuntArgs
@@ -476,7 +509,8 @@ farm_asked _ _ summary = None
 
 abbrev pub farm_of : List Row → Option FarmArgs
 farm_of rows =
-    farm_asked (option_and_then as_workers (option_number (codes "workers") rows)) (option_and_then as_files (all_of (codes "files") rows))
+    farm_asked (option_and_then as_workers (option_number (codes "workers") rows))
+    (option_and_then as_files (all_of (codes "files") rows))
     (is_given (first_of (codes "summary") rows))
 
 -- whether more is to be explained
@@ -543,7 +577,8 @@ unless_refused (k ∷ ks) r = None
 -- what the words ask for, the first of which names the program, with a text in place of the file that they name for a
 -- schedule; nothing where they are refused, or ask for help or the version
 unfoldable pub wanted_by : (text : Option Text) → List Text → Option Wanted
-wanted_by text words = unless_refused (fault_of pulsefarm words) (words_asked (of_command text) (subcommand_of pulsefarm words))
+wanted_by text words = unless_refused (fault_of pulsefarm words)
+    (words_asked (of_command text) (subcommand_of pulsefarm words))
 
 -- what the words ask for as they are given
 abbrev pub wanted_of : List Text → Option Wanted
@@ -564,7 +599,8 @@ file_of words = words_asked file_under (subcommand_of pulsefarm words)
 
 -- the file that the words name for a schedule
 unfoldable pub schedule_file_of : List Text → Option Text
-schedule_file_of words = words_asked (λ name rows. option_and_then file_at (first_of (codes "schedule") rows)) (subcommand_of pulsefarm words)
+schedule_file_of words = words_asked (λ name rows. option_and_then file_at (first_of (codes "schedule") rows))
+    (subcommand_of pulsefarm words)
 
 -- the number of an edition
 abbrev pub edition_number : Edition → ℕ
@@ -643,7 +679,8 @@ values_fault None _ None = kind.MissingRequiredArgument
 values_fault _ _ _ = kind.InvalidValue
 
 abbrev pub run_fault : List Row → ErrorKind
-run_fault rows = values_fault (first_of (codes "seed") rows) (first_of (codes "weights") rows) (first_of (codes "schedule") rows)
+run_fault rows = values_fault (first_of (codes "seed") rows) (first_of (codes "weights") rows)
+    (first_of (codes "schedule") rows)
 
 -- words that exclude each other, or else an invalid value
 abbrev pub hunt_fault : List Row → ErrorKind
@@ -670,7 +707,8 @@ own_fault (Some p) = fault_under p.0 p.1
 abbrev pub IsFaultBy : (text : Option Text) → ErrorKind → List Text → Type 0
 IsFaultBy text k words =
     (wanted_by text words ≡ None)
-    × (IsAmong k (fault_of pulsefarm words) ⊎ ((fault_of pulsefarm words ≡ []) × (k ≡ own_fault (subcommand_of pulsefarm words))))
+    × (IsAmong k (fault_of pulsefarm words) ⊎ ((fault_of pulsefarm words ≡ [])
+    × (k ≡ own_fault (subcommand_of pulsefarm words))))
 
 abbrev pub IsFaultOfWords : ErrorKind → List Text → Type 0
 IsFaultOfWords k words = IsFaultBy None k words
@@ -707,7 +745,8 @@ reading_by (Some wanted) file schedule_file status = works_by wanted file schedu
 -- how the words are read, with a text in place of the file of the schedule; where the text isn't known yet, whether
 -- they ask for work is decided by a schedule of no numbers
 abbrev pub reading_of : (text : Option Text) → List Text → ReadWords
-reading_of None words = reading_by (wanted_by (Some (codes "none")) words) (file_of words) (schedule_file_of words) (words_status words)
+reading_of None words = reading_by (wanted_by (Some (codes "none")) words) (file_of words) (schedule_file_of words)
+    (words_status words)
 reading_of (Some text) words = reading_by (wanted_by (Some text) words) (file_of words) None (words_status words)
 
 abbrev pub view_of_reading : reading_code.ReadWords → ReadWords
@@ -717,4 +756,5 @@ view_of_reading (read.Text text status is_fault) = tells status is_fault
 
 -- a text for a schedule changes nothing of words that name no file for it
 abbrev pub StandsAlone : Type 0
-StandsAlone = (text : Text) (words : List Text) → schedule_file_of words ≡ None → wanted_by (Some text) words ≡ wanted_of words
+StandsAlone = (text : Text) (words : List Text) → schedule_file_of words ≡ None
+    → wanted_by (Some text) words ≡ wanted_of words

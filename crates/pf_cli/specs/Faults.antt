@@ -1,5 +1,6 @@
 -- What is said of words that are refused, and of which command the usage is shown.
-use Rattle.std.specs.Prelude.{ℕ, List, ◌++◌, Option, Some, None, is_some, Bool, ◌&&◌, codes, length, nat_lt, if◌then◌else◌}
+use Rattle.std.specs.Prelude.{ℕ, List, ◌++◌, Option, Some, None, is_some, Bool, ◌&&◌, codes, length, nat_lt}
+use Rattle.std.specs.Prelude.{if◌then◌else◌}
 use Rattle.std.specs.Str.{bytes_eq}
 use Rattle.std.specs.String.{string_bytes}
 use Rattle.clap.specs.Words.{App, Row, first_of}
@@ -40,7 +41,8 @@ text_in (read.Text text status is_fault) = Some (string_bytes text)
 abbrev pub clash_with : (told : List ℕ) → (leaks every several : Bool) → Option (List ℕ × List ℕ)
 clash_with told leaks every several =
     if leaks then Some (told, codes "'--leaks'")
-    else (if every then Some (told, codes "'--all-roots'") else (if several then Some (told, codes "several files") else None))
+    else (if every then Some (told, codes "'--all-roots'")
+    else (if several then Some (told, codes "several files") else None))
 
 -- or every root with one that is named, or each outcome with a shrinking
 abbrev pub clash_told : (every leaks several all : Bool) → (root shrink : Option (List ℕ)) → Option (List ℕ × List ℕ)
@@ -52,7 +54,8 @@ clash_told every leaks several all root shrink =
 
 abbrev pub clash_told_in : List Row → Option (List ℕ × List ℕ)
 clash_told_in rows =
-    clash_told (is_given (first_of (codes "all-roots") rows)) (is_given (first_of (codes "leaks") rows)) (nat_lt 1 (length (source_names rows)))
+    clash_told (is_given (first_of (codes "all-roots") rows)) (is_given (first_of (codes "leaks") rows))
+    (nat_lt 1 (length (source_names rows)))
     (is_given (first_of (codes "all") rows)) (first_of (codes "root") rows) (first_of (codes "shrink") rows)
 
 -- ---- of which command the usage is shown

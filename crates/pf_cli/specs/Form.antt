@@ -6,7 +6,8 @@ use Rattle.pf_cli.specs.declared.args.Format.TheVariants.{Text, Json}
 
 -- a form is `text` or `json`
 abbrev pub format_of : List ℕ → Option Format
-format_of word = if bytes_eq word (codes "text") then Some Text else (if bytes_eq word (codes "json") then Some Json else None)
+format_of word = if bytes_eq word (codes "text") then Some Text
+    else (if bytes_eq word (codes "json") then Some Json else None)
 
 -- where none is named it is `text`
 abbrev pub format_named : Option (List ℕ) → Option Format

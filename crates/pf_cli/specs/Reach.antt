@@ -1,5 +1,6 @@
 -- Which sources the words of a hunt name, which of their roots are hunted, and which of these words exclude each other.
-use Rattle.std.specs.Prelude.{ℕ, List, [], Option, Some, None, is_some, length, drop, map, Bool, true, false, ◌&&◌, ◌||◌, nat_le, if◌then◌else◌}
+use Rattle.std.specs.Prelude.{ℕ, List, [], Option, Some, None, is_some, length, drop, map, Bool, true, false, ◌&&◌}
+use Rattle.std.specs.Prelude.{◌||◌, nat_le, if◌then◌else◌}
 use Rattle.pf_cli.specs.declared.args.Roots.{Roots}
 use Rattle.pf_cli.specs.declared.args.Roots.TheVariants.{Main, Named, Every}
 use Rattle.pf_cli.specs.declared.reach.HuntScope as reach_code
@@ -29,7 +30,8 @@ roots_named false (Some name) = Named
 
 abbrev pub reach_asked : (more : Option (List (List ℕ))) → Roots → (fail_fast leaks : Bool) → Option HuntScope
 reach_asked None roots fail_fast leaks = None
-reach_asked (Some more) roots fail_fast leaks = Some (record { more = more; roots = roots; fail_fast = fail_fast; leaks = leaks })
+reach_asked (Some more) roots fail_fast leaks =
+    Some (record { more = more; roots = roots; fail_fast = fail_fast; leaks = leaks })
 
 -- every root doesn't go with one that is named, nor each outcome with a shrinking; and neither of these two with leaks,
 -- every root or several sources

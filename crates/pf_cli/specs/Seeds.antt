@@ -1,5 +1,6 @@
 -- Which seeds the words of a hunt name.
-use Rattle.std.specs.Prelude.{ℕ, ◌+◌, List, [], ◌∷◌, Option, Some, None, option_and_then, Bool, ◌==◌, nat_lt, if◌then◌else◌}
+use Rattle.std.specs.Prelude.{ℕ, ◌+◌, List, [], ◌∷◌, Option, Some, None, option_and_then, Bool, ◌==◌, nat_lt}
+use Rattle.std.specs.Prelude.{if◌then◌else◌}
 use Rattle.std.specs.List.{list_any, before_first, after_first}
 use Rattle.pf_text.specs.Numbers.{long, long_number_of}
 
@@ -25,7 +26,8 @@ after_dot (c ∷ text) = if is_dot_byte c then range_end text else None
 -- seeds are A..B or A..=B, with A before the first dot; a number alone is the end of those from 0 on
 abbrev pub seeds_of : List ℕ → Option (ℕ × ℕ)
 seeds_of text =
-    if list_any is_dot_byte text then seeds_between (long_number_of (before_first is_dot_byte text)) (after_dot (after_first is_dot_byte text))
+    if list_any is_dot_byte text then seeds_between (long_number_of (before_first is_dot_byte text))
+    (after_dot (after_first is_dot_byte text))
     else seeds_between (Some 0) (long_number_of text)
 
 -- where none are named they are the first 10,000; of a hunt for a time all but the greatest

@@ -1,5 +1,6 @@
 -- For how long a hunt goes on at most, by its words.
-use Rattle.std.specs.Prelude.{ℕ, ◌-◌, ◌*◌, List, [], ◌∷◌, Option, Some, None, option_map, length, take, drop, ◌==◌, nat_le, if◌then◌else◌}
+use Rattle.std.specs.Prelude.{ℕ, ◌-◌, ◌*◌, List, [], ◌∷◌, Option, Some, None, option_map, length, take, drop, ◌==◌}
+use Rattle.std.specs.Prelude.{nat_le, if◌then◌else◌}
 use Rattle.pf_text.specs.Numbers.{number_of_digits}
 
 -- how many seconds a unit of time has: s, m or h

@@ -3,7 +3,11 @@
 ghost use Rattle.std.specs.Prelude.{◌≡◌, IfOk, false, codes};
 ghost use Rattle.clap.specs.Words.{app_of, rule_of, new_app};
 ghost use Rattle.clap.specs.declared.builder.command.Command.TheViews.{out-Command};
-ghost use Rattle.pf_cli.specs.Args.{bare_app, bounded_app, chart_app, check_app, farm_app, file_rule, files_rule, flag_rule, finding_app, format_rule, hunt_app, judged_app, many_rule, one_file_app, one_run_app, option_rule, pulsefarm, reaching_app, required_rule, rooted_app, run_app, runs_app, seeded_app, shrink_app, shrinking_app, steps_app, telling_app, wanted_rule, weighted_app, working_app};
+ghost use Rattle.pf_cli.specs.Args.{bare_app, bounded_app, chart_app, check_app, farm_app, file_rule, files_rule};
+ghost use Rattle.pf_cli.specs.Args.{flag_rule, finding_app, format_rule, hunt_app, judged_app, many_rule, one_file_app};
+ghost use Rattle.pf_cli.specs.Args.{one_run_app, option_rule, pulsefarm, reaching_app, required_rule, rooted_app};
+ghost use Rattle.pf_cli.specs.Args.{run_app, runs_app, seeded_app, shrink_app, shrinking_app, steps_app, telling_app};
+ghost use Rattle.pf_cli.specs.Args.{wanted_rule, weighted_app, working_app};
 
 use clap::{Arg, ArgAction, Command};
 use std::alloc::{AllocError, Global};

@@ -1,10 +1,15 @@
 //! What the words of the command line ask for, or by which kind of error they are refused.
 
 ghost use Rattle.std.specs.Prelude.{◌≡◌, ◌⊎◌, true, IfOk, IfErr, map, Some, None, codes, option_map};
-ghost use Rattle.clap.specs.Words.{FailsBy, fault_of, subcommand_of, subcommand_rows_of, kind_of, first_of, rows_of, found_of};
+ghost use Rattle.clap.specs.Words.{FailsBy, fault_of, subcommand_of, subcommand_rows_of, kind_of, first_of, rows_of};
+ghost use Rattle.clap.specs.Words.{found_of};
 ghost use Rattle.pf_request.specs.Request.{choices_in, may_weigh};
 ghost use Rattle.pf_request.specs.View.{view_of_kind, view_of_request};
-ghost use Rattle.pf_cli.specs.Args.{IsFaultBy, IsFaultOfWords, chart_of, fault_under, file_named, file_of, file_under, hunt_fault, hunt_of, hunt_of_values, named_file, of_command, of_one_file, of_other, one_file_fault, pulsefarm, request_by, run_fault, run_args_of, schedule_file_of, shrink_of, status_of_kind, view_of_args, view_of_command, view_of_chart_args, view_of_hunt_args, view_of_run_args, wanted_by, wanted_of, work_fault, work_of};
+ghost use Rattle.pf_cli.specs.Args.{IsFaultBy, IsFaultOfWords, chart_of, fault_under, file_named, file_of, file_under};
+ghost use Rattle.pf_cli.specs.Args.{hunt_fault, hunt_of, hunt_of_values, named_file, of_command, of_one_file, of_other};
+ghost use Rattle.pf_cli.specs.Args.{one_file_fault, pulsefarm, request_by, run_fault, run_args_of, schedule_file_of};
+ghost use Rattle.pf_cli.specs.Args.{shrink_of, status_of_kind, view_of_args, view_of_command, view_of_chart_args};
+ghost use Rattle.pf_cli.specs.Args.{view_of_hunt_args, view_of_run_args, wanted_by, wanted_of, work_fault, work_of};
 
 use crate::args::{
     Args, ChartArgs, CheckArgs, CliCommand, HuntArgs, RunArgs, StepsArgs, WeightArgs,

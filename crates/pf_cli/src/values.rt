@@ -1,12 +1,17 @@
 //! The values of options.
 
-ghost use Rattle.std.specs.Prelude.{◌≡◌, ◌≤◌, ◌⊎◌, true, IfOk, IfErr, IfSome, Some, None, codes, map, option_map, option_and_then};
+ghost use Rattle.std.specs.Prelude.{◌≡◌, ◌≤◌, ◌⊎◌, true, IfOk, IfErr, IfSome, Some, None, codes, map, option_map};
+ghost use Rattle.std.specs.Prelude.{option_and_then};
 ghost use Rattle.clap.specs.Words.{all_of, kind_of, first_of, rows_of, found_of};
 ghost use Rattle.pf_model.specs.Meaning.{schedule};
 ghost use Rattle.pf_text.specs.Numbers.{long_number_of, number_of_digits, schedule_of};
 ghost use Rattle.pf_request.specs.Request.{may_weigh};
 ghost use Rattle.pf_request.specs.View.{view_of_choices};
-ghost use Rattle.pf_cli.specs.Args.{as_edition, as_workers, bounds_in, choices_in, edition_named, edition_number, file_at, file_named, guided_by, guided_in, hunt_strategy, in_place, is_given, limit_named, option_number, schedule_numbers, page_named, property_named, root_named, run_fault, schedule_in, seeded_by, sought_in, strategy_named, strategy_of, weight_of_word, weights_by, weights_in, weights_of, workers_in};
+ghost use Rattle.pf_cli.specs.Args.{as_edition, as_workers, bounds_in, choices_in, edition_named, edition_number};
+ghost use Rattle.pf_cli.specs.Args.{file_at, file_named, guided_by, guided_in, hunt_strategy, in_place, is_given};
+ghost use Rattle.pf_cli.specs.Args.{limit_named, option_number, schedule_numbers, page_named, property_named};
+ghost use Rattle.pf_cli.specs.Args.{root_named, run_fault, schedule_in, seeded_by, sought_in, strategy_named};
+ghost use Rattle.pf_cli.specs.Args.{strategy_of, weight_of_word, weights_by, weights_in, weights_of, workers_in};
 
 use crate::args::{Edition, HuntGoal, WeightArgs};
 use crate::refusals::{Valued, mistake, refuse, refuse_number, refuse_value};

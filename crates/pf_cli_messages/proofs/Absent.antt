@@ -11,7 +11,8 @@ either : (a b : Bool) → b ≡ true → (a || b) ≡ true
 either true b h = refl
 either false b h = h
 
-found_in : (names : List (List ℕ)) (text : List ℕ) (i : ℕ) → slice_get names i ≡ Some text → list_any (bytes_eq text) names ≡ true
+found_in : (names : List (List ℕ)) (text : List ℕ) (i : ℕ) → slice_get names i ≡ Some text
+    → list_any (bytes_eq text) names ≡ true
 found_in [] text i e = absurd (cc)
 found_in (n ∷ ns) text zero e =
     let same : text ≡ n = cc in
@@ -19,5 +20,6 @@ found_in (n ∷ ns) text zero e =
 found_in (n ∷ ns) text (suc i) e = either (bytes_eq text n) (list_any (bytes_eq text) ns) (found_in ns text i e)
 
 -- a name that is in the table isn't lacked
-pub not_lacked : (names : List (List ℕ)) (text : List ℕ) (i : ℕ) → slice_get names i ≡ Some text → None ≡ lacked_name names (atom text)
+pub not_lacked : (names : List (List ℕ)) (text : List ℕ) (i : ℕ) → slice_get names i ≡ Some text
+    → None ≡ lacked_name names (atom text)
 not_lacked names text i e = sym (ap (λ (b : Bool). if b then None else Some text) (found_in names text i e))

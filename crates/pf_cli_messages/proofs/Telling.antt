@@ -1,5 +1,7 @@
 -- Lines that are put one after another, and runs that are known by their reports.
-use Rattle.std.proofs.Common.{◌≡◌, ◌+◌, ◌<◌, ◌≤◌, ℕ, zero, suc, Bool, true, false, if◌then◌else◌, List, [], ◌∷◌, ◌++◌, Option, Some, None, Ok, Err, append_assoc, drop, get_or, length, map, refl, sym, ap, ◌∙◌, subst, arith}
+use Rattle.std.proofs.Common.{◌≡◌, ◌+◌, ◌<◌, ◌≤◌, ℕ, zero, suc, Bool, true, false, if◌then◌else◌, List, [], ◌∷◌, ◌++◌}
+use Rattle.std.proofs.Common.{Option, Some, None, Ok, Err, append_assoc, drop, get_or, length, map, refl, sym, ap, ◌∙◌}
+use Rattle.std.proofs.Common.{subst, arith}
 use Rattle.std.proofs.lemmas.List.{append-nil, at_drop_more}
 use Rattle.pf_errors.specs.declared.code.Code.TheVariants as code
 use Rattle.pf_model.specs.Choosers.{Picks, choose_by_picks}
@@ -22,16 +24,19 @@ use Rattle.pf_process_status.specs.declared.standing.ProcessStatus.{ProcessStatu
 
 -- ---- lines
 
-pub next_line : (k : KnownRun) (places : List (Option Position)) (xs : List ProcessStatus) (i : ℕ) (d : ProcessStatus) (old new rest : List ℕ)
+pub next_line : (k : KnownRun) (places : List (Option Position)) (xs : List ProcessStatus) (i : ℕ) (d : ProcessStatus)
+    (old new rest : List ℕ)
     → i < length xs → Puts old new (IsLine k places (get_or xs i d)) → AreStatusLines k places (drop (i + 1) xs) rest
-    → ((more : List ℕ) → AreStatusLines k places (drop i xs) more → AreStatusLines k places xs (old ++ more)) → AreStatusLines k places xs ((new ++ 10 ∷ []) ++ rest)
+    → ((more : List ℕ) → AreStatusLines k places (drop i xs) more → AreStatusLines k places xs (old ++ more))
+    → AreStatusLines k places xs ((new ++ 10 ∷ []) ++ rest)
 next_line k places xs i d old new rest l put lines front =
     let line = put.0 in
     let split : drop i xs ≡ get_or xs i d ∷ drop (i + 1) xs = at_drop_more (λ zs. zs) xs i d l in
     let here : AreStatusLines k places (drop i xs) (line ++ (10 ∷ rest)) =
     subst (λ zs. AreStatusLines k places zs (line ++ (10 ∷ rest))) (sym split) (line, rest, put.1, lines, refl) in
     let text : (new ++ 10 ∷ []) ++ rest ≡ old ++ (line ++ (10 ∷ rest)) =
-    ap (λ z. (z ++ 10 ∷ []) ++ rest) put.2 ∙ append_assoc (old ++ line) (10 ∷ []) rest ∙ append_assoc old line (10 ∷ rest) in
+    ap (λ z. (z ++ 10 ∷ []) ++ rest) put.2 ∙ append_assoc (old ++ line) (10 ∷ []) rest
+    ∙ append_assoc old line (10 ∷ rest) in
     subst (AreStatusLines k places xs) (sym text) (front (line ++ (10 ∷ rest)) here)
 
 drop_all : {A : Type 0} (xs : List A) (i : ℕ) → length xs ≤ i → drop i xs ≡ []
@@ -40,15 +45,19 @@ drop_all [] (suc i) l = refl
 drop_all (x ∷ xs) zero l = absurd (omega arith)
 drop_all (x ∷ xs) (suc i) l = drop_all xs i (omega arith)
 
-pub all_lines : (k : KnownRun) (places : List (Option Position)) (xs : List ProcessStatus) (i : ℕ) (text : List ℕ) → length xs ≤ i
-    → ((more : List ℕ) → AreStatusLines k places (drop i xs) more → AreStatusLines k places xs (text ++ more)) → AreStatusLines k places xs text
+pub all_lines : (k : KnownRun) (places : List (Option Position)) (xs : List ProcessStatus) (i : ℕ) (text : List ℕ)
+    → length xs ≤ i
+    → ((more : List ℕ) → AreStatusLines k places (drop i xs) more → AreStatusLines k places xs (text ++ more))
+    → AreStatusLines k places xs text
 all_lines k places xs i text l front =
-    subst (AreStatusLines k places xs) (append-nil text) (front [] (subst (λ zs. AreStatusLines k places zs []) (sym (drop_all xs i l)) refl))
+    subst (AreStatusLines k places xs) (append-nil text)
+    (front [] (subst (λ zs. AreStatusLines k places zs []) (sym (drop_all xs i l)) refl))
 
 -- ---- runs
 
 module _ (j : meaning.Job) (r : Report) (k : KnownRun) (h : IsKnownRunOf j r k) where
-  goes_there : (ps : Picks) (ts : List Transition) (d : Configuration) (n : ℕ) → Goes j.code (choose_by_picks ps) zero j.limit (start j.root j.edition) ts d r.steps n
+  goes_there : (ps : Picks) (ts : List Transition) (d : Configuration) (n : ℕ)
+      → Goes j.code (choose_by_picks ps) zero j.limit (start j.root j.edition) ts d r.steps n
       → Goes (module_of_run k) (choose_by_picks ps) zero k.limit (start k.root.0 k.edition) ts d r.steps n
   goes_there ps ts d n g =
       subst (λ m. Goes m (choose_by_picks ps) zero k.limit (start k.root.0 k.edition) ts d r.steps n) (sym h.code)
@@ -76,7 +85,8 @@ module _ (j : meaning.Job) (r : Report) (k : KnownRun) (h : IsKnownRunOf j r k) 
   comes_to (Some seed) m = leads (schedule (map (λ e. e.choice) r.events)) (replay_of_priorities j seed r m)
 
 -- what is said of a known run's processes is said of the job's
-pub tells_of : (j : meaning.Job) (r : Report) (by : Option ℕ) (source text : List ℕ) (k : KnownRun) → TellsRun k source text → MeansFor (choosing_of by j) j r → IsKnownRunOf j r k
+pub tells_of : (j : meaning.Job) (r : Report) (by : Option ℕ) (source text : List ℕ) (k : KnownRun)
+    → TellsRun k source text → MeansFor (choosing_of by j) j r → IsKnownRunOf j r k
     → ReportsProcesses j by source text
 tells_of j r by source text k tells means is_run =
     let there = comes_to j r k is_run by means in
@@ -90,17 +100,21 @@ pub record IsFrom (m : ReadModule) (e : ℕ) (name : List ℕ) (j : Job) : Type 
   pub root : root_in m name ≡ Some j.asked.root
   pub edition : j.asked.edition ≡ e
 
-pub from_asked : (m : ReadModule) (e : ℕ) (q : Option Property) (r : Request) (j : Job) → job_of m e q r ≡ Ok j → IsFrom m e r.root j
+pub from_asked : (m : ReadModule) (e : ℕ) (q : Option Property) (r : Request) (j : Job) → job_of m e q r ≡ Ok j
+    → IsFrom m e r.root j
 from_asked m e q r j = by_root (root_in m r.root) refl
   where
     within : (i : ℕ) → root_in m r.root ≡ Some i → (p : Property) (a b : Bool)
-        → (if a then (if b then Ok (job_from m e i p r) else Err code.WeightsOutOfRange) else Err code.OutOfRange) ≡ Ok j → IsFrom m e r.root j
+        → (if a then (if b then Ok (job_from m e i p r) else Err code.WeightsOutOfRange) else Err code.OutOfRange)
+        ≡ Ok j → IsFrom m e r.root j
     within i at p false b h = absurd (cc)
     within i at p true false h = absurd (cc)
     within i at p true true h =
-        let same : job_from m e i p r ≡ j = cc in subst (IsFrom m e r.root) same (record { code = refl; root = at; edition = refl })
+        let same : job_from m e i p r ≡ j = cc in
+        subst (IsFrom m e r.root) same (record { code = refl; root = at; edition = refl })
 
-    by_property : (i : ℕ) → root_in m r.root ≡ Some i → (o : Option Property) → with_property m e i o r ≡ Ok j → IsFrom m e r.root j
+    by_property : (i : ℕ) → root_in m r.root ≡ Some i → (o : Option Property) → with_property m e i o r ≡ Ok j
+        → IsFrom m e r.root j
     by_property i at None h = absurd (cc)
     by_property i at (Some p) h = within i at p (is_within r) (may_weigh (choices_in r.kind)) h
 

@@ -32,7 +32,8 @@ pub record IsKnownRunOf (j : meaning.Job) (r : Report) (k : KnownRun) : Type 0 w
 abbrev pub AreStatusLines : KnownRun → List (Option Position) → List ProcessStatus → List ℕ → Type 0
 AreStatusLines k places [] text = text ≡ []
 AreStatusLines k places (x ∷ xs) text =
-    (line : List ℕ) × (rest : List ℕ) × IsLine k places x line × AreStatusLines k places xs rest × (text ≡ line ++ (10 ∷ rest))
+    (line : List ℕ) × (rest : List ℕ) × IsLine k places x line × AreStatusLines k places xs rest
+    × (text ≡ line ++ (10 ∷ rest))
 
 -- the lines of the processes of a run, as they are where its events lead
 pub record TellsRun (k : KnownRun) (source text : List ℕ) : Type 0 where
@@ -62,7 +63,8 @@ AsksOf a m = Asks m a.edition a.request
 pub data ExplainsRun (a : RunArgs) (bytes : List ℕ) : List ℕ → Type 0 where
   source_refused : (code : Code) (offset : ℕ) → Reads bytes (refused code offset) → ExplainsRun a bytes []
   job_refused : (m : ReadModule) (code : Code) → IsModuleOf bytes m → AsksOf a m (Err code) → ExplainsRun a bytes []
-  shrinks : (m : ReadModule) (j : Job) → IsModuleOf bytes m → AsksOf a m (Ok j) → (j.asked.runs ≡ zero → ⊥) → ExplainsRun a bytes []
+  shrinks : (m : ReadModule) (j : Job) → IsModuleOf bytes m → AsksOf a m (Ok j) → (j.asked.runs ≡ zero → ⊥)
+      → ExplainsRun a bytes []
   told : (m : ReadModule) (j : Job) (text : List ℕ) → IsModuleOf bytes m → AsksOf a m (Ok j) → j.asked.runs ≡ zero
       → ReportsProcesses j.asked a.priorities bytes text → ExplainsRun a bytes text
 

@@ -5,7 +5,8 @@ ghost use Rattle.pf_cli.specs.Args.{view_of_run_args};
 ghost use Rattle.pf_model.specs.Limits.{IsEdition};
 ghost use Rattle.pf_model.specs.Reports.{view_of_report};
 ghost use Rattle.pf_check.specs.Module.{ReadModule};
-ghost use Rattle.pf_cli_messages.specs.Explained.{AreStatusLines, AsksOf, ExplainsRun, FindsRun, ReportsProcesses, TellsRun};
+ghost use Rattle.pf_cli_messages.specs.Explained.{AreStatusLines, AsksOf, ExplainsRun, FindsRun, ReportsProcesses};
+ghost use Rattle.pf_cli_messages.specs.Explained.{TellsRun};
 ghost use Rattle.pf_check.specs.Reading.{IsModuleOf};
 ghost use Rattle.pf_sched.specs.Choosing.{MeansFor, choosing_of};
 

@@ -7,7 +7,8 @@ use denote.Param.{param, arg}
 use denote.Ref.{NamedLft, ShrRef}
 use denote.Slice.{MutSlice}
 use denote.Struct.Tuple.{TupleAt}
-use denote.Param.Send.{AllSend, IsSend, IsSync, arg_send, mut_slice_send, param_send, recorded_send, recorded_sync, sendable, shr_send, struct_send}
+use denote.Param.Send.{AllSend, IsSend, IsSync, arg_send, mut_slice_send, param_send, recorded_send, recorded_sync}
+use denote.Param.Send.{sendable, shr_send, struct_send}
 use denote.Struct.Declared.{shape}
 use Rattle.std.proofs.Crossing as heap
 use Rattle.std.proofs.io.Error.TheSendSync as error
@@ -37,7 +38,16 @@ ended_field_send = search (error.the_field_send, sendable) depth 30
 module _ (N R : RattleType) (g : names.Ghosts N.Denot) (s : IsSend R) where
   client_field_send : IsSend (Client.the_field N R g).row
   client_field_send =
-      let all : AllSend (shape (Client.the_type N R g)).fields = (search (hall.client_seat_send N g, sendable) depth 30, (search (s, sendable) depth 30, (search (told_send, heap.crosses, sendable) depth 30, (search (ended_field_send, sendable) depth 30, tt)))) in
+      let all : AllSend (shape (Client.the_type N R g)).fields = (
+        search (hall.client_seat_send N g, sendable) depth 30,
+        (
+          search (s, sendable) depth 30,
+          (
+            search (told_send, heap.crosses, sendable) depth 30,
+            (search (ended_field_send, sendable) depth 30, tt),
+          ),
+        ),
+      ) in
       struct_send (shape (Client.the_type N R g)) all
 
   pub client_send : IsSend (Client.the_row N R g)
@@ -53,12 +63,17 @@ start_sync = recorded_sync (Start.the_field).row _ _ (Start.the_type).to_one sta
 
 -- ---- a closure that lends an allocator and four values, and writes a slice
 
-six_send : (ν : Sym) (A B C D E F : RattleType) → IsSend A → IsSend B → IsSend C → IsSend D → IsSend E → IsSend F → IsSend (TupleAt ν (A ∷ B ∷ C ∷ D ∷ E ∷ F ∷ []))
+six_send : (ν : Sym) (A B C D E F : RattleType) → IsSend A → IsSend B → IsSend C → IsSend D → IsSend E → IsSend F
+    → IsSend (TupleAt ν (A ∷ B ∷ C ∷ D ∷ E ∷ F ∷ []))
 six_send ν A B C D E F a b c d e f = search sendable depth 20
 
 module _ (A B C D E : RattleType) where
   pub work_send :
       (i : ℕ) (δ : Ty) (ν : Sym) (z a b c d e : NamedLft) → IsSync A → IsSync B → IsSync C → IsSync D → IsSend E →
-      IsSend (param i (arg δ no (TupleAt ν (ShrRef z.mir z.lft Global.the_row ∷ ShrRef a.mir a.lft A ∷ ShrRef b.mir b.lft B ∷ ShrRef c.mir c.lft C ∷ ShrRef d.mir d.lft D ∷ MutSlice e.mir e.lft E ∷ []))))
+      IsSend
+      (param i (arg δ no (TupleAt ν (ShrRef z.mir z.lft Global.the_row ∷ ShrRef a.mir a.lft A ∷ ShrRef b.mir b.lft B
+      ∷ ShrRef c.mir c.lft C ∷ ShrRef d.mir d.lft D ∷ MutSlice e.mir e.lft E ∷ []))))
   work_send i δ ν z a b c d e s t u v w =
-      param_send i _ (arg_send δ no _ (six_send ν _ _ _ _ _ _ (shr_send z.mir z.lft Global.the_row heap.sync) (shr_send a.mir a.lft A s) (shr_send b.mir b.lft B t) (shr_send c.mir c.lft C u) (shr_send d.mir d.lft D v) (mut_slice_send e.mir e.lft E w)))
+      param_send i _ (arg_send δ no _ (six_send ν _ _ _ _ _ _ (shr_send z.mir z.lft Global.the_row heap.sync)
+      (shr_send a.mir a.lft A s) (shr_send b.mir b.lft B t) (shr_send c.mir c.lft C u) (shr_send d.mir d.lft D v)
+      (mut_slice_send e.mir e.lft E w)))

@@ -1,5 +1,7 @@
 -- What is printed, file by file.
-use Rattle.std.proofs.Common.{◌≡◌, ℕ, zero, suc, ◌+◌, ◌-◌, ◌<◌, ◌≤◌, Bool, true, false, not, is_some, List, [], ◌∷◌, ◌++◌, length, get_or, set, slice_get, take, drop, map, Option, Some, None, refl, sym, ap, ◌∙◌, subst, arith, append-nil, append_assoc}
+use Rattle.std.proofs.Common.{◌≡◌, ℕ, zero, suc, ◌+◌, ◌-◌, ◌<◌, ◌≤◌, Bool, true, false, not, is_some, List, [], ◌∷◌}
+use Rattle.std.proofs.Common.{◌++◌, length, get_or, set, slice_get, take, drop, map, Option, Some, None, refl, sym, ap}
+use Rattle.std.proofs.Common.{◌∙◌, subst, arith, append-nil, append_assoc}
 use Rattle.std.specs.Bool.{OnTrue}
 use Rattle.std.specs.Global.{Vec}
 use Rattle.std.specs.Io.KnownBytes.{Appends}
@@ -19,34 +21,45 @@ use Rattle.pf_wire.specs.declared.told.WrittenAnswer.{WrittenAnswer}
 use Rattle.pf_clients.specs.declared.client.FileEnd.{FileEnd}
 use Rattle.pf_clients.specs.declared.client.FileEnd.TheVariants.{Answered, NoCommand, Unread, NoMemory as OutOfMemory}
 use Rattle.pf_clients.specs.Faults.{CountsFault}
-use Rattle.pf_clients.specs.Farms.{ClientText, stop_at, or_else, first_stop, unless, printed, status_at, status_of, Prints, PrintsInPart}
+use Rattle.pf_clients.specs.Farms.{ClientText, stop_at, or_else, first_stop, unless, printed, status_at, status_of}
+use Rattle.pf_clients.specs.Farms.{Prints, PrintsInPart}
 use Rattle.pf_clients.specs.Texts.{told_text}
 
 pub told_more : (ts : List WrittenAnswer) (t : WrittenAnswer) → told_text (ts ++ t ∷ []) ≡ told_text ts ++ whole_text t
 told_more [] t = append-nil (whole_text t)
-told_more (x ∷ ts) t = ap (λ (y : List ℕ). whole_text x ++ y) (told_more ts t) ∙ sym (append_assoc (whole_text x) (told_text ts) (whole_text t))
+told_more (x ∷ ts) t = ap (λ (y : List ℕ). whole_text x ++ y) (told_more ts t)
+    ∙ sym (append_assoc (whole_text x) (told_text ts) (whole_text t))
 
 pub told_both : (ts us : List WrittenAnswer) → told_text (ts ++ us) ≡ told_text ts ++ told_text us
 told_both [] us = refl
-told_both (t ∷ ts) us = ap (λ (y : List ℕ). whole_text t ++ y) (told_both ts us) ∙ sym (append_assoc (whole_text t) (told_text ts) (told_text us))
+told_both (t ∷ ts) us = ap (λ (y : List ℕ). whole_text t ++ y) (told_both ts us)
+    ∙ sym (append_assoc (whole_text t) (told_text ts) (told_text us))
 
 -- ---- replies that are gathered
 
-module _ (ts : List WrittenAnswer) (i : ℕ) (g1 g2 : List ℕ) (w0 w1 w2 : Option (List ℕ)) (so_far : IsAdded [] (told_text (take i ts)) g1 w0 w1) where
-  one_reply : (t : WrittenAnswer) → i < length ts → t ≡ get_or ts i t → told_text (take (i + 1) ts) ≡ told_text (take i ts) ++ whole_text t
-  one_reply t within is = ap told_text (take_more ts i t within) ∙ told_more (take i ts) (get_or ts i t) ∙ ap (λ x. told_text (take i ts) ++ whole_text x) (sym is)
+module _ (ts : List WrittenAnswer) (i : ℕ) (g1 g2 : List ℕ) (w0 w1 w2 : Option (List ℕ))
+    (so_far : IsAdded [] (told_text (take i ts)) g1 w0 w1) where
+  one_reply : (t : WrittenAnswer) → i < length ts → t ≡ get_or ts i t
+      → told_text (take (i + 1) ts) ≡ told_text (take i ts) ++ whole_text t
+  one_reply t within is = ap told_text (take_more ts i t within) ∙ told_more (take i ts) (get_or ts i t)
+      ∙ ap (λ x. told_text (take i ts) ++ whole_text x) (sym is)
 
-  pub adds_reply : (t : WrittenAnswer) → i < length ts → t ≡ get_or ts i t → IsAdded g1 (whole_text t) g2 w1 w2 → IsAdded [] (told_text (take (i + 1) ts)) g2 w0 w2
+  pub adds_reply : (t : WrittenAnswer) → i < length ts → t ≡ get_or ts i t → IsAdded g1 (whole_text t) g2 w1 w2
+      → IsAdded [] (told_text (take (i + 1) ts)) g2 w0 w2
   adds_reply t within is h =
-      added_both [] g1 g2 (told_text (take i ts)) (whole_text t) (told_text (take (i + 1) ts)) w0 w1 w2 (sym (one_reply t within is)) so_far h
+      added_both [] g1 g2 (told_text (take i ts)) (whole_text t) (told_text (take (i + 1) ts)) w0 w1 w2
+      (sym (one_reply t within is)) so_far h
 
-  pub front_at_reply : (t : WrittenAnswer) → i < length ts → t ≡ get_or ts i t → AppendsFront w1 w2 (g1 ++ whole_text t) → AppendsFront w0 w2 (told_text ts)
+  pub front_at_reply : (t : WrittenAnswer) → i < length ts → t ≡ get_or ts i t → AppendsFront w1 w2 (g1 ++ whole_text t)
+      → AppendsFront w0 w2 (told_text ts)
   front_at_reply t within is h =
       let front : AppendsFront w0 w2 (told_text (take (i + 1) ts)) =
-      front_of_second [] g1 (told_text (take i ts)) (whole_text t) (told_text (take (i + 1) ts)) w0 w1 w2 (sym (one_reply t within is)) so_far h in
+      front_of_second [] g1 (told_text (take i ts)) (whole_text t) (told_text (take (i + 1) ts)) w0 w1 w2
+      (sym (one_reply t within is)) so_far h in
       let all : told_text (take (i + 1) ts) ++ told_text (drop (i + 1) ts) ≡ told_text ts =
       sym (told_both (take (i + 1) ts) (drop (i + 1) ts)) ∙ ap told_text (take-append-drop (i + 1) ts) in
-      subst (AppendsFront w0 w2) all (front_of_more w0 w2 (told_text (take (i + 1) ts)) (told_text (drop (i + 1) ts)) front)
+      subst (AppendsFront w0 w2) all (front_of_more w0 w2 (told_text (take (i + 1) ts))
+      (told_text (drop (i + 1) ts)) front)
 
   all_added : length ts ≤ i → so_far.0 ++ g1 ≡ told_text ts
   all_added over = so_far.2 ∙ ap told_text (take_all i ts over)
@@ -60,12 +73,14 @@ module _ (ts : List WrittenAnswer) (i : ℕ) (g1 g2 : List ℕ) (w0 w1 w2 : Opti
 -- ---- files that were printed before
 
 -- nothing stops after this file, nor after those that follow it
-goes_on : (c : ClientText) (cs : List ClientText) → first_stop (c ∷ cs) ≡ None → (stop_at c.ended ≡ None) × (first_stop cs ≡ None)
+goes_on : (c : ClientText) (cs : List ClientText) → first_stop (c ∷ cs) ≡ None
+    → (stop_at c.ended ≡ None) × (first_stop cs ≡ None)
 goes_on c cs h = by (stop_at c.ended) refl
   where
     by : (o : Option (OrNoMemory StreamFault)) → stop_at c.ended ≡ o → (stop_at c.ended ≡ None) × (first_stop cs ≡ None)
     by None e = (e, ap (λ (x : Option (OrNoMemory StreamFault)). or_else x (first_stop cs)) (sym e) ∙ h)
-    by (Some x) e = let k : Some x ≡ None = ap (λ (y : Option (OrNoMemory StreamFault)). or_else y (first_stop cs)) (sym e) ∙ h in absurd (cc)
+    by (Some x) e = let k : Some x ≡ None = ap (λ (y : Option (OrNoMemory StreamFault)). or_else y (first_stop cs))
+        (sym e) ∙ h in absurd (cc)
 
 pub printed_both : (cs ds : List ClientText) → first_stop cs ≡ None → printed (cs ++ ds) ≡ printed cs ++ printed ds
 printed_both [] ds h = refl
@@ -107,12 +122,15 @@ pub none_printed : (w : Option (List ℕ)) → PrintedSoFar [] 0 w w
 none_printed w = record { goes_on = refl; out = Appends-nil w; status_is = refl }
 
 module _ (cs : List ClientText) (n : ℕ) (w0 w : Option (List ℕ)) (f : PrintedSoFar cs n w0 w) where
-  pub one_printed : (c : ClientText) (w' : Option (List ℕ)) (n' : ℕ) → Appends w w' c.text → stop_at c.ended ≡ None → n' ≡ status_at c.ended n → PrintedSoFar (cs ++ c ∷ []) n' w0 w'
+  pub one_printed : (c : ClientText) (w' : Option (List ℕ)) (n' : ℕ) → Appends w w' c.text → stop_at c.ended ≡ None
+      → n' ≡ status_at c.ended n → PrintedSoFar (cs ++ c ∷ []) n' w0 w'
   one_printed c w' n' out goes next =
-      let one : printed (c ∷ []) ≡ c.text = ap (λ (o : Option (OrNoMemory StreamFault)). c.text ++ unless o []) goes ∙ append-nil c.text in
+      let one : printed (c ∷ []) ≡ c.text = ap (λ (o : Option (OrNoMemory StreamFault)). c.text ++ unless o []) goes
+      ∙ append-nil c.text in
       record {
         goes_on = stop_both cs (c ∷ []) f.goes_on ∙ ap (λ (o : Option (OrNoMemory StreamFault)). or_else o None) goes;
-        out = subst (Appends w0 w') (sym (printed_both cs (c ∷ []) f.goes_on ∙ ap (λ (t : List ℕ). printed cs ++ t) one)) (appends_both w0 w w' (printed cs) c.text f.out out);
+        out = subst (Appends w0 w') (sym (printed_both cs (c ∷ []) f.goes_on ∙ ap (λ (t : List ℕ). printed cs ++ t)
+            one)) (appends_both w0 w w' (printed cs) c.text f.out out);
         status_is = next ∙ ap (status_at c.ended) f.status_is ∙ sym (status_more cs c);
       }
 
@@ -120,7 +138,8 @@ module _ (cs : List ClientText) (n : ℕ) (w0 w : Option (List ℕ)) (f : Printe
   all_printed = (f.goes_on, f.status_is, f.out)
 
   -- a write failed
-  pub printed_front : (all : List ClientText) (c : ClientText) (rest : List ClientText) → all ≡ cs ++ c ∷ rest → (w' : Option (List ℕ)) → AppendsFront w w' c.text
+  pub printed_front : (all : List ClientText) (c : ClientText) (rest : List ClientText) → all ≡ cs ++ c ∷ rest
+      → (w' : Option (List ℕ)) → AppendsFront w w' c.text
       → AppendsFront w0 w' (printed all)
   printed_front all c rest is w' front = (
     printed cs ++ front.0,
@@ -133,21 +152,27 @@ module _ (cs : List ClientText) (n : ℕ) (w0 w : Option (List ℕ)) (f : Printe
   )
 
   -- nothing is printed after this file
-  pub stops_printing : (all : List ClientText) (c : ClientText) (rest : List ClientText) (e : OrNoMemory StreamFault) → all ≡ cs ++ c ∷ rest → (w' : Option (List ℕ))
+  pub stops_printing : (all : List ClientText) (c : ClientText) (rest : List ClientText) (e : OrNoMemory StreamFault)
+      → all ≡ cs ++ c ∷ rest → (w' : Option (List ℕ))
       → Appends w w' c.text → stop_at c.ended ≡ Some e → (first_stop all ≡ Some e) × Appends w0 w' (printed all)
   stops_printing all c rest e is w' out stops =
-      let last : printed (c ∷ rest) ≡ c.text = ap (λ (o : Option (OrNoMemory StreamFault)). c.text ++ unless o (printed rest)) stops ∙ append-nil c.text in (
-        ap first_stop is ∙ stop_both cs (c ∷ rest) f.goes_on ∙ ap (λ (o : Option (OrNoMemory StreamFault)). or_else o (first_stop rest)) stops,
-        subst (Appends w0 w') (sym (ap printed is ∙ printed_both cs (c ∷ rest) f.goes_on ∙ ap (λ (t : List ℕ). printed cs ++ t) last)) (appends_both w0 w w' (printed cs) c.text f.out out),
+      let last : printed (c ∷ rest) ≡ c.text =
+      ap (λ (o : Option (OrNoMemory StreamFault)). c.text ++ unless o (printed rest)) stops ∙ append-nil c.text in (
+        ap first_stop is ∙ stop_both cs (c ∷ rest) f.goes_on ∙ ap (λ (o : Option (OrNoMemory StreamFault)).
+            or_else o (first_stop rest)) stops,
+        subst (Appends w0 w') (sym (ap printed is ∙ printed_both cs (c ∷ rest) f.goes_on
+            ∙ ap (λ (t : List ℕ). printed cs ++ t) last)) (appends_both w0 w w' (printed cs) c.text f.out out),
       )
 
 -- a fault of a writer
-pub in_part_by_writer : (cs : List ClientText) (e : StreamFault) (w0 w1 : Option (List ℕ)) (n0 n1 : ℕ) → CountsWrite e n0 n1 → AppendsFront w0 w1 (printed cs) → PrintsInPart cs (Fault e) w0 w1 n0 n1
+pub in_part_by_writer : (cs : List ClientText) (e : StreamFault) (w0 w1 : Option (List ℕ)) (n0 n1 : ℕ)
+    → CountsWrite e n0 n1 → AppendsFront w0 w1 (printed cs) → PrintsInPart cs (Fault e) w0 w1 n0 n1
 in_part_by_writer cs (Read e) w0 w1 n0 n1 counts front = absurd counts
 in_part_by_writer cs (Write e) w0 w1 n0 n1 counts front = (counts, front)
 
 -- what stops a file is no fault of the writer
-pub in_part_by_stop : (cs : List ClientText) (c : FileEnd) (e : OrNoMemory StreamFault) (w0 w1 : Option (List ℕ)) (n0 n1 : ℕ) → stop_at c ≡ Some e → n1 ≡ n0
+pub in_part_by_stop : (cs : List ClientText) (c : FileEnd) (e : OrNoMemory StreamFault) (w0 w1 : Option (List ℕ))
+    (n0 n1 : ℕ) → stop_at c ≡ Some e → n1 ≡ n0
     → (first_stop cs ≡ Some e) × Appends w0 w1 (printed cs) → PrintsInPart cs e w0 w1 n0 n1
 in_part_by_stop cs Answered e w0 w1 n0 n1 is same h = absurd (cc)
 in_part_by_stop cs NoCommand e w0 w1 n0 n1 is same h = absurd (cc)
@@ -159,7 +184,8 @@ in_part_by_stop cs OutOfMemory e w0 w1 n0 n1 is same h =
     subst (λ k. PrintsInPart cs k w0 w1 n0 n1) stop (same, h.0 ∙ ap Some (sym stop), h.1)
 
 -- what it counts
-pub in_part_counts : (cs : List ClientText) (e : OrNoMemory StreamFault) (w0 w1 : Option (List ℕ)) (n0 n1 : ℕ) → PrintsInPart cs e w0 w1 n0 n1 → CountsFault e n0 n1
+pub in_part_counts : (cs : List ClientText) (e : OrNoMemory StreamFault) (w0 w1 : Option (List ℕ)) (n0 n1 : ℕ)
+    → PrintsInPart cs e w0 w1 n0 n1 → CountsFault e n0 n1
 in_part_counts cs (Fault (Write e)) w0 w1 n0 n1 h = h.0
 in_part_counts cs (Fault (Read e)) w0 w1 n0 n1 h = h.0
 in_part_counts cs NoMemory w0 w1 n0 n1 h = h.0
@@ -191,19 +217,24 @@ pub none_in : (last t : WrittenAnswer) → Some last ≡ Some t → last.report 
 none_in last t is none = let same : last ≡ t = cc in subst (λ (x : WrittenAnswer). x.report ≡ None) same none
 
 -- that of two which have no report, as one
-pub joined_text : (t told : WrittenAnswer) (text : Vec ℕ) → t.report ≡ None → told.report ≡ None → text.items ≡ t.text.items ++ told.text.items
+pub joined_text : (t told : WrittenAnswer) (text : Vec ℕ) → t.report ≡ None → told.report ≡ None
+    → text.items ≡ t.text.items ++ told.text.items
     → with_report text.items t.report ≡ whole_text t ++ whole_text told
 joined_text t told text none none_told both =
-    ap (with_report text.items) none ∙ both ∙ sym (λ i. with_report t.text.items (none i) ++ with_report told.text.items (none_told i))
+    ap (with_report text.items) none ∙ both ∙ sym
+    (λ i. with_report t.text.items (none i) ++ with_report told.text.items (none_told i))
 
 -- it is longer by a text
-pub longer_last : (ts : List WrittenAnswer) (i : ℕ) (t x : WrittenAnswer) (more : List ℕ) → length ts ≡ i + 1 → slice_get ts i ≡ Some t → whole_text x ≡ whole_text t ++ more
+pub longer_last : (ts : List WrittenAnswer) (i : ℕ) (t x : WrittenAnswer) (more : List ℕ) → length ts ≡ i + 1
+    → slice_get ts i ≡ Some t → whole_text x ≡ whole_text t ++ more
     → told_text (set ts i x) ≡ told_text ts ++ more
 longer_last [] i t x more len is longer = absurd (cc)
 longer_last (u ∷ []) zero t x more len is longer =
     let same : u ≡ t = cc in
-    ap (λ (y : List ℕ). y ++ []) (longer ∙ ap (λ z. whole_text z ++ more) (sym same)) ∙ append_assoc (whole_text u) more [] ∙ ap (λ (y : List ℕ). whole_text u ++ y) (append-nil more)
+    ap (λ (y : List ℕ). y ++ []) (longer ∙ ap (λ z. whole_text z ++ more) (sym same)) ∙ append_assoc (whole_text u) more
+    [] ∙ ap (λ (y : List ℕ). whole_text u ++ y) (append-nil more)
     ∙ ap (λ (y : List ℕ). y ++ more) (sym (append-nil (whole_text u)))
 longer_last (u ∷ v ∷ ts) zero t x more len is longer = absurd (omega (arith, len))
 longer_last (u ∷ ts) (suc i) t x more len is longer =
-    ap (λ (y : List ℕ). whole_text u ++ y) (longer_last ts i t x more (omega (arith, len)) is longer) ∙ sym (append_assoc (whole_text u) (told_text ts) more)
+    ap (λ (y : List ℕ). whole_text u ++ y) (longer_last ts i t x more (omega (arith, len)) is longer)
+    ∙ sym (append_assoc (whole_text u) (told_text ts) more)

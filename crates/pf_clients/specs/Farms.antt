@@ -76,9 +76,11 @@ Prints cs status w0 w1 = (first_stop cs ≡ None) × (status ≡ status_of cs) �
 
 -- a write failed and was counted, and a beginning of what is printed went out; or a file can't be read or memory ran
 -- out, and all that is printed did
-abbrev pub PrintsInPart : List ClientText → OrNoMemory StreamFault → (written_old written_new : Option (List ℕ)) → (failed_old failed_new : ℕ) → Type 0
+abbrev pub PrintsInPart : List ClientText → OrNoMemory StreamFault → (written_old written_new : Option (List ℕ))
+    → (failed_old failed_new : ℕ) → Type 0
 PrintsInPart cs (Fault (Write e)) w0 w1 n0 n1 = (n1 ≡ n0 + 1) × AppendsFront w0 w1 (printed cs)
-PrintsInPart cs (Fault (Read e)) w0 w1 n0 n1 = (n1 ≡ n0) × (first_stop cs ≡ Some (Fault (Read e))) × Appends w0 w1 (printed cs)
+PrintsInPart cs (Fault (Read e)) w0 w1 n0 n1 = (n1 ≡ n0) × (first_stop cs ≡ Some (Fault (Read e)))
+    × Appends w0 w1 (printed cs)
 PrintsInPart cs NoMemory w0 w1 n0 n1 = (n1 ≡ n0) × (first_stop cs ≡ Some NoMemory) × Appends w0 w1 (printed cs)
 
 -- ---- a farm
@@ -107,12 +109,15 @@ abbrev pub FarmPrints : List (Option (List ℕ)) → (status : ℕ) → (written
 FarmPrints inputs status w0 w1 = (clients : List ClientText) × FarmOf inputs clients × Prints clients status w0 w1
 
 -- nothing was written, since memory ran out before the farm began, or no thread can be started
-abbrev pub NeverBegins : OrNoMemory StreamFault → (written_old written_new : Option (List ℕ)) → (failed_old failed_new : ℕ) → Type 0
+abbrev pub NeverBegins : OrNoMemory StreamFault → (written_old written_new : Option (List ℕ))
+    → (failed_old failed_new : ℕ) → Type 0
 NeverBegins (Fault (Write e)) w0 w1 n0 n1 = ⊥
 NeverBegins (Fault (Read e)) w0 w1 n0 n1 = (w1 ≡ w0) × (n1 ≡ n0)
 NeverBegins NoMemory w0 w1 n0 n1 = (w1 ≡ w0) × (n1 ≡ n0)
 
 -- the farm never began; or what it answered its clients was printed in part
-abbrev pub FarmLeaves : List (Option (List ℕ)) → OrNoMemory StreamFault → (written_old written_new : Option (List ℕ)) → (failed_old failed_new : ℕ) → Type 0
+abbrev pub FarmLeaves : List (Option (List ℕ)) → OrNoMemory StreamFault → (written_old written_new : Option (List ℕ))
+    → (failed_old failed_new : ℕ) → Type 0
 FarmLeaves inputs e w0 w1 n0 n1 =
-    NeverBegins e w0 w1 n0 n1 ⊎ ((clients : List ClientText) × FarmOf inputs clients × PrintsInPart clients e w0 w1 n0 n1)
+    NeverBegins e w0 w1 n0 n1 ⊎ ((clients : List ClientText) × FarmOf inputs clients
+    × PrintsInPart clients e w0 w1 n0 n1)

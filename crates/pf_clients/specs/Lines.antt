@@ -1,5 +1,6 @@
 -- What the lines of a client's file ask for, and what the client is answered.
-use Rattle.std.specs.Prelude.{◌≡◌, ◌⊎◌, ⊤, ℕ, ◌+◌, false, List, [], ◌∷◌, ◌++◌, length, Option, Some, None, IfSome, Result, Ok, Err, codes}
+use Rattle.std.specs.Prelude.{◌≡◌, ◌⊎◌, ⊤, ℕ, ◌+◌, false, List, [], ◌∷◌, ◌++◌, length, Option, Some, None, IfSome}
+use Rattle.std.specs.Prelude.{Result, Ok, Err, codes}
 use Rattle.pf_errors.specs.Codes.{no_memory_text}
 use Rattle.pf_errors.specs.declared.code.Code.TheVariants as code
 use Rattle.pf_errors.specs.declared.memory.NoMemory.{NoMemory}
@@ -75,14 +76,16 @@ CutsLine m s s' t t' = (l : Line) × (asked_in l ≡ m) × Leaves l s s' × (t' 
 
 -- the line at the front of some bytes of a client's file, of this number, was answered, and these bytes follow it; or
 -- it is no command
-abbrev pub AnswersFront : List ℕ → (number : ℕ) → Option (List ℕ) → (was is : ClientView) → (before after : List ℕ) → Type 0
+abbrev pub AnswersFront : List ℕ → (number : ℕ) → Option (List ℕ) → (was is : ClientView)
+    → (before after : List ℕ) → Type 0
 AnswersFront bytes k (Some rest) s s' t t' =
     (m : ClientLine) × (client_line_at s.project bytes ≡ Some (m, rest)) × AnswersLine m s s' t t'
 AnswersFront bytes k None s s' t t' = (client_line_at s.project bytes ≡ None) × (s' ≡ s) × (t' ≡ t ++ last_text false k)
 
 -- memory ran out before it was read, or before what came of it was added
 abbrev pub IsCut : List ℕ → (was is : ClientView) → Type 0
-IsCut bytes s s' = (s' ≡ s) ⊎ ((l : Line) × (rest : List ℕ) × (client_line_at s.project bytes ≡ Some (asked_in l, rest)) × Leaves l s s')
+IsCut bytes s s' = (s' ≡ s) ⊎ ((l : Line) × (rest : List ℕ) × (client_line_at s.project bytes ≡ Some (asked_in l, rest))
+    × Leaves l s s')
 
 abbrev pub CutsFront : List ℕ → (was is : ClientView) → (before after : List ℕ) → Type 0
 CutsFront bytes s s' t t' = IsCut bytes s s' × (t' ≡ t)
@@ -99,14 +102,16 @@ lines_text q (l ∷ ls) = line_text q l ++ lines_text q ls
 abbrev pub AnswersLines : ℕ → List ℕ → ClientView → List Line → List ℕ → ClientView → Type 0
 AnswersLines q bytes s [] rest s' = (bytes ≡ rest) × (s ≡ s')
 AnswersLines q bytes s (l ∷ ls) rest s' =
-    (after : List ℕ) × (k : ClientView) × (client_line_at q bytes ≡ Some (asked_in l, after)) × Leaves l s k × AnswersLines q after k ls rest s'
+    (after : List ℕ) × (k : ClientView) × (client_line_at q bytes ≡ Some (asked_in l, after)) × Leaves l s k
+    × AnswersLines q after k ls rest s'
 
 -- how a file ends after so many lines, of which this rest is left, and what is answered of the end: nothing is left; or
 -- what is left begins with no command, and that is answered; or the file can't be read, and none of its lines was; or
 -- memory ran out
 abbrev pub EndsAt : FileEnd → (lines : ℕ) → (rest : List ℕ) → (was is : ClientView) → (told : List ℕ) → Type 0
 EndsAt Answered n rest s s' t = (rest ≡ []) × (s' ≡ s) × (t ≡ [])
-EndsAt NoCommand n rest s s' t = (client_line_at s.project rest ≡ None) × ¬ (rest ≡ []) × (s' ≡ s) × (t ≡ last_text false (n + 1))
+EndsAt NoCommand n rest s s' t = (client_line_at s.project rest ≡ None) × ¬ (rest ≡ []) × (s' ≡ s)
+    × (t ≡ last_text false (n + 1))
 EndsAt (Unread e) n rest s s' t = (n ≡ 0) × (s' ≡ s) × (t ≡ [])
 EndsAt OutOfMemory n rest s s' t = IsCut rest s s' × (t ≡ [])
 
@@ -124,7 +129,8 @@ pub record AnswersBytes (bytes : List ℕ) (was is : ClientView) (before after :
 -- the client of a project's file was answered this text: of the first 67,108,864 bytes of the file, if it is known what
 -- there is. Its seat began empty
 abbrev pub AnswersFile : (project : ℕ) → Option (List ℕ) → (seat : ClientView) → (text : List ℕ) → FileEnd → Type 0
-AnswersFile q input s text ended = (bytes : List ℕ) × AreRead input bytes × AnswersBytes bytes (empty_client q) s [] text ended
+AnswersFile q input s text ended = (bytes : List ℕ) × AreRead input bytes × AnswersBytes bytes (empty_client q)
+    s [] text ended
 
 -- a client's seat has no receipt yet, and it was answered nothing
 abbrev pub IsNew : ClientView → List wire.WrittenAnswer → Type 0
@@ -132,5 +138,6 @@ IsNew s told = (s ≡ empty_client s.project) × (told ≡ [])
 
 -- the lines of a client's file, if it had one, were answered: this is left of its seat, this is what it was answered,
 -- and so its file ended
-abbrev pub IsServed : {R : Type 0} → (remaining : R → Option (List ℕ)) → Option R → (project : ℕ) → (seat : ClientView) → List wire.WrittenAnswer → FileEnd → Type 0
+abbrev pub IsServed : {R : Type 0} → (remaining : R → Option (List ℕ)) → Option R → (project : ℕ) → (seat : ClientView)
+    → List wire.WrittenAnswer → FileEnd → Type 0
 IsServed remaining file q s told ended = IfSome file (λ f. AnswersFile q (remaining f) s (told_text told) ended)

@@ -10,7 +10,8 @@ ghost use Rattle.pf_wire.specs.Steps.{last_text, AreRead};
 ghost use Rattle.pf_wire.specs.Whole.{whole_text};
 ghost use Rattle.pf_clients.specs.Faults.{ended_by};
 ghost use Rattle.pf_pool.specs.Responses.{response_in};
-ghost use Rattle.pf_clients.specs.Lines.{answer_in, call_text, AnswersBytes, AnswersFront, AnswersLine, CutsFront, CutsLine, IsNew, IsServed};
+ghost use Rattle.pf_clients.specs.Lines.{answer_in, call_text, AnswersBytes, AnswersFront, AnswersLine, CutsFront};
+ghost use Rattle.pf_clients.specs.Lines.{CutsLine, IsNew, IsServed};
 ghost use Rattle.pf_clients.specs.Texts.{told_text, EndsInText};
 
 use crate::watch::Watch;

@@ -1,6 +1,7 @@
 //! A farm of workers and clients, from its opening to its end.
 
-ghost use Rattle.std.specs.Prelude.{◌≡◌, ◌<◌, ◌≤◌, [], map, All, IfErr, IfOk, OnOk, Some, length, vec_capacity, vec_len};
+ghost use Rattle.std.specs.Prelude.{◌≡◌, ◌<◌, ◌≤◌, [], map, All, IfErr, IfOk, OnOk, Some, length, vec_capacity};
+ghost use Rattle.std.specs.Prelude.{vec_len};
 ghost use Rattle.std.specs.Bool.{OnTrue};
 ghost use Rattle.pf_farm_state.specs.Clients.{empty_client};
 ghost use Rattle.pf_clients.specs.Farms.{answers_of, FarmLeaves, FarmPrints};

@@ -1,5 +1,6 @@
 -- Texts that go out by way of room of a fixed size.
-use Rattle.std.proofs.Common.{◌≡◌, ◌<◌, ◌+◌, ℕ, List, [], ◌∷◌, ◌++◌, Option, Result, Ok, Err, length, map, take, drop, get_or, sym, ap, ◌∙◌, subst, append_assoc}
+use Rattle.std.proofs.Common.{◌≡◌, ◌<◌, ◌+◌, ℕ, List, [], ◌∷◌, ◌++◌, Option, Result, Ok, Err, length, map, take, drop}
+use Rattle.std.proofs.Common.{get_or, sym, ap, ◌∙◌, subst, append_assoc}
 use Rattle.std.specs.Prelude.{codes, OnErr}
 use Rattle.std.specs.Fmt.{decimal}
 use Rattle.std.specs.Io.KnownBytes.{Appends}
@@ -14,32 +15,39 @@ use Rattle.pf_trace.proofs.Fronts.{front_of_both, front_of_more}
 use Rattle.pf_command.specs.Waiting.{Adds, after_commas}
 
 -- two texts are one
-pub adds_both : (g a g1 b g2 : List ℕ) (w0 w1 w2 : Option (List ℕ)) → Adds g a g1 w0 w1 → Adds g1 b g2 w1 w2 → Adds g (a ++ b) g2 w0 w2
+pub adds_both : (g a g1 b g2 : List ℕ) (w0 w1 w2 : Option (List ℕ)) → Adds g a g1 w0 w1 → Adds g1 b g2 w1 w2
+    → Adds g (a ++ b) g2 w0 w2
 adds_both g a g1 b g2 w0 w1 w2 h k = (
   h.0 ++ k.0,
   appends_both w0 w1 w2 h.0 k.0 h.1 k.1,
-  append_assoc h.0 k.0 g2 ∙ ap (λ (t : List ℕ). h.0 ++ t) k.2 ∙ sym (append_assoc h.0 g1 b) ∙ ap (λ (t : List ℕ). t ++ b) h.2 ∙ append_assoc g a b,
+  append_assoc h.0 k.0 g2 ∙ ap (λ (t : List ℕ). h.0 ++ t) k.2 ∙ sym (append_assoc h.0 g1 b)
+      ∙ ap (λ (t : List ℕ). t ++ b) h.2 ∙ append_assoc g a b,
 )
 
 -- a beginning of a second text is one of both
-pub front_after : (g a g1 b : List ℕ) (w0 w1 w2 : Option (List ℕ)) → Adds g a g1 w0 w1 → AppendsFront w1 w2 (g1 ++ b) → AppendsFront w0 w2 (g ++ (a ++ b))
+pub front_after : (g a g1 b : List ℕ) (w0 w1 w2 : Option (List ℕ)) → Adds g a g1 w0 w1 → AppendsFront w1 w2 (g1 ++ b)
+    → AppendsFront w0 w2 (g ++ (a ++ b))
 front_after g a g1 b w0 w1 w2 h k = (
   h.0 ++ k.0,
   k.1,
-  sym (append_assoc g a b) ∙ ap (λ (t : List ℕ). t ++ b) (sym h.2) ∙ append_assoc h.0 g1 b ∙ ap (λ (t : List ℕ). h.0 ++ t) k.2 ∙ sym (append_assoc h.0 k.0 k.1),
+  sym (append_assoc g a b) ∙ ap (λ (t : List ℕ). t ++ b) (sym h.2) ∙ append_assoc h.0 g1 b
+      ∙ ap (λ (t : List ℕ). h.0 ++ t) k.2 ∙ sym (append_assoc h.0 k.0 k.1),
   appends_both w0 w1 w2 h.0 k.0 h.1 k.3,
 )
 
 -- a beginning is one of a longer text
-pub front_longer : (g a b : List ℕ) (w0 w1 : Option (List ℕ)) → AppendsFront w0 w1 (g ++ a) → AppendsFront w0 w1 (g ++ (a ++ b))
+pub front_longer : (g a b : List ℕ) (w0 w1 : Option (List ℕ)) → AppendsFront w0 w1 (g ++ a)
+    → AppendsFront w0 w1 (g ++ (a ++ b))
 front_longer g a b w0 w1 h = subst (AppendsFront w0 w1) (append_assoc g a b) (front_of_more w0 w1 (g ++ a) b h)
 
 -- all went out
-pub adds_out : (g a g1 : List ℕ) (w0 w1 w2 : Option (List ℕ)) → Adds g a g1 w0 w1 → Appends w1 w2 g1 → Appends w0 w2 (g ++ a)
+pub adds_out : (g a g1 : List ℕ) (w0 w1 w2 : Option (List ℕ)) → Adds g a g1 w0 w1 → Appends w1 w2 g1
+    → Appends w0 w2 (g ++ a)
 adds_out g a g1 w0 w1 w2 h k = subst (Appends w0 w2) h.2 (appends_both w0 w1 w2 h.0 g1 h.1 k)
 
 -- a second text in turn, and what is after it
-pub front_of_second : (g a g1 b c : List ℕ) (w0 w1 w2 : Option (List ℕ)) → Adds g a g1 w0 w1 → AppendsFront w1 w2 (g1 ++ b) → AppendsFront w0 w2 (g ++ (a ++ b ++ c))
+pub front_of_second : (g a g1 b c : List ℕ) (w0 w1 w2 : Option (List ℕ)) → Adds g a g1 w0 w1
+    → AppendsFront w1 w2 (g1 ++ b) → AppendsFront w0 w2 (g ++ (a ++ b ++ c))
 front_of_second g a g1 b c w0 w1 w2 h k = front_longer g (a ++ b) c w0 w2 (front_after g a g1 b w0 w1 w2 h k)
 
 -- a fault comes with a front
@@ -48,7 +56,8 @@ at_fault (Ok x) p = tt
 at_fault (Err e) p = p
 
 -- a fault before what waits went out
-pub front_out : (g a g1 : List ℕ) (w0 w1 w2 : Option (List ℕ)) → Adds g a g1 w0 w1 → AppendsFront w1 w2 g1 → AppendsFront w0 w2 (g ++ a)
+pub front_out : (g a g1 : List ℕ) (w0 w1 w2 : Option (List ℕ)) → Adds g a g1 w0 w1 → AppendsFront w1 w2 g1
+    → AppendsFront w0 w2 (g ++ a)
 front_out g a g1 w0 w1 w2 h k = subst (AppendsFront w0 w2) h.2 (front_of_both w0 w1 w2 h.0 g1 h.1 k)
 
 -- ---- a beginning of the first of several texts
@@ -56,10 +65,12 @@ front_out g a g1 w0 w1 w2 h k = subst (AppendsFront w0 w2) h.2 (front_of_both w0
 pub longer_2 : (a b c : List ℕ) (w0 w1 : Option (List ℕ)) → AppendsFront w0 w1 a → AppendsFront w0 w1 (a ++ b ++ c)
 longer_2 a b c w0 w1 h = front_of_more w0 w1 (a ++ b) c (front_of_more w0 w1 a b h)
 
-pub longer_3 : (a b c d : List ℕ) (w0 w1 : Option (List ℕ)) → AppendsFront w0 w1 a → AppendsFront w0 w1 (a ++ b ++ c ++ d)
+pub longer_3 : (a b c d : List ℕ) (w0 w1 : Option (List ℕ)) → AppendsFront w0 w1 a
+    → AppendsFront w0 w1 (a ++ b ++ c ++ d)
 longer_3 a b c d w0 w1 h = front_of_more w0 w1 (a ++ b ++ c) d (longer_2 a b c w0 w1 h)
 
-pub longer_4 : (a b c d e : List ℕ) (w0 w1 : Option (List ℕ)) → AppendsFront w0 w1 a → AppendsFront w0 w1 (a ++ b ++ c ++ d ++ e)
+pub longer_4 : (a b c d e : List ℕ) (w0 w1 : Option (List ℕ)) → AppendsFront w0 w1 a
+    → AppendsFront w0 w1 (a ++ b ++ c ++ d ++ e)
 longer_4 a b c d e w0 w1 h = front_of_more w0 w1 (a ++ b ++ c ++ d) e (longer_3 a b c d w0 w1 h)
 
 -- ---- events, each of which adds a comma and its choice
@@ -74,14 +85,18 @@ module _ (es : List Event) (i : ℕ) (x : Event) (in_list : i < length es) (is :
   one_more : after_commas (map (λ (e : Event). e.choice) (take (i + 1) es)) ≡ so_far ++ one
   one_more =
       ap after_commas (map_more (λ (e : Event). e.choice) es i x in_list)
-      ∙ flat_map-append (λ n. codes "," ++ decimal n) (map (λ (e : Event). e.choice) (take i es)) ((get_or es i x).choice ∷ [])
-      ∙ ap (λ (t : List ℕ). so_far ++ t) (append-nil (codes "," ++ decimal (get_or es i x).choice) ∙ ap (λ (e : Event). codes "," ++ decimal e.choice) (sym is))
+      ∙ flat_map-append (λ n. codes "," ++ decimal n) (map (λ (e : Event). e.choice) (take i es))
+      ((get_or es i x).choice ∷ [])
+      ∙ ap (λ (t : List ℕ). so_far ++ t) (append-nil (codes "," ++ decimal (get_or es i x).choice)
+      ∙ ap (λ (e : Event). codes "," ++ decimal e.choice) (sym is))
 
   pub adds_next : (g g1 g2 : List ℕ) (w0 w1 w2 : Option (List ℕ)) → Adds g so_far g1 w0 w1 → Adds g1 one g2 w1 w2
       → Adds g (after_commas (map (λ (e : Event). e.choice) (take (i + 1) es))) g2 w0 w2
-  adds_next g g1 g2 w0 w1 w2 h k = subst (λ t. Adds g t g2 w0 w2) (sym one_more) (adds_both g so_far g1 one g2 w0 w1 w2 h k)
+  adds_next g g1 g2 w0 w1 w2 h k = subst (λ t. Adds g t g2 w0 w2) (sym one_more)
+      (adds_both g so_far g1 one g2 w0 w1 w2 h k)
 
-  pub front_next : (g g1 : List ℕ) (w0 w1 w2 : Option (List ℕ)) → Adds g so_far g1 w0 w1 → AppendsFront w1 w2 (g1 ++ one)
+  pub front_next : (g g1 : List ℕ) (w0 w1 w2 : Option (List ℕ)) → Adds g so_far g1 w0 w1
+      → AppendsFront w1 w2 (g1 ++ one)
       → AppendsFront w0 w2 (g ++ after_commas (map (λ (e : Event). e.choice) es))
   front_next g g1 w0 w1 w2 h k =
       let rest = map (λ (e : Event). e.choice) (drop (i + 1) es) in
@@ -89,10 +104,13 @@ module _ (es : List Event) (i : ℕ) (x : Event) (in_list : i < length es) (is :
       let front = subst (λ t. AppendsFront w0 w2 (g ++ t)) (sym one_more) (front_after g so_far g1 one w0 w1 w2 h k) in
       let all : after_commas now ++ after_commas rest ≡ after_commas (map (λ (e : Event). e.choice) es) =
       sym (flat_map-append (λ n. codes "," ++ decimal n) now rest)
-      ∙ ap after_commas (sym (map-append (λ (e : Event). e.choice) (take (i + 1) es) (drop (i + 1) es)) ∙ ap (map (λ (e : Event). e.choice)) (take-append-drop (i + 1) es)) in
+      ∙ ap after_commas (sym (map-append (λ (e : Event). e.choice) (take (i + 1) es) (drop (i + 1) es))
+      ∙ ap (map (λ (e : Event). e.choice)) (take-append-drop (i + 1) es)) in
       subst (λ t. AppendsFront w0 w2 (g ++ t)) all (front_longer g (after_commas now) (after_commas rest) w0 w2 front)
 
 -- a number, and others each after a comma
 pub schedule_of_more : (xs ys : List Event) (x : Event) → xs ≡ x ∷ ys
-    → decimal x.choice ++ after_commas (map (λ (e : Event). e.choice) ys) ≡ schedule_text (map (λ (e : Event). e.choice) xs)
-schedule_of_more xs ys x e = by_commas x.choice (map (λ (e : Event). e.choice) ys) ∙ ap (λ zs. schedule_text (map (λ (e : Event). e.choice) zs)) (sym e)
+    → decimal x.choice ++ after_commas (map (λ (e : Event). e.choice) ys) ≡ schedule_text
+    (map (λ (e : Event). e.choice) xs)
+schedule_of_more xs ys x e = by_commas x.choice (map (λ (e : Event). e.choice) ys)
+    ∙ ap (λ zs. schedule_text (map (λ (e : Event). e.choice) zs)) (sym e)

@@ -20,64 +20,81 @@ use Rattle.pf_sched.specs.Waiting.{waiting_in}
 use Rattle.pf_sched.specs.declared.printing.PrintedRun.{PrintedRun}
 use Rattle.pf_strategy.specs.Runs.{MeansByPriorities}
 use Rattle.pf_cli.specs.Args.{RunArgs}
-use Rattle.pf_command.specs.Answers.{Counts, CountsBy, IsNoMemory, counted, atom_names_of, refused_before, reported, run_status, unreported}
+use Rattle.pf_command.specs.Answers.{Counts, CountsBy, IsNoMemory, counted, atom_names_of, refused_before, reported}
+use Rattle.pf_command.specs.Answers.{run_status, unreported}
 use Rattle.pf_check.specs.Reading.{IsModuleOf}
 use Rattle.pf_command.specs.Guided.{AsksOfRun, RunCounts, by_own, by_priorities, with_schedule}
 use Rattle.pf_command.specs.Hunts.{choices_of}
 use Rattle.pf_command.specs.Streams.{IsAnsweredSo, Answering, IsRefusedText, PrintsAnswer, Sends, WentOut, streams}
 use Rattle.pf_command.specs.declared.serving.TheConstants.{MOST_BYTES}
 
-module _ {E : Type 0} (P Q : List ℕ → ℕ → Type 0) (w0 w1 : Option (List ℕ)) (more : (t : List ℕ) (s : ℕ) → P t s → Q t s) where
+module _ {E : Type 0} (P Q : List ℕ → ℕ → Type 0) (w0 w1 : Option (List ℕ)) (more : (t : List ℕ) (s : ℕ)
+    → P t s → Q t s) where
   pub went_more : (r : Result ℕ E) → IfOk r (WentOut P w0 w1) → IfOk r (WentOut Q w0 w1)
   went_more (Ok s) h = (h.0, more h.0 s h.1, h.2)
   went_more (Err e) h = tt
 
 -- what is reported of a refusal
-pub went_refused : (P : List ℕ → ℕ → Type 0) (words : List ℕ) (w0 w1 : Option (List ℕ)) (n0 n1 : ℕ) → ((t : List ℕ) → P t 2) → (r : Result ℕ (OrNoMemory StreamFault))
+pub went_refused : (P : List ℕ → ℕ → Type 0) (words : List ℕ) (w0 w1 : Option (List ℕ)) (n0 n1 : ℕ)
+    → ((t : List ℕ) → P t 2) → (r : Result ℕ (OrNoMemory StreamFault))
     → Sends (IsRefusedText words) w0 w1 n0 n1 r → IfOk r (WentOut P w0 w1)
 went_refused P words w0 w1 n0 n1 f (Ok s) h = (h.0, subst (P h.0) (sym h.1.1) (f h.0), h.2)
 went_refused P words w0 w1 n0 n1 f (Err e) h = tt
 
 module _ (j : Job) (plain : j.asked.runs ≡ zero) (old : ℕ) (w0 w w1 : Option (List ℕ)) (n0 n n1 : ℕ) where
-  pub run_counted : (p : PrintedRun) (s : ℕ) → HasPrinted j (choosing_of None j.asked) p w0 w1 → s ≡ run_status p.verdict → WentOut (Counts j old p.waiting) w0 w1 s
+  pub run_counted : (p : PrintedRun) (s : ℕ) → HasPrinted j (choosing_of None j.asked) p w0 w1
+      → s ≡ run_status p.verdict → WentOut (Counts j old p.waiting) w0 w1 s
   run_counted p s h is = (
     report_text (atom_names_of j) h.0,
     subst (λ k. Counts j old k (report_text (atom_names_of j) h.0) s) (sym h.3)
-        (subst (Counts j old (waiting_in h.0) (report_text (atom_names_of j) h.0)) (ap run_status h.2 ∙ sym is) (reported h.0 plain h.1)),
+        (subst (Counts j old (waiting_in h.0) (report_text (atom_names_of j) h.0)) (ap run_status h.2 ∙ sym is)
+        (reported h.0 plain h.1)),
     h.4,
   )
 
-  pub run_uncounted : (r : Result ℕ StreamFault) → HasStopped NoMemory j (choosing_of None j.asked) w0 w n0 n → PrintsAnswer IsNoMemory w w1 n n1 r
+  pub run_uncounted : (r : Result ℕ StreamFault) → HasStopped NoMemory j (choosing_of None j.asked) w0 w n0 n
+      → PrintsAnswer IsNoMemory w w1 n n1 r
       → IfOk r (WentOut (Counts j old old) w0 w1)
   run_uncounted (Ok s) h told =
-      let lines = lines_text (atom_names_of j) h.2.0 in
-      (lines ++ told.0, subst (Counts j old old (lines ++ told.0)) (sym told.1.1) (unreported (lines ++ told.0)), appends_both w0 w w1 lines told.0 h.2.3 told.2)
+      let lines = lines_text (atom_names_of j) h.2.0 in (
+        lines ++ told.0,
+        subst (Counts j old old (lines ++ told.0)) (sym told.1.1) (unreported (lines ++ told.0)),
+        appends_both w0 w w1 lines told.0 h.2.3 told.2,
+      )
   run_uncounted (Err e) h told = tt
 
 -- ---- of what is asked for
 
 -- what implies what is asked for of the modules of a source
 pub counts_more : (asks more : ReadModule → Result Job Code → Type 0) (old new : ℕ) (bytes text : List ℕ) (status : ℕ)
-    → ((m : ReadModule) (x : Result Job Code) → IsModuleOf bytes m → asks m x → more m x) → CountsBy asks old new bytes text status
+    → ((m : ReadModule) (x : Result Job Code) → IsModuleOf bytes m → asks m x → more m x)
+    → CountsBy asks old new bytes text status
     → CountsBy more old new bytes text status
-counts_more asks more old _ _ _ _ h (counted m j new bytes text status of asked is) = counted m j new bytes text status of (h m (Ok j) of asked) is
+counts_more asks more old _ _ _ _ h (counted m j new bytes text status of asked is) =
+    counted m j new bytes text status of (h m (Ok j) of asked) is
 counts_more asks more old _ _ _ _ h (refused_before bytes text) = refused_before bytes text
 
 module _ (a : RunArgs) (old new : ℕ) (bytes text : List ℕ) (status : ℕ) where
-  pub counts_own : a.priorities ≡ None → CountsBy (λ m. Asks m a.edition a.request) old new bytes text status → RunCounts a old new bytes text status
-  counts_own none = counts_more (λ m. Asks m a.edition a.request) (AsksOfRun a) old new bytes text status (λ m x of asked. by_own x none asked)
+  pub counts_own : a.priorities ≡ None → CountsBy (λ m. Asks m a.edition a.request) old new bytes text status
+      → RunCounts a old new bytes text status
+  counts_own none = counts_more (λ m. Asks m a.edition a.request) (AsksOfRun a) old new bytes text status
+      (λ m x of asked. by_own x none asked)
 
-  pub counts_guided : (seed : ℕ) (k : ReadModule) (j : Job) (r : Report) (q : Request) → a.priorities ≡ Some seed → IsModuleOf bytes k
-      → Asks k a.edition a.request (Ok j) → MeansByPriorities j.asked seed r → q ≡ with_schedule a.request (choices_of r)
+  pub counts_guided : (seed : ℕ) (k : ReadModule) (j : Job) (r : Report) (q : Request) → a.priorities ≡ Some seed
+      → IsModuleOf bytes k
+      → Asks k a.edition a.request (Ok j) → MeansByPriorities j.asked seed r
+      → q ≡ with_schedule a.request (choices_of r)
       → CountsBy (λ m. Asks m a.edition q) old new bytes text status → RunCounts a old new bytes text status
   counts_guided seed k j r q some of asks means same =
       counts_more (λ m. Asks m a.edition q) (AsksOfRun a) old new bytes text status
       (λ m x is asked.
-      by_priorities seed k j r x some (subst (λ s. IsModuleOf s k) (sym is.0) of) asks means (subst (λ y. Asks m a.edition y x) same asked))
+      by_priorities seed k j r x some (subst (λ s. IsModuleOf s k) (sym is.0) of) asks means
+      (subst (λ y. Asks m a.edition y x) same asked))
 
 -- ---- between a reader and a writer
 
-module _ (P : Answering) (bytes : List ℕ) (u0 u1 w0 w1 : Option (List ℕ)) (m0 m1 n0 n1 : ℕ) (read : IfSome u0 (λ input. bytes ≡ take MOST_BYTES input)) where
+module _ (P : Answering) (bytes : List ℕ) (u0 u1 w0 w1 : Option (List ℕ)) (m0 m1 n0 n1 : ℕ)
+    (read : IfSome u0 (λ input. bytes ≡ take MOST_BYTES input)) where
   pub answered_so : (r : Result ℕ (OrNoMemory StreamFault)) → IfOk r (WentOut (P bytes) w0 w1)
       → IfOk r (λ s. IsAnsweredSo P (streams u0 w0 m0 n0) (streams u1 w1 m1 n1) s)
   answered_so (Ok s) h = (bytes, h.0, read, h.1, h.2)

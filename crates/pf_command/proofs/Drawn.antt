@@ -21,31 +21,66 @@ pub no_report : (j : meaning.Job) (r : Report) → 0 < j.runs → IsResult j (re
 no_report j _ shrinks (plain r one means) = omega arith
 
 -- what was found holds with each report that its schedule means
-found_again : (j : meaning.Job) (f : Found) (r s : Report) → IsResult j (shrunk_to f r) → Means (by_schedule j f.schedule) s → IsResult j (shrunk_to f s)
-found_again j _ _ s (smaller k ns fails f r runs choices tells is means) again = smaller k ns fails f s runs choices tells is again
+found_again : (j : meaning.Job) (f : Found) (r s : Report) → IsResult j (shrunk_to f r)
+    → Means (by_schedule j f.schedule) s → IsResult j (shrunk_to f s)
+found_again j _ _ s (smaller k ns fails f r runs choices tells is means) again =
+    smaller k ns fails f s runs choices tells is again
 
 -- the names are of the same functions whichever the choices are
-pub unscheduled : (j : meaning.Job) (ns : List ℕ) (r : Report) (names : List (List ℕ)) → AreNamesIn (by_schedule j ns) r names → AreNamesIn j r names
-unscheduled j ns r names (k, h, d) = (k, record { code = h.code; root = h.root; edition = h.edition; limit = h.limit; events = h.events }, d)
+pub unscheduled : (j : meaning.Job) (ns : List ℕ) (r : Report) (names : List (List ℕ))
+    → AreNamesIn (by_schedule j ns) r names → AreNamesIn j r names
+unscheduled j ns r names (k, h, d) = (
+  k,
+  record {
+    code = h.code;
+    root = h.root;
+    edition = h.edition;
+    limit = h.limit;
+    events = h.events;
+  },
+  d,
+)
 
-pub rescheduled : (j : meaning.Job) (ns : List ℕ) (r : Report) (names : List (List ℕ)) → AreNamesIn j r names → AreNamesIn (by_schedule j ns) r names
-rescheduled j ns r names (k, h, d) = (k, record { code = h.code; root = h.root; edition = h.edition; limit = h.limit; events = h.events }, d)
+pub rescheduled : (j : meaning.Job) (ns : List ℕ) (r : Report) (names : List (List ℕ)) → AreNamesIn j r names
+    → AreNamesIn (by_schedule j ns) r names
+rescheduled j ns r names (k, h, d) = (
+  k,
+  record {
+    code = h.code;
+    root = h.root;
+    edition = h.edition;
+    limit = h.limit;
+    events = h.events;
+  },
+  d,
+)
 
 -- its events lead somewhere
-pub comes_there : (j : meaning.Job) (r : Report) (k : KnownRun) → IsKnownRunOf j r k → IsOfRun j r → (d : Configuration) × RunLeadsTo k d
+pub comes_there : (j : meaning.Job) (r : Report) (k : KnownRun) → IsKnownRunOf j r k → IsOfRun j r
+    → (d : Configuration) × RunLeadsTo k d
 comes_there j r k h (inl means) = comes_to j r k h None means
 comes_there j r k h (inr (ns, means)) =
-    comes_to (by_schedule j ns) r k (record { code = h.code; root = h.root; edition = h.edition; limit = h.limit; events = h.events }) None means
+    comes_to (by_schedule j ns) r k (record {
+      code = h.code;
+      root = h.root;
+      edition = h.edition;
+      limit = h.limit;
+      events = h.events;
+    }) None means
 
 module _ (root : List ℕ) (m : Manner) (j : Job) (a : Output) where
   pub draws_one_run : j.asked.runs ≡ zero → DrawsMeaning j.asked root m a → DrawsJob root m j a.text.items a.status
-  draws_one_run one (r, means, drawn) = rw drawn.3 (run_drawn r drawn.0 a.text.items (plain r one means) drawn.1 drawn.2)
+  draws_one_run one (r, means, drawn) = rw drawn.3
+      (run_drawn r drawn.0 a.text.items (plain r one means) drawn.1 drawn.2)
 
   -- the run by the schedule that was found is the one of the result
-  pub draws_found : (f : Found) (r : Report) → IsResult j.asked (shrunk_to f r) → DrawsMeaning (by_schedule j.asked f.schedule) root m a
+  pub draws_found : (f : Found) (r : Report) → IsResult j.asked (shrunk_to f r)
+      → DrawsMeaning (by_schedule j.asked f.schedule) root m a
       → DrawsJob root m j a.text.items a.status
   draws_found f r is (s, means, drawn) =
-      rw drawn.3 (found_drawn f s drawn.0 a.text.items (found_again j.asked f r s is means) (unscheduled j.asked f.schedule s drawn.0 drawn.1) drawn.2)
+      rw drawn.3 (found_drawn f s drawn.0 a.text.items (found_again j.asked f r s is means)
+      (unscheduled j.asked f.schedule s drawn.0 drawn.1) drawn.2)
 
-  pub draws_none : IsResult j.asked nothing_fails → Refuses a (code_text code.NothingFails) → DrawsJob root m j a.text.items a.status
+  pub draws_none : IsResult j.asked nothing_fails → Refuses a (code_text code.NothingFails)
+      → DrawsJob root m j a.text.items a.status
   draws_none is told = rw (told.0, told.1) (none_drawn is)

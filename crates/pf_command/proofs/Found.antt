@@ -1,5 +1,6 @@
 -- What is reported of hunts, for texts and statuses that are equal to theirs.
-use Rattle.std.proofs.Common.{◌≡◌, ◌++◌, ◌-◌, ◌||◌, ℕ, Bool, List, [], ◌∷◌, Option, None, Some, map, flat_map, inl, inr, refl, sym, ap, subst}
+use Rattle.std.proofs.Common.{◌≡◌, ◌++◌, ◌-◌, ◌||◌, ℕ, Bool, List, [], ◌∷◌, Option, None, Some, map, flat_map, inl, inr}
+use Rattle.std.proofs.Common.{refl, sym, ap, subst}
 use Rattle.std.specs.List.{list_any}
 use Rattle.std.proofs.lemmas.Simd.{map-map}
 use Rattle.std.proofs.lemmas.List.Folds.{flat_map-map}
@@ -18,7 +19,8 @@ use Rattle.pf_hunt.proofs.Stopping.{over_where_found}
 use Rattle.pf_cli.specs.Args.{HuntArgs}
 use Rattle.pf_cli.specs.declared.args.HuntGoal.TheVariants.{Failure, Outcomes}
 use Rattle.pf_command.specs.Answers.{atom_names_of, no_memory_report}
-use Rattle.pf_command.specs.Hunts.{IsLeastFailure, TellsReport, TellsShrinking, TellsSought, choices_of, front_text, may_stop, none_text, row_text, rows_status, seed_text, strategy_text}
+use Rattle.pf_command.specs.Hunts.{IsLeastFailure, TellsReport, TellsShrinking, TellsSought, choices_of, front_text}
+use Rattle.pf_command.specs.Hunts.{may_stop, none_text, row_text, rows_status, seed_text, strategy_text}
 use Rattle.pf_command.specs.Hunts.{none_fails, seed_fails, seed_cut, seed_shrunk, seed_alone, tallied}
 use Rattle.pf_command.specs.declared.answer.Output.{Output}
 
@@ -27,20 +29,25 @@ pub choices_are : (r : code.Report) → map (λ e. e.choice) r.events.items ≡ 
 choices_are r = sym (map-map (λ e. e.choice) view_of_event r.events.items)
 
 -- rows fail as what they stand for
-pub fails_are : (xs : List OutcomeRow) → list_any (λ x. is_failure x.verdict) xs ≡ list_any (λ x. is_failure x.verdict) (rows_in xs)
+pub fails_are : (xs : List OutcomeRow) → list_any (λ x. is_failure x.verdict) xs
+    ≡ list_any (λ x. is_failure x.verdict) (rows_in xs)
 fails_are [] = refl
 fails_are (x ∷ xs) = ap (λ b. is_failure x.verdict || b) (fails_are xs)
 
-pub texts_are : (name : ℕ → List ℕ) (xs : List OutcomeRow) → flat_map (λ x. row_text name (row_of x)) xs ≡ flat_map (row_text name) (rows_in xs)
+pub texts_are : (name : ℕ → List ℕ) (xs : List OutcomeRow)
+    → flat_map (λ x. row_text name (row_of x)) xs ≡ flat_map (row_text name) (rows_in xs)
 texts_are name xs = sym (flat_map-map (row_text name) row_of xs)
 
 module _ (h : HuntArgs) (bytes : List ℕ) (j : Job) (ns : List Notice) where
-  pub tells_none : (runs : Option ℕ) (c : ℕ) (a : Output) → SearchedTo (may_stop h) h.seeds.0 h.seeds.1 c → IsLeastFailure h j ns c None
-      → (a.text.items ≡ front_text h c ++ none_text (c - h.seeds.0)) × (a.status ≡ 0) → TellsSought h bytes j ns (Failure runs) a.text.items a.status
+  pub tells_none : (runs : Option ℕ) (c : ℕ) (a : Output) → SearchedTo (may_stop h) h.seeds.0 h.seeds.1 c
+      → IsLeastFailure h j ns c None
+      → (a.text.items ≡ front_text h c ++ none_text (c - h.seeds.0)) × (a.status ≡ 0)
+      → TellsSought h bytes j ns (Failure runs) a.text.items a.status
   tells_none runs c a reach none is = rw (is.0, is.1) (none_fails runs c reach none)
 
   -- what was found is the least of all seeds
-  pub least_of_all : (m : Bool) (c : ℕ) (f : ℕ × Report) → m ≡ may_stop h → FirstFailing h.leaks h.strategy j.asked h.seeds.0 c (Some f)
+  pub least_of_all : (m : Bool) (c : ℕ) (f : ℕ × Report) → m ≡ may_stop h
+      → FirstFailing h.leaks h.strategy j.asked h.seeds.0 c (Some f)
       → SearchNotices h.strategy j.asked m h.seeds.0 h.seeds.1 c (Some f) ns → IsLeastFailure h j ns h.seeds.1 (Some f)
   least_of_all m c f may least told =
       let e = over_where_found m h.seeds.0 h.seeds.1 c f told.0 told.2 in
@@ -49,28 +56,38 @@ module _ (h : HuntArgs) (bytes : List ℕ) (j : Job) (ns : List Notice) where
 
   pub none_so_far : (m : Bool) (c : ℕ) → m ≡ may_stop h → FirstFailing h.leaks h.strategy j.asked h.seeds.0 c None
       → SearchNotices h.strategy j.asked m h.seeds.0 h.seeds.1 c None ns → IsLeastFailure h j ns c None
-  none_so_far m c may none told = (none, subst (λ b. SearchNotices h.strategy j.asked b h.seeds.0 h.seeds.1 c None ns) may told)
+  none_so_far m c may none told = (
+    none,
+    subst
+        (λ b. SearchNotices h.strategy j.asked b h.seeds.0 h.seeds.1 c None ns) may told,
+  )
 
   -- after the seed and the choices of a run that fails comes its report, or what it was cut to
   pub tells_report : (s : ℕ) (r : Report) (text : List ℕ) (status : ℕ) → IsLeastFailure h j ns h.seeds.1 (Some (s, r))
-      → TellsReport j r text status → TellsSought h bytes j ns (Failure None) (seed_text s h.strategy (choices_of r) ++ text) status
+      → TellsReport j r text status → TellsSought h bytes j ns (Failure None)
+      (seed_text s h.strategy (choices_of r) ++ text) status
   tells_report s r text status least (inl is) = rw (is.0, is.1) (seed_fails s r least)
   tells_report s r text status least (inr (es, rest, e, is, one)) = rw (is, one) (seed_cut s r es rest least e)
 
   -- or what the shrinking of the choices is answered with
-  pub tells_shrinking : (s : ℕ) (r : Report) (runs : ℕ) (text : List ℕ) (status : ℕ) → IsLeastFailure h j ns h.seeds.1 (Some (s, r))
-      → TellsShrinking h bytes r runs text status → TellsSought h bytes j ns (Failure (Some runs)) (seed_text s h.strategy (choices_of r) ++ text) status
+  pub tells_shrinking : (s : ℕ) (r : Report) (runs : ℕ) (text : List ℕ) (status : ℕ)
+      → IsLeastFailure h j ns h.seeds.1 (Some (s, r))
+      → TellsShrinking h bytes r runs text status
+      → TellsSought h bytes j ns (Failure (Some runs)) (seed_text s h.strategy (choices_of r) ++ text) status
   tells_shrinking s r runs text status least (inl answers) = seed_shrunk s r runs text status least answers
   tells_shrinking s r runs text status least (inr is) = rw (is.0, is.1) (seed_alone s r runs least)
 
   -- something may be reported after the seed of a run that fails
   pub may_be_told : (s : ℕ) (r : Report) (runs : Option ℕ) → IsLeastFailure h j ns h.seeds.1 (Some (s, r))
-      → (text : List ℕ) × (status : ℕ) × TellsSought h bytes j ns (Failure runs) (seed_text s h.strategy (choices_of r) ++ text) status
+      → (text : List ℕ) × (status : ℕ) × TellsSought h bytes j ns (Failure runs)
+      (seed_text s h.strategy (choices_of r) ++ text) status
   may_be_told s r None least = (report_text (atom_names_of j) r, 1, seed_fails s r least)
   may_be_told s r (Some runs) least = (no_memory_report, 2, seed_alone s r runs least)
 
-  pub tells_rows : (c : ℕ) (xs : List rows.OutcomeRow) (a : Output) → SearchedTo (may_stop h) h.seeds.0 h.seeds.1 c → Tallies h.strategy j.asked h.seeds.0 c xs
+  pub tells_rows : (c : ℕ) (xs : List rows.OutcomeRow) (a : Output) → SearchedTo (may_stop h) h.seeds.0 h.seeds.1 c
+      → Tallies h.strategy j.asked h.seeds.0 c xs
       → TallyNotices h.strategy j.asked (may_stop h) h.seeds.0 h.seeds.1 c ns
-      → (a.text.items ≡ front_text h c ++ strategy_text h.strategy ++ flat_map (row_text (atom_names_of j)) xs) × (a.status ≡ rows_status xs)
+      → (a.text.items ≡ front_text h c ++ strategy_text h.strategy ++ flat_map (row_text (atom_names_of j)) xs)
+      × (a.status ≡ rows_status xs)
       → TellsSought h bytes j ns Outcomes a.text.items a.status
   tells_rows c xs a reach counted told is = rw (is.0, is.1) (tallied c xs reach counted told)

@@ -12,7 +12,8 @@ use Rattle.pf_model.specs.TermText.{line}
 use Rattle.pf_check.specs.Reads.{Reads, refused}
 use Rattle.pf_check.specs.Module.{ReadModule}
 use Rattle.pf_request.specs.Job.{Job, memory_report}
-use Rattle.pf_command.specs.Answers.{AnswersBy, Refuses, no_memory_report, ReportsJob, TellsResult, source_refused, job_refused, told, result, out_of_memory}
+use Rattle.pf_command.specs.Answers.{AnswersBy, Refuses, no_memory_report, ReportsJob, TellsResult, source_refused}
+use Rattle.pf_command.specs.Answers.{job_refused, told, result, out_of_memory}
 use Rattle.pf_check.specs.Reading.{IsModuleOf, IsReadAs}
 use Rattle.pf_command.specs.Checks.{Checks, ExplainsRefusal, is_module, is_refused}
 use Rattle.pf_command.specs.declared.answer.Output.{Output}
@@ -22,34 +23,44 @@ module _ (asks : ReadModule → Result Job Code → Type 0) (tells : Job → Lis
       → Refuses a (refusal_text code offset) → AnswersBy asks tells bytes a.text.items a.status
   row_refused bytes a code offset reads is = rw (is.0, is.1) (source_refused code offset reads)
 
-  pub row_job_refused : (m : ReadModule) (bytes : List ℕ) (a : Output) (code : Code) → IsModuleOf bytes m → asks m (Err code)
+  pub row_job_refused : (m : ReadModule) (bytes : List ℕ) (a : Output) (code : Code) → IsModuleOf bytes m
+      → asks m (Err code)
       → Refuses a (code_text code) → AnswersBy asks tells bytes a.text.items a.status
   row_job_refused m bytes a code of asked is = rw (is.0, is.1) (job_refused m code of asked)
 
-  pub row_told : (m : ReadModule) (bytes : List ℕ) (j : Job) (a : Output) → IsModuleOf bytes m → asks m (Ok j) → tells j a.text.items a.status
+  pub row_told : (m : ReadModule) (bytes : List ℕ) (j : Job) (a : Output) → IsModuleOf bytes m → asks m (Ok j)
+      → tells j a.text.items a.status
       → AnswersBy asks tells bytes a.text.items a.status
   row_told m bytes j a of asked is = told m j a.text.items a.status of asked is
 
 -- what reports a result of a job
-pub tells_result : (j : Job) (atoms : List (List ℕ)) (x y : shrinking.Result) (a : Output) → IsResult j.asked y → x ≡ y → atoms ≡ j.asked.code.atoms
+pub tells_result : (j : Job) (atoms : List (List ℕ)) (x y : shrinking.Result) (a : Output) → IsResult j.asked y → x ≡ y
+    → atoms ≡ j.asked.code.atoms
     → TellsResult atoms x a → ReportsJob j a.text.items a.status
 tells_result j atoms x y a is e f tells =
-    let names : TellsResult j.asked.code.atoms y a = subst (λ l. TellsResult l y a) f (subst (λ z. TellsResult atoms z a) e tells) in
+    let names : TellsResult j.asked.code.atoms y a =
+    subst (λ l. TellsResult l y a) f (subst (λ z. TellsResult atoms z a) e tells) in
     rw (names.0, names.1) (result y is)
 
 -- the report of a run without memory
 pub memory_text : (name : ℕ → List ℕ) → report_text name memory_report ≡ no_memory_report
-memory_text name = ap (λ d. line (codes "memory") ++ line (codes "steps " ++ d) ++ line (codes "no verdict")) (decimal_digit 0 (omega arith))
+memory_text name = ap (λ d. line (codes "memory") ++ line (codes "steps " ++ d) ++ line (codes "no verdict"))
+    (decimal_digit 0 (omega arith))
 
 -- or that memory ran out within a run
-pub tells_no_memory : (j : Job) (atoms : List (List ℕ)) (a : Output) → j.asked.runs ≡ zero → TellsResult atoms (shrinking.report memory_report) a
+pub tells_no_memory : (j : Job) (atoms : List (List ℕ)) (a : Output) → j.asked.runs ≡ zero
+    → TellsResult atoms (shrinking.report memory_report) a
     → ReportsJob j a.text.items a.status
-tells_no_memory j atoms a run tells = rw (tells.0 ∙ memory_text (name_of atoms), tells.1) (out_of_memory [] run (λ r means. (r.events, refl)))
+tells_no_memory j atoms a run tells = rw (tells.0 ∙ memory_text (name_of atoms), tells.1)
+    (out_of_memory [] run (λ r means. (r.events, refl)))
 
 pub row_module : (explain : Bool) (m : ReadModule) (bytes text : List ℕ) (status : ℕ) → IsReadAs bytes m
     → text ≡ line (codes "ok") → status ≡ 0 → Checks explain bytes text status
 row_module explain m bytes text status reads e s = rw (e, s) (is_module m.code.name m.code.atoms m.code.functions reads)
 
-pub row_check_refused : (explain : Bool) (bytes text more : List ℕ) (status : ℕ) (code : Code) (offset : ℕ) → Reads bytes (refused code offset)
-    → ExplainsRefusal bytes code offset explain more → text ≡ line (refusal_text code offset) ++ more → status ≡ 2 → Checks explain bytes text status
-row_check_refused explain bytes text more status code offset reads explains e s = rw (e, s) (is_refused code offset more reads explains)
+pub row_check_refused : (explain : Bool) (bytes text more : List ℕ) (status : ℕ) (code : Code) (offset : ℕ)
+    → Reads bytes (refused code offset)
+    → ExplainsRefusal bytes code offset explain more → text ≡ line (refusal_text code offset) ++ more → status ≡ 2
+    → Checks explain bytes text status
+row_check_refused explain bytes text more status code offset reads explains e s =
+    rw (e, s) (is_refused code offset more reads explains)

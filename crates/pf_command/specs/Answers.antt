@@ -1,5 +1,6 @@
 -- What a source is answered with of which a run or a shrinking is asked for: the text that goes out and the status.
-use Rattle.std.specs.Prelude.{◌≡◌, ◌<◌, ℕ, zero, Bool, true, false, List, ◌++◌, Option, None, Some, Result, Ok, Err, codes}
+use Rattle.std.specs.Prelude.{◌≡◌, ◌<◌, ℕ, zero, Bool, true, false, List, ◌++◌, Option, None, Some, Result, Ok, Err}
+use Rattle.std.specs.Prelude.{codes}
 use Rattle.pf_errors.specs.Codes.{code_text, refusal_text}
 use Rattle.pf_errors.specs.declared.code.Code.{Code}
 use Rattle.pf_errors.specs.declared.code.Code.TheVariants as code
@@ -26,7 +27,8 @@ use Rattle.pf_command.specs.declared.answer.Output.{Output}
 
 -- AnswersBy asks tells bytes text status: a source of these bytes is answered with this text and this status, if `asks`
 -- says which job is asked for of a module or what it is refused for, and `tells` what is reported of a job
-pub data AnswersBy (asks : ReadModule → Result Job Code → Type 0) (tells : Job → List ℕ → ℕ → Type 0) (bytes : List ℕ) : List ℕ → ℕ → Type 0 where
+pub data AnswersBy (asks : ReadModule → Result Job Code → Type 0) (tells : Job → List ℕ → ℕ
+    → Type 0) (bytes : List ℕ) : List ℕ → ℕ → Type 0 where
   -- the source is refused
   source_refused : (code : Code) (offset : ℕ) → Reads bytes (refused code offset)
       → AnswersBy asks tells bytes (line (refusal_text code offset)) 2
@@ -34,7 +36,8 @@ pub data AnswersBy (asks : ReadModule → Result Job Code → Type 0) (tells : J
   job_refused : (m : ReadModule) (code : Code) → IsModuleOf bytes m → asks m (Err code)
       → AnswersBy asks tells bytes (line (code_text code)) 2
   -- what is reported of the job
-  told : (m : ReadModule) (j : Job) (text : List ℕ) (status : ℕ) → IsModuleOf bytes m → asks m (Ok j) → tells j text status
+  told : (m : ReadModule) (j : Job) (text : List ℕ) (status : ℕ) → IsModuleOf bytes m → asks m (Ok j)
+      → tells j text status
       → AnswersBy asks tells bytes text status
 
 -- ---- runs and shrinkings
@@ -80,7 +83,8 @@ cut_text name es = lines_text name es ++ no_memory_report
 -- that went out by then. Nothing is reported of a shrinking without memory
 pub data ReportsJob (j : Job) : List ℕ → ℕ → Type 0 where
   result : (x : shrinking.Result) → IsResult j.asked x → ReportsJob j (told_text (atom_names_of j) x) (told_status x)
-  out_of_memory : (es : List Event) → j.asked.runs ≡ zero → AreFirst j.asked es → ReportsJob j (cut_text (atom_names_of j) es) 2
+  out_of_memory : (es : List Event) → j.asked.runs ≡ zero → AreFirst j.asked es
+      → ReportsJob j (cut_text (atom_names_of j) es) 2
 
 -- a source of these bytes, of which a run or a shrinking is asked for, is answered with this text and this status
 abbrev pub AnswersRun : RunArgs → (bytes text : List ℕ) → ℕ → Type 0
@@ -98,8 +102,10 @@ pub data Counts (j : Job) (old : ℕ) : (new : ℕ) → List ℕ → ℕ → Typ
   unreported : (text : List ℕ) → Counts j old old text 2
 
 -- the same of a source of these bytes, if `asks` says which job is asked for of a module
-pub data CountsBy (asks : ReadModule → Result Job Code → Type 0) (old : ℕ) : (new : ℕ) → (bytes text : List ℕ) → ℕ → Type 0 where
-  counted : (m : ReadModule) (j : Job) (new : ℕ) (bytes text : List ℕ) (status : ℕ) → IsModuleOf bytes m → asks m (Ok j) → Counts j old new text status
+pub data CountsBy (asks : ReadModule → Result Job Code → Type 0) (old : ℕ) : (new : ℕ) → (bytes text : List ℕ)
+    → ℕ → Type 0 where
+  counted : (m : ReadModule) (j : Job) (new : ℕ) (bytes text : List ℕ) (status : ℕ) → IsModuleOf bytes m → asks m (Ok j)
+      → Counts j old new text status
       → CountsBy asks old new bytes text status
   refused_before : (bytes text : List ℕ) → CountsBy asks old old bytes text 2
 

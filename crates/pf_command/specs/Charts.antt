@@ -28,10 +28,12 @@ AreNamesIn j r names = (k : KnownRun) × IsKnownRunOf j r k × ((d : Configurati
 -- processes, with the status of the run, or of a shrinking that of the run which it found. If memory runs out within it
 -- nothing is reported
 pub data DrawsJob (root : List ℕ) (m : Manner) (j : Job) : List ℕ → ℕ → Type 0 where
-  run_drawn : (r : Report) (names : List (List ℕ)) (text : List ℕ) → IsResult j.asked (report r) → AreNamesIn j.asked r names
+  run_drawn : (r : Report) (names : List (List ℕ)) (text : List ℕ) → IsResult j.asked (report r)
+      → AreNamesIn j.asked r names
       → IsChart (atom_names_of j) root names m r [] text
       → DrawsJob root m j text (run_status r.verdict)
-  found_drawn : (f : Found) (r : Report) (names : List (List ℕ)) (text : List ℕ) → IsResult j.asked (shrunk_to f r) → AreNamesIn j.asked r names
+  found_drawn : (f : Found) (r : Report) (names : List (List ℕ)) (text : List ℕ) → IsResult j.asked (shrunk_to f r)
+      → AreNamesIn j.asked r names
       → IsChart (atom_names_of j) root names m r [] text
       → DrawsJob root m j text (run_status r.verdict)
   none_drawn : IsResult j.asked nothing_fails → DrawsJob root m j (line (code_text code.NothingFails)) 2
@@ -54,7 +56,8 @@ IsOfRun j r = Means j r ⊎ ((ns : List ℕ) × Means (by_schedule j ns) r)
 -- the answer draws a run of a job
 abbrev pub DrawsRun : meaning.Job → (root : List ℕ) → Manner → Report → Output → Type 0
 DrawsRun j root m r a =
-    (names : List (List ℕ)) × AreNamesIn j r names × IsChart (name_of j.code.atoms) root names m r [] a.text.items × (a.status ≡ run_status r.verdict)
+    (names : List (List ℕ)) × AreNamesIn j r names × IsChart (name_of j.code.atoms) root names m r [] a.text.items
+    × (a.status ≡ run_status r.verdict)
 
 -- the answer draws the run that a job means
 abbrev pub DrawsMeaning : meaning.Job → (root : List ℕ) → Manner → Output → Type 0

@@ -14,7 +14,8 @@ use Rattle.pf_command.specs.declared.answer.Output.{Output}
 -- that is asked for explanations of faults, among them that of the refusal
 pub data ExplainsRefusal (bytes : List ℕ) (code : Code) (offset : ℕ) : (explain : Bool) → List ℕ → Type 0 where
   unasked : ExplainsRefusal bytes code offset false []
-  asked : (told : List Advice) → ReportsRefusal bytes code offset told → ExplainsRefusal bytes code offset true (explanations bytes told)
+  asked : (told : List Advice) → ReportsRefusal bytes code offset told
+      → ExplainsRefusal bytes code offset true (explanations bytes told)
 
 -- Checks explain bytes text status: a source of these bytes is answered with this text and this status
 pub data Checks (explain : Bool) (bytes : List ℕ) : List ℕ → ℕ → Type 0 where
@@ -22,7 +23,8 @@ pub data Checks (explain : Bool) (bytes : List ℕ) : List ℕ → ℕ → Type 
   is_module : (name : ℕ) (atoms : List (List ℕ)) (functions : Program) → Reads bytes (accepted name atoms functions)
       → Checks explain bytes (line (codes "ok")) 0
   -- the source is refused
-  is_refused : (code : Code) (offset : ℕ) (more : List ℕ) → Reads bytes (refused code offset) → ExplainsRefusal bytes code offset explain more
+  is_refused : (code : Code) (offset : ℕ) (more : List ℕ) → Reads bytes (refused code offset)
+      → ExplainsRefusal bytes code offset explain more
       → Checks explain bytes (line (refusal_text code offset) ++ more) 2
 
 -- ---- the code's own answers
@@ -30,4 +32,5 @@ pub data Checks (explain : Bool) (bytes : List ℕ) : List ℕ → ℕ → Type 
 -- the answer is the line of a refusal, with what follows it
 abbrev pub IsCheckRefused : (explain : Bool) → (bytes : List ℕ) → Code → (offset : ℕ) → Output → Type 0
 IsCheckRefused explain bytes code offset a =
-    (more : List ℕ) × ExplainsRefusal bytes code offset explain more × (a.text.items ≡ line (refusal_text code offset) ++ more) × (a.status ≡ 2)
+    (more : List ℕ) × ExplainsRefusal bytes code offset explain more
+    × (a.text.items ≡ line (refusal_text code offset) ++ more) × (a.status ≡ 2)

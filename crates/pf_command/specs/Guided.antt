@@ -22,9 +22,12 @@ with_schedule r numbers = record r { kind = run (schedule numbers) }
 -- the schedule of those that the priorities of a seed make of it
 pub data AsksOfRun (a : RunArgs) (m : ReadModule) : Result Job Code → Type 0 where
   by_own : (x : Result Job Code) → a.priorities ≡ None → Asks m a.edition a.request x → AsksOfRun a m x
-  refused : (seed : ℕ) (code : Code) → a.priorities ≡ Some seed → Asks m a.edition a.request (Err code) → AsksOfRun a m (Err code)
-  by_priorities : (seed : ℕ) (k : ReadModule) (j : Job) (r : Report) (x : Result Job Code) → a.priorities ≡ Some seed → IsModuleOf m.source k
-      → Asks k a.edition a.request (Ok j) → MeansByPriorities j.asked seed r → Asks m a.edition (with_schedule a.request (choices_of r)) x
+  refused : (seed : ℕ) (code : Code) → a.priorities ≡ Some seed → Asks m a.edition a.request (Err code)
+      → AsksOfRun a m (Err code)
+  by_priorities : (seed : ℕ) (k : ReadModule) (j : Job) (r : Report) (x : Result Job Code) → a.priorities ≡ Some seed
+      → IsModuleOf m.source k
+      → Asks k a.edition a.request (Ok j) → MeansByPriorities j.asked seed r
+      → Asks m a.edition (with_schedule a.request (choices_of r)) x
       → AsksOfRun a m x
 
 -- a source of these bytes, of which a run is asked for, is answered with this text and this status

@@ -1,5 +1,6 @@
 -- What a source is answered with whose runs by many seeds are asked for: the text that goes out and the status.
-use Rattle.std.specs.Prelude.{◌≡◌, ◌⊎◌, ℕ, ◌-◌, ◌==◌, Bool, true, false, if◌then◌else◌, is_some, List, [], ◌++◌, map, flat_map, codes, Option, None, Some, Result, Ok, Err}
+use Rattle.std.specs.Prelude.{◌≡◌, ◌⊎◌, ℕ, ◌-◌, ◌==◌, Bool, true, false, if◌then◌else◌, is_some, List, [], ◌++◌, map}
+use Rattle.std.specs.Prelude.{flat_map, codes, Option, None, Some, Result, Ok, Err}
 use Rattle.std.specs.List.{list_any}
 use Rattle.std.specs.Fmt.{decimal}
 use Rattle.pf_errors.specs.declared.code.Code.{Code}
@@ -31,7 +32,11 @@ use Rattle.pf_check.specs.Reading.{IsModuleOf}
 
 -- the shrinking of a schedule that a hunt finds
 abbrev pub shrinking_of : HuntArgs → (numbers : List ℕ) → (runs : ℕ) → RunArgs
-shrinking_of h numbers runs = record { request = record h.request { kind = shrink numbers runs }; edition = h.edition; priorities = None }
+shrinking_of h numbers runs = record {
+  request = record h.request { kind = shrink numbers runs };
+  edition = h.edition;
+  priorities = None;
+}
 
 -- if a schedule is to be shrunk, the shrinking of the empty one isn't refused
 abbrev pub MayShrink : HuntArgs → HuntGoal → ReadModule → Type 0
@@ -44,7 +49,8 @@ MayShrink h Outcomes m = Unit {0}
 pub data HuntAsksFor (h : HuntArgs) : HuntGoal → ReadModule → Result Job Code → Type 0 where
   shrinking_refused : (runs : ℕ) (m : ReadModule) (code : Code) → AsksOf (shrinking_of h [] runs) m (Err code)
       → HuntAsksFor h (Failure (Some runs)) m (Err code)
-  run_asked : (sought : HuntGoal) (m : ReadModule) (x : Result Job Code) → MayShrink h sought m → Asks m h.edition h.request x
+  run_asked : (sought : HuntGoal) (m : ReadModule) (x : Result Job Code) → MayShrink h sought m
+      → Asks m h.edition h.request x
       → HuntAsksFor h sought m x
 
 -- ---- what is reported
@@ -75,7 +81,8 @@ strategy_text Uniform = []
 -- a seed, its strategy and the choices of its run, each on a line
 abbrev pub seed_text : (seed : ℕ) → Strategy → (choices : List ℕ) → List ℕ
 seed_text seed strategy choices =
-    codes "seed " ++ decimal seed ++ codes "\n" ++ strategy_text strategy ++ codes "schedule " ++ schedule_text choices ++ codes "\n"
+    codes "seed " ++ decimal seed ++ codes "\n" ++ strategy_text strategy ++ codes "schedule "
+    ++ schedule_text choices ++ codes "\n"
 
 abbrev pub verdict_text : Option Bool → List ℕ
 verdict_text (Some true) = codes "holds "
@@ -85,7 +92,8 @@ verdict_text None = codes "no verdict "
 -- whether the property holds, by how many seeds the outcome was met, the least of them, and the outcome's line
 abbrev pub row_text : (ℕ → List ℕ) → OutcomeRow → List ℕ
 row_text name x =
-    verdict_text x.verdict ++ decimal x.count ++ codes " seeds, least " ++ decimal x.least ++ codes ": " ++ line (outcome_text name x.outcome)
+    verdict_text x.verdict ++ decimal x.count ++ codes " seeds, least " ++ decimal x.least ++ codes ": "
+    ++ line (outcome_text name x.outcome)
 
 -- 1 if the property of some run fails, else 0
 abbrev pub rows_status : List OutcomeRow → ℕ
@@ -95,7 +103,8 @@ rows_status rows = if list_any (λ x. is_failure x.verdict) rows then 1 else 0
 -- the hunt receives these notices
 abbrev pub IsLeastFailure : HuntArgs → Job → List Notice → (c : ℕ) → Option (ℕ × Report) → Type 0
 IsLeastFailure h j ns c x =
-    FirstFailing h.leaks h.strategy j.asked h.seeds.0 c x × SearchNotices h.strategy j.asked (may_stop h) h.seeds.0 h.seeds.1 c x ns
+    FirstFailing h.leaks h.strategy j.asked h.seeds.0 c x × SearchNotices h.strategy j.asked (may_stop h) h.seeds.0
+    h.seeds.1 c x ns
 
 -- TellsSought h bytes j notices sought text status: what is reported of the runs of a job by the seeds, by what is
 -- sought, if the source has these bytes and the observer receives these notices
@@ -105,29 +114,37 @@ pub data TellsSought (h : HuntArgs) (bytes : List ℕ) (j : Job) (ns : List Noti
       → TellsSought h bytes j ns (Failure runs) (front_text h c ++ none_text (c - h.seeds.0)) 0
   -- the least seed whose run fails, the choices of that run, and its report
   seed_fails : (s : ℕ) (r : Report) → IsLeastFailure h j ns h.seeds.1 (Some (s, r))
-      → TellsSought h bytes j ns (Failure None) (seed_text s h.strategy (choices_of r) ++ report_text (atom_names_of j) r) 1
+      → TellsSought h bytes j ns (Failure None)
+      (seed_text s h.strategy (choices_of r) ++ report_text (atom_names_of j) r) 1
   -- or, if memory ran out within the report, the lines of its first events that went out by then, and that it did
-  seed_cut : (s : ℕ) (r : Report) (es rest : List Event) → IsLeastFailure h j ns h.seeds.1 (Some (s, r)) → r.events ≡ es ++ rest
-      → TellsSought h bytes j ns (Failure None) (seed_text s h.strategy (choices_of r) ++ cut_text (atom_names_of j) es) 2
+  seed_cut : (s : ℕ) (r : Report) (es rest : List Event) → IsLeastFailure h j ns h.seeds.1 (Some (s, r))
+      → r.events ≡ es ++ rest
+      → TellsSought h bytes j ns (Failure None)
+      (seed_text s h.strategy (choices_of r) ++ cut_text (atom_names_of j) es) 2
   -- or what the shrinking of these choices is answered with
-  seed_shrunk : (s : ℕ) (r : Report) (runs : ℕ) (text : List ℕ) (status : ℕ) → IsLeastFailure h j ns h.seeds.1 (Some (s, r))
+  seed_shrunk : (s : ℕ) (r : Report) (runs : ℕ) (text : List ℕ) (status : ℕ)
+      → IsLeastFailure h j ns h.seeds.1 (Some (s, r))
       → AnswersRun (shrinking_of h (choices_of r) runs) bytes text status
       → TellsSought h bytes j ns (Failure (Some runs)) (seed_text s h.strategy (choices_of r) ++ text) status
   -- or, if memory ran out within the shrinking, that it did
   seed_alone : (s : ℕ) (r : Report) (runs : ℕ) → IsLeastFailure h j ns h.seeds.1 (Some (s, r))
       → TellsSought h bytes j ns (Failure (Some runs)) (seed_text s h.strategy (choices_of r) ++ no_memory_report) 2
   -- the strategy, and each outcome that is met by the seeds that it reached
-  tallied : (c : ℕ) (rows : List OutcomeRow) → SearchedTo (may_stop h) h.seeds.0 h.seeds.1 c → Tallies h.strategy j.asked h.seeds.0 c rows
+  tallied : (c : ℕ) (rows : List OutcomeRow) → SearchedTo (may_stop h) h.seeds.0 h.seeds.1 c
+      → Tallies h.strategy j.asked h.seeds.0 c rows
       → TallyNotices h.strategy j.asked (may_stop h) h.seeds.0 h.seeds.1 c ns
-      → TellsSought h bytes j ns Outcomes (front_text h c ++ strategy_text h.strategy ++ flat_map (row_text (atom_names_of j)) rows) (rows_status rows)
+      → TellsSought h bytes j ns Outcomes (front_text h c ++ strategy_text h.strategy
+      ++ flat_map (row_text (atom_names_of j)) rows) (rows_status rows)
 
 -- SoughtAnswers h sought bytes notices text status: a source of these bytes, of whose runs by many seeds this is
 -- sought, is answered with this text and this status, and the observer of the hunt receives these notices
 pub data SoughtAnswers (h : HuntArgs) (sought : HuntGoal) (bytes : List ℕ) : List Notice → List ℕ → ℕ → Type 0 where
   -- something is refused, so that nothing is hunted
-  refused : (text : List ℕ) (status : ℕ) → AnswersBy (HuntAsksFor h sought) (λ j t s. ⊥) bytes text status → SoughtAnswers h sought bytes [] text status
+  refused : (text : List ℕ) (status : ℕ) → AnswersBy (HuntAsksFor h sought) (λ j t s. ⊥) bytes text status
+      → SoughtAnswers h sought bytes [] text status
   -- the job is hunted
-  hunted : (m : ReadModule) (j : Job) (ns : List Notice) (text : List ℕ) (status : ℕ) → IsModuleOf bytes m → HuntAsksFor h sought m (Ok j)
+  hunted : (m : ReadModule) (j : Job) (ns : List Notice) (text : List ℕ) (status : ℕ) → IsModuleOf bytes m
+      → HuntAsksFor h sought m (Ok j)
       → TellsSought h bytes j ns sought text status → SoughtAnswers h sought bytes ns text status
 
 -- a source of these bytes, whose runs by many seeds are asked for, is answered with this text and this status, while
@@ -149,17 +166,20 @@ MaySay h bytes ns (Found f) text status = TellsSought h bytes f.job ns (Failure 
 -- it is a run that fails, the first of the module of the source, or an answer
 abbrev pub IsFound : HuntArgs → (bytes : List ℕ) → List Notice → HuntEnd → Type 0
 IsFound h bytes ns (Told a) = Unit {0}
-IsFound h bytes ns (Found f) = IsModuleOf bytes f.«module» × IsLeastFailure h f.job ns h.seeds.1 (Some (failure_of f.failure))
+IsFound h bytes ns (Found f) = IsModuleOf bytes f.«module» × IsLeastFailure h f.job ns h.seeds.1
+    (Some (failure_of f.failure))
 
 -- whatever may be said of it is reported of the runs of this job
 abbrev pub TellsAs : HuntArgs → (bytes : List ℕ) → Job → HuntGoal → HuntEnd → List Notice → Type 0
 TellsAs h bytes j sought x ns =
-    IsFound h bytes ns x × ((text : List ℕ) (status : ℕ) → MaySay h bytes ns x text status → TellsSought h bytes j ns sought text status)
+    IsFound h bytes ns x × ((text : List ℕ) (status : ℕ) → MaySay h bytes ns x text status
+    → TellsSought h bytes j ns sought text status)
 
 -- so a source of these bytes may be answered
 abbrev pub HuntEndsAs : HuntArgs → HuntGoal → (bytes : List ℕ) → HuntEnd → List Notice → Type 0
 HuntEndsAs h sought bytes x ns =
-    IsFound h bytes ns x × ((text : List ℕ) (status : ℕ) → MaySay h bytes ns x text status → SoughtAnswers h sought bytes ns text status)
+    IsFound h bytes ns x × ((text : List ℕ) (status : ℕ) → MaySay h bytes ns x text status
+    → SoughtAnswers h sought bytes ns text status)
 
 -- of each source whose module this is
 abbrev pub OfEach : ReadModule → (so : (bytes : List ℕ) → List Notice → Type 0) → List Notice → Type 0
@@ -172,7 +192,8 @@ OfEach m so ns = (bytes : List ℕ) → IsModuleOf bytes m → so bytes ns
 abbrev pub TellsReport : Job → Report → List ℕ → ℕ → Type 0
 TellsReport j r text status =
     ((text ≡ report_text (atom_names_of j) r) × (status ≡ 1))
-    ⊎ ((es : List Event) × (rest : List Event) × (r.events ≡ es ++ rest) × (text ≡ cut_text (atom_names_of j) es) × (status ≡ 2))
+    ⊎ ((es : List Event) × (rest : List Event) × (r.events ≡ es ++ rest) × (text ≡ cut_text (atom_names_of j) es)
+    × (status ≡ 2))
 
 -- what the shrinking of its choices is answered with; or that memory ran out within it
 abbrev pub TellsShrinking : HuntArgs → (bytes : List ℕ) → Report → (runs : ℕ) → List ℕ → ℕ → Type 0

@@ -32,12 +32,14 @@ AreRead s bytes = IfSome s.unread (λ input. bytes ≡ take MOST_BYTES input)
 
 -- what was read is answered with the text that went out and the status
 abbrev pub IsAnsweredSo : Answering → (old new : Streams) → ℕ → Type 0
-IsAnsweredSo P old new status = (bytes : List ℕ) × (text : List ℕ) × AreRead old bytes × P bytes text status × Appends old.written new.written text
+IsAnsweredSo P old new status = (bytes : List ℕ) × (text : List ℕ) × AreRead old bytes × P bytes text status
+    × Appends old.written new.written text
 
 -- a beginning of the text of an answer went out
 abbrev pub AnsweredInPart : Answering → (old new : Streams) → Type 0
 AnsweredInPart P old new =
-    (bytes : List ℕ) × (text : List ℕ) × (status : ℕ) × AreRead old bytes × P bytes text status × AppendsFront old.written new.written text
+    (bytes : List ℕ) × (text : List ℕ) × (status : ℕ) × AreRead old bytes × P bytes text status
+    × AppendsFront old.written new.written text
 
 -- at most MOST_BYTES bytes were read
 abbrev pub TakesBytes : (old new : Streams) → Type 0
@@ -50,8 +52,10 @@ NoneFailed old new = (new.failed_reads ≡ old.failed_reads) × (new.failed_writ
 -- what a fault leaves: which stream failed once more, and what went out
 abbrev pub Leaves : OrNoMemory StreamFault → Answering → (old new : Streams) → Type 0
 Leaves NoMemory P old new = NoneFailed old new × (new.written ≡ old.written)
-Leaves (Fault (Read e)) P old new = (new.failed_reads ≡ old.failed_reads + 1) × (new.failed_writes ≡ old.failed_writes) × (new.written ≡ old.written)
-Leaves (Fault (Write e)) P old new = (new.failed_reads ≡ old.failed_reads) × (new.failed_writes ≡ old.failed_writes + 1) × AnsweredInPart P old new
+Leaves (Fault (Read e)) P old new = (new.failed_reads ≡ old.failed_reads + 1) × (new.failed_writes ≡ old.failed_writes)
+    × (new.written ≡ old.written)
+Leaves (Fault (Write e)) P old new = (new.failed_reads ≡ old.failed_reads) × (new.failed_writes ≡ old.failed_writes + 1)
+    × AnsweredInPart P old new
 
 -- a source is answered; or a stream failed or memory ran out, and a beginning of the answer went out
 abbrev pub Serves : Answering → (old new : Streams) → Result ℕ (OrNoMemory StreamFault) → Type 0
@@ -62,12 +66,15 @@ Serves P old new (Err e) = Leaves e P old new
 
 -- what goes out of a text that may be printed, with its status: all of it; or a beginning, where a write failed and was
 -- counted
-abbrev pub PrintsAnswer : (may : List ℕ → ℕ → Type 0) → (written_old written_new : Option (List ℕ)) → (failed_old failed_new : ℕ) → Result ℕ StreamFault → Type 0
+abbrev pub PrintsAnswer : (may : List ℕ → ℕ → Type 0) → (written_old written_new : Option (List ℕ))
+    → (failed_old failed_new : ℕ) → Result ℕ StreamFault → Type 0
 PrintsAnswer P w0 w1 n0 n1 (Ok status) = (text : List ℕ) × P text status × Appends w0 w1 text × (n1 ≡ n0)
-PrintsAnswer P w0 w1 n0 n1 (Err f) = (text : List ℕ) × (status : ℕ) × P text status × AppendsFront w0 w1 text × CountsWrite f n0 n1
+PrintsAnswer P w0 w1 n0 n1 (Err f) = (text : List ℕ) × (status : ℕ) × P text status × AppendsFront w0 w1 text
+    × CountsWrite f n0 n1
 
 -- the same; or memory ran out before anything went out
-abbrev pub Sends : (may : List ℕ → ℕ → Type 0) → (written_old written_new : Option (List ℕ)) → (failed_old failed_new : ℕ) → Result ℕ (OrNoMemory StreamFault) → Type 0
+abbrev pub Sends : (may : List ℕ → ℕ → Type 0) → (written_old written_new : Option (List ℕ))
+    → (failed_old failed_new : ℕ) → Result ℕ (OrNoMemory StreamFault) → Type 0
 Sends P w0 w1 n0 n1 (Ok status) = PrintsAnswer P w0 w1 n0 n1 (Ok status)
 Sends P w0 w1 n0 n1 (Err NoMemory) = (w1 ≡ w0) × (n1 ≡ n0)
 Sends P w0 w1 n0 n1 (Err (Fault f)) = PrintsAnswer P w0 w1 n0 n1 (Err f)

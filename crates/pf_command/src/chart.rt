@@ -44,7 +44,8 @@ fn names_of(
 ) -> Result<Vec<Vec<u8>>, NoMemory>
     requires root { IsRootOf job.now root.now }
     requires run { IsOfRun job.now.asked (view_of_report report.now) }
-    ensures { IfOk result (λ v. AreNamesIn job.now.asked (view_of_report report.now) (map (λ name. name.items) v.items)) }
+    ensures { IfOk result (λ v. AreNamesIn job.now.asked (view_of_report report.now)
+        (map (λ name. name.items) v.items)) }
 {
     let module = job.module();
     let Some(root) = module.root(root) else {

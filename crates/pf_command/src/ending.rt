@@ -13,7 +13,8 @@ ghost use Rattle.pf_cli.specs.Args.{view_of_hunt_args};
 ghost use Rattle.pf_cli.specs.declared.args.HuntGoal.TheVariants.{Failure};
 ghost use Rattle.pf_command.specs.Answers.{AnswersRun};
 ghost use Rattle.pf_check.specs.Reading.{IsModuleOf};
-ghost use Rattle.pf_command.specs.Hunts.{IsFound, IsLeastFailure, MaySay, TellsReport, TellsShrinking, TellsSought, choices_of, seed_text, shrinking_of, strategy_text};
+ghost use Rattle.pf_command.specs.Hunts.{IsFound, IsLeastFailure, MaySay, TellsReport, TellsShrinking, TellsSought};
+ghost use Rattle.pf_command.specs.Hunts.{choices_of, seed_text, shrinking_of, strategy_text};
 ghost use Rattle.pf_command.specs.Streams.{PrintsAnswer};
 ghost use Rattle.pf_command.specs.Waiting.{Adds, after_commas};
 

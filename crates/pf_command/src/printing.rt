@@ -8,7 +8,8 @@ ghost use Rattle.pf_command.specs.Answers.{AnswersRun, Counts, CountsBy, IsNoMem
 ghost use Rattle.pf_cli_messages.specs.Explained.{AsksOf};
 ghost use Rattle.pf_check.specs.Reading.{IsModuleOf};
 ghost use Rattle.pf_command.specs.Guided.{RunAnswers, RunCounts};
-ghost use Rattle.pf_command.specs.Streams.{IsAnsweredSo, IsAnswer, IsRefusedText, PrintsAnswer, Sends, Serves, TakesBytes, WentOut, streams};
+ghost use Rattle.pf_command.specs.Streams.{IsAnsweredSo, IsAnswer, IsRefusedText, PrintsAnswer, Sends, Serves};
+ghost use Rattle.pf_command.specs.Streams.{TakesBytes, WentOut, streams};
 
 use crate::answer::{Output, REFUSED, refused_at, refused_by_code, run_status};
 use crate::guided::scheduled;

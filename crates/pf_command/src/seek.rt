@@ -11,7 +11,8 @@ ghost use Rattle.pf_cli.specs.declared.args.HuntGoal.TheVariants as goals;
 ghost use Rattle.pf_command.specs.Answers.{AnswersRun, atom_names_of, run_args};
 ghost use Rattle.pf_cli_messages.specs.Explained.{AsksOf};
 ghost use Rattle.pf_check.specs.Reading.{IsModuleOf};
-ghost use Rattle.pf_command.specs.Hunts.{HuntAsksFor, HuntEndsAs, MayShrink, OfEach, SoughtAnswers, TellsAs, TellsSought};
+ghost use Rattle.pf_command.specs.Hunts.{HuntAsksFor, HuntEndsAs, MayShrink, OfEach, SoughtAnswers, TellsAs};
+ghost use Rattle.pf_command.specs.Hunts.{TellsSought};
 ghost use Rattle.pf_command.specs.Hunts.{front_text, none_text, row_text, shrinking_of, strategy_text};
 
 use crate::answer::{Output, refused_by_code};
@@ -279,7 +280,8 @@ fn hunt_outcomes<T: Threads + Sync, S: HuntObserver>(
     seeds: &mut S,
 ) -> Result<Output, NoMemory>
     ensures { IfOk result (λ a. HearsSome S.Heard seeds.old (OfEach «module»
-        (λ bytes ns. SoughtAnswers (view_of_hunt_args args.now) goals.Outcomes bytes ns a.text.items a.status)) seeds.new) }
+        (λ bytes ns. SoughtAnswers (view_of_hunt_args args.now) goals.Outcomes bytes ns a.text.items a.status))
+        seeds.new) }
 {
     match Job::new(alloc, module.share()?, &args.request, args.edition.number()) {
         Ok(job) => seek_outcomes(rt, alloc, args, module, job, workers, seeds),

@@ -3,10 +3,12 @@ use Rattle.std.proofs.Common.{◌≡◌, ℕ, ◌==◌, Bool, true, false, List,
 use Rattle.std.specs.Prelude.{if◌then◌else◌}
 use Rattle.pf_request.specs.Calls.{Call}
 use Rattle.pf_request.specs.Job.{Job}
-use Rattle.pf_desks.specs.Desk.{Profile, Desk, no_desk, TrialState, queued, running, done, Entry, called, claimed, filed, handed_back, held_at}
+use Rattle.pf_desks.specs.Desk.{Profile, Desk, no_desk, TrialState, queued, running, done, Entry, called, claimed}
+use Rattle.pf_desks.specs.Desk.{filed, handed_back, held_at}
 use Rattle.pf_desks.specs.declared.mark.FileMark.{FileMark}
 use Rattle.pf_desks.specs.Calls.{after_call, with_entry}
-use Rattle.pf_desks.specs.Work.{is_queued, is_running, after_claim, after_file, after_hand_back, with_state, result_marked, DeskWork, claim, file, hand_back, worker_step}
+use Rattle.pf_desks.specs.Work.{is_queued, is_running, after_claim, after_file, after_hand_back, with_state}
+use Rattle.pf_desks.specs.Work.{result_marked, DeskWork, claim, file, hand_back, worker_step}
 use Rattle.pf_desks.specs.Desks.{Desks, DeskStep, client, worker, desk_at, put_desk, worked, step}
 use Rattle.pf_desks.specs.History.{EntryFollows, IsLegal}
 use Rattle.pf_desks.specs.Legality.{after_steps}
@@ -34,7 +36,8 @@ module _ (p : Profile) (P : Desk → Type 0) (by_call : (d : Desk) (c : Call) �
       by (Some d) e = placed q r d w (by_work (desk_at r w) d k e (h r)) (h q)
       by None e = h q
 
-  kept_from : (w : Desks) (ss : List DeskStep) → ((q : ℕ) → P (desk_at q w)) → (q : ℕ) → P (desk_at q (after_steps p w ss))
+  kept_from : (w : Desks) (ss : List DeskStep) → ((q : ℕ) → P (desk_at q w)) → (q : ℕ)
+      → P (desk_at q (after_steps p w ss))
   kept_from w [] h = h
   kept_from w (s ∷ ss) h = kept_from (step p w s).0 ss (kept w s h)
 
@@ -62,16 +65,20 @@ abbrev pub moved : Desk → ℕ → (Job → TrialState) → Entry → Desk
 moved d t f e = with_entry (record d { trials = with_state d.trials t f }) e
 
 -- what each change of a trial's state keeps is kept by each step of a worker
-module _ (p : Profile) (P : Desk → Type 0) (by_move : (d : Desk) (t : ℕ) (f : Job → TrialState) (e : Entry) → OfWork e → P d → P (moved d t f e)) where
+module _ (p : Profile) (P : Desk → Type 0) (by_move : (d : Desk) (t : ℕ) (f : Job → TrialState) (e : Entry) → OfWork e
+    → P d → P (moved d t f e)) where
   by_claim : (d d' : Desk) (t : ℕ) → worker_step p d (claim t) ≡ Some d' → P d → P d'
-  by_claim d d' t h k = subst P (sym (where_so (is_queued (held_at d.trials t)) (after_claim d t) d' h)) (by_move d t (λ j. running) (claimed t) (of_claim t) k)
+  by_claim d d' t h k = subst P (sym (where_so (is_queued (held_at d.trials t)) (after_claim d t) d' h))
+      (by_move d t (λ j. running) (claimed t) (of_claim t) k)
 
   by_file : (d d' : Desk) (t : ℕ) (m : FileMark) → worker_step p d (file t m) ≡ Some d' → P d → P d'
   by_file d d' t m h k =
-      subst P (sym (where_so (is_running (held_at d.trials t)) (after_file p d t m) d' h)) (by_move d t (λ j. done (result_marked p m j)) (filed t m) (of_file t m) k)
+      subst P (sym (where_so (is_running (held_at d.trials t)) (after_file p d t m) d' h))
+      (by_move d t (λ j. done (result_marked p m j)) (filed t m) (of_file t m) k)
 
   by_back : (d d' : Desk) (t : ℕ) → worker_step p d (hand_back t) ≡ Some d' → P d → P d'
-  by_back d d' t h k = subst P (sym (where_so (is_running (held_at d.trials t)) (after_hand_back d t) d' h)) (by_move d t (λ j. queued) (handed_back t) (of_back t) k)
+  by_back d d' t h k = subst P (sym (where_so (is_running (held_at d.trials t)) (after_hand_back d t) d' h))
+      (by_move d t (λ j. queued) (handed_back t) (of_back t) k)
 
   pub moves : (d d' : Desk) (k : DeskWork) → worker_step p d k ≡ Some d' → P d → P d'
   moves d d' (claim t) h k = by_claim d d' t h k

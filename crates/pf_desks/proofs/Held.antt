@@ -25,14 +25,26 @@ pub record OneMore {T : Type 0} (ys xs : List (Option T)) (x : T) : Type 0 where
   pub less : all_held ys ≡ before ++ after
 
 pub one_pushed : {T : Type 0} (xs : List (Option T)) (x : T) → OneMore xs (xs ++ Some x ∷ []) x
-one_pushed xs x = record { before = all_held xs; after = []; more = held_push xs x; less = sym (append-nil (all_held xs)) }
+one_pushed xs x = record {
+  before = all_held xs;
+  after = [];
+  more = held_push xs x;
+  less =
+      sym (append-nil (all_held xs));
+}
 
 module _ {T : Type 0} where
   here : (xs : List (Option T)) (x : T) (o : Option T) → o ≡ Some x → Around (o ∷ xs) 1 x
   here xs x None h = absurd (cc)
   here xs x (Some y) h =
       let same : y ≡ x = cc in
-      record { before = []; after = all_held xs; is = ap (λ (z : T). z ∷ all_held xs) same; gone = refl; other = λ y. refl }
+      record {
+        before = [];
+        after = all_held xs;
+        is = ap (λ (z : T). z ∷ all_held xs) same;
+        gone = refl;
+        other = λ y. refl;
+      }
 
   behind : (o : Option T) (xs : List (Option T)) (i : ℕ) (x : T) → Around xs (suc i) x → Around (o ∷ xs) (suc (suc i)) x
   behind None xs i x a = record { before = a.before; after = a.after; is = a.is; gone = a.gone; other = a.other }
@@ -72,7 +84,8 @@ module _ {T : Type 0} where
   gap xs zero h = refl
   gap xs (suc i) h = gap_index xs i h
 
-pub one_gone : {T : Type 0} (xs : List (Option T)) (n : ℕ) (x : T) → held_at xs n ≡ Some x → OneMore (with_held xs n None) xs x
+pub one_gone : {T : Type 0} (xs : List (Option T)) (n : ℕ) (x : T) → held_at xs n ≡ Some x
+    → OneMore (with_held xs n None) xs x
 one_gone xs n x h =
     let a : Around xs n x = around xs n x h in
     record { before = a.before; after = a.after; more = a.is; less = a.gone }

@@ -1,12 +1,14 @@
 -- A ticket that was given is still for its job, whatever happens at its desk.
-use Rattle.std.proofs.Common.{◌≡◌, ◌≤◌, ◌==◌, ℕ, zero, suc, Bool, true, false, List, [], ◌∷◌, length, Option, Some, None, refl, sym, subst, arith}
+use Rattle.std.proofs.Common.{◌≡◌, ◌≤◌, ◌==◌, ℕ, zero, suc, Bool, true, false, List, [], ◌∷◌, length, Option, Some}
+use Rattle.std.proofs.Common.{None, refl, sym, subst, arith}
 use Rattle.std.specs.Prelude.{if◌then◌else◌, IfSome, slice_get}
 use Rattle.std.specs.Option.{option_flatten}
 use Rattle.pf_request.specs.Calls.{Call}
 use Rattle.pf_request.specs.Job.{Job}
 use Rattle.pf_desks.specs.Desk.{Profile, Desk, TrialState, Trial, held_at, with_held}
 use Rattle.pf_desks.specs.Calls.{with_job, after_call}
-use Rattle.pf_desks.specs.Work.{is_queued, is_running, with_state, after_claim, after_file, after_hand_back, DeskWork, claim, file, hand_back, worker_step}
+use Rattle.pf_desks.specs.Work.{is_queued, is_running, with_state, after_claim, after_file, after_hand_back, DeskWork}
+use Rattle.pf_desks.specs.Work.{claim, file, hand_back, worker_step}
 use Rattle.pf_desks.specs.Desks.{Desks, DeskStep, client, worker, desk_at, put_desk, worked, step}
 use Rattle.pf_desks.specs.Legality.{after_steps}
 use Rattle.pf_desks.specs.Jobs.{IsTicketOf, KeepsTickets, KeepsAllTickets}
@@ -15,7 +17,8 @@ use Rattle.pf_desks.proofs.Isolated.{desk_placed, same_project}
 use Rattle.pf_desks.proofs.Trials.{given_pushed, given_dropped, given_in_state, given_called}
 
 -- the ticket of a trial that is held was given for its job
-held_index : (ts : List (Option Trial)) (i : ℕ) (x : Trial) → option_flatten (slice_get ts i) ≡ Some x → suc i ≤ length ts
+held_index : (ts : List (Option Trial)) (i : ℕ) (x : Trial) → option_flatten (slice_get ts i) ≡ Some x
+    → suc i ≤ length ts
 held_index [] i x h = absurd (cc)
 held_index (o ∷ ts) zero x h = omega arith
 held_index (o ∷ ts) (suc i) x h = omega (arith, held_index ts i x h)
@@ -25,7 +28,10 @@ held_within ts zero x h = omega arith
 held_within ts (suc i) x h = held_index ts i x h
 
 pub ticket_held : (d : Desk) (t : ℕ) (x : Trial) → held_at d.trials t ≡ Some x → IsTicketOf d t x.job
-ticket_held d t x h = (held_within d.trials t x h, subst (λ (o : Option Trial). IfSome o (λ y. x.job ≡ y.job)) (sym h) refl)
+ticket_held d t x h = (
+  held_within d.trials t x h,
+  subst (λ (o : Option Trial). IfSome o (λ y. x.job ≡ y.job)) (sym h) refl,
+)
 
 -- ---- a trial more, one that is dropped, one in another state, and calls
 
@@ -44,7 +50,8 @@ module _ (d : Desk) where
 
 -- ---- a desk among all
 
-pub tickets_placed : (q r : ℕ) (d : Desk) (w : Desks) → KeepsTickets (desk_at r w) d → KeepsTickets (desk_at q w) (desk_at q (put_desk r d w))
+pub tickets_placed : (q r : ℕ) (d : Desk) (w : Desks) → KeepsTickets (desk_at r w) d
+    → KeepsTickets (desk_at q w) (desk_at q (put_desk r d w))
 tickets_placed q r d w h = subst (KeepsTickets (desk_at q w)) (sym (desk_placed q r d w)) (by (r == q) refl)
   where
     by : (b : Bool) → (r == q) ≡ b → KeepsTickets (desk_at q w) (if b then d else desk_at q w)
@@ -58,13 +65,16 @@ module _ (p : Profile) where
   stays_where d d' k is h = subst (KeepsTickets d) (sym is) h
 
   stays_claim : (d d' : Desk) (t : ℕ) → worker_step p d (claim t) ≡ Some d' → KeepsTickets d d'
-  stays_claim d d' t h = stays_where d d' _ (where_so (is_queued (held_at d.trials t)) (after_claim d t) d' h) (tickets_in_state d t _)
+  stays_claim d d' t h = stays_where d d' _ (where_so (is_queued (held_at d.trials t)) (after_claim d t) d' h)
+      (tickets_in_state d t _)
 
   stays_file : (d d' : Desk) (t : ℕ) (m : _) → worker_step p d (file t m) ≡ Some d' → KeepsTickets d d'
-  stays_file d d' t m h = stays_where d d' _ (where_so (is_running (held_at d.trials t)) (after_file p d t m) d' h) (tickets_in_state d t _)
+  stays_file d d' t m h = stays_where d d' _ (where_so (is_running (held_at d.trials t)) (after_file p d t m) d' h)
+      (tickets_in_state d t _)
 
   stays_back : (d d' : Desk) (t : ℕ) → worker_step p d (hand_back t) ≡ Some d' → KeepsTickets d d'
-  stays_back d d' t h = stays_where d d' _ (where_so (is_running (held_at d.trials t)) (after_hand_back d t) d' h) (tickets_in_state d t _)
+  stays_back d d' t h = stays_where d d' _ (where_so (is_running (held_at d.trials t)) (after_hand_back d t) d' h)
+      (tickets_in_state d t _)
 
   pub tickets_worked : (d d' : Desk) (k : DeskWork) → worker_step p d k ≡ Some d' → KeepsTickets d d'
   tickets_worked d d' (claim t) h = stays_claim d d' t h
@@ -74,10 +84,12 @@ module _ (p : Profile) where
   -- ---- all desks
 
   pub tickets_stepped : (q : ℕ) (w : Desks) (s : DeskStep) → KeepsTickets (desk_at q w) (desk_at q (step p w s).0)
-  tickets_stepped q w (client r c) = tickets_placed q r (after_call p (desk_at r w) c) w (tickets_called (desk_at r w) p c)
+  tickets_stepped q w (client r c) = tickets_placed q r (after_call p (desk_at r w) c) w
+      (tickets_called (desk_at r w) p c)
   tickets_stepped q w (worker r k) = by (worker_step p (desk_at r w) k) refl
     where
-      by : (o : Option Desk) → worker_step p (desk_at r w) k ≡ o → KeepsTickets (desk_at q w) (desk_at q (worked r w o).0)
+      by : (o : Option Desk) → worker_step p (desk_at r w) k ≡ o
+          → KeepsTickets (desk_at q w) (desk_at q (worked r w o).0)
       by (Some d) e = tickets_placed q r d w (tickets_worked (desk_at r w) d k e)
       by None e = λ t j k. k
 

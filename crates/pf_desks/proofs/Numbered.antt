@@ -1,5 +1,6 @@
 -- The numbers that a project is given count up, and so do those that a legal history notes.
-use Rattle.std.proofs.Common.{◌≡◌, ℕ, zero, suc, ◌+◌, Bool, true, false, List, [], ◌∷◌, length, Option, Some, None, refl, sym, subst, ◌∙◌}
+use Rattle.std.proofs.Common.{◌≡◌, ℕ, zero, suc, ◌+◌, Bool, true, false, List, [], ◌∷◌, length, Option, Some, None}
+use Rattle.std.proofs.Common.{refl, sym, subst, ◌∙◌}
 use Rattle.std.specs.Prelude.{filter_map, Result, Ok, Err, if◌then◌else◌, unwrap_or}
 use Rattle.std.specs.List.{cons_option}
 use Rattle.std.proofs.lemmas.List.{length-append}
@@ -10,12 +11,16 @@ use Rattle.pf_quota.specs.declared.charges.Charge.TheVariants as charge
 use Rattle.pf_request.specs.Calls.{Call, submit, order, fetch, status, drop_trial, withdraw, usage, log, edition}
 use Rattle.pf_request.specs.Job.{Job}
 use Rattle.pf_check.specs.Module.{ReadModule}
-use Rattle.pf_desks.specs.Desk.{Profile, Desk, no_desk, Entry, called, claimed, filed, handed_back, TrialState, queued, running, done, Trial, SourceReading, readable, faulty, Reply, ticket, has_edition, refused, job_ordered, held_at, with_held}
-use Rattle.pf_desks.specs.Calls.{within_limits, passed_by, submitted, with_job, ordered, fetched, stage_told, dropped, users_of, withdrawn, in_edition, answer_of_call, noted, after_call, reply_to}
+use Rattle.pf_desks.specs.Desk.{Profile, Desk, no_desk, Entry, called, claimed, filed, handed_back, TrialState, queued}
+use Rattle.pf_desks.specs.Desk.{running, done, Trial, SourceReading, readable, faulty, Reply, ticket, has_edition}
+use Rattle.pf_desks.specs.Desk.{refused, job_ordered, held_at, with_held}
+use Rattle.pf_desks.specs.Calls.{within_limits, passed_by, submitted, with_job, ordered, fetched, stage_told, dropped}
+use Rattle.pf_desks.specs.Calls.{users_of, withdrawn, in_edition, answer_of_call, noted, after_call, reply_to}
 use Rattle.pf_desks.specs.Work.{DeskWork, claim, file, hand_back, worker_step}
 use Rattle.pf_desks.specs.History.{EntryFollows, IsLegal, replies_noted}
 use Rattle.pf_desks.specs.Desks.{DeskStep, client, worker, all_answers, own_steps, replies_along}
-use Rattle.pf_desks.specs.Numbers.{replied_number, ticket_in, CountUp, TellEachOnce, LegalHistoriesTellEachOnce, NoNumberTwice}
+use Rattle.pf_desks.specs.Numbers.{replied_number, ticket_in, CountUp, TellEachOnce, LegalHistoriesTellEachOnce}
+use Rattle.pf_desks.specs.Numbers.{NoNumberTwice}
 use Rattle.pf_desks.proofs.Isolated.{isolated}
 use Rattle.pf_desks.proofs.Always.{OfWork, moved, moves}
 
@@ -26,7 +31,8 @@ Tells k (Some n) k' = (n ≡ k + 1) × (k' ≡ k + 1)
 
 -- which numbers a desk and a reply give where the desk was another
 abbrev TellsNext : Desk → Desk × Reply → Type 0
-TellsNext d x = Tells (length d.modules) (replied_number x.1) (length x.0.modules) × Tells (length d.trials) (ticket_in x.1) (length x.0.trials)
+TellsNext d x = Tells (length d.modules) (replied_number x.1) (length x.0.modules) × Tells (length d.trials)
+    (ticket_in x.1) (length x.0.trials)
 
 length_held : {T : Type 0} (xs : List (Option T)) (n : ℕ) (x : Option T) → length (with_held xs n x) ≡ length xs
 length_held xs zero x = refl
@@ -72,7 +78,8 @@ module _ (p : Profile) (d : Desk) where
   edition_tells e = by _ _
     where
       by : (b f : Bool)
-          → TellsNext d (if◌then◌else◌ {A = Desk × Reply} b (if f then (d, refused code.EditionTooLow) else (record d { edition = e }, has_edition)) (d, refused code.NoEdition))
+          → TellsNext d (if◌then◌else◌ {A = Desk × Reply} b (if f then (d, refused code.EditionTooLow)
+          else (record d { edition = e }, has_edition)) (d, refused code.NoEdition))
       by true true = (refl, refl)
       by true false = (refl, refl)
       by false f = (refl, refl)
@@ -96,61 +103,79 @@ module _ (p : Profile) (d : Desk) where
 abbrev Told : ℕ → ℕ → Desk → Type 0
 Told k t d = (length d.modules ≡ k) × (length d.trials ≡ t)
 
-move_tells_none : (k t : ℕ) (d : Desk) (n : ℕ) (f : Job → TrialState) (e : Entry) → OfWork e → Told k t d → Told k t (moved d n f e)
+move_tells_none : (k t : ℕ) (d : Desk) (n : ℕ) (f : Job → TrialState) (e : Entry) → OfWork e → Told k t d
+    → Told k t (moved d n f e)
 move_tells_none k t d n f e of h = (h.0, length_held d.trials n _ ∙ h.1)
 
-work_tells_none : (p : Profile) (d : Desk) (k : DeskWork) → Told (length d.modules) (length d.trials) (unwrap_or (worker_step p d k) d)
+work_tells_none : (p : Profile) (d : Desk) (k : DeskWork)
+    → Told (length d.modules) (length d.trials) (unwrap_or (worker_step p d k) d)
 work_tells_none p d k = by (worker_step p d k) refl
   where
     by : (o : Option Desk) → worker_step p d k ≡ o → Told (length d.modules) (length d.trials) (unwrap_or o d)
-    by (Some d') e = moves p (Told (length d.modules) (length d.trials)) (move_tells_none (length d.modules) (length d.trials)) d d' k e (refl, refl)
+    by (Some d') e = moves p (Told (length d.modules) (length d.trials))
+        (move_tells_none (length d.modules) (length d.trials)) d d' k e (refl, refl)
     by None e = (refl, refl)
 
 -- numbers that count up go on after one that is given
-count_on : (k k' : ℕ) (o : Option ℕ) (ns : List ℕ) → Tells k o k' → CountUp (k' + 1) ns → CountUp (k + 1) (cons_option o ns)
+count_on : (k k' : ℕ) (o : Option ℕ) (ns : List ℕ) → Tells k o k' → CountUp (k' + 1) ns
+    → CountUp (k + 1) (cons_option o ns)
 count_on k k' None ns h rest = subst (λ n. CountUp (n + 1) ns) h rest
 count_on k k' (Some n) ns h rest = (h.0, subst (λ x. CountUp (x + 1) ns) h.1 rest)
 
 module _ (p : Profile) where
-  pub numbers_along : (d : Desk) (ss : List DeskStep) → CountUp (length d.modules + 1) (filter_map replied_number (replies_along p d ss))
+  pub numbers_along : (d : Desk) (ss : List DeskStep)
+      → CountUp (length d.modules + 1) (filter_map replied_number (replies_along p d ss))
   numbers_along d [] = tt
   numbers_along d (client q c ∷ ss) =
-      count_on (length d.modules) (length (after_call p d c).modules) (replied_number (reply_to p d c)) (filter_map replied_number (replies_along p (after_call p d c) ss))
+      count_on (length d.modules) (length (after_call p d c).modules) (replied_number (reply_to p d c))
+      (filter_map replied_number (replies_along p (after_call p d c) ss))
       (call_tells p d c).0 (numbers_along (after_call p d c) ss)
   numbers_along d (worker q k ∷ ss) =
       let d' : Desk = unwrap_or (worker_step p d k) d in
-      subst (λ n. CountUp (n + 1) (filter_map replied_number (replies_along p d' ss))) (work_tells_none p d k).0 (numbers_along d' ss)
+      subst (λ n. CountUp (n + 1) (filter_map replied_number (replies_along p d' ss))) (work_tells_none p d k).0
+      (numbers_along d' ss)
 
-  pub tickets_along : (d : Desk) (ss : List DeskStep) → CountUp (length d.trials + 1) (filter_map ticket_in (replies_along p d ss))
+  pub tickets_along : (d : Desk) (ss : List DeskStep)
+      → CountUp (length d.trials + 1) (filter_map ticket_in (replies_along p d ss))
   tickets_along d [] = tt
   tickets_along d (client q c ∷ ss) =
-      count_on (length d.trials) (length (after_call p d c).trials) (ticket_in (reply_to p d c)) (filter_map ticket_in (replies_along p (after_call p d c) ss))
+      count_on (length d.trials) (length (after_call p d c).trials) (ticket_in (reply_to p d c))
+      (filter_map ticket_in (replies_along p (after_call p d c) ss))
       (call_tells p d c).1 (tickets_along (after_call p d c) ss)
   tickets_along d (worker q k ∷ ss) =
       let d' : Desk = unwrap_or (worker_step p d k) d in
-      subst (λ n. CountUp (n + 1) (filter_map ticket_in (replies_along p d' ss))) (work_tells_none p d k).1 (tickets_along d' ss)
+      subst (λ n. CountUp (n + 1) (filter_map ticket_in (replies_along p d' ss))) (work_tells_none p d k).1
+      (tickets_along d' ss)
 
   -- which numbers each note gives
   note_tells : (d k : Desk) (c : Call) (r : Reply) → EntryFollows p d (called c r) k
-      → Tells (length d.modules) (replied_number r) (length k.modules) × Tells (length d.trials) (ticket_in r) (length k.trials)
+      → Tells (length d.modules) (replied_number r) (length k.modules) × Tells (length d.trials) (ticket_in r)
+      (length k.trials)
   note_tells d k c r h = subst (TellsNext d) (λ i. (sym h.2 i, sym h.1 i)) (call_tells p d c)
 
   none_told : (d k : Desk) (w : DeskWork) → worker_step p d w ≡ Some k → Told (length d.modules) (length d.trials) k
-  none_told d k w h = moves p (Told (length d.modules) (length d.trials)) (move_tells_none (length d.modules) (length d.trials)) d k w h (refl, refl)
+  none_told d k w h = moves p (Told (length d.modules) (length d.trials))
+      (move_tells_none (length d.modules) (length d.trials)) d k w h (refl, refl)
 
   abbrev TellOn : ℕ → ℕ → List Entry → Type 0
-  TellOn n t es = CountUp (n + 1) (filter_map replied_number (replies_noted es)) × CountUp (t + 1) (filter_map ticket_in (replies_noted es))
+  TellOn n t es = CountUp (n + 1) (filter_map replied_number (replies_noted es))
+      × CountUp (t + 1) (filter_map ticket_in (replies_noted es))
 
-  told_on : (d k : Desk) (w : DeskWork) (es : List Entry) → worker_step p d w ≡ Some k → TellOn (length k.modules) (length k.trials) es → TellOn (length d.modules) (length d.trials) es
-  told_on d k w es h rest = let same = none_told d k w h in subst (λ (x : ℕ × ℕ). TellOn x.0 x.1 es) (λ i. (same.0 i, same.1 i)) rest
+  told_on : (d k : Desk) (w : DeskWork) (es : List Entry) → worker_step p d w ≡ Some k
+      → TellOn (length k.modules) (length k.trials) es → TellOn (length d.modules) (length d.trials) es
+  told_on d k w es h rest = let same = none_told d k w h in
+      subst (λ (x : ℕ × ℕ). TellOn x.0 x.1 es) (λ i. (same.0 i, same.1 i)) rest
 
-  pub history_tells : (d : Desk) (es : List Entry) (d' : Desk) → IsLegal p d es d' → TellOn (length d.modules) (length d.trials) es
+  pub history_tells : (d : Desk) (es : List Entry) (d' : Desk) → IsLegal p d es d'
+      → TellOn (length d.modules) (length d.trials) es
   history_tells d [] d' h = (tt, tt)
   history_tells d (called c r ∷ es) d' h =
       let tells = note_tells d h.0 c r h.1 in
       let rest = history_tells h.0 es d' h.2 in (
-        count_on (length d.modules) (length h.0.modules) (replied_number r) (filter_map replied_number (replies_noted es)) tells.0 rest.0,
-        count_on (length d.trials) (length h.0.trials) (ticket_in r) (filter_map ticket_in (replies_noted es)) tells.1 rest.1,
+        count_on (length d.modules) (length h.0.modules) (replied_number r)
+            (filter_map replied_number (replies_noted es)) tells.0 rest.0,
+        count_on (length d.trials) (length h.0.trials) (ticket_in r) (filter_map ticket_in (replies_noted es))
+            tells.1 rest.1,
       )
   history_tells d (claimed t ∷ es) d' h = told_on d h.0 (claim t) es h.1 (history_tells h.0 es d' h.2)
   history_tells d (filed t m ∷ es) d' h = told_on d h.0 (file t m) es h.1 (history_tells h.0 es d' h.2)

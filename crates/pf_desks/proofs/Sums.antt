@@ -1,5 +1,6 @@
 -- What is used after one thing more, and after one thing less.
-use Rattle.std.proofs.Common.{◌≡◌, ℕ, ◌+◌, List, [], ◌∷◌, ◌++◌, length, map, Option, Some, None, refl, sym, ap, ◌∙◌, subst, arith}
+use Rattle.std.proofs.Common.{◌≡◌, ℕ, ◌+◌, List, [], ◌∷◌, ◌++◌, length, map, Option, Some, None, refl, sym, ap, ◌∙◌}
+use Rattle.std.proofs.Common.{subst, arith}
 use Rattle.std.specs.List.{sum_by}
 use Rattle.std.proofs.lemmas.List.Sums.{sum_by-append, sum_by-cons}
 use Rattle.pf_quota.specs.declared.usage.Usage.{Usage}
@@ -7,10 +8,12 @@ use Rattle.pf_quota.specs.declared.charges.Holding.{Holding}
 use Rattle.pf_quota.specs.declared.charges.Holding.TheVariants as held
 use Rattle.pf_quota.specs.declared.charges.Charge.TheVariants as charge
 use Rattle.pf_quota.specs.Charges.{steps_of_trial}
-use Rattle.pf_quota.specs.Usage.{usage_of, charged, refunded, Covers, charge_of, module_count, byte_count, trial_count, step_count}
+use Rattle.pf_quota.specs.Usage.{usage_of, charged, refunded, Covers, charge_of, module_count, byte_count, trial_count}
+use Rattle.pf_quota.specs.Usage.{step_count}
 use Rattle.pf_request.specs.Calls.{Call}
 use Rattle.pf_check.specs.Module.{ReadModule}
-use Rattle.pf_desks.specs.Desk.{Trial, Desk, Entry, Reply, called, claimed, filed, handed_back, held_at, with_held, all_held}
+use Rattle.pf_desks.specs.Desk.{Trial, Desk, Entry, Reply, called, claimed, filed, handed_back, held_at, with_held}
+use Rattle.pf_desks.specs.Desk.{all_held}
 use Rattle.pf_desks.specs.declared.mark.FileMark.{FileMark}
 use Rattle.pf_desks.specs.Calls.{calls_in, held_by, usage_in}
 use Rattle.pf_desks.proofs.Always.{OfWork, of_claim, of_file, of_back}
@@ -54,10 +57,17 @@ calls_worked es (handed_back t) (of_back _) = calls_handed_back es t
 
 -- ---- a thing among things
 
-between : (f : Holding → ℕ) (before after : List Holding) (x : Holding) → sum_by f (before ++ x ∷ after) ≡ sum_by f (before ++ after) + f x
-between f before after x = omega (arith, sum_by-append f before (x ∷ after), sum_by-cons f x after, sum_by-append f before after)
+between : (f : Holding → ℕ) (before after : List Holding) (x : Holding)
+    → sum_by f (before ++ x ∷ after) ≡ sum_by f (before ++ after) + f x
+between f before after x = omega (
+  arith,
+  sum_by-append f before (x ∷ after),
+  sum_by-cons f x after,
+  sum_by-append f before after,
+)
 
-same_usage : (u v : Usage) → u.modules ≡ v.modules → u.bytes ≡ v.bytes → u.trials ≡ v.trials → u.steps ≡ v.steps → u.calls ≡ v.calls → u ≡ v
+same_usage : (u v : Usage) → u.modules ≡ v.modules → u.bytes ≡ v.bytes → u.trials ≡ v.trials → u.steps ≡ v.steps
+    → u.calls ≡ v.calls → u ≡ v
 same_usage u v a b c d e = λ i. record { modules = a i; bytes = b i; trials = c i; steps = d i; calls = e i }
 
 module _ (before after : List Holding) (n : ℕ) where
@@ -99,11 +109,14 @@ record Among (n : ℕ) (less more : List Holding) (x : Holding) : Type 0 where
   covers : Covers (usage_of more n) x
   refund : refunded (usage_of more n) x ≡ usage_of less n
 
-among : (n : ℕ) (less more before after : List Holding) (x : Holding) → less ≡ before ++ after → more ≡ before ++ x ∷ after → Among n less more x
+among : (n : ℕ) (less more before after : List Holding) (x : Holding) → less ≡ before ++ after
+    → more ≡ before ++ x ∷ after → Among n less more x
 among n less more before after x is is' = record {
-  charge = ap (λ (l : List Holding). charged (usage_of l n) (charge_of x)) is ∙ charged_with before after n x ∙ ap (λ (l : List Holding). usage_of l n) (sym is');
+  charge = ap (λ (l : List Holding). charged (usage_of l n) (charge_of x)) is ∙ charged_with before after n x
+      ∙ ap (λ (l : List Holding). usage_of l n) (sym is');
   covers = subst (λ (l : List Holding). Covers (usage_of l n) x) (sym is') (covers_with before after n x);
-  refund = ap (λ (l : List Holding). refunded (usage_of l n) x) is' ∙ refunded_with before after n x ∙ ap (λ (l : List Holding). usage_of l n) (sym is);
+  refund = ap (λ (l : List Holding). refunded (usage_of l n) x) is' ∙ refunded_with before after n x
+      ∙ ap (λ (l : List Holding). usage_of l n) (sym is);
 }
 
 -- ---- modules and trials of a desk
@@ -114,20 +127,24 @@ held_module m = held.Module (length m.source)
 abbrev pub held_trial : Trial → Holding
 held_trial t = held.Trial (steps_of_trial t.job.asked.limit t.job.asked.runs)
 
-split_front : {X : Type 0} (f : X → Holding) (b a : List X) (x : X) (rest : List Holding) → map f (b ++ x ∷ a) ++ rest ≡ map f b ++ f x ∷ (map f a ++ rest)
+split_front : {X : Type 0} (f : X → Holding) (b a : List X) (x : X) (rest : List Holding)
+    → map f (b ++ x ∷ a) ++ rest ≡ map f b ++ f x ∷ (map f a ++ rest)
 split_front f [] a x rest = refl
 split_front f (y ∷ b) a x rest = ap (λ (l : List Holding). f y ∷ l) (split_front f b a x rest)
 
-join_front : {X : Type 0} (f : X → Holding) (b a : List X) (rest : List Holding) → map f (b ++ a) ++ rest ≡ map f b ++ (map f a ++ rest)
+join_front : {X : Type 0} (f : X → Holding) (b a : List X) (rest : List Holding)
+    → map f (b ++ a) ++ rest ≡ map f b ++ (map f a ++ rest)
 join_front f [] a rest = refl
 join_front f (y ∷ b) a rest = ap (λ (l : List Holding). f y ∷ l) (join_front f b a rest)
 
-split_back : {X : Type 0} (f : X → Holding) (b a : List X) (x : X) (front : List Holding) → front ++ map f (b ++ x ∷ a) ≡ (front ++ map f b) ++ f x ∷ map f a
+split_back : {X : Type 0} (f : X → Holding) (b a : List X) (x : X) (front : List Holding)
+    → front ++ map f (b ++ x ∷ a) ≡ (front ++ map f b) ++ f x ∷ map f a
 split_back f [] a x [] = refl
 split_back f (y ∷ b) a x [] = ap (λ (l : List Holding). f y ∷ l) (split_back f b a x [])
 split_back f b a x (z ∷ front) = ap (λ (l : List Holding). z ∷ l) (split_back f b a x front)
 
-join_back : {X : Type 0} (f : X → Holding) (b a : List X) (front : List Holding) → front ++ map f (b ++ a) ≡ (front ++ map f b) ++ map f a
+join_back : {X : Type 0} (f : X → Holding) (b a : List X) (front : List Holding)
+    → front ++ map f (b ++ a) ≡ (front ++ map f b) ++ map f a
 join_back f [] a [] = refl
 join_back f (y ∷ b) a [] = ap (λ (l : List Holding). f y ∷ l) (join_back f b a [])
 join_back f b a (z ∷ front) = ap (λ (l : List Holding). z ∷ l) (join_back f b a front)
@@ -137,48 +154,60 @@ module _ (d : Desk) (ms : List (Option ReadModule)) (m : ReadModule) (one : OneM
   modules_among : Among (calls_in d.history) (held_by d) (held_by (record d { modules = ms })) (held_module m)
   modules_among =
       let ts = map held_trial (all_held d.trials) in
-      among (calls_in d.history) (held_by d) (held_by (record d { modules = ms })) (map held_module one.before) (map held_module one.after ++ ts) (held_module m)
+      among (calls_in d.history) (held_by d) (held_by (record d { modules = ms })) (map held_module one.before)
+      (map held_module one.after ++ ts) (held_module m)
       (ap (λ (l : List ReadModule). map held_module l ++ ts) one.less ∙ join_front held_module one.before one.after ts)
-      (ap (λ (l : List ReadModule). map held_module l ++ ts) one.more ∙ split_front held_module one.before one.after m ts)
+      (ap (λ (l : List ReadModule). map held_module l ++ ts) one.more ∙ split_front held_module one.before
+      one.after m ts)
 
 -- a desk with one trial more than another
 module _ (d : Desk) (ts : List (Option Trial)) (t : Trial) (one : OneMore d.trials ts t) where
   trials_among : Among (calls_in d.history) (held_by d) (held_by (record d { trials = ts })) (held_trial t)
   trials_among =
       let ms = map held_module (all_held d.modules) in
-      among (calls_in d.history) (held_by d) (held_by (record d { trials = ts })) (ms ++ map held_trial one.before) (map held_trial one.after) (held_trial t)
+      among (calls_in d.history) (held_by d) (held_by (record d { trials = ts })) (ms ++ map held_trial one.before)
+      (map held_trial one.after) (held_trial t)
       (ap (λ (l : List Trial). ms ++ map held_trial l) one.less ∙ join_back held_trial one.before one.after ms)
       (ap (λ (l : List Trial). ms ++ map held_trial l) one.more ∙ split_back held_trial one.before one.after t ms)
 
 module _ (d : Desk) where
-  pub module_charged : (m : ReadModule) → charged (usage_in d) (charge.Module (length m.source)) ≡ usage_in (record d { modules = d.modules ++ Some m ∷ [] })
+  pub module_charged : (m : ReadModule) → charged (usage_in d) (charge.Module (length m.source))
+      ≡ usage_in (record d { modules = d.modules ++ Some m ∷ [] })
   module_charged m = (modules_among d (d.modules ++ Some m ∷ []) m (one_pushed d.modules m)).charge
 
-  pub trial_charged : (t : Trial) → charged (usage_in d) (charge.Trial (steps_of_trial t.job.asked.limit t.job.asked.runs)) ≡ usage_in (record d { trials = d.trials ++ Some t ∷ [] })
+  pub trial_charged : (t : Trial) → charged (usage_in d)
+      (charge.Trial (steps_of_trial t.job.asked.limit t.job.asked.runs))
+      ≡ usage_in (record d { trials = d.trials ++ Some t ∷ [] })
   trial_charged t = (trials_among d (d.trials ++ Some t ∷ []) t (one_pushed d.trials t)).charge
 
   module _ (n : ℕ) (m : ReadModule) (h : held_at d.modules n ≡ Some m) where
-    module_gone : Among (calls_in d.history) (held_by (record d { modules = with_held d.modules n None })) (held_by d) (held_module m)
-    module_gone = modules_among (record d { modules = with_held d.modules n None }) d.modules m (one_gone d.modules n m h)
+    module_gone : Among (calls_in d.history) (held_by (record d { modules = with_held d.modules n None })) (held_by d)
+        (held_module m)
+    module_gone = modules_among (record d { modules = with_held d.modules n None }) d.modules m
+        (one_gone d.modules n m h)
 
     pub module_covers : Covers (usage_in d) (held.Module (length m.source))
     module_covers = module_gone.covers
 
-    pub module_refunded : refunded (usage_in d) (held.Module (length m.source)) ≡ usage_in (record d { modules = with_held d.modules n None })
+    pub module_refunded : refunded (usage_in d) (held.Module (length m.source))
+        ≡ usage_in (record d { modules = with_held d.modules n None })
     module_refunded = module_gone.refund
 
   module _ (n : ℕ) (t : Trial) (h : held_at d.trials n ≡ Some t) where
-    trial_gone : Among (calls_in d.history) (held_by (record d { trials = with_held d.trials n None })) (held_by d) (held_trial t)
+    trial_gone : Among (calls_in d.history) (held_by (record d { trials = with_held d.trials n None }))
+        (held_by d) (held_trial t)
     trial_gone = trials_among (record d { trials = with_held d.trials n None }) d.trials t (one_gone d.trials n t h)
 
     pub trial_covers : Covers (usage_in d) (held.Trial (steps_of_trial t.job.asked.limit t.job.asked.runs))
     trial_covers = trial_gone.covers
 
-    pub trial_refunded : refunded (usage_in d) (held.Trial (steps_of_trial t.job.asked.limit t.job.asked.runs)) ≡ usage_in (record d { trials = with_held d.trials n None })
+    pub trial_refunded : refunded (usage_in d) (held.Trial (steps_of_trial t.job.asked.limit t.job.asked.runs))
+        ≡ usage_in (record d { trials = with_held d.trials n None })
     trial_refunded = trial_gone.refund
 
     -- a trial of the same job under its number uses what was used
-    pub trial_same : (t' : Trial) → t'.job ≡ t.job → map held_trial (all_held (with_held d.trials n (Some t'))) ≡ map held_trial (all_held d.trials)
+    pub trial_same : (t' : Trial) → t'.job ≡ t.job
+        → map held_trial (all_held (with_held d.trials n (Some t'))) ≡ map held_trial (all_held d.trials)
     trial_same t' same =
         let a : Around d.trials n t = around d.trials n t h in
         ap (map held_trial) (a.other t')

@@ -10,7 +10,8 @@ use Rattle.pf_request.specs.Calls.{Call}
 use Rattle.pf_request.specs.Encoding.{coded_call, coded_job}
 use Rattle.pf_check.specs.Encoding.{coded_names, coded_read_module}
 use Rattle.pf_request.specs.ReportEncoding.{coded_result}
-use Rattle.pf_desks.specs.Desk.{TrialState, queued, running, done, Trial, Desk, Entry, called, claimed, filed, handed_back}
+use Rattle.pf_desks.specs.Desk.{TrialState, queued, running, done, Trial, Desk, Entry, called, claimed, filed}
+use Rattle.pf_desks.specs.Desk.{handed_back}
 use Rattle.pf_desks.specs.declared.mark.FileMark.TheVariants.{Whole, Memory}
 use Rattle.pf_desks.specs.Desk.{Reply, number, ticket, result, stage, given_up, uses, logged, has_edition, refused}
 use Rattle.pf_desks.specs.declared.stage.TrialStage.{TrialStage}
@@ -104,7 +105,8 @@ reply_from-parts_of (refused e) = refl
 
 abbrev pub coded_reply : Coded Reply
 coded_reply =
-    code_by _ (coded⊎ (coded⊎ (coded× coded_ℕ coded_ℕ) coded_ℕ) (coded⊎ (coded× coded_names coded_result) (coded⊎ coded_usage coded_code)))
+    code_by _ (coded⊎ (coded⊎ (coded× coded_ℕ coded_ℕ) coded_ℕ)
+    (coded⊎ (coded× coded_names coded_result) (coded⊎ coded_usage coded_code)))
     parts_of_reply reply_from reply_from-parts_of
 
 -- what a worker does is 0 to 3: a claim, a file of a whole, a file that memory ran out, a hand-back
@@ -133,12 +135,15 @@ entry_from-parts_of (filed t Memory) = refl
 entry_from-parts_of (handed_back t) = refl
 
 abbrev pub coded_entry : Coded Entry
-coded_entry = code_by _ (coded⊎ (coded× coded_call coded_reply) (coded× coded_ℕ coded_ℕ)) parts_of_entry entry_from entry_from-parts_of
+coded_entry = code_by _ (coded⊎ (coded× coded_call coded_reply) (coded× coded_ℕ coded_ℕ)) parts_of_entry entry_from
+    entry_from-parts_of
 
 abbrev pub coded_desk : Coded Desk
 coded_desk =
-    code_by _ (coded× coded_ℕ (coded× (coded_list (coded_option coded_read_module)) (coded× (coded_list (coded_option coded_trial)) (coded_list coded_entry))))
-    (λ d. (d.edition, (d.modules, (d.trials, d.history)))) (λ p. record { edition = p.0; modules = p.1.0; trials = p.1.1.0; history = p.1.1.1 }) (λ _. refl)
+    code_by _ (coded× coded_ℕ (coded× (coded_list (coded_option coded_read_module))
+    (coded× (coded_list (coded_option coded_trial)) (coded_list coded_entry))))
+    (λ d. (d.edition, (d.modules, (d.trials, d.history))))
+    (λ p. record { edition = p.0; modules = p.1.0; trials = p.1.1.0; history = p.1.1.1 }) (λ _. refl)
 
 abbrev pub coded_desks : Coded (List (ℕ × Desk))
 coded_desks = coded_list (coded× coded_ℕ coded_desk)

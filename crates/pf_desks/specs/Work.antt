@@ -3,7 +3,8 @@ use Rattle.std.specs.Prelude.{ℕ, Bool, true, false, if◌then◌else◌, List,
 use Rattle.std.specs.Option.{option_map}
 use Rattle.pf_model.specs.Shrinking as shrinking
 use Rattle.pf_request.specs.Job.{Job, memory_report}
-use Rattle.pf_desks.specs.Desk.{TrialState, queued, running, done, Trial, Desk, held_at, with_held, Profile, claimed, filed, handed_back}
+use Rattle.pf_desks.specs.Desk.{TrialState, queued, running, done, Trial, Desk, held_at, with_held, Profile, claimed}
+use Rattle.pf_desks.specs.Desk.{filed, handed_back}
 use Rattle.pf_desks.specs.declared.mark.FileMark.{FileMark}
 use Rattle.pf_desks.specs.declared.mark.FileMark.TheVariants.{Whole, Memory}
 use Rattle.pf_desks.specs.Calls.{with_entry}
@@ -45,7 +46,8 @@ after_claim d t = with_entry (record d { trials = with_state d.trials t (λ j. r
 
 -- a file: what was running is done
 abbrev pub after_file : Profile → Desk → ℕ → FileMark → Desk
-after_file p d t m = with_entry (record d { trials = with_state d.trials t (λ j. done (result_marked p m j)) }) (filed t m)
+after_file p d t m = with_entry (record d { trials = with_state d.trials t (λ j. done (result_marked p m j)) })
+    (filed t m)
 
 -- a hand-back: what was running is queued again
 abbrev pub after_hand_back : Desk → ℕ → Desk

@@ -10,29 +10,37 @@ of_no_source = codes "This code answers calls and commands: no source is refused
 
 abbrev pub sentence_of : Code → List ℕ
 sentence_of table.UnexpectedByte =
-    codes "This byte begins no token or may not stand here, like `#`, `:`, an unknown escape or a byte past 126: take it out."
+    codes
+    "This byte begins no token or may not stand here, like `#`, `:`, an unknown escape or a byte past 126: take it out."
 sentence_of table.Unfinished =
-    codes "A quoted text, or a `$` and its character, begins here and isn't finished at the end of the source: close it."
+    codes
+    "A quoted text, or a `$` and its character, begins here and isn't finished at the end of the source: close it."
 sentence_of table.IntegerTooLarge =
     codes "This integer is above 9223372036854775807, the largest that there is: write a smaller one."
 sentence_of table.NoHead =
     codes "The first form must be `-module(Name).`, where the name is an atom: begin the source with it."
 sentence_of table.NotGrammar =
-    codes "No rule of the grammar goes on like this: mend what is missing, too much or too deep here, or isn't in this language."
+    codes
+    "No rule of the grammar goes on like this: mend what is missing, too much or too deep here, or isn't in this language."
 sentence_of table.Unbound =
-    codes "This variable has no value here, or is `_`, which never has one: bind it in a pattern before, or as an argument."
+    codes
+    "This variable has no value here, or is `_`, which never has one: bind it in a pattern before, or as an argument."
 sentence_of table.Unsafe =
-    codes "Bind the value of the whole `case`, as in `X = case .. end`: a variable that only some clauses bind, or that every clause binds, is unsafe after `end` here."
+    codes
+    "Bind the value of the whole `case`, as in `X = case .. end`: a variable that only some clauses bind, or that every clause binds, is unsafe after `end` here."
 sentence_of table.Undefined =
     codes "No function of this name with as many arguments is defined or built in here: define it, or mend the call."
 sentence_of table.DefinedTwice =
-    codes "An earlier function, or a built-in one, has this name with as many arguments: rename this one, or take it out."
+    codes
+    "An earlier function, or a built-in one, has this name with as many arguments: rename this one, or take it out."
 sentence_of table.ExportOfNothing =
-    codes "The module defines no function of this name with as many arguments: define it, or take it out of the exports."
+    codes
+    "The module defines no function of this name with as many arguments: define it, or take it out of the exports."
 sentence_of table.SourceTooLong =
     codes "A source has at most 65,536 bytes, and this one has more: shorten it."
 sentence_of table.HeadsDiffer =
-    codes "The clauses of a function have one name and one number of arguments: mend this head, or end the clause before by a dot."
+    codes
+    "The clauses of a function have one name and one number of arguments: mend this head, or end the clause before by a dot."
 sentence_of table.NoModule = of_no_source
 sentence_of table.NoRoot = of_no_source
 sentence_of table.NoTrial = of_no_source

@@ -1,5 +1,6 @@
 -- The line of a position as it is shown, and the caret below the position.
-use Rattle.std.specs.Prelude.{ℕ, zero, suc, ◌+◌, ◌-◌, ◌&&◌, ◌||◌, nat_lt, get_or, Bool, List, [], ◌∷◌, ◌++◌, length, take, drop, replicate, codes, if◌then◌else◌}
+use Rattle.std.specs.Prelude.{ℕ, zero, suc, ◌+◌, ◌-◌, ◌&&◌, ◌||◌, nat_lt, get_or, Bool, List, [], ◌∷◌, ◌++◌, length}
+use Rattle.std.specs.Prelude.{take, drop, replicate, codes, if◌then◌else◌}
 use Rattle.pf_diagnostics.specs.Positions.{columns, goes_on, since_newline, up_to_newline}
 use Rattle.pf_diagnostics.specs.declared.shown.TheConstants.{MOST_SHOWN}
 
@@ -22,7 +23,8 @@ shown_byte before byte next = if goes_on byte then shown_behind before byte else
 -- the first n bytes as they are shown
 unfoldable pub shown_up_to : List ℕ → (n : ℕ) → List ℕ
 shown_up_to bytes zero = []
-shown_up_to bytes (suc n) = shown_up_to bytes n ++ shown_byte (get_or bytes (n - 1) 0) (get_or bytes n 0) (get_or bytes (n + 1) 0)
+shown_up_to bytes (suc n) = shown_up_to bytes n ++ shown_byte (get_or bytes (n - 1) 0) (get_or bytes n 0)
+    (get_or bytes (n + 1) 0)
 
 -- bytes as they are shown
 abbrev pub shown_bytes : List ℕ → List ℕ

@@ -1,7 +1,8 @@
 //! Where a position is: the line and the column, and the rest of its line.
 
 ghost use Rattle.std.specs.Prelude.{◌≡◌, ◌≤◌, length, count_by};
-ghost use Rattle.pf_diagnostics.specs.Positions.{begins_character, column, columns, goes_on, is_newline, line_number, since_newline, up_to_newline};
+ghost use Rattle.pf_diagnostics.specs.Positions.{begins_character, column, columns, goes_on, is_newline, line_number};
+ghost use Rattle.pf_diagnostics.specs.Positions.{since_newline, up_to_newline};
 
 /// Whether a byte goes on with a character of UTF-8.
 pub(crate) fn goes_on(byte: u8) -> bool

@@ -1,7 +1,8 @@
 //! The line of a position as it is shown, and the caret below the position.
 
 ghost use Rattle.std.specs.Prelude.{◌≡◌, ◌++◌, ◌∷◌, [], OnOk, get_or, replicate};
-ghost use Rattle.pf_diagnostics.specs.Shown.{farthest, leads, nearest, shown_bytes, shown_behind, shown_byte, shown_first};
+ghost use Rattle.pf_diagnostics.specs.Shown.{farthest, leads, nearest, shown_bytes, shown_behind, shown_byte};
+ghost use Rattle.pf_diagnostics.specs.Shown.{shown_first};
 
 use crate::position::goes_on;
 use pf_errors::NoMemory;

@@ -29,7 +29,15 @@ module _ (N : RattleType) (g : names.Ghosts N.Denot) where
   held_run_send = search (hall.open_claim_send, sched.parked_send, sendable) depth 30
 
   pub work_seat_send : IsSend (WorkSeat.the_row N g)
-  work_seat_send = search (held_run_send, owner.the_send, thief.the_send, share.the_send, tally.the_field_send, heap.crosses, sendable) depth 30
+  work_seat_send = search (
+    held_run_send,
+    owner.the_send,
+    thief.the_send,
+    share.the_send,
+    tally.the_field_send,
+    heap.crosses,
+    sendable,
+  ) depth 30
 
   -- ---- the floor
 
@@ -47,12 +55,16 @@ module _ (N : RattleType) (g : names.Ghosts N.Denot) where
 
 -- ---- a closure that has an allocator and lends three values
 
-four_sync : (ν : Sym) (A B C D : RattleType) → IsSync A → IsSync B → IsSync C → IsSync D → IsSync (TupleAt ν (A ∷ B ∷ C ∷ D ∷ []))
+four_sync : (ν : Sym) (A B C D : RattleType) → IsSync A → IsSync B → IsSync C → IsSync D
+    → IsSync (TupleAt ν (A ∷ B ∷ C ∷ D ∷ []))
 four_sync ν A B C D a b c d = search sendable depth 20
 
 module _ (A B C : RattleType) where
   pub closure_sync :
       (i : ℕ) (δ : Ty) (ν : Sym) (a b c : NamedLft) → IsSync A → IsSync B → IsSync C →
-      IsSync (param i (arg δ no (TupleAt ν (Global.the_row ∷ ShrRef a.mir a.lft A ∷ ShrRef b.mir b.lft B ∷ ShrRef c.mir c.lft C ∷ []))))
+      IsSync
+      (param i (arg δ no (TupleAt ν (Global.the_row ∷ ShrRef a.mir a.lft A ∷ ShrRef b.mir b.lft B
+      ∷ ShrRef c.mir c.lft C ∷ []))))
   closure_sync i δ ν a b c s t u =
-      param_sync i _ (arg_sync δ no _ (four_sync ν _ _ _ _ heap.sync (shr_sync a.mir a.lft A s) (shr_sync b.mir b.lft B t) (shr_sync c.mir c.lft C u)))
+      param_sync i _ (arg_sync δ no _ (four_sync ν _ _ _ _ heap.sync (shr_sync a.mir a.lft A s)
+      (shr_sync b.mir b.lft B t) (shr_sync c.mir c.lft C u)))

@@ -1,5 +1,6 @@
 -- What contracts see of workers' seats.
-use Rattle.std.specs.Prelude.{⊤, ℕ, ◌+◌, ◌-◌, ◌^◌, ◌≡◌, ◌⊎◌, Bool, true, false, List, [], ◌∷◌, ◌++◌, length, min, if◌then◌else◌, Option, Some, None, option_map, slice_get, slice_set}
+use Rattle.std.specs.Prelude.{⊤, ℕ, ◌+◌, ◌-◌, ◌^◌, ◌≡◌, ◌⊎◌, Bool, true, false, List, [], ◌∷◌, ◌++◌, length, min}
+use Rattle.std.specs.Prelude.{if◌then◌else◌, Option, Some, None, option_map, slice_get, slice_set}
 use Rattle.pf_farm_accounts.specs.declared.row.ClaimEnd.{ClaimEnd}
 use Rattle.pf_farm_accounts.specs.declared.row.Claim.{Claim}
 use Rattle.pf_farm_accounts.specs.declared.row.ClaimRow.{ClaimRow}
@@ -38,11 +39,13 @@ one_if b = if b then 1 else 0
 
 -- as many claims arrived at the seat as left it, but for the one that it holds
 abbrev pub IsBalanced : (opened ended : ℕ) → WorkSeatView → Type 0
-IsBalanced opened ended s = opened + length s.own.popped + length (stolen_by s.next) ≡ ended + length s.own.pushed + one_if s.busy
+IsBalanced opened ended s = opened + length s.own.popped + length (stolen_by s.next) ≡ ended + length s.own.pushed
+    + one_if s.busy
 
 -- its steals and parks are counted
 abbrev pub CountsSteals : WorkSeatView → Type 0
-CountsSteals s = (s.tally.steals ≡ saturated (length (stolen_by s.next))) × (s.tally.parks ≡ saturated (length s.own.pushed))
+CountsSteals s = (s.tally.steals ≡ saturated (length (stolen_by s.next)))
+    × (s.tally.parks ≡ saturated (length s.own.pushed))
 
 -- ---- what a worker's steps leave of its seat
 
@@ -52,7 +55,8 @@ thief_deque t = option_map (λ (x : ThiefView ℕ). x.deque) t
 
 -- a seat has the ends that it had
 abbrev pub SameEnds : WorkSeatView → WorkSeatView → Type 0
-SameEnds s s' = (s'.own.deque ≡ s.own.deque) × (s'.own.is_alone ≡ s.own.is_alone) × (thief_deque s'.next ≡ thief_deque s.next)
+SameEnds s s' = (s'.own.deque ≡ s.own.deque) × (s'.own.is_alone ≡ s.own.is_alone)
+    × (thief_deque s'.next ≡ thief_deque s.next)
 
 -- and nothing was parked or filed
 abbrev pub IsAsBefore : WorkSeatView → WorkSeatView → Type 0
@@ -64,7 +68,8 @@ HasFiled s s' = SameEnds s s' × (s'.filed ≡ saturated (s.filed + 1))
 
 -- a run was filed or parked, or the worker goes on with it
 abbrev pub IsNotLost : (run : ℕ) → WorkSeatView → WorkSeatView → (next : Option ℕ) → Type 0
-IsNotLost run s s' next = (s'.filed ≡ saturated (s.filed + 1)) ⊎ (s'.own.pushed ≡ s.own.pushed ++ run ∷ []) ⊎ (next ≡ Some run)
+IsNotLost run s s' next = (s'.filed ≡ saturated (s.filed + 1)) ⊎ (s'.own.pushed ≡ s.own.pushed ++ run ∷ [])
+    ⊎ (next ≡ Some run)
 
 -- the claim was open and ends so, or as stray, in the rows of a ledger
 abbrev pub ClaimEndsAs : ClaimEnd → ℕ × Claim Job → (before after : List (ClaimRow Job)) → Type 0

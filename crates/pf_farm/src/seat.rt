@@ -1,6 +1,7 @@
 //! The seats of workers.
 
-ghost use Rattle.std.specs.Prelude.{◌≡◌, ◌<◌, ◌∷◌, ◌++◌, [], true, false, length, is_some, IfSome, IfNone, IfOk, IfErr, OnOk, OnErr};
+ghost use Rattle.std.specs.Prelude.{◌≡◌, ◌<◌, ◌∷◌, ◌++◌, [], true, false, length, is_some, IfSome, IfNone, IfOk, IfErr};
+ghost use Rattle.std.specs.Prelude.{OnOk, OnErr};
 ghost use Rattle.pf_farm_accounts.specs.declared.row.ClaimEnd.TheVariants.{Filed, HandedBack};
 ghost use Rattle.pf_farm_accounts.specs.DequeViews.{FoundEmpty, TakesFirst, stolen_by};
 ghost use Rattle.pf_farm.specs.Seats.{ClaimEndsAs, HasFiled, IsAsBefore, SameEnds, saturated};

@@ -1,5 +1,6 @@
 -- What is at the places of a token.
-use Rattle.std.proofs.Common.{◌≡◌, ℕ, zero, suc, ◌+◌, ◌-◌, ◌≤◌, List, [], ◌∷◌, ◌++◌, length, Option, Some, None, refl, sym, ap, ◌∙◌, subst, arith}
+use Rattle.std.proofs.Common.{◌≡◌, ℕ, zero, suc, ◌+◌, ◌-◌, ◌≤◌, List, [], ◌∷◌, ◌++◌, length, Option, Some, None, refl}
+use Rattle.std.proofs.Common.{sym, ap, ◌∙◌, subst, arith}
 use Rattle.std.specs.Prelude.{slice_get}
 use Rattle.pf_farm_accounts.specs.Places.{weigh as weigh_places, weigh_below, AreBelow, StartsWith}
 use Rattle.pf_farm_accounts.specs.declared.receipt.Receipt.{Receipt}
@@ -10,11 +11,13 @@ first_below f zero = omega arith
 first_below f (suc n) = omega (arith, first_below f n)
 
 -- what places weigh and what is left of a bound make up the bound for each
-both : (f : ℕ → ℕ) (bound : ℕ) → ((k : ℕ) → f k ≤ bound) → (ks : List ℕ) → weigh_places f ks + weigh_places (λ k. bound - f k) ks ≡ weigh_places (λ _. bound) ks
+both : (f : ℕ → ℕ) (bound : ℕ) → ((k : ℕ) → f k ≤ bound) → (ks : List ℕ)
+    → weigh_places f ks + weigh_places (λ k. bound - f k) ks ≡ weigh_places (λ _. bound) ks
 both f bound less [] = refl
 both f bound less (k ∷ ks) = omega (arith, less k, both f bound less ks)
 
-both_below : (f : ℕ → ℕ) (bound : ℕ) → ((k : ℕ) → f k ≤ bound) → (n : ℕ) → weigh_below f n + weigh_below (λ k. bound - f k) n ≡ weigh_below (λ _. bound) n
+both_below : (f : ℕ → ℕ) (bound : ℕ) → ((k : ℕ) → f k ≤ bound) → (n : ℕ)
+    → weigh_below f n + weigh_below (λ k. bound - f k) n ≡ weigh_below (λ _. bound) n
 both_below f bound less zero = refl
 both_below f bound less (suc n) = omega (arith, less n, both_below f bound less n)
 
@@ -24,12 +27,21 @@ as_many bound [] (suc n) enough = absurd (omega arith)
 as_many bound (k ∷ ks) (suc n) enough = omega (arith, as_many bound ks n (omega arith))
 
 -- n places below n, each at most once, are all of them
-same_weight : (f : ℕ → ℕ) (bound : ℕ) → ((k : ℕ) → f k ≤ bound) → (ks : List ℕ) (n : ℕ) → AreBelow ks n → n ≤ length ks → weigh_places f ks ≡ weigh_below f n
-same_weight f bound less ks n below enough = omega (arith, both f bound less ks, both_below f bound less n, as_many bound ks n enough, below f, below (λ k. bound - f k))
+same_weight : (f : ℕ → ℕ) (bound : ℕ) → ((k : ℕ) → f k ≤ bound) → (ks : List ℕ) (n : ℕ) → AreBelow ks n → n ≤ length ks
+    → weigh_places f ks ≡ weigh_below f n
+same_weight f bound less ks n below enough = omega (
+  arith,
+  both f bound less ks,
+  both_below f bound less n,
+  as_many bound ks n enough,
+  below f,
+  below (λ k. bound - f k),
+)
 
 pub grows : (f : ℕ → ℕ) (n more all : ℕ) → all ≡ n + more → weigh_below f n ≤ weigh_below f all
 grows f n zero all is = let same : all ≡ n = omega (arith, is) in omega (arith, ap (weigh_below f) same)
-grows f n (suc more) all is = let next : all ≡ suc (n + more) = omega (arith, is) in omega (arith, ap (weigh_below f) next, grows f n more (n + more) refl)
+grows f n (suc more) all is = let next : all ≡ suc (n + more) = omega (arith, is) in
+    omega (arith, ap (weigh_below f) next, grows f n more (n + more) refl)
 
 module _ {T : Type 0} where
   -- 1 past the end
@@ -59,13 +71,19 @@ module _ {C A : Type 0} where
   abbrev at_place : (Receipt C A → ℕ) → List (Receipt C A) → ℕ → ℕ
   at_place h log k = worth h (slice_get log k)
 
-  weigh_some : (h : Receipt C A → ℕ) (o : Option (Receipt C A)) (rs : List (Receipt C A)) → weigh h (put_some o rs) ≡ worth h o + weigh h rs
+  weigh_some : (h : Receipt C A → ℕ) (o : Option (Receipt C A)) (rs : List (Receipt C A))
+      → weigh h (put_some o rs) ≡ worth h o + weigh h rs
   weigh_some h None rs = omega arith
   weigh_some h (Some r) rs = omega arith
 
-  weigh_standing : (h : Receipt C A → ℕ) (ks : List ℕ) (log : List (Receipt C A)) → weigh h (standing_at ks log) ≡ weigh_places (at_place h log) ks
+  weigh_standing : (h : Receipt C A → ℕ) (ks : List ℕ) (log : List (Receipt C A))
+      → weigh h (standing_at ks log) ≡ weigh_places (at_place h log) ks
   weigh_standing h [] log = refl
-  weigh_standing h (k ∷ ks) log = omega (arith, weigh_some h (slice_get log k) (standing_at ks log), weigh_standing h ks log)
+  weigh_standing h (k ∷ ks) log = omega (
+    arith,
+    weigh_some h (slice_get log k) (standing_at ks log),
+    weigh_standing h ks log,
+  )
 
   weigh_log : (h : Receipt C A → ℕ) (log : List (Receipt C A)) → weigh h log ≡ weigh_below (at_place h log) (length log)
   weigh_log h [] = refl
@@ -82,21 +100,30 @@ module _ {C A : Type 0} where
 
   length_standing : (ks : List ℕ) (log : List (Receipt C A)) → length (standing_at ks log) ≤ length ks
   length_standing [] log = omega arith
-  length_standing (k ∷ ks) log = omega (arith, length_some (slice_get log k) (standing_at ks log), length_standing ks log)
+  length_standing (k ∷ ks) log = omega (
+    arith,
+    length_some (slice_get log k) (standing_at ks log),
+    length_standing ks log,
+  )
 
   -- where as many are at some places as were logged, these are all that were logged
-  pub each_once : (ks : List ℕ) (log : List (Receipt C A)) → AreBelow ks (length log) → length log ≤ length (standing_at ks log) → EachOnce (standing_at ks log) log
-  each_once ks log below all h = weigh_standing h ks log ∙ same_weight (at_place h log) (weigh h log) (most h log) ks (length log) below (omega (arith, all, length_standing ks log)) ∙ sym (weigh_log h log)
+  pub each_once : (ks : List ℕ) (log : List (Receipt C A)) → AreBelow ks (length log)
+      → length log ≤ length (standing_at ks log) → EachOnce (standing_at ks log) log
+  each_once ks log below all h = weigh_standing h ks log ∙ same_weight (at_place h log) (weigh h log) (most h log) ks
+      (length log) below (omega (arith, all, length_standing ks log)) ∙ sym (weigh_log h log)
 
   some_append : (o : Option (Receipt C A)) (xs ys : List (Receipt C A)) → put_some o (xs ++ ys) ≡ put_some o xs ++ ys
   some_append None xs ys = refl
   some_append (Some r) xs ys = refl
 
-  pub standing_append : (ks js : List ℕ) (log : List (Receipt C A)) → standing_at (ks ++ js) log ≡ standing_at ks log ++ standing_at js log
+  pub standing_append : (ks js : List ℕ) (log : List (Receipt C A))
+      → standing_at (ks ++ js) log ≡ standing_at ks log ++ standing_at js log
   standing_append [] js log = refl
-  standing_append (k ∷ ks) js log = ap (put_some (slice_get log k)) (standing_append ks js log) ∙ some_append (slice_get log k) (standing_at ks log) (standing_at js log)
+  standing_append (k ∷ ks) js log = ap (put_some (slice_get log k)) (standing_append ks js log)
+      ∙ some_append (slice_get log k) (standing_at ks log) (standing_at js log)
 
-  stands : (ks : List ℕ) (log rest : List (Receipt C A)) → weigh_places (λ k. absent (slice_get log k)) ks ≡ 0 → standing_at ks (log ++ rest) ≡ standing_at ks log
+  stands : (ks : List ℕ) (log rest : List (Receipt C A)) → weigh_places (λ k. absent (slice_get log k)) ks ≡ 0
+      → standing_at ks (log ++ rest) ≡ standing_at ks log
   stands [] log rest h = refl
   stands (k ∷ ks) log rest h =
       let here = stays log rest k (omega (arith, h)) in
@@ -104,10 +131,13 @@ module _ {C A : Type 0} where
       λ i. put_some (here i) (others i)
 
   -- what was there is there when more were logged
-  pub still_stands : (ks : List ℕ) (seen log : List (Receipt C A)) → AreBelow ks (length seen) → StartsWith log seen → standing_at ks log ≡ standing_at ks seen
+  pub still_stands : (ks : List ℕ) (seen log : List (Receipt C A)) → AreBelow ks (length seen) → StartsWith log seen
+      → standing_at ks log ≡ standing_at ks seen
   still_stands ks seen log below starts =
-      let none : weigh_places (λ k. absent (slice_get seen k)) ks ≡ 0 = omega (arith, below (λ k. absent (slice_get seen k)), none_absent seen) in
+      let none : weigh_places (λ k. absent (slice_get seen k)) ks ≡ 0 =
+      omega (arith, below (λ k. absent (slice_get seen k)), none_absent seen) in
       subst (λ l. standing_at ks l ≡ standing_at ks seen) (sym starts.1) (stands ks seen starts.0 none)
 
-  pub last_stands : (log : List (Receipt C A)) (r : Receipt C A) → standing_at (length log ∷ []) (log ++ r ∷ []) ≡ r ∷ []
+  pub last_stands : (log : List (Receipt C A)) (r : Receipt C A)
+      → standing_at (length log ∷ []) (log ++ r ∷ []) ≡ r ∷ []
   last_stands log r = ap (λ o. put_some o []) (last_get log r)

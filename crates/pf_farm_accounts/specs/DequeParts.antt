@@ -9,7 +9,8 @@ module _ {T : Type 0} where
   abbrev pub IsDealt : (items left right : List T) → Type 0
   IsDealt [] left right = (left ≡ []) × (right ≡ [])
   IsDealt (x ∷ xs) left right =
-      ((rest : List T) × (left ≡ x ∷ rest) × IsDealt xs rest right) ⊎ ((rest : List T) × (right ≡ x ∷ rest) × IsDealt xs left rest)
+      ((rest : List T) × (left ≡ x ∷ rest) × IsDealt xs rest right)
+      ⊎ ((rest : List T) × (right ≡ x ∷ rest) × IsDealt xs left rest)
 
   -- ---- what a deque holds
 
@@ -26,21 +27,41 @@ module _ {T : Type 0} where
   -- the deque was found empty: all that was pushed was popped or stolen, and where the owner is the thief too, this was
   -- stolen
   abbrev pub IsFoundEmpty : (steals : Bool) → (pushed popped own : List T) → Type 0
-  IsFoundEmpty steals pushed popped own = (stolen : List T) × IsDealt pushed popped stolen × (steals ≡ true → stolen ≡ own)
+  IsFoundEmpty steals pushed popped own = (stolen : List T) × IsDealt pushed popped stolen × (steals ≡ true
+      → stolen ≡ own)
 
   -- this item was the first: all that was pushed before it was popped or stolen
   abbrev pub IsFirst : (steals : Bool) → (pushed popped own : List T) → T → Type 0
   IsFirst steals pushed popped own x =
-      (before : List T) × (behind : List T) × (stolen : List T) × (pushed ≡ before ++ x ∷ behind) × IsDealt before popped stolen × (steals ≡ true → stolen ≡ own)
+      (before : List T) × (behind : List T) × (stolen : List T) × (pushed ≡ before ++ x ∷ behind)
+      × IsDealt before popped stolen × (steals ≡ true → stolen ≡ own)
 
   -- ---- parts
 
   -- both ends, of a deque through which nothing went yet
   abbrev pub first_part : HolderPart T
-  first_part = record { owns = true; steals = true; sealed = false; drained = true; pushed = []; popped = []; stolen = [] }
+  first_part = record {
+    owns = true;
+    steals = true;
+    sealed = false;
+    drained = true;
+    pushed = [];
+    popped =
+        [];
+    stolen = [];
+  }
 
   abbrev pub no_part : HolderPart T
-  no_part = record { owns = false; steals = false; sealed = false; drained = false; pushed = []; popped = []; stolen = [] }
+  no_part = record {
+    owns = false;
+    steals = false;
+    sealed = false;
+    drained = false;
+    pushed = [];
+    popped =
+        [];
+    stolen = [];
+  }
 
   abbrev pub thief_part : List T → HolderPart T
   thief_part stolen = record no_part { steals = true; stolen = stolen }
@@ -65,7 +86,8 @@ module _ {T : Type 0} where
   abbrev pub HasPopped : HolderPart T → List (Option T) → HolderPart T → Type 0
   HasPopped v [] w = w ≡ v
   HasPopped v (None ∷ xs) w = (w ≡ record v { drained = true }) × IsFoundEmpty v.steals v.pushed v.popped v.stolen
-  HasPopped v (Some x ∷ xs) w = (w ≡ record v { popped = v.popped ++ x ∷ [] }) × IsFirst v.steals v.pushed v.popped v.stolen x
+  HasPopped v (Some x ∷ xs) w = (w ≡ record v { popped = v.popped ++ x ∷ [] })
+      × IsFirst v.steals v.pushed v.popped v.stolen x
 
   abbrev pub FindsNothing : HolderPart T → Type 0
   FindsNothing v = IsFoundEmpty v.steals v.pushed v.popped v.stolen
@@ -84,16 +106,20 @@ module _ {T : Type 0} where
 
   -- one holder at most owns: it knows what was pushed and popped, and that no mark is there unless it sealed the deque,
   -- and no item if that is drained. One at most steals, and knows what was stolen
-  abbrev pub Knows : (owner thief : ℕ) → (pushed popped stolen held : List T) → (count : ℕ) → (holder : ℕ) → HolderPart T → Type 0
+  abbrev pub Knows : (owner thief : ℕ) → (pushed popped stolen held : List T) → (count : ℕ) → (holder : ℕ)
+      → HolderPart T → Type 0
   Knows owner thief pushed popped stolen held count holder v =
-      (v.owns ≡ true → (holder ≡ owner) × (v.pushed ≡ pushed) × (v.popped ≡ popped) × (v.sealed ≡ false → count ≡ 0) × (v.drained ≡ true → held ≡ []))
+      (v.owns ≡ true → (holder ≡ owner) × (v.pushed ≡ pushed) × (v.popped ≡ popped) × (v.sealed ≡ false → count ≡ 0)
+      × (v.drained ≡ true → held ≡ []))
       × (v.steals ≡ true → (holder ≡ thief) × (v.stolen ≡ stolen))
 
   -- what was pushed is what was popped or stolen, in order, and then what is held
   abbrev pub IsInOrder : List (Option T) → List (HolderPart T) → Type 0
   IsInOrder items holders =
-      (owner : ℕ) × (thief : ℕ) × (pushed : List T) × (popped : List T) × (stolen : List T) × (taken : List T) × (held : List T) × (count : ℕ)
+      (owner : ℕ) × (thief : ℕ) × (pushed : List T) × (popped : List T) × (stolen : List T) × (taken : List T)
+      × (held : List T) × (count : ℕ)
       × (items ≡ entries held count)
       × (pushed ≡ taken ++ held)
       × IsDealt taken popped stolen
-      × ((holder : ℕ) (v : HolderPart T) → get_elem? holders holder ≡ some v → Knows owner thief pushed popped stolen held count holder v)
+      × ((holder : ℕ) (v : HolderPart T) → get_elem? holders holder ≡ some v
+      → Knows owner thief pushed popped stolen held count holder v)

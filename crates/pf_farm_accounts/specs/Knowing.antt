@@ -23,7 +23,8 @@ module _ {T : Type 0} where
   -- an entry is entered, at the next place
   abbrev pub with_entry : Knowledge T → Option T → Knowledge T
   with_entry v None = v
-  with_entry v (Some x) = knowledge v.is_register (v.entries ++ x ∷ []) v.returned (v.borne ++ length v.entries ∷ []) v.seen
+  with_entry v (Some x) = knowledge v.is_register (v.entries ++ x ∷ []) v.returned
+      (v.borne ++ length v.entries ∷ []) v.seen
 
   -- a token is lent to the register
   abbrev pub lent : Knowledge T → Knowledge T → Knowledge T

@@ -1,5 +1,6 @@
 -- Receipts of calls.
-use Rattle.std.specs.Prelude.{⊤, ℕ, suc, ◌≡◌, ◌+◌, ◌<◌, ◌≤◌, ◌==◌, if◌then◌else◌, Bool, false, List, [], ◌∷◌, length, Option, Some, None, slice_get, All}
+use Rattle.std.specs.Prelude.{⊤, ℕ, suc, ◌≡◌, ◌+◌, ◌<◌, ◌≤◌, ◌==◌, if◌then◌else◌, Bool, false, List, [], ◌∷◌, length}
+use Rattle.std.specs.Prelude.{Option, Some, None, slice_get, All}
 use Rattle.std.specs.declared.snapshot.Snapshot.{Snapshot}
 use Rattle.std.specs.Coded.{×_prop, Unit-prop, le_prop}
 use Rattle.pf_farm_accounts.specs.Places.{AreBelow}
@@ -87,7 +88,8 @@ module _ {C A : Type 0} where
 
   -- a seat's receipts are at the places that it bears, and of its project; their numbers rise, up to the number of
   -- calls of the project that it has seen
-  pub record IsSeat (places : List ℕ) (seen : List (Receipt C A)) (project : ℕ) (receipts : List (Receipt C A)) : Type 0 where
+  pub record IsSeat (places : List ℕ) (seen : List (Receipt C A)) (project : ℕ)
+      (receipts : List (Receipt C A)) : Type 0 where
     pub below : AreBelow places (length seen)
     pub standing : receipts ≡ standing_at places seen
     pub own : AreOf project receipts

@@ -1,5 +1,6 @@
 -- Claims in order, each with its end.
-use Rattle.std.specs.Prelude.{◌≡◌, ◌≢◌, ℕ, zero, suc, ◌+◌, ◌==◌, if◌then◌else◌, List, [], ◌∷◌, map, Option, Some, None, All}
+use Rattle.std.specs.Prelude.{◌≡◌, ◌≢◌, ℕ, zero, suc, ◌+◌, ◌==◌, if◌then◌else◌, List, [], ◌∷◌, map, Option, Some, None}
+use Rattle.std.specs.Prelude.{All}
 use Rattle.std.specs.declared.snapshot.Snapshot.{Snapshot}
 use Rattle.pf_farm_accounts.specs.Places.{weigh}
 use Rattle.pf_farm_accounts.specs.declared.row.ClaimRow.{ClaimRow}
@@ -46,4 +47,5 @@ module _ {J : Type 0} where
   -- the register's entries are the claims, and the places that came back are those of the claims that have ended, each
   -- once
   abbrev pub IsRegistered : List (ClaimRow J) → List (Claim J) → List ℕ → Type 0
-  IsRegistered rows entries places = (entries ≡ map (λ r. r.claim) rows) × ((k : ℕ) → weigh (one_at k) places ≡ ended_at rows k)
+  IsRegistered rows entries places = (entries ≡ map (λ r. r.claim) rows) × ((k : ℕ)
+      → weigh (one_at k) places ≡ ended_at rows k)

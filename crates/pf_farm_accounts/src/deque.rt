@@ -2,7 +2,8 @@
 
 ghost use Rattle.std.specs.Prelude.{◌≡◌, ◌⊎◌, ◌∷◌, ◌++◌, [], true, false, IfOk, IfSome, IfNone, IfErr, OnOk};
 ghost use Rattle.pf_farm_accounts.specs.DequeParts.{IsDealt};
-ghost use Rattle.pf_farm_accounts.specs.DequeViews.{FoundEmpty, IsThiefOf, TakesFirst, new_owner, new_thief, stolen_by, with_popped, with_pushed};
+ghost use Rattle.pf_farm_accounts.specs.DequeViews.{FoundEmpty, IsThiefOf, TakesFirst, new_owner, new_thief, stolen_by};
+ghost use Rattle.pf_farm_accounts.specs.DequeViews.{with_popped, with_pushed};
 
 use crate::deque_part::{HolderPart, InOrder, PartedEnds, Popped, Pushed, Spent, Stolen};
 use crossbeam_deque::{Pass, Steal, Stealer, Worker};
@@ -58,7 +59,8 @@ impl<T: Drop> Model for Thief<T> {
 
     ghost view = { λ t. record { deque = stealer_deque t.stealer; stolen = stolen_by t.pass } };
 
-    ghost invariant = { λ t. IsPassOf (stealer_deque t.stealer) t.pass × IsThief t.pass × (stealer_flavor t.stealer ≡ 0) };
+    ghost invariant = { λ t. IsPassOf (stealer_deque t.stealer) t.pass × IsThief t.pass
+        × (stealer_flavor t.stealer ≡ 0) };
 }
 
 /// A deque with room for so many at first, as its two ends.

@@ -2,7 +2,8 @@
 
 ghost use Rattle.std.specs.Prelude.{◌≡◌, ◌+◌, [], ◌++◌, length};
 ghost use Rattle.pf_farm_accounts.specs.Places.{StartsWith};
-ghost use Rattle.pf_farm_accounts.specs.Receipts.{AreNumbered, AreOf, AreRising, AreRising-prop, EachOnce, gathering_of};
+ghost use Rattle.pf_farm_accounts.specs.Receipts.{AreNumbered, AreOf, AreRising, AreRising-prop, EachOnce};
+ghost use Rattle.pf_farm_accounts.specs.Receipts.{gathering_of};
 
 use crate::receipt::Receipt;
 use crate::seat::Seat;

@@ -1,6 +1,7 @@
 //! The ledger of claims.
 
-ghost use Rattle.std.specs.Prelude.{◌≡◌, ◌+◌, ◌<◌, [], ◌∷◌, ◌++◌, Some, None, true, false, length, slice_get, slice_set, OnOk};
+ghost use Rattle.std.specs.Prelude.{◌≡◌, ◌+◌, ◌<◌, [], ◌∷◌, ◌++◌, Some, None, true, false, length, slice_get};
+ghost use Rattle.std.specs.Prelude.{slice_set, OnOk};
 ghost use Rattle.pf_farm_accounts.specs.Rows.{claim_of, row_of, HaveEnded};
 
 use crate::row::{Claim, ClaimEnd, ClaimRow};

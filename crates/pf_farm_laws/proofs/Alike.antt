@@ -34,26 +34,34 @@ module _ (p : Profile) where
   AreFinal cs rs fs = ⊥
 
   -- a worker's note leaves a desk alike
-  like_work : (d k e : Desk) (t : ℕ) (w : Chore) → desk_done p (at_desk (worker_does 0 0 t w)) d ≡ k → IsLike p d e → IsLike p k e
+  like_work : (d k e : Desk) (t : ℕ) (w : Chore) → desk_done p (at_desk (worker_does 0 0 t w)) d ≡ k
+      → IsLike p d e → IsLike p k e
   like_work d k e t w h l = subst (λ (x : Desk). IsLike p x e) h (like_chore p d e 0 0 t w l)
 
   abbrev pub IsAlong : Desk → Desk → List Entry → Type 0
-  IsAlong d e es = IsLike p d (after_calls e (calls_of es)) × AreFinal (calls_of es) (replies_noted es) (finals e (calls_of es))
+  IsAlong d e es = IsLike p d (after_calls e (calls_of es)) × AreFinal (calls_of es) (replies_noted es)
+      (finals e (calls_of es))
 
-  like_along : (d e : Desk) (es : List Entry) (d' : Desk) → NoneForMemory es → IsLegal p d es d' → IsLike p d e → IsAlong d' e es
+  like_along : (d e : Desk) (es : List Entry) (d' : Desk) → NoneForMemory es → IsLegal p d es d' → IsLike p d e
+      → IsAlong d' e es
   like_along d e [] d' m h l = (subst (λ (x : Desk). IsLike p x e) h l, tt)
   like_along d e (called c r ∷ es) d' m h l =
       let one : _ = like_call p d e c l in
-      let next : IsLike p h.0 (after_call p e c) = subst (λ (x : Desk). IsLike p x (after_call p e c)) (sym h.1.2) one.0 in
-      let rest : IsAlong d' (after_call p e c) es = like_along h.0 (after_call p e c) es d' (All-tail NotForMemory _ es m) h.2 next in
+      let next : IsLike p h.0 (after_call p e c) = subst (λ (x : Desk). IsLike p x (after_call p e c))
+      (sym h.1.2) one.0 in
+      let rest : IsAlong d' (after_call p e c) es =
+      like_along h.0 (after_call p e c) es d' (All-tail NotForMemory _ es m) h.2 next in
       (rest.0, (λ s. h.1.1 ∙ one.1 (subst (Settles c) h.1.1 s), rest.1))
   like_along d e (claimed t ∷ es) d' m h l =
-      like_along h.0 e es d' (All-tail NotForMemory _ es m) h.2 (like_work d h.0 e t Claim (ap (λ (o : Option Desk). unwrap_or o d) h.1) l)
+      like_along h.0 e es d' (All-tail NotForMemory _ es m) h.2
+      (like_work d h.0 e t Claim (ap (λ (o : Option Desk). unwrap_or o d) h.1) l)
   like_along d e (filed t Whole ∷ es) d' m h l =
-      like_along h.0 e es d' (All-tail NotForMemory _ es m) h.2 (like_work d h.0 e t File (ap (λ (o : Option Desk). unwrap_or o d) h.1) l)
+      like_along h.0 e es d' (All-tail NotForMemory _ es m) h.2
+      (like_work d h.0 e t File (ap (λ (o : Option Desk). unwrap_or o d) h.1) l)
   like_along d e (filed t Memory ∷ es) d' m h l = absurd (All-head NotForMemory _ es m t refl)
   like_along d e (handed_back t ∷ es) d' m h l =
-      like_along h.0 e es d' (All-tail NotForMemory _ es m) h.2 (like_work d h.0 e t HandBack (ap (λ (o : Option Desk). unwrap_or o d) h.1) l)
+      like_along h.0 e es d' (All-tail NotForMemory _ es m) h.2
+      (like_work d h.0 e t HandBack (ap (λ (o : Option Desk). unwrap_or o d) h.1) l)
 
   -- so it is of what a legal history makes of an empty desk
   pub along : (es : List Entry) (d : Desk) → NoneForMemory es → IsLegal p no_desk es d → IsAlong d no_desk es

@@ -1,5 +1,6 @@
 -- Counting in longer lists, and what is held at numbers.
-use Rattle.std.proofs.Common.{◌≡◌, ◌≢◌, ℕ, zero, suc, ◌+◌, ◌≤◌, ◌==◌, Bool, true, false, true≢false, List, [], ◌∷◌, ◌++◌, length, Option, Some, refl, sym, ap, ◌∙◌, arith}
+use Rattle.std.proofs.Common.{◌≡◌, ◌≢◌, ℕ, zero, suc, ◌+◌, ◌≤◌, ◌==◌, Bool, true, false, true≢false, List, [], ◌∷◌}
+use Rattle.std.proofs.Common.{◌++◌, length, Option, Some, refl, sym, ap, ◌∙◌, arith}
 use Rattle.std.specs.Prelude.{slice_get, slice_set}
 use Rattle.std.specs.Option.{option_flatten}
 use Rattle.std.proofs.lemmas.Bool.Decides.{nat_tests}
@@ -25,14 +26,17 @@ module _ {X : Type 0} (f : X → Bool) where
   tally_push [] x = omega arith
   tally_push (y ∷ xs) x = omega (arith, tally_push xs x)
 
-  pub tally_set : (xs : List X) (k : ℕ) (x y : X) → slice_get xs k ≡ Some x → tally f (slice_set xs k y) + one_if (f x) ≡ tally f xs + one_if (f y)
+  pub tally_set : (xs : List X) (k : ℕ) (x y : X) → slice_get xs k ≡ Some x
+      → tally f (slice_set xs k y) + one_if (f x) ≡ tally f xs + one_if (f y)
   tally_set [] k x y h = absurd (cc)
-  tally_set (z ∷ xs) zero x y h = let is : z ≡ x = cc (h) in let same : one_if (f z) ≡ one_if (f x) = ap (λ w. one_if (f w)) is in omega (arith, same)
+  tally_set (z ∷ xs) zero x y h = let is : z ≡ x = cc (h) in let same : one_if (f z) ≡ one_if (f x) = ap
+      (λ w. one_if (f w)) is in omega (arith, same)
   tally_set (z ∷ xs) (suc k) x y h = omega (arith, tally_set xs k x y h)
 
   pub tally_at : (xs : List X) (k : ℕ) (x : X) → slice_get xs k ≡ Some x → one_if (f x) ≤ tally f xs
   tally_at [] k x h = absurd (cc)
-  tally_at (z ∷ xs) zero x h = let is : z ≡ x = cc (h) in let same : one_if (f z) ≡ one_if (f x) = ap (λ w. one_if (f w)) is in omega (arith, same)
+  tally_at (z ∷ xs) zero x h = let is : z ≡ x = cc (h) in let same : one_if (f z) ≡ one_if (f x) = ap
+      (λ w. one_if (f w)) is in omega (arith, same)
   tally_at (z ∷ xs) (suc k) x h = omega (arith, tally_at xs k x h)
 
 module _ {T : Type 0} where
@@ -54,7 +58,8 @@ module _ {T : Type 0} where
   get_same (x ∷ xs) zero o within = refl
   get_same (x ∷ xs) (suc i) o within = get_same xs i o (omega arith)
 
-  pub held_same : (xs : List (Option T)) (n : ℕ) (o : Option T) → 1 ≤ n → n ≤ length xs → held_at (with_held xs n o) n ≡ o
+  pub held_same : (xs : List (Option T)) (n : ℕ) (o : Option T) → 1 ≤ n → n ≤ length xs
+      → held_at (with_held xs n o) n ≡ o
   held_same xs zero o from within = absurd (omega arith)
   held_same xs (suc i) o from within = ap option_flatten (get_same xs i o within)
 
@@ -66,13 +71,15 @@ module _ {T : Type 0} where
   length_more [] o = refl
   length_more (x ∷ xs) o = omega (arith, length_more xs o)
 
-  get_before : (xs : List (Option T)) (i : ℕ) (o : Option T) → suc i ≤ length xs → slice_get (xs ++ o ∷ []) i ≡ slice_get xs i
+  get_before : (xs : List (Option T)) (i : ℕ) (o : Option T) → suc i ≤ length xs
+      → slice_get (xs ++ o ∷ []) i ≡ slice_get xs i
   get_before [] i o within = absurd (omega arith)
   get_before (x ∷ xs) zero o within = refl
   get_before (x ∷ xs) (suc i) o within = get_before xs i o (omega arith)
 
   -- what is held stays where one thing more is held after it
-  pub held_before : (xs : List (Option T)) (n : ℕ) (o : Option T) → n ≤ length xs → held_at (xs ++ o ∷ []) n ≡ held_at xs n
+  pub held_before : (xs : List (Option T)) (n : ℕ) (o : Option T) → n ≤ length xs
+      → held_at (xs ++ o ∷ []) n ≡ held_at xs n
   held_before xs zero o within = refl
   held_before xs (suc i) o within = ap option_flatten (get_before xs i o within)
 

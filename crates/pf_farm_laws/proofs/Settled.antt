@@ -10,7 +10,8 @@ use Rattle.pf_farm_laws.proofs.Alike.{finals, AreFinal, along}
 
 module _ (p : Profile) where
   -- two lists of replies of which both are final agree
-  agree : (cs : List Call) (rs ks fs : List Reply) → AreFinal p cs rs fs → AreFinal p cs ks fs → AgreeWhereSettled cs rs ks
+  agree : (cs : List Call) (rs ks fs : List Reply) → AreFinal p cs rs fs → AreFinal p cs ks fs
+      → AgreeWhereSettled cs rs ks
   agree [] [] [] [] a b = tt
   agree (c ∷ cs) (r ∷ rs) (k ∷ ks) (f ∷ fs) a b = (λ s z. a.0 s ∙ sym (b.0 z), agree cs rs ks fs a.1 b.1)
   agree [] [] [] (f ∷ fs) a b = absurd a
@@ -25,6 +26,8 @@ module _ (p : Profile) where
 
 pub settled_histories : SettledHistories
 settled_histories p d e legal legal_too m m_too h =
-    agree p (calls_of d.history) (replies_noted d.history) (replies_noted e.history) (finals p no_desk (calls_of d.history)) (along p d.history d m legal).1 (
-    subst (λ (cs : List Call). AreFinal p cs (replies_noted e.history) (finals p no_desk cs)) (sym h) (along p e.history e m_too legal_too).1
+    agree p (calls_of d.history) (replies_noted d.history) (replies_noted e.history)
+    (finals p no_desk (calls_of d.history)) (along p d.history d m legal).1 (
+    subst (λ (cs : List Call). AreFinal p cs (replies_noted e.history) (finals p no_desk cs)) (sym h)
+    (along p e.history e m_too legal_too).1
     )

@@ -6,13 +6,15 @@ use Rattle.pf_model.specs.Shrinking.{Result}
 use Rattle.pf_request.specs.Calls.{Call, submit, order, fetch, edition}
 use Rattle.pf_request.specs.Job.{Job, job_of}
 use Rattle.pf_request.specs.Request.{Request}
-use Rattle.pf_desks.specs.Desk.{Profile, Desk, Reply, number, ticket, result, has_edition, readable, Entry, called, claimed, filed, handed_back}
+use Rattle.pf_desks.specs.Desk.{Profile, Desk, Reply, number, ticket, result, has_edition, readable, Entry, called}
+use Rattle.pf_desks.specs.Desk.{claimed, filed, handed_back}
 use Rattle.pf_desks.specs.declared.mark.FileMark.TheVariants.{Memory}
 use Rattle.pf_desks.specs.History.{IsLegalDesk}
 
 -- this source was submitted, and was given this number
 abbrev pub IsSubmitted : List Entry → (number : ℕ) → (source : List ℕ) → Type 0
-IsSubmitted es n source = (before : List Entry) × (after : List Entry) × (es ≡ before ++ called (submit source) (number n) ∷ after)
+IsSubmitted es n source = (before : List Entry) × (after : List Entry)
+    × (es ≡ before ++ called (submit source) (number n) ∷ after)
 
 -- the edition of a desk after a call that got this reply
 abbrev pub edition_by : Call → Reply → ℕ → ℕ
@@ -34,7 +36,8 @@ pub record AsksFor (p : Profile) (es : List Entry) (n : ℕ) (q : Request) (j : 
   pub code : Module
   pub submitted : IsSubmitted es n source
   pub read : p.reading source ≡ readable code
-  pub job : job_of (record { source = source; code = code }) (edition_after 1 es) (p.property code.atoms q.property) q ≡ Ok j
+  pub job : job_of (record { source = source; code = code }) (edition_after 1 es)
+      (p.property code.atoms q.property) q ≡ Ok j
 
 -- no file of a ticket bears the mark of memory
 abbrev pub NoneForMemoryOf : ℕ → List Entry → Type 0
@@ -45,7 +48,9 @@ NoneForMemoryOf t es = All (λ e. e ≢ filed t Memory) es
 -- for
 abbrev pub ReportsAreOfTheirOrders : Type 0
 ReportsAreOfTheirOrders =
-    (p : Profile) (d : Desk) (before between after : List Entry) (n : ℕ) (q : Request) (t : ℕ) (atoms : List (List ℕ)) (r : Result)
-    → IsLegalDesk p d → d.history ≡ before ++ called (order n q) (ticket t) ∷ (between ++ called (fetch t) (result atoms r) ∷ after)
+    (p : Profile) (d : Desk) (before between after : List Entry) (n : ℕ) (q : Request) (t : ℕ)
+    (atoms : List (List ℕ)) (r : Result)
+    → IsLegalDesk p d → d.history ≡ before ++ called (order n q) (ticket t)
+    ∷ (between ++ called (fetch t) (result atoms r) ∷ after)
     → NoneForMemoryOf t between
     → (j : Job) × AsksFor p before n q j × (atoms ≡ j.asked.code.atoms) × (r ≡ p.meaning j.asked)

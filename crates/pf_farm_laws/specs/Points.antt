@@ -23,7 +23,8 @@ pub record IsPoint (p : Profile) (es : List Entry) (n : ℕ) (c : Call) (r : Rep
 pub record WasGiven (p : Profile) (es : List Entry) (n : ℕ) (c : Call) (r : Reply) : Type 0 where
   pub before : List Entry
   pub point : IsPoint p es n c r before
-  pub only : (c' : Call) (r' : Reply) (other : List Entry) → IsPoint p es n c' r' other → (other ≡ before) × (called c' r' ≡ called c r)
+  pub only : (c' : Call) (r' : Reply) (other : List Entry) → IsPoint p es n c' r' other
+      → (other ≡ before) × (called c' r' ≡ called c r)
 
 -- receipts, by how their calls and replies are seen
 module _ {C A : Type 0} (call : C → Call) (reply : A → Reply) where
@@ -47,12 +48,14 @@ module _ {C A : Type 0} (call : C → Call) (reply : A → Reply) where
   -- one point of the history of its own project, in which no other project occurs
   abbrev pub RepliesHaveTheirPoints : Type 0
   RepliesHaveTheirPoints =
-      (p : Profile) (rs : List (Receipt C A)) (w : Desks) → ((q : ℕ) → IsLegalDesk p (desk_at q w)) → AreTheCalls rs w → All (HasItsPoint p w) rs
+      (p : Profile) (rs : List (Receipt C A)) (w : Desks) → ((q : ℕ) → IsLegalDesk p (desk_at q w)) → AreTheCalls rs w
+      → All (HasItsPoint p w) rs
 
   -- no two of these receipts are of one call
   abbrev pub AreOfOwnCalls : List (Receipt C A) → Type 0
   AreOfOwnCalls rs =
-      (i k : ℕ) (r s : Receipt C A) → slice_get rs i ≡ Some r → slice_get rs k ≡ Some s → r.project ≡ s.project → r.number ≡ s.number → i ≡ k
+      (i k : ℕ) (r s : Receipt C A) → slice_get rs i ≡ Some r → slice_get rs k ≡ Some s → r.project ≡ s.project
+      → r.number ≡ s.number → i ≡ k
 
   -- nor are two receipts of the calls that the histories note
   abbrev pub ReceiptsAreOfOwnCalls : Type 0

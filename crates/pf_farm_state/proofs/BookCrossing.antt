@@ -43,7 +43,20 @@ usage_send = search sendable depth 30
 
 entry_field_send : IsSend (Entry.the_field).row
 entry_field_send =
-    search (refusal.the_field_send, stage_field_send, usage_send, whole_send, read.source_send, request.order_field_send, sched.job_send, sched.job_sync, heap.Box-send, heap.Arc-send, sendable) depth 40 fits 4000
+    search (
+      refusal.the_field_send,
+      stage_field_send,
+      usage_send,
+      whole_send,
+      read.source_send,
+      request.order_field_send,
+      sched.job_send,
+      sched.job_sync,
+      heap.Box-send,
+      heap.Arc-send,
+      sendable,
+    )
+    depth 40 fits 4000
 
 entry_send : IsSend Entry.the_row
 entry_send = recorded_send (Entry.the_field).row _ _ (Entry.the_type).to_one entry_field_send
@@ -57,4 +70,12 @@ queue_field_send : IsSend (Queue.the_field).row
 queue_field_send = search (heap.crosses, sendable) depth 30
 
 pub book_send : IsSend Book.the_row
-book_send = search (desk_send, store_send, queue_field_send, keys.the_send, index.the_send, heap.crosses, sendable) depth 30
+book_send = search (
+  desk_send,
+  store_send,
+  queue_field_send,
+  keys.the_send,
+  index.the_send,
+  heap.crosses,
+  sendable,
+) depth 30

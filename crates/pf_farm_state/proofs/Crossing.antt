@@ -37,7 +37,8 @@ receipt_field_send = search (heap.crosses, sendable) depth 30
 
 receipt_send : IsSend (Receipt.the_row Call.the_row Reply.the_row)
 receipt_send =
-    recorded_send (Receipt.the_field Call.the_row Reply.the_row).row _ _ (Receipt.the_type Call.the_row Reply.the_row).to_one receipt_field_send
+    recorded_send (Receipt.the_field Call.the_row Reply.the_row).row _ _
+    (Receipt.the_type Call.the_row Reply.the_row).to_one receipt_field_send
 
 module _ (N : RattleType) (g : names.Ghosts N.Denot) where
   pub open_claim_send : IsSend (OpenClaim.the_row N Job.the_row g)

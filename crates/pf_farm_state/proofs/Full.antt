@@ -14,5 +14,7 @@ HasMost q log = MOST_CALLS ≤ length (of_project q log)
 pub still_most : (q : ℕ) (log seen : List ClientReplies) → StartsWith log seen → HasMost q seen → HasMost q log
 still_most q log seen starts most = omega (arith, most, no_fewer q log seen starts)
 
-pub most_and_more : (q : ℕ) (log seen more : List ClientReplies) → StartsWith log seen → HasMost q seen → HasMost q (log ++ more)
-most_and_more q log seen more starts most = still_most q (log ++ more) log (more, refl) (still_most q log seen starts most)
+pub most_and_more : (q : ℕ) (log seen more : List ClientReplies) → StartsWith log seen → HasMost q seen
+    → HasMost q (log ++ more)
+most_and_more q log seen more starts most = still_most q (log ++ more) log (more, refl)
+    (still_most q log seen starts most)

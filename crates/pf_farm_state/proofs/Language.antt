@@ -6,7 +6,8 @@ use Rattle.pf_check.proofs.Same.{same_outcome}
 use Rattle.pf_model.specs.Evaluation.{evaluated}
 use Rattle.pf_model.specs.Meaning.{Job, Choices, seed, schedule, weighted_seed}
 use Rattle.pf_model.specs.Properties.{Property}
-use Rattle.pf_model.specs.Shrinking.{Found, Result, report, shrunk_to, IsResult, plain, smaller, no_failure, nothing_fails, TellsFailures, by_schedule, is_failure, shrunk}
+use Rattle.pf_model.specs.Shrinking.{Found, Result, report, shrunk_to, IsResult, plain, smaller, no_failure}
+use Rattle.pf_model.specs.Shrinking.{nothing_fails, TellsFailures, by_schedule, is_failure, shrunk}
 use Rattle.pf_model.proofs.Meanings.{evaluation_is_the_meaning, only_evaluated}
 use Rattle.pf_property.specs.Texts.{IsPropertyOf}
 use Rattle.pf_property.proofs.AnyProperty.{any_property}
@@ -17,12 +18,14 @@ use Rattle.pf_book.specs.Profile.{reading_from, IsRight, ForRight}
 -- ---- sources and properties
 
 same_reading : (o p : ReadOutcome) → SameOutcome o p → reading_from o ≡ reading_from p
-same_reading (accepted n a f) (accepted m b g) h = λ i. readable (record { name = h.0 i; atoms = h.1 i; functions = h.2 i })
+same_reading (accepted n a f) (accepted m b g) h =
+    λ i. readable (record { name = h.0 i; atoms = h.1 i; functions = h.2 i })
 same_reading (accepted n a f) (refused m y) h = absurd h
 same_reading (refused n x) (accepted m b g) h = absurd h
 same_reading (refused n x) (refused m y) h = ap faulty h.0
 
-same_property : (names : List (List ℕ)) (bytes : List ℕ) (o p : Option Property) → IsPropertyOf names bytes o → IsPropertyOf names bytes p → o ≡ p
+same_property : (names : List (List ℕ)) (bytes : List ℕ) (o p : Option Property) → IsPropertyOf names bytes o
+    → IsPropertyOf names bytes p → o ≡ p
 same_property names bytes (Some q) (Some r) h k = ap Some (at_most_one names bytes q r h k)
 same_property names bytes (Some q) None h k = absurd (k q h)
 same_property names bytes None (Some r) h k = absurd (h r k)
@@ -45,7 +48,8 @@ comes_to j (suc k) (weighted_seed n process channel) = nothing_fails
 
 -- a function that says which schedules fail says what the one report of each does
 same_failures : (j : Job) (fails : List ℕ → Bool) → TellsFailures j fails → fails_by j ≡ fails
-same_failures j fails tells = λ i ns. sym (tells ns (evaluated (by_schedule j ns)) (evaluation_is_the_meaning (by_schedule j ns) tt)) i
+same_failures j fails tells = λ i ns. sym (tells ns (evaluated (by_schedule j ns))
+    (evaluation_is_the_meaning (by_schedule j ns) tt)) i
 
 meaning_is : (j : Job) (r : Result) → IsResult j r → comes_to j j.runs j.choices ≡ r
 meaning_is j _ (plain r one_run means) =

@@ -1,5 +1,6 @@
 -- What histories note of calls, and how many they note.
-use Rattle.std.proofs.Common.{◌≡◌, ℕ, ◌+◌, ◌<◌, ◌≤◌, Bool, true, false, cond, List, [], ◌∷◌, ◌++◌, length, Option, Some, None, refl, sym, ap, ◌∙◌, subst, append-nil, arith}
+use Rattle.std.proofs.Common.{◌≡◌, ℕ, ◌+◌, ◌<◌, ◌≤◌, Bool, true, false, cond, List, [], ◌∷◌, ◌++◌, length, Option, Some}
+use Rattle.std.proofs.Common.{None, refl, sym, ap, ◌∙◌, subst, append-nil, arith}
 use Rattle.std.specs.Prelude.{nat_lt}
 use Rattle.std.specs.Option.{option_map}
 use Rattle.std.proofs.lemmas.Bool.Decides.{nat_tests}
@@ -58,7 +59,8 @@ module _ (p : Profile) (d : Desk) (c : Call) where
       let reply : reply_to p d c ≡ step.1 = ap (λ o. (within_limits d o step).1) room in
       ap (λ (k : Desk). k.history) desk ∙ (λ i. call_notes p d c i ++ called c (sym reply i) ∷ [])
 
-  pub noted_call : HasRoom d → calls_noted (after_call p d c).history ≡ calls_noted d.history ++ called c (reply_to p d c) ∷ []
+  pub noted_call : HasRoom d → calls_noted (after_call p d c).history ≡ calls_noted d.history
+      ++ called c (reply_to p d c) ∷ []
   noted_call room = ap calls_noted (with_room room) ∙ noted_more d.history (called c (reply_to p d c))
 
   pub counted_call : HasRoom d → calls_in (after_call p d c).history ≡ calls_in d.history + 1
@@ -83,7 +85,8 @@ module _ (d : Desk) where
   pub below_room : HasRoom d → calls_in d.history + 1 ≤ MOST_CALLS
   below_room room = by (nat_lt MOST_CALLS (calls_in d.history + 1)) refl room
     where
-      by : (b : Bool) → nat_lt MOST_CALLS (calls_in d.history + 1) ≡ b → past b ≡ None → calls_in d.history + 1 ≤ MOST_CALLS
+      by : (b : Bool) → nat_lt MOST_CALLS (calls_in d.history + 1) ≡ b → past b ≡ None
+          → calls_in d.history + 1 ≤ MOST_CALLS
       by true e h = absurd (cc)
       by false e h = grind (arith, nat_tests)
 
@@ -92,10 +95,12 @@ module _ (d : Desk) where
   full_below most room = omega (arith, most, below_room room)
 
   -- where the log is full the call is refused for that
-  pub full_refused : (p : Profile) (c : Call) → MOST_CALLS ≤ calls_in d.history → reply_to p d c ≡ refused code.TooManyCalls
+  pub full_refused : (p : Profile) (c : Call) → MOST_CALLS ≤ calls_in d.history
+      → reply_to p d c ≡ refused code.TooManyCalls
   full_refused p c most = by (nat_lt MOST_CALLS (calls_in d.history + 1)) refl
     where
-      by : (b : Bool) → nat_lt MOST_CALLS (calls_in d.history + 1) ≡ b → (within_limits d (past b) (noted c (answer_of_call p d c))).1 ≡ refused code.TooManyCalls
+      by : (b : Bool) → nat_lt MOST_CALLS (calls_in d.history + 1) ≡ b
+          → (within_limits d (past b) (noted c (answer_of_call p d c))).1 ≡ refused code.TooManyCalls
       by true e = refl
       by false e = absurd (grind (arith, nat_tests))
 
@@ -103,7 +108,8 @@ module _ (d : Desk) where
   pub full_stays : (p : Profile) (c : Call) → MOST_CALLS ≤ calls_in d.history → after_call p d c ≡ d
   full_stays p c most = by (nat_lt MOST_CALLS (calls_in d.history + 1)) refl
     where
-      by : (b : Bool) → nat_lt MOST_CALLS (calls_in d.history + 1) ≡ b → (within_limits d (past b) (noted c (answer_of_call p d c))).0 ≡ d
+      by : (b : Bool) → nat_lt MOST_CALLS (calls_in d.history + 1) ≡ b
+          → (within_limits d (past b) (noted c (answer_of_call p d c))).0 ≡ d
       by true e = refl
       by false e = absurd (grind (arith, nat_tests))
 
@@ -114,13 +120,17 @@ module _ (p : Profile) where
   IsWithin d = calls_in d.history ≤ MOST_CALLS
 
   most_next : (d d' : Desk) (e : Entry) → IsWithin d → EntryFollows p d e d' → IsWithin d'
-  most_next d d' (called c r) h next = subst IsWithin (sym next.2) (omega (arith, counted_call p d c next.0, below_room d next.0))
+  most_next d d' (called c r) h next = subst IsWithin (sym next.2)
+      (omega (arith, counted_call p d c next.0, below_room d next.0))
   most_next d d' (claimed t) h next =
-      subst IsWithin (sym (where_so (is_queued (held_at d.trials t)) (after_claim d t) d' next)) (omega (arith, h, calls_claimed d.history t))
+      subst IsWithin (sym (where_so (is_queued (held_at d.trials t)) (after_claim d t) d' next))
+      (omega (arith, h, calls_claimed d.history t))
   most_next d d' (filed t m) h next =
-      subst IsWithin (sym (where_so (is_running (held_at d.trials t)) (after_file p d t m) d' next)) (omega (arith, h, calls_filed d.history t m))
+      subst IsWithin (sym (where_so (is_running (held_at d.trials t)) (after_file p d t m) d' next))
+      (omega (arith, h, calls_filed d.history t m))
   most_next d d' (handed_back t) h next =
-      subst IsWithin (sym (where_so (is_running (held_at d.trials t)) (after_hand_back d t) d' next)) (omega (arith, h, calls_handed_back d.history t))
+      subst IsWithin (sym (where_so (is_running (held_at d.trials t)) (after_hand_back d t) d' next))
+      (omega (arith, h, calls_handed_back d.history t))
 
   most_along : (d d' : Desk) (es : List Entry) → IsWithin d → IsLegal p d es d' → IsWithin d'
   most_along d d' [] h legal = subst IsWithin legal h

@@ -66,7 +66,8 @@ IsOneTooMany (Err e) = ⊥
 -- the seat has one receipt more, of this call and its reply; or the log of its project is full, and the call is refused
 -- for that and isn't logged
 abbrev pub GetsReceipt : (call : call_code.Call) → (reply : reply_code.Reply) → (was is : ClientView) → Type 0
-GetsReceipt c r s s' = ((n : ℕ) × (s' ≡ with_receipt s (receipt_of s.project n c r))) ⊎ ((s' ≡ full_seat s) × IsOneTooMany (Ok r))
+GetsReceipt c r s s' = ((n : ℕ) × (s' ≡ with_receipt s (receipt_of s.project n c r)))
+    ⊎ ((s' ≡ full_seat s) × IsOneTooMany (Ok r))
 
 -- a seat that is full stays as it is, and each call of it is refused
 abbrev pub StaysFull : (was is : ClientView) → Result reply_code.Reply NoMemory → Type 0

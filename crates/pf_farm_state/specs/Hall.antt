@@ -59,7 +59,9 @@ coded_end = code_by _ coded_ℕ rank_of_end end_at end_at-rank_of
 abbrev pub coded_row : Coded (ClaimRow Job)
 coded_row =
     code_by _ (coded× coded_ℕ (coded× coded_ℕ (coded× coded_job (coded_option coded_end))))
-    (λ r. (r.claim.project, (r.claim.ticket, (r.claim.job.value, r.end)))) (λ x. row_of (claim_of x.0 x.1.0 x.1.1.0) x.1.1.1) (λ _. refl)
+    (λ r. (r.claim.project, (r.claim.ticket, (r.claim.job.value, r.end))))
+    (λ x. row_of (claim_of x.0 x.1.0 x.1.1.0) x.1.1.1) (λ _. refl)
 
 abbrev pub coded_hall : Coded Hall
-coded_hall = code_by _ (coded× (coded_list coded_row) coded_desks) (λ h. (h.rows, h.desks)) (λ x. record { rows = x.0; desks = x.1 }) (λ _. refl)
+coded_hall = code_by _ (coded× (coded_list coded_row) coded_desks) (λ h. (h.rows, h.desks))
+    (λ x. record { rows = x.0; desks = x.1 }) (λ _. refl)

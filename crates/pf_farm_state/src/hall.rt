@@ -1,6 +1,7 @@
 //! The book of all desks, and beside it the ledger of all claims and the log of all calls.
 
-ghost use Rattle.std.specs.Prelude.{◌≡◌, ◌+◌, ◌<◌, ◌≤◌, ◌⊎◌, ◌++◌, [], ◌∷◌, true, false, length, map, slice_get, slice_set, Some, None, Ok, IfOk, IfSome, IfNone, OnErr, option_map};
+ghost use Rattle.std.specs.Prelude.{◌≡◌, ◌+◌, ◌<◌, ◌≤◌, ◌⊎◌, ◌++◌, [], ◌∷◌, true, false, length, map, slice_get};
+ghost use Rattle.std.specs.Prelude.{slice_set, Some, None, Ok, IfOk, IfSome, IfNone, OnErr, option_map};
 ghost use Rattle.std.specs.Bool.{OnFalse, OnTrue};
 ghost use Rattle.pf_request.specs.View.{view_of_call};
 ghost use Rattle.pf_quota.specs.declared.refusals.TheConstants.{MOST_CALLS};
@@ -13,7 +14,8 @@ ghost use Rattle.pf_book.specs.Profile.{ForRight};
 ghost use Rattle.pf_farm_laws.specs.Gone.{IsGone};
 ghost use Rattle.pf_farm_laws.specs.Told.{AgreesWithHistories};
 ghost use Rattle.std.specs.Vec.{vec_len, vec_capacity};
-ghost use Rattle.pf_farm_state.specs.Clients.{all_receipts, closed_as, empty_client, full_seat, AreFull, AreTheCalls, GetsReceipt, IsOneTooMany, StaysFull};
+ghost use Rattle.pf_farm_state.specs.Clients.{all_receipts, closed_as, empty_client, full_seat, AreFull, AreTheCalls};
+ghost use Rattle.pf_farm_state.specs.Clients.{GetsReceipt, IsOneTooMany, StaysFull};
 ghost use Rattle.pf_farm_state.specs.Hall.{no_hall, end_or_stray, NoneIsQueued};
 
 use crate::claimed::ClaimedTrial;

@@ -19,4 +19,5 @@ goes_over_several h = has_names h.more || is_every h.roots
 
 -- the name of a folder with a slash at its end, which it may have
 abbrev pub IsPathOf : (folder path : List ℕ) → Type 0
-IsPathOf folder path = (path ≡ folder ++ codes "/") ⊎ ((path ≡ folder) × (front : List ℕ) × (folder ≡ front ++ codes "/"))
+IsPathOf folder path = (path ≡ folder ++ codes "/")
+    ⊎ ((path ≡ folder) × (front : List ℕ) × (folder ≡ front ++ codes "/"))

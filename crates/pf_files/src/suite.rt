@@ -1,6 +1,7 @@
 //! Hunts over several sources and roots: a line for each root as soon as its hunt is over, and a summary.
 
-ghost use Rattle.std.specs.Prelude.{◌≡◌, ◌≢◌, ◌<◌, ◌≤◌, true, is_some, ◌||◌, None, Ok, IfNone, IfSome, IfOk, IsSomeAnd, MatchOption, OnOk, take};
+ghost use Rattle.std.specs.Prelude.{◌≡◌, ◌≢◌, ◌<◌, ◌≤◌, true, is_some, ◌||◌, None, Ok, IfNone, IfSome, IfOk, IsSomeAnd};
+ghost use Rattle.std.specs.Prelude.{MatchOption, OnOk, take};
 ghost use Rattle.std.specs.Io.KnownBytes.{Appends};
 ghost use Rattle.pf_cli.specs.declared.args.HuntGoal.TheVariants.{Failure};
 ghost use Rattle.pf_cli.specs.Args.{view_of_hunt_args};

@@ -1,22 +1,26 @@
 -- The grammar, as relations between a tree and the tokens that it is written with.
-use Rattle.std.specs.Prelude.{◌≡◌, ◌⊎◌, ℕ, ◌-◌, ◌≤◌, Bool, true, false, IsTrue, pos, neg_ℤ, List, [], ◌∷◌, ◌++◌, length, flat_map, Option, Some, None, codes}
+use Rattle.std.specs.Prelude.{◌≡◌, ◌⊎◌, ℕ, ◌-◌, ◌≤◌, Bool, true, false, IsTrue, pos, neg_ℤ, List, [], ◌∷◌, ◌++◌, length}
+use Rattle.std.specs.Prelude.{flat_map, Option, Some, None, codes}
 use Rattle.pf_terms.specs.Atoms.{name_of}
 use Rattle.pf_tokens.specs.declared.marks.TokenMark.TheVariants as marks
 use Rattle.pf_tokens.specs.declared.words.Reserved.TheVariants as words
 use Rattle.pf_syntax.specs.declared.operator.Builtin.{Builtin}
 use Rattle.pf_syntax.specs.declared.operator.Operator.{Operator}
-use Rattle.pf_syntax.specs.declared.operator.Operator.TheVariants.{Plus, Minus, Times, Quotient, Remainder, Append, Equal, Unequal, Less, AtMost, Greater, AtLeast}
+use Rattle.pf_syntax.specs.declared.operator.Operator.TheVariants.{Plus, Minus, Times, Quotient, Remainder, Append}
+use Rattle.pf_syntax.specs.declared.operator.Operator.TheVariants.{Equal, Unequal, Less, AtMost, Greater, AtLeast}
 use Rattle.pf_syntax.specs.ExprPattern as s
 use Rattle.pf_syntax.specs.ExprPattern.{ExprPattern, ExprPatterns, no_expr_patterns, expr_pattern, expr_patterns_depth}
 use Rattle.pf_syntax.specs.Expr as p
-use Rattle.pf_syntax.specs.Expr.{Expr, Exprs, Condition, Branches, no_exprs, expr, no_tests, tests, no_branches, branch, exprs_depth, condition_depth}
+use Rattle.pf_syntax.specs.Expr.{Expr, Exprs, Condition, Branches, no_exprs, expr, no_tests, tests, no_branches, branch}
+use Rattle.pf_syntax.specs.Expr.{exprs_depth, condition_depth}
 use Rattle.pf_syntax.specs.SyntaxTree.{Export, Head}
 use Rattle.pf_syntax.specs.Naming.{arity_of}
 use Rattle.pf_syntax.specs.Forms.{builtin_named, may_stand}
 use Rattle.pf_syntax.specs.declared.forms.Form.TheVariants.{Appending, Deciding, Choosing, Receiving, Sending, Calling}
 pub use Rattle.pf_syntax.specs.ExprModule.{Tree, tree_of, unguarded}
 use Rattle.pf_tokens.specs.declared.limits.TheConstants.{MOST_NAME_BYTES, MOST_TREE_DEPTH, MOST_TEXT_CHARACTERS}
-use Rattle.pf_tokens.specs.NumberedTokens.{NumberedKind, integer, atom, variable, anonymous, text, own_module, dot, mark, reserved, NumberedToken}
+use Rattle.pf_tokens.specs.NumberedTokens.{NumberedKind, integer, atom, variable, anonymous, text, own_module, dot}
+use Rattle.pf_tokens.specs.NumberedTokens.{mark, reserved, NumberedToken}
 use Rattle.pf_grammar.specs.declared.infix.Infix.{Infix}
 use Rattle.pf_grammar.specs.declared.infix.Infix.TheVariants as infixes
 use Rattle.pf_grammar.specs.declared.infix.Grouping.{Grouping}
@@ -47,8 +51,10 @@ abbrev pub Together : (List NumberedToken → Type 0) → (List NumberedToken �
 Together P Q ts = (xs : List NumberedToken) × (ys : List NumberedToken) × (ts ≡ xs ++ ys) × P xs × Q ys
 
 -- the tokens are a part, one of this kind of token, and a part
-abbrev pub Apart : NumberedKind → (List NumberedToken → Type 0) → (List NumberedToken → Type 0) → List NumberedToken → Type 0
-Apart s P Q ts = (xs : List NumberedToken) × (t : NumberedToken) × (ys : List NumberedToken) × (t.kind ≡ s) × (ts ≡ xs ++ t ∷ ys) × P xs × Q ys
+abbrev pub Apart : NumberedKind → (List NumberedToken → Type 0) → (List NumberedToken → Type 0)
+    → List NumberedToken → Type 0
+Apart s P Q ts = (xs : List NumberedToken) × (t : NumberedToken) × (ys : List NumberedToken) × (t.kind ≡ s)
+    × (ts ≡ xs ++ t ∷ ys) × P xs × Q ys
 
 -- the tokens are a part between two of these kinds of tokens
 abbrev pub Between : NumberedKind → NumberedKind → (List NumberedToken → Type 0) → List NumberedToken → Type 0
@@ -58,7 +64,8 @@ Between first last P ts = Behind first (Before last P) ts
 
 -- the token is this atom, whose name isn't too long, or `?MODULE`
 abbrev pub IsAtom : TokenNames → ℕ → NumberedToken → Type 0
-IsAtom n a t = ((t.kind ≡ atom a) × (length (name_of n.atoms a) ≤ MOST_NAME_BYTES)) ⊎ ((t.kind ≡ own_module) × (a ≡ n.own))
+IsAtom n a t = ((t.kind ≡ atom a) × (length (name_of n.atoms a) ≤ MOST_NAME_BYTES))
+    ⊎ ((t.kind ≡ own_module) × (a ≡ n.own))
 
 -- the token is an atom of these bytes
 abbrev pub IsWord : TokenNames → List ℕ → NumberedToken → Type 0
@@ -140,11 +147,14 @@ infix_stands guard infixes.Send = may_stand guard Sending
 infix_stands guard _ = true
 
 -- the tokens are two operands with the infix between them
-abbrev pub Operands : (ℕ → List NumberedToken → Type 0) → (ℕ → List NumberedToken → Type 0) → Infix → List NumberedToken → Type 0
-Operands P Q i ts = (xs : List NumberedToken) × (t : NumberedToken) × (ys : List NumberedToken) × (infix_of t.kind ≡ Some i) × (ts ≡ xs ++ t ∷ ys) × P (left_level i) xs × Q (right_level i) ys
+abbrev pub Operands : (ℕ → List NumberedToken → Type 0) → (ℕ → List NumberedToken → Type 0) → Infix
+    → List NumberedToken → Type 0
+Operands P Q i ts = (xs : List NumberedToken) × (t : NumberedToken) × (ys : List NumberedToken)
+    × (infix_of t.kind ≡ Some i) × (ts ≡ xs ++ t ∷ ys) × P (left_level i) xs × Q (right_level i) ys
 
 -- the same, where the infix is allowed and an expression of this level may have it
-abbrev pub Joined : Bool → Infix → ℕ → (ℕ → List NumberedToken → Type 0) → (ℕ → List NumberedToken → Type 0) → List NumberedToken → Type 0
+abbrev pub Joined : Bool → Infix → ℕ → (ℕ → List NumberedToken → Type 0) → (ℕ → List NumberedToken → Type 0)
+    → List NumberedToken → Type 0
 Joined guard i level P Q ts = (level_of i ≤ level) × IsTrue (infix_stands guard i) × Operands P Q i ts
 
 -- ---- parts that patterns and expressions share
@@ -175,14 +185,17 @@ HasExpression (expr e es) = Unit {0}
 
 abbrev mutual
   pub DerivesExprPattern : TokenNames → ExprPattern → List NumberedToken → Type 0
-  DerivesExprPattern n (s.integer z) ts = (k : ℕ) × (((z ≡ pos k) × IsOne (integer k) ts) ⊎ ((z ≡ neg_ℤ (pos k)) × Behind (mark marks.Minus) (IsOne (integer k)) ts))
+  DerivesExprPattern n (s.integer z) ts = (k : ℕ)
+      × (((z ≡ pos k) × IsOne (integer k) ts)
+      ⊎ ((z ≡ neg_ℤ (pos k)) × Behind (mark marks.Minus) (IsOne (integer k)) ts))
   DerivesExprPattern n (s.atom a) ts = (t : NumberedToken) × IsAtom n a t × (ts ≡ t ∷ [])
   DerivesExprPattern n (s.text cs) ts = IsText cs ts
   DerivesExprPattern n (s.variable x at) ts = (t : NumberedToken) × (t.kind ≡ variable x) × (t.at ≡ at) × (ts ≡ t ∷ [])
   DerivesExprPattern n s.anything ts = IsOne anonymous ts
   DerivesExprPattern n (s.tuple qs) ts = Braced (DerivesExprPatterns n qs) ts
   DerivesExprPattern n (s.list qs) ts = Bracketed (DerivesExprPatterns n qs) ts
-  DerivesExprPattern n (s.list_on qs q) ts = HasPattern qs × Bracketed (Apart (mark marks.Bar) (DerivesExprPatterns n qs) (DerivesExprPattern n q)) ts
+  DerivesExprPattern n (s.list_on qs q) ts = HasPattern qs
+      × Bracketed (Apart (mark marks.Bar) (DerivesExprPatterns n qs) (DerivesExprPattern n q)) ts
 
   -- patterns with commas between them, or none
   pub DerivesExprPatterns : TokenNames → ExprPatterns → List NumberedToken → Type 0
@@ -208,7 +221,8 @@ Guarded c G ts = ((c ≡ unguarded) × (ts ≡ [])) ⊎ Behind (reserved words.W
 
 -- what is before the arrow of a clause: its pattern, with its guard or none; in an `if`, where the flag says so, its
 -- guard alone
-abbrev pub FrontIs : Bool → ExprPattern → Condition → (List NumberedToken → Type 0) → (List NumberedToken → Type 0) → List NumberedToken → Type 0
+abbrev pub FrontIs : Bool → ExprPattern → Condition → (List NumberedToken → Type 0) → (List NumberedToken → Type 0)
+    → List NumberedToken → Type 0
 FrontIs false q c P G ts = Together P (Guarded c G) ts
 FrontIs true q c P G ts = (q ≡ s.anything) × G ts
 
@@ -223,7 +237,8 @@ abbrev mutual
   Derives n g (p.parentheses e) level ts = Parenthesized (Derives n g e top) ts
   Derives n g (p.tuple es) level ts = Braced (DerivesAll n g es) ts
   Derives n g (p.list es) level ts = Bracketed (DerivesAll n g es) ts
-  Derives n g (p.list_on es e) level ts = HasExpression es × Bracketed (Apart (mark marks.Bar) (DerivesAll n g es) (Derives n g e top)) ts
+  Derives n g (p.list_on es e) level ts = HasExpression es
+      × Bracketed (Apart (mark marks.Bar) (DerivesAll n g es) (Derives n g e top)) ts
   Derives n g (p.call f at es) level ts =
       (t : NumberedToken) × (more : List NumberedToken) × IsAtom n f t × (t.at ≡ at) × (ts ≡ t ∷ more)
       × IsTrue (call_stands n g f (arity_of es)) × Parenthesized (DerivesAll n g es) more
@@ -232,14 +247,17 @@ abbrev mutual
   Derives n g (p.and_also a b) level ts = Joined g infixes.AndAlso level (Derives n g a) (Derives n g b) ts
   Derives n g (p.or_else a b) level ts = Joined g infixes.OrElse level (Derives n g a) (Derives n g b) ts
   Derives n g (p.send a b) level ts = Joined g infixes.Send level (Derives n g a) (Derives n g b) ts
-  Derives n g (p.match q e) level ts = (element ≤ level) × Apart (mark marks.Match) (DerivesExprPattern n q) (Derives n g e element) ts
+  Derives n g (p.match q e) level ts = (element ≤ level) × Apart (mark marks.Match) (DerivesExprPattern n q)
+      (Derives n g e element) ts
   Derives n g (p.case e bs) level ts =
       IsTrue (may_stand g Deciding)
-      × Between (reserved words.Case) (reserved words.End) (Apart (reserved words.Of) (Derives n g e top) (DerivesBranches n false bs)) ts
+      × Between (reserved words.Case) (reserved words.End)
+      (Apart (reserved words.Of) (Derives n g e top) (DerivesBranches n false bs)) ts
   Derives n g (p.if_expression bs) level ts =
       IsTrue (may_stand g Choosing) × Between (reserved words.If) (reserved words.End) (DerivesBranches n true bs) ts
   Derives n g (p.receive bs) level ts =
-      IsTrue (may_stand g Receiving) × Between (reserved words.Receive) (reserved words.End) (DerivesBranches n false bs) ts
+      IsTrue (may_stand g Receiving) × Between (reserved words.Receive) (reserved words.End)
+      (DerivesBranches n false bs) ts
 
   -- expressions with commas between them, or none
   pub DerivesAll : TokenNames → Bool → Exprs → List NumberedToken → Type 0
@@ -259,14 +277,17 @@ abbrev mutual
   pub DerivesGuard : TokenNames → Condition → List NumberedToken → Type 0
   DerivesGuard n no_tests ts = ⊥
   DerivesGuard n (tests es no_tests) ts = HasExpression es × DerivesAll n true es ts
-  DerivesGuard n (tests es (tests fs c)) ts = HasExpression es × Apart (mark marks.Semicolon) (DerivesAll n true es) (DerivesGuard n (tests fs c)) ts
+  DerivesGuard n (tests es (tests fs c)) ts = HasExpression es × Apart (mark marks.Semicolon) (DerivesAll n true es)
+      (DerivesGuard n (tests fs c)) ts
 
   -- clauses with semicolons between them
   pub DerivesBranches : TokenNames → Bool → Branches → List NumberedToken → Type 0
   DerivesBranches n choice no_branches ts = ⊥
-  DerivesBranches n choice (branch q c es no_branches) ts = Apart (mark marks.Arrow) (FrontIs choice q c (DerivesExprPattern n q) (DerivesGuard n c)) (DerivesBody n es) ts
+  DerivesBranches n choice (branch q c es no_branches) ts =
+      Apart (mark marks.Arrow) (FrontIs choice q c (DerivesExprPattern n q) (DerivesGuard n c)) (DerivesBody n es) ts
   DerivesBranches n choice (branch q c es (branch r d fs bs)) ts =
-      Apart (mark marks.Semicolon) (Apart (mark marks.Arrow) (FrontIs choice q c (DerivesExprPattern n q) (DerivesGuard n c)) (DerivesBody n es))
+      Apart (mark marks.Semicolon) (Apart (mark marks.Arrow)
+      (FrontIs choice q c (DerivesExprPattern n q) (DerivesGuard n c)) (DerivesBody n es))
       (DerivesBranches n choice (branch r d fs bs)) ts
 
 -- ---- functions
@@ -279,7 +300,8 @@ pub record DerivesHead (n : TokenNames) (h : Head) (ts : List NumberedToken) : T
   pub whole : ts ≡ name ∷ more
   pub name_is : IsAtom n h.name name
   pub offset_is : name.at ≡ h.offset
-  pub parts : Apart (mark marks.Arrow) (Together (Parenthesized (DerivesExprPatterns n h.parameters)) (Guarded h.condition (DerivesGuard n h.condition))) (DerivesBody n h.body) more
+  pub parts : Apart (mark marks.Arrow) (Together (Parenthesized (DerivesExprPatterns n h.parameters))
+      (Guarded h.condition (DerivesGuard n h.condition))) (DerivesBody n h.body) more
   pub shallow_parameters : expr_patterns_depth h.parameters ≤ MOST_TREE_DEPTH
   pub shallow_condition : condition_depth h.condition ≤ MOST_TREE_DEPTH
   pub shallow_body : exprs_depth h.body ≤ MOST_TREE_DEPTH
@@ -328,7 +350,8 @@ pub record DerivesExport (n : TokenNames) (es : List Export) (ts : List Numbered
   pub minus_is : minus.kind ≡ mark marks.Minus
   pub word_is : IsWord n (codes "export") word
   pub last_is : last.kind ≡ dot
-  pub entries : Between (mark marks.OpenParenthesis) (mark marks.CloseParenthesis) (Between (mark marks.OpenBracket) (mark marks.CloseBracket) (DerivesEntries n es)) more
+  pub entries : Between (mark marks.OpenParenthesis) (mark marks.CloseParenthesis)
+      (Between (mark marks.OpenBracket) (mark marks.CloseBracket) (DerivesEntries n es)) more
 
 -- export forms, one after the other, each with its entries
 abbrev pub DerivesExports : TokenNames → List (List Export) → List NumberedToken → Type 0
@@ -364,4 +387,5 @@ pub record DerivesTree (atoms : List (List ℕ)) (m : Tree) (ts : List NumberedT
   pub short : length (name_of atoms m.name) ≤ MOST_NAME_BYTES
   pub forms : List (List Export)
   pub all_exports : flat_map (λ es. es) forms ≡ m.exports
-  pub parts : Together (DerivesExports (record { atoms = atoms; own = m.name }) forms) (DerivesFunctions (record { atoms = atoms; own = m.name }) m.functions) rest
+  pub parts : Together (DerivesExports (record { atoms = atoms; own = m.name }) forms)
+      (DerivesFunctions (record { atoms = atoms; own = m.name }) m.functions) rest

@@ -1,5 +1,6 @@
 -- Reading tokens from left to right: a tree and the tokens after it, or none.
-use Rattle.std.specs.Prelude.{ℕ, zero, suc, ◌-◌, pos, neg_ℤ, List, [], ◌∷◌, ◌++◌, length, Bool, true, false, Option, Some, None, option_and_then, ◌&&◌, nat_eq, nat_le, if◌then◌else◌, codes}
+use Rattle.std.specs.Prelude.{ℕ, zero, suc, ◌-◌, pos, neg_ℤ, List, [], ◌∷◌, ◌++◌, length, Bool, true, false, Option}
+use Rattle.std.specs.Prelude.{Some, None, option_and_then, ◌&&◌, nat_eq, nat_le, if◌then◌else◌, codes}
 use Rattle.std.specs.Str.{bytes_eq}
 use Rattle.pf_terms.specs.Atoms.{name_of}
 use Rattle.pf_tokens.specs.declared.marks.TokenMark.{TokenMark}
@@ -9,13 +10,16 @@ use Rattle.pf_tokens.specs.declared.words.Reserved.TheVariants as words
 use Rattle.pf_syntax.specs.ExprPattern as s
 use Rattle.pf_syntax.specs.ExprPattern.{ExprPattern, ExprPatterns, no_expr_patterns, expr_pattern}
 use Rattle.pf_syntax.specs.Expr as p
-use Rattle.pf_syntax.specs.Expr.{Expr, Exprs, Condition, Branches, no_exprs, expr, no_tests, tests, no_branches, branch, expr_depth}
+use Rattle.pf_syntax.specs.Expr.{Expr, Exprs, Condition, Branches, no_exprs, expr, no_tests, tests, no_branches, branch}
+use Rattle.pf_syntax.specs.Expr.{expr_depth}
 use Rattle.pf_syntax.specs.SyntaxTree.{Export, Head}
 use Rattle.pf_tokens.specs.declared.limits.TheConstants.{MOST_NAME_BYTES, MOST_TREE_DEPTH, MOST_TEXT_CHARACTERS}
-use Rattle.pf_tokens.specs.NumberedTokens.{NumberedKind, integer, atom, variable, anonymous, text, own_module, dot, mark, reserved, NumberedToken}
+use Rattle.pf_tokens.specs.NumberedTokens.{NumberedKind, integer, atom, variable, anonymous, text, own_module, dot}
+use Rattle.pf_tokens.specs.NumberedTokens.{mark, reserved, NumberedToken}
 use Rattle.pf_syntax.specs.Forms.{may_stand}
 use Rattle.pf_syntax.specs.declared.forms.Form.TheVariants.{Deciding, Choosing, Receiving}
-use Rattle.pf_grammar.specs.Grammar.{TokenNames, infix_of, level_of, left_level, right_level, infix_stands, call_stands, top, unguarded, Tree}
+use Rattle.pf_grammar.specs.Grammar.{TokenNames, infix_of, level_of, left_level, right_level, infix_stands, call_stands}
+use Rattle.pf_grammar.specs.Grammar.{top, unguarded, Tree}
 use Rattle.pf_grammar.specs.declared.infix.Infix.{Infix}
 use Rattle.pf_grammar.specs.declared.infix.Infix.TheVariants.{Operator, AndAlso, OrElse, Send}
 
@@ -130,7 +134,8 @@ word_parse atoms bytes (t ∷ ts) = if follows_word atoms bytes t.kind then Some
 
 -- ---- lists with separators
 
-abbrev pub items_step : {A : Type 0} → Parse (List A) → A → List NumberedToken → Option (List NumberedToken) → Option (List A × List NumberedToken)
+abbrev pub items_step : {A : Type 0} → Parse (List A) → A → List NumberedToken → Option (List NumberedToken)
+    → Option (List A × List NumberedToken)
 items_step go x ts None = Some (x ∷ [], ts)
 items_step go x ts (Some rest) = go rest >>= λ more. Some (x ∷ more.0, more.1)
 
@@ -141,9 +146,11 @@ items s item zero ts = None
 items s item (suc n) ts = item ts >>= λ x. items_step (items s item n) x.0 x.1 (after_kind s x.1)
 
 -- items with commas between them, or none, before a kind of token that is read too
-abbrev pub until_step : {A : Type 0} → NumberedKind → Parse A → List NumberedToken → Option (List NumberedToken) → Option (List A × List NumberedToken)
+abbrev pub until_step : {A : Type 0} → NumberedKind → Parse A → List NumberedToken → Option (List NumberedToken)
+    → Option (List A × List NumberedToken)
 until_step last item ts (Some rest) = Some ([], rest)
-until_step last item ts None = items (mark marks.Comma) item (length ts) ts >>= λ x. after_kind last x.1 >>= λ rest. Some (x.0, rest)
+until_step last item ts None = items (mark marks.Comma) item (length ts) ts >>= λ x. after_kind last x.1 >>= λ rest.
+    Some (x.0, rest)
 
 abbrev pub until : {A : Type 0} → NumberedKind → Parse A → Parse (List A)
 until last item ts = until_step last item ts (after_kind last ts)
@@ -161,13 +168,17 @@ exprs_of (e ∷ es) = expr e (exprs_of es)
 abbrev pub Listed : Type 0 → Type 0
 Listed A = List A × Option A
 
-abbrev pub tail_step : {A : Type 0} → Parse A → List A → List NumberedToken → Option (List NumberedToken) → Option (Listed A × List NumberedToken)
+abbrev pub tail_step : {A : Type 0} → Parse A → List A → List NumberedToken → Option (List NumberedToken)
+    → Option (Listed A × List NumberedToken)
 tail_step item xs ts None = after_kind (mark marks.CloseBracket) ts >>= λ rest. Some ((xs, None), rest)
-tail_step item xs ts (Some rest) = item rest >>= λ y. after_kind (mark marks.CloseBracket) y.1 >>= λ after_first_form. Some ((xs, Some y.0), after_first_form)
+tail_step item xs ts (Some rest) = item rest >>= λ y. after_kind (mark marks.CloseBracket) y.1 >>= λ after_first_form.
+    Some ((xs, Some y.0), after_first_form)
 
-abbrev pub listed_step : {A : Type 0} → Parse A → List NumberedToken → Option (List NumberedToken) → Option (Listed A × List NumberedToken)
+abbrev pub listed_step : {A : Type 0} → Parse A → List NumberedToken → Option (List NumberedToken)
+    → Option (Listed A × List NumberedToken)
 listed_step item ts (Some rest) = Some (([], None), rest)
-listed_step item ts None = items (mark marks.Comma) item (length ts) ts >>= λ x. tail_step item x.0 x.1 (after_kind (mark marks.Bar) x.1)
+listed_step item ts None = items (mark marks.Comma) item (length ts) ts >>= λ x.
+    tail_step item x.0 x.1 (after_kind (mark marks.Bar) x.1)
 
 abbrev pub listed : {A : Type 0} → Parse A → Parse (Listed A)
 listed item ts = listed_step item ts (after_kind (mark marks.CloseBracket) ts)
@@ -196,13 +207,15 @@ listed_expr_pattern (qs, Some q) = s.list_on (expr_patterns_of qs) q
 abbrev pub list_expr_pattern : Parse ExprPattern → List NumberedToken → Option (ExprPattern × List NumberedToken)
 list_expr_pattern inner ts = listed inner ts >>= λ x. Some (listed_expr_pattern x.0, x.1)
 
-abbrev pub marked_expr_pattern : Parse ExprPattern → TokenMark → List NumberedToken → Option (ExprPattern × List NumberedToken)
+abbrev pub marked_expr_pattern : Parse ExprPattern → TokenMark → List NumberedToken
+    → Option (ExprPattern × List NumberedToken)
 marked_expr_pattern inner marks.Minus ts = negative ts
 marked_expr_pattern inner marks.OpenBrace ts = tuple_expr_pattern inner ts
 marked_expr_pattern inner marks.OpenBracket ts = list_expr_pattern inner ts
 marked_expr_pattern inner _ ts = None
 
-abbrev pub expr_pattern_kind : TokenNames → Parse ExprPattern → NumberedKind → ℕ → List NumberedToken → Option (ExprPattern × List NumberedToken)
+abbrev pub expr_pattern_kind : TokenNames → Parse ExprPattern → NumberedKind → ℕ → List NumberedToken
+    → Option (ExprPattern × List NumberedToken)
 expr_pattern_kind n inner (integer k) at ts = Some (s.integer (pos k), ts)
 expr_pattern_kind n inner (text cs) at ts = if is_short cs then Some (s.text cs, ts) else None
 expr_pattern_kind n inner (variable x) at ts = Some (s.variable x at, ts)
@@ -228,7 +241,8 @@ infix_fits guard floor level i = infix_stands guard i && nat_le floor (left_leve
 
 abbrev pub infix_ahead : Bool → ℕ → ℕ → List NumberedToken → Option (Infix × List NumberedToken)
 infix_ahead guard floor level [] = None
-infix_ahead guard floor level (t ∷ ts) = infix_of t.kind >>= λ i. if infix_fits guard floor level i then Some (i, ts) else None
+infix_ahead guard floor level (t ∷ ts) = infix_of t.kind >>= λ i. if infix_fits guard floor level i then
+    Some (i, ts) else None
 
 abbrev pub joined_exprs : Infix → Expr → Expr → Expr
 joined_exprs (Operator o) a b = p.binary o a b
@@ -242,10 +256,12 @@ within limit e ts = if nat_le (expr_depth e) limit then Some (e, ts) else None
 
 -- After a left operand: infixes of at most this level, each with its right operand, which `deeper` reads. What has been
 -- read is the left operand of the next infix; `floor` is its level. The number of tokens bounds the turns
-abbrev pub more_step : (ℕ → Parse Expr) → ℕ → (ℕ → Expr → Parse Expr) → Expr → List NumberedToken → Option (Infix × List NumberedToken) → Option (Expr × List NumberedToken)
+abbrev pub more_step : (ℕ → Parse Expr) → ℕ → (ℕ → Expr → Parse Expr) → Expr → List NumberedToken
+    → Option (Infix × List NumberedToken) → Option (Expr × List NumberedToken)
 more_step deeper limit go left ts None = Some (left, ts)
 more_step deeper limit go left ts (Some i) =
-    deeper (right_level i.0) i.1 >>= λ right. within limit (joined_exprs i.0 left right.0) right.1 >>= λ x. go (level_of i.0) x.0 x.1
+    deeper (right_level i.0) i.1 >>= λ right. within limit (joined_exprs i.0 left right.0) right.1 >>= λ x.
+    go (level_of i.0) x.0 x.1
 
 unfoldable pub more : (ℕ → Parse Expr) → Bool → ℕ → ℕ → ℕ → ℕ → Expr → Parse Expr
 more deeper guard limit level zero floor left ts = Some (left, ts)
@@ -253,7 +269,8 @@ more deeper guard limit level (suc turns) floor left ts =
     more_step deeper limit (more deeper guard limit level turns) left ts (infix_ahead guard floor level ts)
 
 -- a part, after a minus or not
-abbrev pub unary_step : Parse Expr → ℕ → List NumberedToken → Option (List NumberedToken) → Option (Expr × List NumberedToken)
+abbrev pub unary_step : Parse Expr → ℕ → List NumberedToken → Option (List NumberedToken)
+    → Option (Expr × List NumberedToken)
 unary_step prim limit ts None = prim ts
 unary_step prim limit ts (Some rest) = prim rest >>= λ x. within limit (p.negate x.0) x.1
 
@@ -262,7 +279,8 @@ unary prim limit ts = unary_step prim limit ts (after_kind (mark marks.Minus) ts
 
 -- an expression of at most this level, which is 1 at least
 abbrev pub level_with : Parse Expr → (ℕ → Parse Expr) → Bool → ℕ → ℕ → Parse Expr
-level_with prim deeper guard limit level ts = unary prim limit ts >>= λ x. more deeper guard limit level (length x.1) 1 x.0 x.1
+level_with prim deeper guard limit level ts = unary prim limit ts >>= λ x.
+    more deeper guard limit level (length x.1) 1 x.0 x.1
 
 -- ---- clauses
 
@@ -277,7 +295,8 @@ condition_of (es ∷ ess) = tests (exprs_of es) (condition_of ess)
 abbrev pub guard : Parse Expr → Parse Condition
 guard test ts = items (mark marks.Semicolon) (guard_tests test) (length ts) ts >>= λ x. Some (condition_of x.0, x.1)
 
-abbrev pub when_step : Parse Expr → List NumberedToken → Option (List NumberedToken) → Option (Condition × List NumberedToken)
+abbrev pub when_step : Parse Expr → List NumberedToken → Option (List NumberedToken)
+    → Option (Condition × List NumberedToken)
 when_step test ts None = Some (unguarded, ts)
 when_step test ts (Some rest) = guard test rest
 
@@ -305,7 +324,8 @@ abbrev pub ParsedClause : Type 0
 ParsedClause = ClauseFront × List Expr
 
 abbrev pub clause : Readers → Bool → Parse ParsedClause
-clause r choice ts = front r choice ts >>= λ f. after_kind (mark marks.Arrow) f.1 >>= λ rest. body_parse r.elements rest >>= λ es. Some ((f.0, es.0), es.1)
+clause r choice ts = front r choice ts >>= λ f. after_kind (mark marks.Arrow) f.1 >>= λ rest.
+    body_parse r.elements rest >>= λ es. Some ((f.0, es.0), es.1)
 
 abbrev pub branches_of : List ParsedClause → Branches
 branches_of [] = no_branches
@@ -314,23 +334,30 @@ branches_of (c ∷ cs) = branch c.0.0 c.0.1 (exprs_of c.1) (branches_of cs)
 -- clauses up to `end`, which is read too
 abbrev pub branches : Readers → Bool → Parse Branches
 branches r choice ts =
-    items (mark marks.Semicolon) (clause r choice) (length ts) ts >>= λ cs. after_kind (reserved words.End) cs.1 >>= λ rest. Some (branches_of cs.0, rest)
+    items (mark marks.Semicolon) (clause r choice) (length ts) ts >>= λ cs.
+    after_kind (reserved words.End) cs.1 >>= λ rest. Some (branches_of cs.0, rest)
 
 -- ---- parts. Expressions in them are read by `inner`
 
 abbrev pub call_behind : TokenNames → Bool → ℕ → ℕ → List Expr → List NumberedToken → Option (Expr × List NumberedToken)
-call_behind n guard a at es ts = if call_stands n guard a (length es) then Some (p.call a at (exprs_of es), ts) else None
+call_behind n guard a at es ts = if call_stands n guard a (length es) then
+    Some (p.call a at (exprs_of es), ts) else None
 
-abbrev pub call_parse_step : TokenNames → Bool → Parse Expr → ℕ → ℕ → List NumberedToken → Option (List NumberedToken) → Option (Expr × List NumberedToken)
+abbrev pub call_parse_step : TokenNames → Bool → Parse Expr → ℕ → ℕ → List NumberedToken → Option (List NumberedToken)
+    → Option (Expr × List NumberedToken)
 call_parse_step n guard inner a at ts None = Some (p.atom a, ts)
-call_parse_step n guard inner a at ts (Some rest) = until (mark marks.CloseParenthesis) inner rest >>= λ x. call_behind n guard a at x.0 x.1
+call_parse_step n guard inner a at ts (Some rest) = until (mark marks.CloseParenthesis) inner rest >>= λ x.
+    call_behind n guard a at x.0 x.1
 
-abbrev pub atom_or_call : TokenNames → Bool → Parse Expr → Option ℕ → ℕ → List NumberedToken → Option (Expr × List NumberedToken)
+abbrev pub atom_or_call : TokenNames → Bool → Parse Expr → Option ℕ → ℕ → List NumberedToken
+    → Option (Expr × List NumberedToken)
 atom_or_call n guard inner None at ts = None
-atom_or_call n guard inner (Some a) at ts = call_parse_step n guard inner a at ts (after_kind (mark marks.OpenParenthesis) ts)
+atom_or_call n guard inner (Some a) at ts = call_parse_step n guard inner a at ts
+    (after_kind (mark marks.OpenParenthesis) ts)
 
 abbrev pub parenthesized : Parse Expr → Parse Expr
-parenthesized inner ts = inner ts >>= λ x. after_kind (mark marks.CloseParenthesis) x.1 >>= λ rest. Some (p.parentheses x.0, rest)
+parenthesized inner ts = inner ts >>= λ x. after_kind (mark marks.CloseParenthesis) x.1 >>= λ rest.
+    Some (p.parentheses x.0, rest)
 
 abbrev pub tuple : Parse Expr → Parse Expr
 tuple inner ts = until (mark marks.CloseBrace) inner ts >>= λ x. Some (p.tuple (exprs_of x.0), x.1)
@@ -349,7 +376,8 @@ marked inner marks.OpenBracket ts = list inner ts
 marked inner _ ts = None
 
 abbrev pub case_of : Readers → Parse Expr → Parse Expr
-case_of r inner ts = inner ts >>= λ x. after_kind (reserved words.Of) x.1 >>= λ rest. branches r false rest >>= λ bs. Some (p.case x.0 bs.0, bs.1)
+case_of r inner ts = inner ts >>= λ x. after_kind (reserved words.Of) x.1 >>= λ rest. branches r false rest >>= λ bs.
+    Some (p.case x.0 bs.0, bs.1)
 
 abbrev pub if_of : Readers → Parse Expr
 if_of r ts = branches r true ts >>= λ bs. Some (p.if_expression bs.0, bs.1)
@@ -382,7 +410,8 @@ prim_with n r guard inner (t ∷ ts) = prim_kind n r guard inner t.kind t.at ts
 abbrev pub match_ahead : Parse ExprPattern → Parse ExprPattern
 match_ahead pat ts = pat ts >>= λ q. after_kind (mark marks.Match) q.1 >>= λ rest. Some (q.0, rest)
 
-abbrev pub element_step : Parse Expr → Parse Expr → ℕ → List NumberedToken → Option (ExprPattern × List NumberedToken) → Option (Expr × List NumberedToken)
+abbrev pub element_step : Parse Expr → Parse Expr → ℕ → List NumberedToken → Option (ExprPattern × List NumberedToken)
+    → Option (Expr × List NumberedToken)
 element_step parse_expr element limit ts None = parse_expr ts
 element_step parse_expr element limit ts (Some q) = element q.1 >>= λ x. within limit (p.match q.0 x.0) x.1
 
@@ -395,14 +424,16 @@ unfoldable mutual
   pub parse_expr : TokenNames → Bool → ℕ → ℕ → Parse Expr
   parse_expr n guard zero level ts = None
   parse_expr n guard (suc d) level ts =
-      parse_expr_with n (record { patterns = pattern n d; tests = parse_expr n true d top; elements = element n d }) guard (parse_expr n guard d) (suc d) level ts
+      parse_expr_with n (record { patterns = pattern n d; tests = parse_expr n true d top; elements = element n d })
+      guard (parse_expr n guard d) (suc d) level ts
 
   -- an element of a body
   pub element : TokenNames → ℕ → Parse Expr
   element n zero ts = None
   element n (suc d) ts =
       element_step
-      (parse_expr_with n (record { patterns = pattern n d; tests = parse_expr n true d top; elements = element n d }) false (parse_expr n false d) (suc d) top)
+      (parse_expr_with n (record { patterns = pattern n d; tests = parse_expr n true d top; elements = element n d })
+      false (parse_expr n false d) (suc d) top)
       (element n d) (suc d) ts (match_ahead (pattern n d) ts)
 
 -- how the parts of an expression of this limit are read
@@ -422,7 +453,17 @@ head_parse n ts = do
   c ← when (parse_expr n true MOST_TREE_DEPTH top) qs.1
   ts2 ← after_kind (mark marks.Arrow) c.1
   es ← body_parse (element n MOST_TREE_DEPTH) ts2
-  Some (record { name = name.0.0; offset = name.0.1; parameters = expr_patterns_of qs.0; condition = c.0; body = exprs_of es.0 }, es.1)
+  Some (
+    record {
+      name = name.0.0;
+      offset = name.0.1;
+      parameters = expr_patterns_of qs.0;
+      condition = c.0;
+      body =
+          exprs_of es.0;
+    },
+    es.1,
+  )
 
 abbrev pub function : TokenNames → Parse (List Head)
 function n ts = do
@@ -456,7 +497,8 @@ export n ts = do
   rest ← after_kind dot ts4
   Some (es.0, rest)
 
-abbrev pub exports_step : (List NumberedToken → Option (List Export × List NumberedToken)) → TokenNames → List NumberedToken → Option (List NumberedToken) → Option (List Export × List NumberedToken)
+abbrev pub exports_step : (List NumberedToken → Option (List Export × List NumberedToken)) → TokenNames
+    → List NumberedToken → Option (List NumberedToken) → Option (List Export × List NumberedToken)
 exports_step go n ts None = Some ([], ts)
 exports_step go n ts (Some rest) = export n rest >>= λ es. go es.1 >>= λ more. Some (es.0 ++ more.0, more.1)
 
@@ -492,7 +534,8 @@ abbrev pub after_first_form : List (List ℕ) → ℕ → List NumberedToken →
 after_first_form atoms name ts = do
   es ← exports (record { atoms = atoms; own = name }) (length ts) ts
   fs ← functions (record { atoms = atoms; own = name }) (length es.1) es.1
-  if nat_le (length (name_of atoms name)) MOST_NAME_BYTES then Some (record { name = name; exports = es.0; functions = fs }) else None
+  if nat_le (length (name_of atoms name)) MOST_NAME_BYTES then
+      Some (record { name = name; exports = es.0; functions = fs }) else None
 
 -- the module that the tokens are
 abbrev pub tree : List (List ℕ) → List NumberedToken → Option Tree

@@ -1,5 +1,6 @@
 -- Marks: what is marked stays marked, and a pass down closes them.
-use Rattle.std.proofs.Common.{◌≡◌, ◌≢◌, ℕ, ◌+◌, ◌<◌, ◌≤◌, Bool, true, false, List, [], ◌∷◌, ◌++◌, length, get_or, set, refl, sym, ap, ◌∙◌, arith, subst, inl, inr}
+use Rattle.std.proofs.Common.{◌≡◌, ◌≢◌, ℕ, ◌+◌, ◌<◌, ◌≤◌, Bool, true, false, List, [], ◌∷◌, ◌++◌, length, get_or, set}
+use Rattle.std.proofs.Common.{refl, sym, ap, ◌∙◌, arith, subst, inl, inr}
 use Rattle.std.specs.Prelude.{fold}
 use Rattle.std.specs.List.{All}
 use Rattle.std.proofs.lemmas.Bool.{cases_lt, cases_eq, false≢true}
@@ -27,7 +28,8 @@ all_below_reach h k ws b = All-weaker (IsBelow h k) (λ w. reach w ≤ k) (λ w 
 set_here : (ms : List Bool) (i : ℕ) → i + 1 ≤ length ms → get_or (set ms i true) i false ≡ true
 set_here ms i lt = get_or-set_same ms i true false (omega arith)
 
-set_still : (ms : List Bool) (i k : ℕ) → i + 1 ≤ length ms → get_or ms k false ≡ true → get_or (set ms i true) k false ≡ true
+set_still : (ms : List Bool) (i k : ℕ) → i + 1 ≤ length ms → get_or ms k false ≡ true
+    → get_or (set ms i true) k false ≡ true
 set_still ms i k lt m =
     elim (cases_eq k i) [
       | inl e ↦ ap (λ (x : ℕ). get_or (set ms i true) x false) e ∙ set_here ms i lt
@@ -52,7 +54,8 @@ mark_here ms (word.Ref x) r = tt
 mark_here ms (word.Pid p) r = tt
 mark_here ms word.Nil r = tt
 
-mark_keeps : (ms : List Bool) (w : Word) → reach w ≤ length ms → (k : ℕ) → get_or ms k false ≡ true → get_or (with_mark ms w) k false ≡ true
+mark_keeps : (ms : List Bool) (w : Word) → reach w ≤ length ms → (k : ℕ) → get_or ms k false ≡ true
+    → get_or (with_mark ms w) k false ≡ true
 mark_keeps ms (word.Tuple i) r k m = set_still ms i k r m
 mark_keeps ms (word.Cons i) r k m = set_still ms i k r m
 mark_keeps ms (word.Int n) r k m = m
@@ -88,7 +91,8 @@ still_marked ms ns (word.Ref x) a m = tt
 still_marked ms ns (word.Pid p) a m = tt
 still_marked ms ns word.Nil a m = tt
 
-pub all_still_marked : (ms ns : List Bool) (ws : List Word) → IsMarkedMore ms ns → All (IsMarked ms) ws → All (IsMarked ns) ws
+pub all_still_marked : (ms ns : List Bool) (ws : List Word) → IsMarkedMore ms ns → All (IsMarked ms) ws
+    → All (IsMarked ns) ws
 all_still_marked ms ns ws a m = All-weaker (IsMarked ms) (IsMarked ns) (λ w x. still_marked ms ns w a x) ws m
 
 pub parts_still_marked : (ms ns : List Bool) (c : Cell) → IsMarkedMore ms ns → ArePartsMarked ms c → ArePartsMarked ns c
@@ -97,7 +101,8 @@ parts_still_marked ms ns (block ws) a m = all_still_marked ms ns ws a m
 
 -- ---- several marks
 
-pub marks_more : (ms : List Bool) (ws : List Word) → All (λ w. reach w ≤ length ms) ws → IsMarkedMore ms (with_marks ms ws)
+pub marks_more : (ms : List Bool) (ws : List Word) → All (λ w. reach w ≤ length ms) ws
+    → IsMarkedMore ms (with_marks ms ws)
 marks_more ms [] r = more_itself ms
 marks_more ms (w ∷ ws) r =
     let n = length ms in
@@ -107,7 +112,8 @@ marks_more ms (w ∷ ws) r =
     let there = subst (λ (m : ℕ). All (λ (x : Word). reach x ≤ m) ws) (sym (mark_count ms w)) rest in
     more_then ms ns (with_marks ns ws) (mark_more ms w here) (marks_more ns ws there)
 
-pub marks_here : (ms : List Bool) (ws : List Word) → All (λ w. reach w ≤ length ms) ws → All (IsMarked (with_marks ms ws)) ws
+pub marks_here : (ms : List Bool) (ws : List Word) → All (λ w. reach w ≤ length ms) ws
+    → All (IsMarked (with_marks ms ws)) ws
 marks_here ms [] r = All-nil (IsMarked ms)
 marks_here ms (w ∷ ws) r =
     let n = length ms in
@@ -115,27 +121,33 @@ marks_here ms (w ∷ ws) r =
     let rest = All-tail (λ (x : Word). reach x ≤ n) w ws r in
     let ns = with_mark ms w in
     let there = subst (λ (m : ℕ). All (λ (x : Word). reach x ≤ m) ws) (sym (mark_count ms w)) rest in
-    All-cons (IsMarked (with_marks ns ws)) w ws (still_marked ns (with_marks ns ws) w (marks_more ns ws there) (mark_here ms w here)) (marks_here ns ws there)
+    All-cons (IsMarked (with_marks ns ws)) w ws (still_marked ns (with_marks ns ws) w (marks_more ns ws there)
+    (mark_here ms w here)) (marks_here ns ws there)
 
-pub marks_above : (ms : List Bool) (ws : List Word) (n k : ℕ) → n ≤ k → All (λ w. reach w ≤ n) ws → get_or (with_marks ms ws) k false ≡ get_or ms k false
+pub marks_above : (ms : List Bool) (ws : List Word) (n k : ℕ) → n ≤ k → All (λ w. reach w ≤ n) ws
+    → get_or (with_marks ms ws) k false ≡ get_or ms k false
 marks_above ms [] n k le r = refl
 marks_above ms (w ∷ ws) n k le r =
     let here = All-head (λ (x : Word). reach x ≤ n) w ws r in
-    marks_above (with_mark ms w) ws n k le (All-tail (λ (x : Word). reach x ≤ n) w ws r) ∙ mark_above ms w k (omega arith)
+    marks_above (with_mark ms w) ws n k le (All-tail (λ (x : Word). reach x ≤ n) w ws r)
+    ∙ mark_above ms w k (omega arith)
 
 -- ---- the pass down
 
 pub closed_none : (h : List Cell) (n : ℕ) (ms : List Bool) → n ≡ length h → IsClosedFrom h n ms
 closed_none h n ms e k le lt m = absurd (omega arith)
 
-pub closed_skip : (h : List Cell) (n : ℕ) (ms : List Bool) → IsClosedFrom h (n + 1) ms → get_or ms n false ≡ false → IsClosedFrom h n ms
+pub closed_skip : (h : List Cell) (n : ℕ) (ms : List Bool) → IsClosedFrom h (n + 1) ms → get_or ms n false ≡ false
+    → IsClosedFrom h n ms
 closed_skip h n ms c f k le lt m =
     elim (cases_lt n k) [
       | inl above ↦ c k (omega arith) lt m
-      | inr here ↦ let e : k ≡ n = omega arith in absurd (false≢true (sym f ∙ ap (λ (x : ℕ). get_or ms x false) (sym e) ∙ m))
+      | inr here ↦ let e : k ≡ n = omega arith in
+          absurd (false≢true (sym f ∙ ap (λ (x : ℕ). get_or ms x false) (sym e) ∙ m))
     ]
 
-pub closed_step : (h : List Cell) (n : ℕ) (ms ns : List Bool) → IsClosedFrom h (n + 1) ms → IsMarkedMore ms ns → ((k : ℕ) → n ≤ k → get_or ns k false ≡ get_or ms k false) → ArePartsMarked ns (cell_at h n) → IsClosedFrom h n ns
+pub closed_step : (h : List Cell) (n : ℕ) (ms ns : List Bool) → IsClosedFrom h (n + 1) ms → IsMarkedMore ms ns
+    → ((k : ℕ) → n ≤ k → get_or ns k false ≡ get_or ms k false) → ArePartsMarked ns (cell_at h n) → IsClosedFrom h n ns
 closed_step h n ms ns c a same parts k le lt m =
     elim (cases_lt n k) [
       | inl above ↦ parts_still_marked ms ns (cell_at h k) a (c k (omega arith) lt (sym (same k le) ∙ m))
@@ -150,7 +162,8 @@ words_of (block ws) = ws
 
 reached : (h : List Cell) (n : ℕ) (c : Cell) → ArePartsBelow h n c → All (λ w. reach w ≤ n) (words_of c)
 reached h n (pair a t) b =
-    All-cons (λ w. reach w ≤ n) a (t ∷ []) (below_reach h n a b.0) (All-cons (λ w. reach w ≤ n) t [] (below_reach h n t b.1) (All-nil (λ w. reach w ≤ n)))
+    All-cons (λ w. reach w ≤ n) a (t ∷ []) (below_reach h n a b.0)
+    (All-cons (λ w. reach w ≤ n) t [] (below_reach h n t b.1) (All-nil (λ w. reach w ≤ n)))
 reached h n (block ws) b = all_below_reach h n ws b
 
 marked_parts : (ms : List Bool) (c : Cell) → All (IsMarked ms) (words_of c) → ArePartsMarked ms c
@@ -164,7 +177,8 @@ pub record HasPartsMarked (h : List Cell) (i : ℕ) (ms ns : List Bool) : Type 0
   pub parts : ArePartsMarked ns (cell_at h i)
   pub above : (k : ℕ) → i ≤ k → get_or ns k false ≡ get_or ms k false
 
-pub cell_marked : (h : List Cell) (ms ns : List Bool) (n : ℕ) (c : Cell) → cell_at h n ≡ c → ArePartsBelow h n c → n ≤ length ms → ns ≡ with_marks ms (words_of c) → HasPartsMarked h n ms ns
+pub cell_marked : (h : List Cell) (ms ns : List Bool) (n : ℕ) (c : Cell) → cell_at h n ≡ c → ArePartsBelow h n c
+    → n ≤ length ms → ns ≡ with_marks ms (words_of c) → HasPartsMarked h n ms ns
 cell_marked h ms ns n c at below le is =
     let near = reached h n c below in
     let within = All-weaker (λ w. reach w ≤ n) (λ w. reach w ≤ length ms) (λ w r. omega arith) (words_of c) near in

@@ -3,7 +3,8 @@ use Rattle.std.proofs.Common.{◌≡◌, ℕ, List, [], ◌∷◌, ◌++◌, ref
 use Rattle.std.specs.List.{All}
 use Rattle.std.proofs.lemmas.List.Elements.{All-head, All-tail, All-weaker}
 use Rattle.pf_terms.specs.Value.{Value, Values, tuple, list, none, more}
-use Rattle.pf_heap.specs.Heap.{Cell, pair, block, elements, value_over, values_over, cell_value, cell_values, cell_at, word_value, word_values, IsPair, IsBlock, IsWordOf, IsList, IsInOrder, Keeps}
+use Rattle.pf_heap.specs.Heap.{Cell, pair, block, elements, value_over, values_over, cell_value, cell_values, cell_at}
+use Rattle.pf_heap.specs.Heap.{word_value, word_values, IsPair, IsBlock, IsWordOf, IsList, IsInOrder, Keeps}
 use Rattle.pf_heap.proofs.Cells.{value_at}
 use Rattle.pf_heap.specs.declared.word.Word.{Word}
 use Rattle.pf_heap.specs.declared.word.Word.TheVariants as word
@@ -18,13 +19,15 @@ pub joined_none : (vs : Values) → joined vs none ≡ vs
 joined_none none = refl
 joined_none (more v vs) = ap (more v) (joined_none vs)
 
-pub joined_push : (vs : List Value) (ws : List Word) (w : Word) (us : Values) → joined (values_over vs (ws ++ w ∷ [])) us ≡ joined (values_over vs ws) (more (value_over vs w) us)
+pub joined_push : (vs : List Value) (ws : List Word) (w : Word) (us : Values)
+    → joined (values_over vs (ws ++ w ∷ [])) us ≡ joined (values_over vs ws) (more (value_over vs w) us)
 joined_push vs [] w us = refl
 joined_push vs (x ∷ ws) w us = ap (more (value_over vs x)) (joined_push vs ws w us)
 
 -- ---- what keeps its words keeps runs of them
 
-pub values_kept : (h g : List Cell) (ws : List Word) → Keeps h g → All (IsWordOf h) ws → word_values g ws ≡ word_values h ws
+pub values_kept : (h g : List Cell) (ws : List Word) → Keeps h g → All (IsWordOf h) ws
+    → word_values g ws ≡ word_values h ws
 values_kept h g [] k a = refl
 values_kept h g (w ∷ ws) k a =
     let first = k.values w (All-head (IsWordOf h) w ws a) in
@@ -44,17 +47,20 @@ block_is_tuple : (vs : List Value) (c : Cell) → IsBlock c → cell_value vs c 
 block_is_tuple vs (pair a t) p = absurd p
 block_is_tuple vs (block ws) p = refl
 
-pub cons_is_list : (h : List Cell) (i : ℕ) → IsInOrder h → IsWordOf h (word.Cons i) → word_value h (word.Cons i) ≡ list (elements (word_value h (word.Cons i)))
+pub cons_is_list : (h : List Cell) (i : ℕ) → IsInOrder h → IsWordOf h (word.Cons i)
+    → word_value h (word.Cons i) ≡ list (elements (word_value h (word.Cons i)))
 cons_is_list h i o b =
     let e = value_at h i o b.0 in
     e ∙ pair_is_list (cell_values h) (cell_at h i) b.1 ∙ ap (λ v. list (elements v)) (sym e)
 
-pub tuple_is_tuple : (h : List Cell) (i : ℕ) → IsInOrder h → IsWordOf h (word.Tuple i) → word_value h (word.Tuple i) ≡ tuple (elements (word_value h (word.Tuple i)))
+pub tuple_is_tuple : (h : List Cell) (i : ℕ) → IsInOrder h → IsWordOf h (word.Tuple i)
+    → word_value h (word.Tuple i) ≡ tuple (elements (word_value h (word.Tuple i)))
 tuple_is_tuple h i o b =
     let e = value_at h i o b.0 in
     e ∙ block_is_tuple (cell_values h) (cell_at h i) b.1 ∙ ap (λ v. tuple (elements v)) (sym e)
 
-pub list_is_list : (h : List Cell) (w : Word) → IsInOrder h → IsWordOf h w → IsList w → word_value h w ≡ list (elements (word_value h w))
+pub list_is_list : (h : List Cell) (w : Word) → IsInOrder h → IsWordOf h w → IsList w
+    → word_value h w ≡ list (elements (word_value h w))
 list_is_list h word.Nil o b l = refl
 list_is_list h (word.Cons i) o b l = cons_is_list h i o b
 list_is_list h (word.Int n) o b l = absurd l

@@ -1,5 +1,6 @@
 -- Which cells are reached from words, and words that name the cells of another heap.
-use Rattle.std.specs.Prelude.{◌≡◌, ◌<◌, ◌+◌, ◌≤◌, ℕ, Bool, true, false, List, length, fold, map, slice_index_or, slice_set}
+use Rattle.std.specs.Prelude.{◌≡◌, ◌<◌, ◌+◌, ◌≤◌, ℕ, Bool, true, false, List, length, fold, map, slice_index_or}
+use Rattle.std.specs.Prelude.{slice_set}
 use Rattle.std.specs.List.{All}
 use Rattle.pf_heap.specs.Heap.{Cell, pair, block, cell_at, word_value, IsBelow, IsWordOf}
 use Rattle.pf_heap.specs.declared.word.Word.{Word}
@@ -39,7 +40,8 @@ ArePartsMarked ms (block ws) = All (IsMarked ms) ws
 
 -- from an index on, what is marked has its parts marked
 abbrev pub IsClosedFrom : List Cell → ℕ → List Bool → Type 0
-IsClosedFrom h i ms = (k : ℕ) → i ≤ k → k < length h → slice_index_or ms k false ≡ true → ArePartsMarked ms (cell_at h k)
+IsClosedFrom h i ms = (k : ℕ) → i ≤ k → k < length h → slice_index_or ms k false ≡ true
+    → ArePartsMarked ms (cell_at h k)
 
 -- what was marked still is
 pub record IsMarkedMore (ms ns : List Bool) : Type 0 where

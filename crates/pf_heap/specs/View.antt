@@ -36,7 +36,8 @@ pub record IsSizeOf (s : Size) (v : Value) : Type 0 where
 
 -- each entry has the size of its value
 abbrev pub AreMeasured : List Entry → List Value → Type 0
-AreMeasured es vs = (k : ℕ) (d : Entry) → k < length es → IsSizeOf (slice_index_or es k d).size (slice_index_or vs k (list none))
+AreMeasured es vs = (k : ℕ) (d : Entry) → k < length es
+    → IsSizeOf (slice_index_or es k d).size (slice_index_or vs k (list none))
 
 -- each cell comes after its parts, its elements are there, and it has the size of its value
 pub record IsSound (ws : List Word) (es : List Entry) : Type 0 where

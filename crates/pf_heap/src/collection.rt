@@ -96,7 +96,8 @@ impl Heap {
         requires closed { IsClosedFrom self.now 0 marks.now }
         requires count { length places.now ≡ at }
         requires moves { Moves self.now at marks.now places.now other.old }
-        ensures moves { OnOk result (Moves self.now (at + 1) marks.now (places.now ++ length other.old ∷ []) other.new) }
+        ensures moves { OnOk result (Moves self.now (at + 1) marks.now
+            (places.now ++ length other.old ∷ []) other.new) }
         ensures shorter { OnOk result (length other.new ≤ length other.old + 1) }
     {
         self.is_in_order();

@@ -2,7 +2,8 @@
 
 ghost use Rattle.std.specs.Prelude.{◌≡◌, ◌<◌, ◌≤◌, ◌++◌, ◌∷◌, [], length, IfOk, IfSome, MatchOption, OnErr, OnOk};
 ghost use Rattle.pf_terms.specs.Value.{depth, nodes, none};
-ghost use Rattle.pf_heap.specs.Heap.{block, block_value, cell_at, cell_value, cell_values, elements, pair, pair_value, word_value, ArePartsBelow, IsInOrder, IsList, IsSplit, IsWordOf};
+ghost use Rattle.pf_heap.specs.Heap.{block, block_value, cell_at, cell_value, cell_values, elements, pair, pair_value};
+ghost use Rattle.pf_heap.specs.Heap.{word_value, ArePartsBelow, IsInOrder, IsList, IsSplit, IsWordOf};
 ghost use Rattle.pf_heap.specs.Marks.{Names};
 ghost use Rattle.pf_heap.specs.View.{IsSizeOf};
 
@@ -119,7 +120,8 @@ impl Heap {
     pub fn split(&self, list: Word) -> Option<(Word, Word)>
         requires word { IsWordOf self.now list }
         requires list { IsList list }
-        ensures value { MatchOption result (elements (word_value self.now list) ≡ none) (λ p. IsSplit self.now list p.0 p.1) }
+        ensures value { MatchOption result (elements (word_value self.now list) ≡ none)
+            (λ p. IsSplit self.now list p.0 p.1) }
         ensures words { IfSome result (λ p. IsWordOf self.now p.0 × IsWordOf self.now p.1 × IsList p.1) }
     {
         match list {

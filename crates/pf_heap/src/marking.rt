@@ -3,7 +3,8 @@
 ghost use Rattle.std.specs.Prelude.{◌≡◌, ◌+◌, ◌≤◌, ◌<◌, ℕ, length, slice_index_or, false};
 ghost use Rattle.std.specs.List.{All};
 ghost use Rattle.pf_heap.specs.Heap.{cell_at, IsWordOf};
-ghost use Rattle.pf_heap.specs.Marks.{reach, with_mark, with_marks, ArePartsMarked, IsClosedFrom, IsMarked, IsMarkedMore};
+ghost use Rattle.pf_heap.specs.Marks.{reach, with_mark, with_marks, ArePartsMarked, IsClosedFrom, IsMarked};
+ghost use Rattle.pf_heap.specs.Marks.{IsMarkedMore};
 
 use crate::heap::Heap;
 use crate::word::Word;

@@ -18,13 +18,15 @@ drop_min n xs = elim (cases_lt (length xs) n) [
 ]
 
 -- cut out between bounds
-pub cut_out : (source : List ℕ) (start end : ℕ) (behind part : List ℕ) → behind ≡ drop (min start (length source)) source
+pub cut_out : (source : List ℕ) (start end : ℕ) (behind part : List ℕ)
+    → behind ≡ drop (min start (length source)) source
     → part ≡ take (min (end - start) (length behind)) behind → part ≡ part_of source start end
 cut_out source start end behind part is cut =
     cut ∙ take_min (end - start) behind ∙ ap (take (end - start)) (is ∙ drop_min start source)
 
 -- what a source is refused for once faults are taken out of it
-pub faults_of_rest : (source rest : List ℕ) (found : Option SourceRefusal) → IsMended source rest → IfSome found (λ r. Reads rest (refused r.code r.offset))
+pub faults_of_rest : (source rest : List ℕ) (found : Option SourceRefusal) → IsMended source rest
+    → IfSome found (λ r. Reads rest (refused r.code r.offset))
     → IfSome found (λ r. IsFault source r.code r.offset)
 faults_of_rest source rest None out h = tt
 faults_of_rest source rest (Some r) out h = mended rest r.offset r.code out h

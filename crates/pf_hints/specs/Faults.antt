@@ -18,7 +18,8 @@ pub data IsFault (source : List ℕ) : Code → (offset : ℕ) → Type 0 where
   alone : (start end at : ℕ) (code : Code) → Reads (HEAD.now ++ part_of source start end) (refused code at)
       → IsFault source code (min (at - length HEAD.now + start) (length source))
   -- it is refused so once other faults are taken out
-  mended : (rest : List ℕ) (offset : ℕ) (code : Code) → IsMended source rest → Reads rest (refused code offset) → IsFault source code offset
+  mended : (rest : List ℕ) (offset : ℕ) (code : Code) → IsMended source rest → Reads rest (refused code offset)
+      → IsFault source code offset
 
 -- what is said is advice on a fault of the source
 abbrev pub IsOfFault : (source : List ℕ) → Advice → Type 0
@@ -27,5 +28,6 @@ IsOfFault source a = (code : Code) × (offset : ℕ) × IsFault source code offs
 -- the refusal is reported, by what is said of it, between other faults before and after it
 abbrev pub ReportsRefusal : (source : List ℕ) → Code → (offset : ℕ) → List Advice → Type 0
 ReportsRefusal source code offset told =
-    (front : List Advice) × (a : Advice) × (behind : List Advice) × IsAdvice source code offset a × All (IsOfFault source) front × All (IsOfFault source) behind
+    (front : List Advice) × (a : Advice) × (behind : List Advice) × IsAdvice source code offset a
+    × All (IsOfFault source) front × All (IsOfFault source) behind
     × (told ≡ front ++ a ∷ behind)

@@ -26,7 +26,8 @@ pub next_row : (xs : List OutcomeRow) (i : ℕ) (d : OutcomeRow) → i < length 
 next_row xs i d l = ap (λ ys. failures_in (rows_in ys)) (drop_more xs i d l)
 
 -- and its failures are within bounds
-pub next_fits : (xs : List OutcomeRow) (i n : ℕ) (x : OutcomeRow) → i < length xs → x ≡ get_or xs i x → n + failures_in (rows_in (drop i xs)) ≡ failures_in (rows_in xs)
+pub next_fits : (xs : List OutcomeRow) (i n : ℕ) (x : OutcomeRow) → i < length xs → x ≡ get_or xs i x
+    → n + failures_in (rows_in (drop i xs)) ≡ failures_in (rows_in xs)
     → seeds_counted (rows_in xs) < 2 ^ 64 → n + failures_of (row_of x) < 2 ^ 64
 next_fits xs i n x l read so_far fits =
     let most = some_of_all (rows_in xs) in

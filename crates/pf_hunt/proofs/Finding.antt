@@ -1,5 +1,6 @@
 -- How the first row is found that is like another: from the last of its hash to the first.
-use Rattle.std.proofs.Common.{◌≡◌, ◌≢◌, inl, inr, ◌<◌, ◌≤◌, ℕ, zero, suc, Bool, true, false, List, Option, Some, None, sym, ap, ◌∙◌, subst, arith, length}
+use Rattle.std.proofs.Common.{◌≡◌, ◌≢◌, inl, inr, ◌<◌, ◌≤◌, ℕ, zero, suc, Bool, true, false, List, Option, Some, None}
+use Rattle.std.proofs.Common.{sym, ap, ◌∙◌, subst, arith, length}
 use Rattle.std.specs.Prelude.{slice_get, MatchOption, option_map, if◌then◌else◌, ⊤}
 use Rattle.std.proofs.lemmas.Bool.{and_right, cases_lt}
 use Rattle.std.proofs.lemmas.List.{length-map}
@@ -24,7 +25,8 @@ module _ (xs : List OutcomeRow) (y : OutcomeRow) where
 
   -- no row from index a to before b is
   abbrev pub NoneLike : (a b : ℕ) → Type 0
-  NoneLike a b = (k : ℕ) (x : OutcomeRow) → a ≤ k → k < b → slice_get xs k ≡ Some x → is_like (row_of x) (row_of y) ≡ false
+  NoneLike a b = (k : ℕ) (x : OutcomeRow) → a ≤ k → k < b → slice_get xs k ≡ Some x
+      → is_like (row_of x) (row_of y) ≡ false
 
   -- the row that is next has its hash
   abbrev pub HasItsHash : (next : Option ℕ) → Type 0
@@ -35,11 +37,14 @@ module _ (xs : List OutcomeRow) (y : OutcomeRow) where
   IsFirstFrom a o = MatchOption o (NoneLike a (length xs)) (λ i. NoneLike a i × IsLike i)
 
   -- a row of another hash is another row
-  unlike : (k : ℕ) (x : OutcomeRow) → slice_get xs k ≡ Some x → (slice_get (hashes_in xs) k ≢ Some (row_hash y)) → is_like (row_of x) (row_of y) ≡ false
+  unlike : (k : ℕ) (x : OutcomeRow) → slice_get xs k ≡ Some x → (slice_get (hashes_in xs) k ≢ Some (row_hash y))
+      → is_like (row_of x) (row_of y) ≡ false
   unlike k x e d =
-      let stands : slice_get (hashes_in xs) k ≡ Some (row_hash x) = slice_get-map row_hash xs k ∙ ap (option_map row_hash) e in
+      let stands : slice_get (hashes_in xs) k ≡ Some (row_hash x) = slice_get-map row_hash xs k
+      ∙ ap (option_map row_hash) e in
       let differ : outcome_hash x.outcome ≢ outcome_hash y.outcome = λ q. d (stands ∙ ap (λ n. Some n) q) in
-      and_right (same_verdict x.verdict y.verdict) (same_outcome x.outcome y.outcome) (told_apart x.outcome y.outcome differ)
+      and_right (same_verdict x.verdict y.verdict) (same_outcome x.outcome y.outcome)
+      (told_apart x.outcome y.outcome differ)
 
   none_behind : (b : ℕ) (next : Option ℕ) → IsLastBefore (hashes_in xs) (row_hash y) b next → NoneLike (end_of next) b
   none_behind b None h k x from to e = unlike k x e (h k from to)
@@ -50,11 +55,13 @@ module _ (xs : List OutcomeRow) (y : OutcomeRow) where
   has_its_hash b (Some i) h = h.1
 
   -- the last of all rows of its hash
-  pub last_of_all : (ns : List ℕ) (n : ℕ) (next : Option ℕ) → ns ≡ hashes_in xs → n ≡ row_hash y → IsLastBefore ns n (length ns) next
+  pub last_of_all : (ns : List ℕ) (n : ℕ) (next : Option ℕ) → ns ≡ hashes_in xs → n ≡ row_hash y
+      → IsLastBefore ns n (length ns) next
       → IsLastBefore (hashes_in xs) (row_hash y) (length xs) next
   last_of_all ns n next e q h =
       subst (λ b. IsLastBefore (hashes_in xs) (row_hash y) b next) (length-map xs row_hash)
-      (subst (λ m. IsLastBefore (hashes_in xs) m (length (hashes_in xs)) next) q (subst (λ ms. IsLastBefore ms n (length ms) next) e h))
+      (subst (λ m. IsLastBefore (hashes_in xs) m (length (hashes_in xs)) next) q
+      (subst (λ ms. IsLastBefore ms n (length ms) next) e h))
 
   -- the places to be looked at are fewer
   pub fewer : (b : ℕ) (next : Option ℕ) → IsLastBefore (hashes_in xs) (row_hash y) b next → end_of next ≤ b
@@ -67,21 +74,26 @@ module _ (xs : List OutcomeRow) (y : OutcomeRow) where
     | inr u ↦ l k x u to e
   ]
 
-  none_at : (i : ℕ) (x : OutcomeRow) → slice_get xs i ≡ Some x → is_like (row_of x) (row_of y) ≡ false → NoneLike i (suc i)
+  none_at : (i : ℕ) (x : OutcomeRow) → slice_get xs i ≡ Some x → is_like (row_of x) (row_of y) ≡ false
+      → NoneLike i (suc i)
   none_at i x e f k z from to g =
       let at : k ≡ i = omega arith in
       let q : z ≡ x = cc in
       ap (λ v. is_like (row_of v) (row_of y)) q ∙ f
 
   -- nothing was looked at yet
-  pub none_yet : (next : Option ℕ) → IsLastBefore (hashes_in xs) (row_hash y) (length xs) next → IsFirstFrom (end_of next) None
+  pub none_yet : (next : Option ℕ) → IsLastBefore (hashes_in xs) (row_hash y) (length xs) next
+      → IsFirstFrom (end_of next) None
   none_yet next h = none_behind (length xs) next h
 
   -- one row more was looked at
-  pub one_looked_at : (i : ℕ) (x : OutcomeRow) (next o : Option ℕ) (b : Bool) → slice_get xs i ≡ Some x → b ≡ is_like (row_of x) (row_of y)
-      → IsLastBefore (hashes_in xs) (row_hash y) i next → IsFirstFrom (suc i) o → IsFirstFrom (end_of next) (if b then Some i else o)
+  pub one_looked_at : (i : ℕ) (x : OutcomeRow) (next o : Option ℕ) (b : Bool) → slice_get xs i ≡ Some x
+      → b ≡ is_like (row_of x) (row_of y)
+      → IsLastBefore (hashes_in xs) (row_hash y) i next → IsFirstFrom (suc i) o
+      → IsFirstFrom (end_of next) (if b then Some i else o)
   one_looked_at i x next o true e l h f = (none_behind i next h, (x, e, sym l))
   one_looked_at i x next None false e l h f =
-      none_across (end_of next) i (length xs) (none_behind i next h) (none_across i (suc i) (length xs) (none_at i x e (sym l)) f)
+      none_across (end_of next) i (length xs) (none_behind i next h)
+      (none_across i (suc i) (length xs) (none_at i x e (sym l)) f)
   one_looked_at i x next (Some j) false e l h f =
       (none_across (end_of next) i j (none_behind i next h) (none_across i (suc i) j (none_at i x e (sym l)) f.0), f.1)

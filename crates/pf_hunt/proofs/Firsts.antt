@@ -1,5 +1,6 @@
 -- The least seed whose run is so: part by part, and no other.
-use Rattle.std.proofs.Common.{◌≡◌, ◌⊎◌, inl, inr, ◌+◌, ◌<◌, ◌≤◌, ℕ, Bool, true, false, Option, Some, None, refl, sym, ap, ◌∙◌, subst, arith}
+use Rattle.std.proofs.Common.{◌≡◌, ◌⊎◌, inl, inr, ◌+◌, ◌<◌, ◌≤◌, ℕ, Bool, true, false, Option, Some, None, refl, sym}
+use Rattle.std.proofs.Common.{ap, ◌∙◌, subst, arith}
 use Rattle.std.proofs.lemmas.Bool.{cases_lt, cases_order}
 use Rattle.pf_model.specs.Meaning.{Job, Report}
 use Rattle.pf_strategy.specs.Strategies.{MeansBySeed}
@@ -28,7 +29,8 @@ module _ (so : Report → Bool) (w : Strategy) (j : Job) where
       ap so q ∙ f
 
   -- one seed more
-  pub one_more : (a b : ℕ) (r : Report) → NoneIs so w j a b → MeansBySeed w j b r → so r ≡ false → NoneIs so w j a (b + 1)
+  pub one_more : (a b : ℕ) (r : Report) → NoneIs so w j a b → MeansBySeed w j b r → so r ≡ false
+      → NoneIs so w j a (b + 1)
   one_more a b r h m f = none_in_parts a b (b + 1) h (none_at b r m f)
 
   -- the first part has one that is so
@@ -36,7 +38,8 @@ module _ (so : Report → Bool) (w : Strategy) (j : Job) where
   in_first a c b _ l (first s r from to m f before) = first s r from (omega arith) m f before
 
   -- the first part has none
-  pub in_second : (a c b : ℕ) (o : Option (ℕ × Report)) → a ≤ c → NoneIs so w j a c → IsFirstSo so w j c b o → IsFirstSo so w j a b o
+  pub in_second : (a c b : ℕ) (o : Option (ℕ × Report)) → a ≤ c → NoneIs so w j a c → IsFirstSo so w j c b o
+      → IsFirstSo so w j a b o
   in_second a c b _ l h (none_is k) = none_is (none_in_parts a c b h k)
   in_second a c b _ l h (first s r from to m f before) = first s r (omega arith) to m f (none_in_parts a c s h before)
 
@@ -68,7 +71,8 @@ module _ (so : Report → Bool) (w : Strategy) (j : Job) where
       cc
 
   -- to where the seeds end
-  pub first_there : (a b s : ℕ) (x : Option (ℕ × Report)) → IsFirstSo so w j a s x → (s ≡ a) ⊎ (s ≤ b) → b ≤ s → IsFirstSo so w j a b x
+  pub first_there : (a b s : ℕ) (x : Option (ℕ × Report)) → IsFirstSo so w j a s x → (s ≡ a) ⊎ (s ≤ b) → b ≤ s
+      → IsFirstSo so w j a b x
   first_there a b s x h (inl e) l =
       let none = one_first a s x None h (none_is (no_seeds a s (omega arith))) in
       subst (IsFirstSo so w j a b) (sym none) (none_is (no_seeds a b (omega arith)))

@@ -1,5 +1,6 @@
 -- What an observer received, one after another, and how far a hunt got by it.
-use Rattle.std.proofs.Common.{◌≡◌, ◌<◌, ◌≤◌, ◌-◌, ◌++◌, ℕ, Bool, true, false, List, [], ◌∷◌, Option, Some, None, refl, sym, subst}
+use Rattle.std.proofs.Common.{◌≡◌, ◌<◌, ◌≤◌, ◌-◌, ◌++◌, ℕ, Bool, true, false, List, [], ◌∷◌, Option, Some, None, refl}
+use Rattle.std.proofs.Common.{sym, subst}
 use Rattle.std.specs.Prelude.{is_some, option_map}
 use Rattle.std.proofs.lemmas.List.{append-nil, append_assoc}
 use Rattle.pf_model.specs.Meaning.{Job, Report}
@@ -15,15 +16,18 @@ module _ {T : Type 0} (Heard : T → List Notice → Type 0) where
   pub hears_none : (o : T) → Hears Heard o [] o
   hears_none o before h = subst (Heard o) (sym (append-nil before)) h
 
-  hears_more : (o p q : T) (ns more : List Notice) → Hears Heard o ns p → Hears Heard p more q → Hears Heard o (ns ++ more) q
+  hears_more : (o p q : T) (ns more : List Notice) → Hears Heard o ns p → Hears Heard p more q
+      → Hears Heard o (ns ++ more) q
   hears_more o p q ns more h k before b = subst (Heard q) (append_assoc before ns more) (k (before ++ ns) (h before b))
 
   -- what is so of the notices so far, and then of those with more
-  pub hears_then : (so then : List Notice → Type 0) (o p q : T) (more : List Notice) → HearsSome Heard o so p → Hears Heard p more q
+  pub hears_then : (so then : List Notice → Type 0) (o p q : T) (more : List Notice) → HearsSome Heard o so p
+      → Hears Heard p more q
       → ((ns : List Notice) → so ns → then (ns ++ more)) → HearsSome Heard o then q
   hears_then so then o p q more h k on = (h.0 ++ more, on h.0 h.1, hears_more o p q h.0 more h.2 k)
 
-  pub hears_weaker : (so weaker : List Notice → Type 0) (o p : T) → ((ns : List Notice) → so ns → weaker ns) → HearsSome Heard o so p
+  pub hears_weaker : (so weaker : List Notice → Type 0) (o p : T) → ((ns : List Notice) → so ns → weaker ns)
+      → HearsSome Heard o so p
       → HearsSome Heard o weaker p
   hears_weaker so weaker o p on h = (h.0, on h.0 h.1, h.2)
 
@@ -33,36 +37,48 @@ module _ {T : Type 0} (Heard : T → List Notice → Type 0) where
     pub none_run : (o : T) → HearsSome Heard o (HuntGoesOn has m a b a) o
     none_run o = ([], begins, hears_none o)
 
-    pub all_run : (o p : T) (c : ℕ) → HearsSome Heard o (HuntGoesOn has m a b c) p → b ≤ c → HearsSome Heard o (EndsHunt has m a b b) p
-    all_run o p c h over = hears_weaker (HuntGoesOn has m a b c) (EndsHunt has m a b b) o p (λ ns g. at_end c ns g over) h
+    pub all_run : (o p : T) (c : ℕ) → HearsSome Heard o (HuntGoesOn has m a b c) p → b ≤ c
+        → HearsSome Heard o (EndsHunt has m a b b) p
+    all_run o p c h over = hears_weaker (HuntGoesOn has m a b c) (EndsHunt has m a b b) o p
+        (λ ns g. at_end c ns g over) h
 
     module _ (o p q : T) (c d n : ℕ) (answer : Pace) (so_far : HearsSome Heard o (HuntGoesOn has m a b c) p)
         (told : Hears Heard p (seeds_run (d - a) n answer ∷ []) q) (past : c < d) (is : has d n) where
       pub block_run : d ≤ b → (d < b → stops m answer ≡ false) → HearsSome Heard o (HuntGoesOn has m a b d) q
       block_run within on =
-          hears_then (HuntGoesOn has m a b c) (HuntGoesOn has m a b d) o p q _ so_far told (λ ns h. and_block c d n answer ns h past within is on)
+          hears_then (HuntGoesOn has m a b c) (HuntGoesOn has m a b d) o p q _ so_far told
+          (λ ns h. and_block c d n answer ns h past within is on)
 
       pub stopped_there : d < b → stops m answer ≡ true → HearsSome Heard o (EndsHunt has m a b d) q
       stopped_there before stop =
-          hears_then (HuntGoesOn has m a b c) (EndsHunt has m a b d) o p q _ so_far told (λ ns h. stopped c d n answer ns h past before is stop)
+          hears_then (HuntGoesOn has m a b c) (EndsHunt has m a b d) o p q _ so_far told
+          (λ ns h. stopped c d n answer ns h past before is stop)
 
   -- ---- the least seed that fails
 
   module _ (m : Bool) (a b : ℕ) where
-    found_at : (so : Report → Bool) (w : Strategy) (j : Job) (o p q : T) (c d : ℕ) (answer : Pace) (f : ℕ × Report) → IsFirstSo so w j c d (Some f) → d ≤ b
-        → HearsSome Heard o (HuntGoesOn has_none m a b c) p → Hears Heard p (seeds_run (d - a) 1 answer ∷ []) q → HearsSome Heard o (Searches m a b b (Some f)) q
+    found_at : (so : Report → Bool) (w : Strategy) (j : Job) (o p q : T) (c d : ℕ) (answer : Pace) (f : ℕ × Report)
+        → IsFirstSo so w j c d (Some f) → d ≤ b
+        → HearsSome Heard o (HuntGoesOn has_none m a b c) p → Hears Heard p (seeds_run (d - a) 1 answer ∷ []) q
+        → HearsSome Heard o (Searches m a b b (Some f)) q
     found_at so w j o p q c d answer _ (first s r from to means is before) within so_far told =
-        hears_then (HuntGoesOn has_none m a b c) (Searches m a b b (Some (s, r))) o p q _ so_far told (λ ns h. found c d s r answer ns h from to within)
+        hears_then (HuntGoesOn has_none m a b c) (Searches m a b b (Some (s, r))) o p q _ so_far told
+        (λ ns h. found c d s r answer ns h from to within)
 
     -- in its block, which was the last
-    pub found_there : (leaks : Bool) (w : Strategy) (j : Job) (o p q : T) (c d : ℕ) (answer : Pace) (x : Option FailingSeed) → is_some x ≡ true
-        → FirstFailing leaks w j c d (option_map failure_of x) → d ≤ b → HearsSome Heard o (HuntGoesOn has_none m a b c) p
-        → Hears Heard p (seeds_run (d - a) 1 answer ∷ []) q → HearsSome Heard o (Searches m a b b (option_map failure_of x)) q
+    pub found_there : (leaks : Bool) (w : Strategy) (j : Job) (o p q : T) (c d : ℕ) (answer : Pace)
+        (x : Option FailingSeed) → is_some x ≡ true
+        → FirstFailing leaks w j c d (option_map failure_of x) → d ≤ b
+        → HearsSome Heard o (HuntGoesOn has_none m a b c) p
+        → Hears Heard p (seeds_run (d - a) 1 answer ∷ []) q
+        → HearsSome Heard o (Searches m a b b (option_map failure_of x)) q
     found_there leaks w j o p q c d answer None some least within so_far told = absurd (cc)
     found_there leaks w j o p q c d answer (Some f) some least within so_far told =
         found_at (fails leaks) w j o p q c d answer (failure_of f) least within so_far told
 
-    pub none_there : (o p : T) (c : ℕ) (x : Option FailingSeed) → is_some x ≡ false → HearsSome Heard o (EndsHunt has_none m a b c) p
+    pub none_there : (o p : T) (c : ℕ) (x : Option FailingSeed) → is_some x ≡ false
+        → HearsSome Heard o (EndsHunt has_none m a b c) p
         → HearsSome Heard o (Searches m a b c (option_map failure_of x)) p
-    none_there o p c None none h = hears_weaker (EndsHunt has_none m a b c) (Searches m a b c None) o p (λ ns e. found_none c ns e) h
+    none_there o p c None none h = hears_weaker (EndsHunt has_none m a b c) (Searches m a b c None) o p
+        (λ ns e. found_none c ns e) h
     none_there o p c (Some f) none h = absurd (cc)

@@ -1,5 +1,6 @@
 -- Where a row is, and what becomes of the rows there.
-use Rattle.std.proofs.Common.{◌≡◌, inl, inr, ◌+◌, ◌≤◌, ℕ, zero, suc, true, false, List, [], ◌∷◌, ◌++◌, Some, refl, sym, ap, ◌∙◌, arith, length}
+use Rattle.std.proofs.Common.{◌≡◌, inl, inr, ◌+◌, ◌≤◌, ℕ, zero, suc, true, false, List, [], ◌∷◌, ◌++◌, Some, refl, sym}
+use Rattle.std.proofs.Common.{ap, ◌∙◌, arith, length}
 use Rattle.std.specs.Prelude.{slice_get, slice_set}
 use Rattle.std.proofs.lemmas.Bool.{cases_lt}
 use Rattle.std.proofs.lemmas.List.{map-append}
@@ -15,7 +16,8 @@ module _ (y : OutcomeRow) where
   behind x xs i h k z l e = h (suc k) z (omega arith) e
 
   -- one row more that is not like it
-  pub one_row_more : (xs : List OutcomeRow) (i : ℕ) (x : OutcomeRow) → NoneBefore xs y i → slice_get xs i ≡ Some x → is_like (row_of x) (row_of y) ≡ false → NoneBefore xs y (i + 1)
+  pub one_row_more : (xs : List OutcomeRow) (i : ℕ) (x : OutcomeRow) → NoneBefore xs y i → slice_get xs i ≡ Some x
+      → is_like (row_of x) (row_of y) ≡ false → NoneBefore xs y (i + 1)
   one_row_more xs i x h e l k z m f = elim (cases_lt k i) [
     | inl b ↦ h k z b f
     | inr b ↦
@@ -24,12 +26,15 @@ module _ (y : OutcomeRow) where
         ap (λ v. is_like (row_of v) (row_of y)) q ∙ l
   ]
 
-  pub stands_behind : (xs : List OutcomeRow) → NoneBefore xs y (length xs) → rows_in (xs ++ y ∷ []) ≡ with_row (rows_in xs) (row_of y)
+  pub stands_behind : (xs : List OutcomeRow) → NoneBefore xs y (length xs)
+      → rows_in (xs ++ y ∷ []) ≡ with_row (rows_in xs) (row_of y)
   stands_behind [] h = refl
   stands_behind (x ∷ xs) h =
-      ap (λ zs. row_of x ∷ zs) (stands_behind xs (behind x xs (length xs) h)) ∙ sym (past_unlike (row_of x) (rows_in xs) (row_of y) (h 0 x (omega arith) refl))
+      ap (λ zs. row_of x ∷ zs) (stands_behind xs (behind x xs (length xs) h))
+      ∙ sym (past_unlike (row_of x) (rows_in xs) (row_of y) (h 0 x (omega arith) refl))
 
-  pub is_added : (xs : List OutcomeRow) (i : ℕ) (x z : OutcomeRow) → NoneBefore xs y i → slice_get xs i ≡ Some x → is_like (row_of x) (row_of y) ≡ true
+  pub is_added : (xs : List OutcomeRow) (i : ℕ) (x z : OutcomeRow) → NoneBefore xs y i → slice_get xs i ≡ Some x
+      → is_like (row_of x) (row_of y) ≡ true
       → row_of z ≡ more_often (row_of x) y.count → rows_in (slice_set xs i z) ≡ with_row (rows_in xs) (row_of y)
   is_added [] i x z h e l f = absurd (cc)
   is_added (w ∷ xs) zero x z h e l f =
@@ -41,7 +46,8 @@ module _ (y : OutcomeRow) where
       ∙ sym (past_unlike (row_of w) (rows_in xs) (row_of y) (h 0 w (omega arith) refl))
 
 -- the hashes of the rows, once one counts more, and once there is one more after them
-pub hashes_stay : (xs : List OutcomeRow) (i : ℕ) (x z : OutcomeRow) → slice_get xs i ≡ Some x → row_hash z ≡ row_hash x → hashes_in (slice_set xs i z) ≡ hashes_in xs
+pub hashes_stay : (xs : List OutcomeRow) (i : ℕ) (x z : OutcomeRow) → slice_get xs i ≡ Some x → row_hash z ≡ row_hash x
+    → hashes_in (slice_set xs i z) ≡ hashes_in xs
 hashes_stay [] i x z e h = absurd (cc)
 hashes_stay (w ∷ xs) zero x z e h = let q : w ≡ x = cc in ap (λ n. n ∷ hashes_in xs) (h ∙ ap row_hash (sym q))
 hashes_stay (w ∷ xs) (suc i) x z e h = ap (λ ns. row_hash w ∷ ns) (hashes_stay xs i x z e h)
@@ -50,7 +56,8 @@ pub hashes_more : (xs : List OutcomeRow) (y : OutcomeRow) → hashes_in (xs ++ y
 hashes_more xs y = map-append row_hash xs (y ∷ [])
 
 -- no row counts more than all
-pub counts_within : (xs : List OutcomeRow) (i : ℕ) (x : OutcomeRow) → slice_get xs i ≡ Some x → x.count ≤ seeds_counted (rows_in xs)
+pub counts_within : (xs : List OutcomeRow) (i : ℕ) (x : OutcomeRow) → slice_get xs i ≡ Some x
+    → x.count ≤ seeds_counted (rows_in xs)
 counts_within [] i x e = absurd (cc)
 counts_within (w ∷ xs) zero x e = let q : w ≡ x = cc in let c = ap (λ v. v.count) q in omega arith
 counts_within (w ∷ xs) (suc i) x e = let h = counts_within xs i x e in omega arith

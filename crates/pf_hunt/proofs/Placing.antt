@@ -1,5 +1,6 @@
 -- Where numbers occur, once there is one more after them.
-use Rattle.std.proofs.Common.{◌≡◌, ◌≢◌, inl, inr, ◌+◌, ◌<◌, ◌≤◌, ℕ, zero, suc, cond, List, [], ◌∷◌, ◌++◌, Option, Some, None, refl, sym, ap, ◌∙◌, subst, arith, length, length-append}
+use Rattle.std.proofs.Common.{◌≡◌, ◌≢◌, inl, inr, ◌+◌, ◌<◌, ◌≤◌, ℕ, zero, suc, cond, List, [], ◌∷◌, ◌++◌, Option, Some}
+use Rattle.std.proofs.Common.{None, refl, sym, ap, ◌∙◌, subst, arith, length, length-append}
 use Rattle.std.specs.Prelude.{slice_get, nat_eq}
 use Rattle.std.specs.HashMap.{HashMap, get}
 use Rattle.std.proofs.lemmas.Bool.{cases_lt}
@@ -44,13 +45,23 @@ module _ (ns : List ℕ) (m : ℕ) where
   last_still n b (Some i) l h = (h.0, stands_still ns m i (omega (arith, h.0)) ∙ h.1, absent_still n (suc i) b l h.2)
 
   -- what was last is, where another number comes
-  last_of_others : (n : ℕ) (o : Option ℕ) → (n ≢ m) → IsLastBefore ns n (length ns) o → IsLastBefore (ns ++ m ∷ []) n (length (ns ++ m ∷ [])) o
+  last_of_others : (n : ℕ) (o : Option ℕ) → (n ≢ m) → IsLastBefore ns n (length ns) o
+      → IsLastBefore (ns ++ m ∷ []) n (length (ns ++ m ∷ [])) o
   last_of_others n None d h = absent_more n zero d h
-  last_of_others n (Some i) d h = (omega (arith, h.0, length_more ns m), stands_still ns m i h.0 ∙ h.1, absent_more n (suc i) d h.2)
+  last_of_others n (Some i) d h = (
+    omega (arith, h.0, length_more ns m),
+    stands_still ns m i h.0 ∙ h.1,
+    absent_more n (suc i) d h.2,
+  )
 
   -- the number that comes is last
   comes_last : IsLastBefore (ns ++ m ∷ []) m (length (ns ++ m ∷ [])) (Some (length ns))
-  comes_last = (omega (arith, length_more ns m), stands_last ns m, λ k from to e. absurd (omega (arith, length_more ns m, from, to)))
+  comes_last = (
+    omega (arith, length_more ns m),
+    stands_last ns m,
+    λ k from to e.
+        absurd (omega (arith, length_more ns m, from, to)),
+  )
 
 module _ {S : Type 0} (ps : List NumberPlace) (lasts others : HashMap ℕ ℕ S) (n at : ℕ) (old : Option ℕ) where
   abbrev place : NumberPlace
@@ -64,7 +75,8 @@ module _ {S : Type 0} (ps : List NumberPlace) (lasts others : HashMap ℕ ℕ S)
 
   -- the places, once one more number is put after them
   pub placed_more : ArePlaced ps lasts → at ≡ length ps → old ≡ get nat_eq lasts n
-      → ((q : ℕ) → get nat_eq others q ≡ cond (nat_eq n q) (Some at) (get nat_eq lasts q)) → ArePlaced (ps ++ place ∷ []) others
+      → ((q : ℕ) → get nat_eq others q ≡ cond (nat_eq n q) (Some at) (get nat_eq lasts q))
+      → ArePlaced (ps ++ place ∷ []) others
   placed_more h behind was updates = record {
     last = λ q. subst (λ ms. IsLastBefore ms q (length ms) (get nat_eq others q)) (sym numbers_more) (found q);
     before = λ i p e. subst (λ ms. IsLastBefore ms p.number i p.before) (sym numbers_more) (leads i p e);
@@ -74,24 +86,31 @@ module _ {S : Type 0} (ps : List NumberPlace) (lasts others : HashMap ℕ ℕ S)
       found q = elim (eqb_tells n q) [
         | inl t ↦
             let o : get nat_eq others q ≡ Some (length ns) =
-            updates q ∙ ap (λ b. cond b (Some at) (get nat_eq lasts q)) t.0 ∙ ap (λ k. Some k) (behind ∙ sym (length-numbers ps)) in
+            updates q ∙ ap (λ b. cond b (Some at) (get nat_eq lasts q)) t.0 ∙ ap (λ k. Some k)
+            (behind ∙ sym (length-numbers ps)) in
             subst (λ o. IsLastBefore (ns ++ n ∷ []) q (length (ns ++ n ∷ [])) o) (sym o)
-            (subst (λ m. IsLastBefore (ns ++ n ∷ []) m (length (ns ++ n ∷ [])) (Some (length ns))) t.1 (comes_last ns n))
+            (subst (λ m. IsLastBefore (ns ++ n ∷ []) m (length (ns ++ n ∷ [])) (Some (length ns))) t.1
+            (comes_last ns n))
         | inr t ↦
-            let o : get nat_eq others q ≡ get nat_eq lasts q = updates q ∙ ap (λ b. cond b (Some at) (get nat_eq lasts q)) t.0 in
+            let o : get nat_eq others q ≡ get nat_eq lasts q =
+            updates q ∙ ap (λ b. cond b (Some at) (get nat_eq lasts q)) t.0 in
             subst (λ o. IsLastBefore (ns ++ n ∷ []) q (length (ns ++ n ∷ [])) o) (sym o)
             (last_of_others ns n q (get nat_eq lasts q) (λ e. t.1 (sym e)) (h.last q))
       ]
 
-      leads : (i : ℕ) (p : NumberPlace) → slice_get (ps ++ place ∷ []) i ≡ Some p → IsLastBefore (ns ++ n ∷ []) p.number i p.before
+      leads : (i : ℕ) (p : NumberPlace) → slice_get (ps ++ place ∷ []) i ≡ Some p
+          → IsLastBefore (ns ++ n ∷ []) p.number i p.before
       leads i p e = elim (cases_lt i (length ps)) [
         | inl l ↦
-            last_still ns n p.number i p.before (omega (arith, l, length-numbers ps)) (h.before i p (sym (stands_still ps place i l) ∙ e))
+            last_still ns n p.number i p.before (omega (arith, l, length-numbers ps))
+            (h.before i p (sym (stands_still ps place i l) ∙ e))
         | inr l ↦
             let within = slice_get_within (ps ++ place ∷ []) i p e in
             let here : i ≡ length ps = omega (arith, l, within, length_more ps place) in
-            let same : place ≡ p = same_Some place p (sym (stands_last ps place) ∙ ap (slice_get (ps ++ place ∷ [])) (sym here) ∙ e) in
+            let same : place ≡ p = same_Some place p (sym (stands_last ps place) ∙ ap (slice_get (ps ++ place ∷ []))
+            (sym here) ∙ e) in
             subst (λ z. IsLastBefore (ns ++ n ∷ []) z.number i z.before) same
             (subst (λ k. IsLastBefore (ns ++ n ∷ []) n k old) (length-numbers ps ∙ sym here)
-            (last_still ns n n (length ns) old (omega arith) (subst (λ o. IsLastBefore ns n (length ns) o) (sym was) (h.last n))))
+            (last_still ns n n (length ns) old (omega arith)
+            (subst (λ o. IsLastBefore ns n (length ns) o) (sym was) (h.last n))))
       ]

@@ -18,5 +18,6 @@ may_stop_then may_stop Longer e = absurd (cc)
 may_stop_then may_stop Same e = absurd (cc)
 
 -- one that finds a seed which fails counts as over
-pub over_where_found : (may_stop : Bool) (a b c : ℕ) (p : ℕ × Report) (ns : List Notice) → Searches may_stop a b c (Some p) ns → c ≡ b
+pub over_where_found : (may_stop : Bool) (a b c : ℕ) (p : ℕ × Report) (ns : List Notice)
+    → Searches may_stop a b c (Some p) ns → c ≡ b
 over_where_found may_stop a b _ _ _ (found c d s r answer ns goes from to within) = refl

@@ -1,5 +1,6 @@
 -- Hunts: the results of the runs by many seeds, by a strategy.
-use Rattle.std.specs.Prelude.{◌≡◌, ◌<◌, ◌≤◌, ℕ, suc, Bool, true, false, ◌&&◌, ◌||◌, nat_lt, List, [], Option, Some, None, option_map}
+use Rattle.std.specs.Prelude.{◌≡◌, ◌<◌, ◌≤◌, ℕ, suc, Bool, true, false, ◌&&◌, ◌||◌, nat_lt, List, [], Option, Some}
+use Rattle.std.specs.Prelude.{None, option_map}
 use Rattle.pf_model.specs.Meaning.{Job, Report}
 use Rattle.pf_model.specs.Shrinking.{is_failure}
 use Rattle.pf_sched.specs.Waiting.{waiting_in}
@@ -16,7 +17,8 @@ NoneIs so w j a b = (s : ℕ) (r : Report) → a ≤ s → s < b → MeansBySeed
 -- of the seeds from a to before b the least whose run is so, with the report of that run; or none
 pub data IsFirstSo (so : Report → Bool) (w : Strategy) (j : Job) (a b : ℕ) : Option (ℕ × Report) → Type 0 where
   none_is : NoneIs so w j a b → IsFirstSo so w j a b None
-  first : (s : ℕ) (r : Report) → a ≤ s → s < b → MeansBySeed w j s r → so r ≡ true → NoneIs so w j a s → IsFirstSo so w j a b (Some (s, r))
+  first : (s : ℕ) (r : Report) → a ≤ s → s < b → MeansBySeed w j s r → so r ≡ true → NoneIs so w j a s
+      → IsFirstSo so w j a b (Some (s, r))
 
 -- ---- failures and leaks
 
@@ -34,7 +36,8 @@ FirstFailing leaks = IsFirstSo (fails leaks)
 
 -- of the seeds from a to before b the least whose root returned while processes still waited, and how many did; or none
 abbrev pub FirstLeaking : Strategy → Job → (a b : ℕ) → Option (ℕ × ℕ) → Type 0
-FirstLeaking w j a b o = (x : Option (ℕ × Report)) × IsFirstSo is_leak w j a b x × (o ≡ option_map (λ p. (p.0, waiting_in p.1)) x)
+FirstLeaking w j a b o = (x : Option (ℕ × Report)) × IsFirstSo is_leak w j a b x
+    × (o ≡ option_map (λ p. (p.0, waiting_in p.1)) x)
 
 -- up to where seeds were looked at: with the one that fails, or to before b
 abbrev pub looked_to : (b : ℕ) → Option (ℕ × Report) → ℕ

@@ -10,7 +10,8 @@ use Rattle.pf_hunt.specs.declared.tallied.Tallied.{Tallied}
 -- that leaks
 pub record FindsFailure (h : Hunt) (a b : ℕ) (s : Searched) : Type 0 where
   pub failure : FirstFailing h.leaks h.strategy h.job.asked a b (option_map failure_of s.failure)
-  pub leak : FirstLeaking h.strategy h.job.asked a (looked_to b (option_map failure_of s.failure)) (option_map leak_of s.leak)
+  pub leak : FirstLeaking h.strategy h.job.asked a (looked_to b (option_map failure_of s.failure))
+      (option_map leak_of s.leak)
   pub end : s.end ≡ b
 
 -- the rows of the seeds from a to before b are given, and the least of them that leaks

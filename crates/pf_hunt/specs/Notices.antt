@@ -34,14 +34,16 @@ stops may_stop Same = false
 -- answer ended the hunt
 pub data HuntGoesOn (has : (c failures : ℕ) → Type 0) (may_stop : Bool) (a b : ℕ) : (c : ℕ) → List Notice → Type 0 where
   begins : HuntGoesOn has may_stop a b a []
-  and_block : (c d n : ℕ) (p : Pace) (ns : List Notice) → HuntGoesOn has may_stop a b c ns → c < d → d ≤ b → has d n → (d < b → stops may_stop p ≡ false)
+  and_block : (c d n : ℕ) (p : Pace) (ns : List Notice) → HuntGoesOn has may_stop a b c ns → c < d → d ≤ b → has d n
+      → (d < b → stops may_stop p ≡ false)
       → HuntGoesOn has may_stop a b d (ns ++ seeds_run (d - a) n p ∷ [])
 
 -- EndsHunt has may_stop a b c notices: so the hunt ended before c: at its end, or after the block at which the observer
 -- answered that it stops
 pub data EndsHunt (has : (c failures : ℕ) → Type 0) (may_stop : Bool) (a b : ℕ) : (c : ℕ) → List Notice → Type 0 where
   at_end : (c : ℕ) (ns : List Notice) → HuntGoesOn has may_stop a b c ns → b ≤ c → EndsHunt has may_stop a b b ns
-  stopped : (c d n : ℕ) (p : Pace) (ns : List Notice) → HuntGoesOn has may_stop a b c ns → c < d → d < b → has d n → stops may_stop p ≡ true
+  stopped : (c d n : ℕ) (p : Pace) (ns : List Notice) → HuntGoesOn has may_stop a b c ns → c < d → d < b → has d n
+      → stops may_stop p ≡ true
       → EndsHunt has may_stop a b d (ns ++ seeds_run (d - a) n p ∷ [])
 
 -- ---- the least seed that fails
@@ -53,7 +55,8 @@ has_none c n = n ≡ 0
 -- one, which ends it after its block
 pub data Searches (may_stop : Bool) (a b : ℕ) : (c : ℕ) → Option (ℕ × Report) → List Notice → Type 0 where
   found_none : (c : ℕ) (ns : List Notice) → EndsHunt has_none may_stop a b c ns → Searches may_stop a b c None ns
-  found : (c d s : ℕ) (r : Report) (p : Pace) (ns : List Notice) → HuntGoesOn has_none may_stop a b c ns → c ≤ s → s < d → d ≤ b
+  found : (c d s : ℕ) (r : Report) (p : Pace) (ns : List Notice) → HuntGoesOn has_none may_stop a b c ns → c ≤ s
+      → s < d → d ≤ b
       → Searches may_stop a b b (Some (s, r)) (ns ++ seeds_run (d - a) 1 p ∷ [])
 
 -- the notice of a leak, if there is one
@@ -64,7 +67,8 @@ leak_notice (Some l) = leaked l.0 l.1 ∷ []
 -- all notices of such a hunt: how far it got, and then the least leak of the seeds that were looked at
 abbrev pub SearchNotices : Strategy → Job → (may_stop : Bool) → (a b c : ℕ) → Option (ℕ × Report) → List Notice → Type 0
 SearchNotices w j may_stop a b c x ns =
-    (blocks : List Notice) × (l : Option (ℕ × ℕ)) × Searches may_stop a b c x blocks × FirstLeaking w j a (looked_to c x) l × (ns ≡ blocks ++ leak_notice l)
+    (blocks : List Notice) × (l : Option (ℕ × ℕ)) × Searches may_stop a b c x blocks × FirstLeaking w j a
+    (looked_to c x) l × (ns ≡ blocks ++ leak_notice l)
 
 -- ---- each outcome
 
@@ -75,7 +79,8 @@ HasFailures w j a c n = (rows : List OutcomeRow) × Tallies w j a c rows × (n �
 -- all notices of a hunt for each outcome: how far it got, and then the least leak
 abbrev pub TallyNotices : Strategy → Job → (may_stop : Bool) → (a b c : ℕ) → List Notice → Type 0
 TallyNotices w j may_stop a b c ns =
-    (blocks : List Notice) × (l : Option (ℕ × ℕ)) × EndsHunt (HasFailures w j a) may_stop a b c blocks × FirstLeaking w j a c l × (ns ≡ blocks ++ leak_notice l)
+    (blocks : List Notice) × (l : Option (ℕ × ℕ)) × EndsHunt (HasFailures w j a) may_stop a b c blocks
+    × FirstLeaking w j a c l × (ns ≡ blocks ++ leak_notice l)
 
 -- ---- cut off
 

@@ -1,5 +1,6 @@
 -- Numbers in a list, and where each occurs.
-use Rattle.std.specs.Prelude.{◌≡◌, ◌≢◌, ◌<◌, ◌≤◌, ℕ, zero, suc, List, map, length, slice_get, Option, Some, MatchOption, nat_eq}
+use Rattle.std.specs.Prelude.{◌≡◌, ◌≢◌, ◌<◌, ◌≤◌, ℕ, zero, suc, List, map, length, slice_get, Option, Some, MatchOption}
+use Rattle.std.specs.Prelude.{nat_eq}
 use Rattle.std.specs.HashMap.{HashMap, get}
 use Rattle.pf_hunt.specs.declared.places.NumberPlace.{NumberPlace}
 
@@ -9,7 +10,8 @@ IsAbsent ns n a b = (k : ℕ) → a ≤ k → k < b → slice_get ns k ≢ Some 
 
 -- where this number occurs last before index b, if it does
 abbrev pub IsLastBefore : List ℕ → (n b : ℕ) → Option ℕ → Type 0
-IsLastBefore ns n b o = MatchOption o (IsAbsent ns n zero b) (λ i. (i < b) × (slice_get ns i ≡ Some n) × IsAbsent ns n (suc i) b)
+IsLastBefore ns n b o = MatchOption o (IsAbsent ns n zero b)
+    (λ i. (i < b) × (slice_get ns i ≡ Some n) × IsAbsent ns n (suc i) b)
 
 -- the numbers themselves
 abbrev pub numbers_in : List NumberPlace → List ℕ

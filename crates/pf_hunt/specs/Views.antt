@@ -30,4 +30,5 @@ NoneBefore xs y i = (k : ℕ) (x : OutcomeRow) → k < i → slice_get xs k ≡ 
 
 -- the first row at this index that is of the same outcome with the same verdict
 abbrev pub IsFirstLike : List OutcomeRow → OutcomeRow → ℕ → Type 0
-IsFirstLike xs y i = NoneBefore xs y i × ((x : OutcomeRow) × (slice_get xs i ≡ Some x) × (is_like (row_of x) (row_of y) ≡ true))
+IsFirstLike xs y i = NoneBefore xs y i × ((x : OutcomeRow) × (slice_get xs i ≡ Some x)
+    × (is_like (row_of x) (row_of y) ≡ true))

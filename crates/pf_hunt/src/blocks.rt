@@ -3,7 +3,8 @@
 ghost use Rattle.std.specs.Prelude.{◌≡◌, ◌≤◌, ◌<◌, IfOk, OnErr, option_map};
 ghost use Rattle.pf_hunt.specs.Hunts.{SearchedTo};
 ghost use Rattle.pf_hunt.specs.Known.{TalliesAll, FindsFailure};
-ghost use Rattle.pf_hunt.specs.Notices.{CutNotices, EndsHunt, HasFailures, Hears, HearsSome, SearchNotices, Searches, TallyNotices};
+ghost use Rattle.pf_hunt.specs.Notices.{CutNotices, EndsHunt, HasFailures, Hears, HearsSome, SearchNotices, Searches};
+ghost use Rattle.pf_hunt.specs.Notices.{TallyNotices};
 ghost use Rattle.pf_hunt.specs.Notices.{has_none, leak_notice, stops};
 ghost use Rattle.pf_hunt.specs.Views.{failure_of, leak_of};
 

@@ -11,7 +11,9 @@ use Rattle.pf_sched.specs.declared.refusal.JobRefusal.{JobRefusal}
 abbrev IsAsked : ReadModule → ℕ → Request → Result Job (OrNoMemory JobRefusal) → Type 0
 IsAsked m e r x = MatchResult x (λ j. Asks m e r (Ok j)) (IsRefusal (Asks m e r))
 
-pub asked_as : (m k : ReadModule) (n e : ℕ) (r q : Request) (x : Result Job (OrNoMemory JobRefusal)) → k ≡ m → n ≡ e → r ≡ q
-    → MatchResult x (λ j. Asks k n r (Ok j)) (IsRefusal (Asks k n r)) → MatchResult x (λ j. Asks m e q (Ok j)) (IsRefusal (Asks m e q))
+pub asked_as : (m k : ReadModule) (n e : ℕ) (r q : Request) (x : Result Job (OrNoMemory JobRefusal)) → k ≡ m
+    → n ≡ e → r ≡ q
+    → MatchResult x (λ j. Asks k n r (Ok j)) (IsRefusal (Asks k n r))
+    → MatchResult x (λ j. Asks m e q (Ok j)) (IsRefusal (Asks m e q))
 asked_as m k n e r q x of in_edition by asked =
     subst (λ t. IsAsked m e t x) by (subst (λ t. IsAsked m t r x) in_edition (subst (λ t. IsAsked t n r x) of asked))

@@ -28,11 +28,14 @@ Notifies h j end x ns = SearchNotices h.strategy j.asked (is_some h.time) h.seed
 -- JobEnds h j e notices: the hunt over the seeds of a job ends so, and its observer receives these notices
 pub data JobEnds (h : HuntArgs) (j : Job) : RootEnd → List Notice → Type 0 where
   -- the run by this seed fails, and by none before
-  fails : (s : ℕ) (r : Report) (ns : List Notice) → IsLeastOfRoot h j h.seeds.1 (Some (s, r)) → Notifies h j h.seeds.1 (Some (s, r)) ns → JobEnds h j (Fails s) ns
+  fails : (s : ℕ) (r : Report) (ns : List Notice) → IsLeastOfRoot h j h.seeds.1 (Some (s, r))
+      → Notifies h j h.seeds.1 (Some (s, r)) ns → JobEnds h j (Fails s) ns
   -- no run fails
-  none_fails : (ns : List Notice) → IsLeastOfRoot h j h.seeds.1 None → Notifies h j h.seeds.1 None ns → JobEnds h j (NoFailure (h.seeds.1 - h.seeds.0)) ns
+  none_fails : (ns : List Notice) → IsLeastOfRoot h j h.seeds.1 None → Notifies h j h.seeds.1 None ns
+      → JobEnds h j (NoFailure (h.seeds.1 - h.seeds.0)) ns
   -- nor any of the runs that there was time for, of which there is one
-  stopped : (c : ℕ) (ns : List Notice) → is_some h.time ≡ true → h.seeds.0 < c → c < h.seeds.1 → IsLeastOfRoot h j c None → Notifies h j c None ns
+  stopped : (c : ℕ) (ns : List Notice) → is_some h.time ≡ true → h.seeds.0 < c → c < h.seeds.1
+      → IsLeastOfRoot h j c None → Notifies h j c None ns
       → JobEnds h j (Stopped (c - h.seeds.0)) ns
 
 -- RootEnds h root m e notices: the hunt of this root of a module ends so, and its observer receives these notices
@@ -40,4 +43,5 @@ pub data RootEnds (h : HuntArgs) (root : List ℕ) (m : ReadModule) : RootEnd �
   -- what is asked for is refused
   refused : (code : Code) → Asks m h.edition (request_for h root) (Err code) → RootEnds h root m (Refused code) []
   -- its job is hunted
-  hunted : (j : Job) (e : RootEnd) (ns : List Notice) → Asks m h.edition (request_for h root) (Ok j) → JobEnds h j e ns → RootEnds h root m e ns
+  hunted : (j : Job) (e : RootEnd) (ns : List Notice) → Asks m h.edition (request_for h root) (Ok j) → JobEnds h j e ns
+      → RootEnds h root m e ns

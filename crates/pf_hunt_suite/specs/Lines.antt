@@ -54,9 +54,12 @@ number_with_word n one several = decimal n ++ codes " " ++ (if n == 1 then one e
 
 abbrev pub summary_text : (files : ℕ) → List SuiteCounts → List ℕ
 summary_text files ends =
-    number_with_word files (codes "file") (codes "files") ++ codes ", " ++ number_with_word (count_by is_root ends) (codes "root") (codes "roots") ++ codes ": "
-    ++ number_with_word (count_by some_root_fails ends) (codes "fails") (codes "fail") ++ codes ", " ++ line (decimal (count_by is_refused ends) ++ codes " refused")
+    number_with_word files (codes "file") (codes "files") ++ codes ", " ++ number_with_word (count_by is_root ends)
+    (codes "root") (codes "roots") ++ codes ": "
+    ++ number_with_word (count_by some_root_fails ends) (codes "fails") (codes "fail") ++ codes ", "
+    ++ line (decimal (count_by is_refused ends) ++ codes " refused")
 
 -- 2 if something is refused or can't be read, else 1 if a root fails, else 0
 abbrev pub suite_status : List SuiteCounts → ℕ
-suite_status ends = if nat_lt 0 (count_by is_refused ends) then 2 else (if nat_lt 0 (count_by some_root_fails ends) then 1 else 0)
+suite_status ends = if nat_lt 0 (count_by is_refused ends) then 2
+    else (if nat_lt 0 (count_by some_root_fails ends) then 1 else 0)

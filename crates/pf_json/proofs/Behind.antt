@@ -8,24 +8,31 @@ abbrev pub behind : List Fact → Option (List Fact) → Option (List Fact)
 behind fs o = option_map (λ gs. fs ++ gs) o
 
 -- one more that may be there
-pub one_more : (fs : List Fact) (f : Option Fact) (o : Option (List Fact)) → behind fs (option_map (with_fact f) o) ≡ behind (fs ++ with_fact f []) o
+pub one_more : (fs : List Fact) (f : Option Fact) (o : Option (List Fact))
+    → behind fs (option_map (with_fact f) o) ≡ behind (fs ++ with_fact f []) o
 one_more fs f None = refl
 one_more fs None (Some gs) = ap Some (sym (append_assoc fs [] gs))
 one_more fs (Some f) (Some gs) = ap Some (sym (append_assoc fs (f ∷ []) gs))
 
 -- a part that is there
-pub stands : (fs : List Fact) (p : ShapePart) (ps : List ShapePart) (t rest : List ℕ) (f : Option Fact) → part_step p t ≡ Some (rest, f)
+pub stands : (fs : List Fact) (p : ShapePart) (ps : List ShapePart) (t rest : List ℕ) (f : Option Fact)
+    → part_step p t ≡ Some (rest, f)
     → behind fs (facts_by (p ∷ ps) t) ≡ behind (fs ++ with_fact f []) (facts_by ps rest)
 stands fs p ps t rest f e =
-    ap (λ (s : Option (List ℕ × Option Fact)). behind fs (option_and_then (λ s. option_map (with_fact s.1) (facts_by ps s.0)) s)) e
+    ap (λ (s : Option (List ℕ × Option Fact)).
+    behind fs (option_and_then (λ s. option_map (with_fact s.1) (facts_by ps s.0)) s)) e
     ∙ one_more fs f (facts_by ps rest)
 
 -- and one that isn't
-pub stands_not : (fs : List Fact) (p : ShapePart) (ps : List ShapePart) (t : List ℕ) → part_step p t ≡ None → behind fs (facts_by (p ∷ ps) t) ≡ None
+pub stands_not : (fs : List Fact) (p : ShapePart) (ps : List ShapePart) (t : List ℕ) → part_step p t ≡ None
+    → behind fs (facts_by (p ∷ ps) t) ≡ None
 stands_not fs p ps t e =
-    ap (λ (s : Option (List ℕ × Option Fact)). behind fs (option_and_then (λ s. option_map (with_fact s.1) (facts_by ps s.0)) s)) e
+    ap (λ (s : Option (List ℕ × Option Fact)).
+    behind fs (option_and_then (λ s. option_map (with_fact s.1) (facts_by ps s.0)) s)) e
 
 -- what is reported of a line without a name and a shape
-pub told_else : (name shape : Option (List Fact)) (f : Fact) → name ≡ None → shape ≡ None → f ∷ [] ≡ unwrap_or (or_else name shape) (f ∷ [])
+pub told_else : (name shape : Option (List Fact)) (f : Fact) → name ≡ None → shape ≡ None
+    → f ∷ [] ≡ unwrap_or (or_else name shape) (f ∷ [])
 told_else name shape f e d =
-    sym (ap (λ (o : Option (List Fact)). unwrap_or (or_else o shape) (f ∷ [])) e ∙ ap (λ (o : Option (List Fact)). unwrap_or o (f ∷ [])) d)
+    sym (ap (λ (o : Option (List Fact)). unwrap_or (or_else o shape) (f ∷ [])) e
+    ∙ ap (λ (o : Option (List Fact)). unwrap_or o (f ∷ [])) d)

@@ -1,5 +1,6 @@
 -- An object has no line end within it.
-use Rattle.std.proofs.Common.{◌≡◌, ◌≢◌, ℕ, ◌+◌, ◌/◌, ◌%◌, zero, suc, Bool, true, false, cond, List, [], ◌∷◌, ◌++◌, refl, ap, sym, ◌∙◌, arith, zero-add}
+use Rattle.std.proofs.Common.{◌≡◌, ◌≢◌, ℕ, ◌+◌, ◌/◌, ◌%◌, zero, suc, Bool, true, false, cond, List, [], ◌∷◌, ◌++◌, refl}
+use Rattle.std.proofs.Common.{ap, sym, ◌∙◌, arith, zero-add}
 use Rattle.std.specs.Prelude.{◌==◌, ◌&&◌, ◌||◌, nat_lt, flat_map, if◌then◌else◌}
 use Rattle.std.specs.List.{count_by}
 use Rattle.std.specs.Char.{digit_char}
@@ -9,7 +10,8 @@ use Rattle.std.proofs.lemmas.Bool.{ne_eqb}
 use Rattle.std.proofs.lemmas.List.Sums.{sum_by-append}
 use Rattle.json.specs.Token as token
 use Rattle.json.specs.Token.{Token}
-use Rattle.json.specs.Print.{begins, ends, escape, escape_byte, escape_letter, print_from, quoted, separator, token_text}
+use Rattle.json.specs.Print.{begins, ends, escape, escape_byte, escape_letter, print_from, quoted, separator}
+use Rattle.json.specs.Print.{token_text}
 use Rattle.pf_json.specs.Facts.{Fact, Value, number, text, truth}
 use Rattle.pf_json.specs.Laws.{is_line_end}
 use Rattle.pf_json.specs.Lines.{HeldText, behind_line, objects_from, with_byte}
@@ -46,7 +48,8 @@ letter_is_no_end b =
     (other_if (b == 8) 98 _ (λ h. differ 98 refl)
     (other_if (b == 12) 102 _ (λ h. differ 102 refl)
     (other_if (b == 10) 110 _ (λ h. differ 110 refl)
-    (other_if (b == 13) 114 _ (λ h. differ 114 refl) (other_if (b == 9) 116 0 (λ h. differ 116 refl) (differ 0 refl))))))
+    (other_if (b == 13) 114 _ (λ h. differ 114 refl)
+    (other_if (b == 9) 116 0 (λ h. differ 116 refl) (differ 0 refl))))))
 
 digit_is_no_end : (d : ℕ) → digit_char d ≢ 10
 digit_is_no_end d = other_if (nat_lt d 10) (48 + d) (87 + d) (λ h e. omega (arith, e)) (λ e. omega (arith, e))
@@ -59,7 +62,16 @@ unfolding escape_byte
 byte_is_clean b =
     clean_if (nat_lt 0 (escape_letter b)) _ _ (λ h. (differ 92 refl, (letter_is_no_end b, tt)))
     (λ h. clean_if (nat_lt b 32) _ _
-    (λ g. (differ 92 refl, (differ 117 refl, (differ 48 refl, (differ 48 refl, (digit_is_no_end (b / 16), (digit_is_no_end (b % 16), tt)))))))
+    (λ g. (
+      differ 92 refl,
+      (
+        differ 117 refl,
+        (
+          differ 48 refl,
+          (differ 48 refl, (digit_is_no_end (b / 16), (digit_is_no_end (b % 16), tt))),
+        ),
+      ),
+    ))
     (λ g. (above_is_no_end b g, tt)))
 
 escaped_is_clean : (bs : List ℕ) → Clean (escape bs)
@@ -104,12 +116,17 @@ value_is_clean : (v : Value) → Clean (token_text (value_token v))
 value_is_clean (number n) = decimal_is_clean n
 value_is_clean (text t) = quoted_is_clean (utf8_lossy t)
 value_is_clean (truth true) = (differ 116 refl, (differ 114 refl, (differ 117 refl, (differ 101 refl, tt))))
-value_is_clean (truth false) = (differ 102 refl, (differ 97 refl, (differ 108 refl, (differ 115 refl, (differ 101 refl, tt)))))
+value_is_clean (truth false) = (
+  differ 102 refl,
+  (differ 97 refl, (differ 108 refl, (differ 115 refl, (differ 101 refl, tt)))),
+)
 
 facts_are_clean : (fs : List Fact) → AreClean (flat_map fact_tokens fs ++ token.end_object ∷ [])
 facts_are_clean [] = ((differ 125 refl, tt), tt)
-facts_are_clean (f ∷ fs) =
-    (clean_both (quoted (utf8_lossy f.key)) (58 ∷ []) (quoted_is_clean (utf8_lossy f.key)) (differ 58 refl, tt), (value_is_clean f.value, facts_are_clean fs))
+facts_are_clean (f ∷ fs) = (
+  clean_both (quoted (utf8_lossy f.key)) (58 ∷ []) (quoted_is_clean (utf8_lossy f.key)) (differ 58 refl, tt),
+  (value_is_clean f.value, facts_are_clean fs),
+)
 
 -- ---- line ends
 
@@ -128,12 +145,14 @@ clean_has_none (b ∷ bs) h =
 one_end : (facts : List Fact) → count_by is_line_end (object_line facts) ≡ 1
 one_end facts =
     let tokens = object_tokens facts in
-    let clean = clean_has_none (print_from false tokens) (print_is_clean false tokens ((differ 123 refl, tt), facts_are_clean facts)) in
+    let clean = clean_has_none (print_from false tokens)
+    (print_is_clean false tokens ((differ 123 refl, tt), facts_are_clean facts)) in
     let last : count_by is_line_end (10 ∷ []) ≡ 1 = refl in
     omega (arith, ends_both (print_from false tokens) (10 ∷ []), clean, last)
 
 -- a line end, or another byte
-end_by_end : (c : Bool) (line x y rest : List ℕ) → count_by is_line_end line ≡ 1 → count_by is_line_end x ≡ count_by is_line_end rest → count_by is_line_end y ≡ count_by is_line_end rest
+end_by_end : (c : Bool) (line x y rest : List ℕ) → count_by is_line_end line ≡ 1
+    → count_by is_line_end x ≡ count_by is_line_end rest → count_by is_line_end y ≡ count_by is_line_end rest
     → count_by is_line_end (if c then line ++ x else y) ≡ cond c 1 0 + count_by is_line_end rest
 end_by_end true line x y rest l e d = omega (arith, ends_both line x, l, e)
 end_by_end false line x y rest l e d = d ∙ sym (zero-add (count_by is_line_end rest))
@@ -141,6 +160,7 @@ end_by_end false line x y rest l e d = d ∙ sym (zero-add (count_by is_line_end
 pub line_by_line : (h : HeldText) (t : List ℕ) → count_by is_line_end (objects_from h t) ≡ count_by is_line_end t
 line_by_line h [] = refl
 line_by_line h (b ∷ bs) =
-    end_by_end (b == 10) (object_line (facts_at h.place h.line)) (objects_from (behind_line h) bs) (objects_from (with_byte h b) bs) bs
+    end_by_end (b == 10) (object_line (facts_at h.place h.line)) (objects_from (behind_line h) bs)
+    (objects_from (with_byte h b) bs) bs
     (one_end (facts_at h.place h.line)) (line_by_line (behind_line h) bs) (line_by_line (with_byte h b) bs)
     ∙ sym (ends_behind b bs)

@@ -5,15 +5,19 @@ use Rattle.pf_json.specs.Lines.{HeldText, behind_line, held_behind, objects_from
 use Rattle.pf_json.specs.Objects.{facts_at, object_line}
 
 -- after a line end, or after another byte
-piece : (c : Bool) (line x xs u us back : List ℕ) (h k : HeldText) → x ≡ xs ++ objects_from h back → u ≡ us ++ objects_from k back
+piece : (c : Bool) (line x xs u us back : List ℕ) (h k : HeldText) → x ≡ xs ++ objects_from h back
+    → u ≡ us ++ objects_from k back
     → (if c then line ++ x else u) ≡ (if c then line ++ xs else us) ++ objects_from (if c then h else k) back
-piece true line x xs u us back h k e d = ap (λ (t : List ℕ). line ++ t) e ∙ sym (append_assoc line xs (objects_from h back))
+piece true line x xs u us back h k e d = ap (λ (t : List ℕ). line ++ t) e
+    ∙ sym (append_assoc line xs (objects_from h back))
 piece false line x xs u us back h k e d = d
 
-pub pieces : (h : HeldText) (front back : List ℕ) → objects_from h (front ++ back) ≡ objects_from h front ++ objects_from (held_behind h front) back
+pub pieces : (h : HeldText) (front back : List ℕ)
+    → objects_from h (front ++ back) ≡ objects_from h front ++ objects_from (held_behind h front) back
 pieces h [] back = refl
 pieces h (b ∷ bs) back =
-    piece (b == 10) (object_line (facts_at h.place h.line)) _ _ _ _ back (held_behind (behind_line h) bs) (held_behind (with_byte h b) bs)
+    piece (b == 10) (object_line (facts_at h.place h.line)) _ _ _ _ back (held_behind (behind_line h) bs)
+    (held_behind (with_byte h b) bs)
     (pieces (behind_line h) bs back) (pieces (with_byte h b) bs back)
 
 held_piece : (c : Bool) (x y u v : HeldText) (back : List ℕ) → x ≡ held_behind y back → u ≡ held_behind v back
@@ -22,7 +26,8 @@ held_piece true x y u v back e d = e
 held_piece false x y u v back e d = d
 
 -- and so is what is held after them
-pub held_pieces : (h : HeldText) (front back : List ℕ) → held_behind h (front ++ back) ≡ held_behind (held_behind h front) back
+pub held_pieces : (h : HeldText) (front back : List ℕ)
+    → held_behind h (front ++ back) ≡ held_behind (held_behind h front) back
 held_pieces h [] back = refl
 held_pieces h (b ∷ bs) back =
     held_piece (b == 10) _ _ _ _ back (held_pieces (behind_line h) bs back) (held_pieces (with_byte h b) bs back)

@@ -10,8 +10,12 @@ use Rattle.pf_json.specs.declared.facts.Fact.{Fact}
 
 -- a beginning, each fact and an end, after other tokens, are an object after them
 pub object_behind : (before : List Token) (fs : List Fact)
-    → before ++ token.begin_object ∷ [] ++ flat_map (λ f. fact_tokens (view_of_fact f)) fs ++ token.end_object ∷ [] ≡ before ++ object_tokens (views_of fs)
+    → before ++ token.begin_object ∷ [] ++ flat_map (λ f. fact_tokens (view_of_fact f)) fs ++ token.end_object ∷ []
+    ≡ before ++ object_tokens (views_of fs)
 object_behind before fs =
-    ap (λ (ts : List Token). ts ++ token.end_object ∷ []) (append_assoc before (token.begin_object ∷ []) (flat_map (λ f. fact_tokens (view_of_fact f)) fs))
-    ∙ (append_assoc before (token.begin_object ∷ flat_map (λ f. fact_tokens (view_of_fact f)) fs) (token.end_object ∷ [])
-    ∙ ap (λ (ts : List Token). before ++ (token.begin_object ∷ ts ++ token.end_object ∷ [])) (sym (flat_map-map fact_tokens view_of_fact fs)))
+    ap (λ (ts : List Token). ts ++ token.end_object ∷ [])
+    (append_assoc before (token.begin_object ∷ []) (flat_map (λ f. fact_tokens (view_of_fact f)) fs))
+    ∙ (append_assoc before (token.begin_object ∷ flat_map (λ f. fact_tokens (view_of_fact f)) fs)
+    (token.end_object ∷ [])
+    ∙ ap (λ (ts : List Token). before ++ (token.begin_object ∷ ts ++ token.end_object ∷ []))
+    (sym (flat_map-map fact_tokens view_of_fact fs)))

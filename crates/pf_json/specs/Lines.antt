@@ -23,7 +23,8 @@ behind_line h = record { place = next h.place h.line; line = [] }
 abbrev pub objects_from : HeldText → List ℕ → List ℕ
 objects_from h [] = []
 objects_from h (b ∷ text) =
-    if b == 10 then object_line (facts_at h.place h.line) ++ objects_from (behind_line h) text else objects_from (with_byte h b) text
+    if b == 10 then object_line (facts_at h.place h.line) ++ objects_from (behind_line h) text
+    else objects_from (with_byte h b) text
 
 -- what is held after a text
 abbrev pub held_behind : HeldText → List ℕ → HeldText

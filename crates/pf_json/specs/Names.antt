@@ -1,5 +1,6 @@
 -- The lines of a hunt over several files or roots: a name, and after `: ` what is reported of it.
-use Rattle.std.specs.Prelude.{ℕ, suc, ◌+◌, ◌-◌, ◌==◌, nat_eq, Bool, ◌&&◌, nat_lt, get_or, if◌then◌else◌, List, [], ◌∷◌, ◌++◌, length, take, drop, codes, Option, Some, None, option_map, option_and_then}
+use Rattle.std.specs.Prelude.{ℕ, suc, ◌+◌, ◌-◌, ◌==◌, nat_eq, Bool, ◌&&◌, nat_lt, get_or, if◌then◌else◌, List, [], ◌∷◌}
+use Rattle.std.specs.Prelude.{◌++◌, length, take, drop, codes, Option, Some, None, option_map, option_and_then}
 use Rattle.std.specs.List.{starts_with}
 use Rattle.pf_json.specs.Facts.{Fact, fact, text, facts_by_first, or_else}
 use Rattle.pf_json.specs.Shapes.{file_shapes, root_shapes}
@@ -19,14 +20,16 @@ is_quoted name = nat_lt 0 (length name) && get_or name (length name - 1) 0 == 39
 -- the blank before a root: the last one, or before a root in quotes the last one that a quote follows which isn't the
 -- name's end
 abbrev pub blank_before : List ℕ → Option ℕ
-blank_before name = if is_quoted name then last_start (codes " '") (take (length name - 1) name) else last_start (codes " ") name
+blank_before name = if is_quoted name then last_start (codes " '") (take (length name - 1) name)
+    else last_start (codes " ") name
 
 abbrev pub of_file : List ℕ → Fact
 of_file name = fact (codes "file") (text name)
 
 -- the file and the root of a name
 abbrev pub of_root : List ℕ → Option (List Fact)
-of_root name = option_map (λ n. of_file (take n name) ∷ fact (codes "root") (text (drop (n + 1) name)) ∷ []) (blank_before name)
+of_root name = option_map (λ n. of_file (take n name) ∷ fact (codes "root") (text (drop (n + 1) name)) ∷ [])
+    (blank_before name)
 
 abbrev pub both_facts : Option (List Fact) → Option (List Fact) → Option (List Fact)
 both_facts (Some fs) (Some gs) = Some (fs ++ gs)
@@ -35,7 +38,8 @@ both_facts _ _ = None
 -- what is reported of a root, or of a file
 abbrev pub root_facts : (name told : List ℕ) → Option (List Fact)
 root_facts name told =
-    or_else (both_facts (of_root name) (facts_by_first root_shapes told)) (both_facts (Some (of_file name ∷ [])) (facts_by_first file_shapes told))
+    or_else (both_facts (of_root name) (facts_by_first root_shapes told))
+    (both_facts (Some (of_file name ∷ [])) (facts_by_first file_shapes told))
 
 abbrev pub named_at : (line : List ℕ) → (n : ℕ) → Option (List Fact)
 named_at line n = root_facts (take n line) (drop (n + 2) line)

@@ -1,13 +1,15 @@
 -- The shapes of lines that report several facts, or one in words of their own.
 use Rattle.std.specs.Prelude.{true, false, List, [], ◌∷◌, codes}
-use Rattle.pf_json.specs.Facts.{ShapePart, fact, number, text, truth, words, maybe, count, word, code, rest, says, tells}
+use Rattle.pf_json.specs.Facts.{ShapePart, fact, number, text, truth, words, maybe, count, word, code, rest, says}
+use Rattle.pf_json.specs.Facts.{tells}
 
 -- ---- lines of a report
 
 -- `0/2 <0> raise badarg`
 abbrev pub event_shape : List ShapePart
 event_shape =
-    count (codes "choice") ∷ words (codes "/") ∷ count (codes "count") ∷ words (codes " ") ∷ word (codes "actor") ∷ words (codes " ")
+    count (codes "choice") ∷ words (codes "/") ∷ count (codes "count") ∷ words (codes " ") ∷ word (codes "actor")
+    ∷ words (codes " ")
     ∷ rest (codes "label") ∷ []
 
 -- `no verdict`, beside `property holds` and `property fails`
@@ -22,15 +24,18 @@ schedule = words (codes "schedule ") ∷ rest (codes "schedule") ∷ []
 
 -- `no failure in 200 seeds`
 abbrev pub no_failure : List ShapePart
-no_failure = tells (fact (codes "failure") (truth false)) ∷ words (codes "no failure in ") ∷ count (codes "seeds") ∷ words (codes " seeds") ∷ []
+no_failure = tells (fact (codes "failure") (truth false)) ∷ words (codes "no failure in ") ∷ count (codes "seeds")
+    ∷ words (codes " seeds") ∷ []
 
 -- `stopped behind 512 seeds`
 abbrev pub stopped : List ShapePart
-stopped = tells (fact (codes "stopped") (truth true)) ∷ words (codes "stopped behind ") ∷ count (codes "seeds") ∷ words (codes " seeds") ∷ []
+stopped = tells (fact (codes "stopped") (truth true)) ∷ words (codes "stopped behind ") ∷ count (codes "seeds")
+    ∷ words (codes " seeds") ∷ []
 
 -- by how many seeds an outcome is met, the least of them, and the outcome
 abbrev pub by_seeds : List ShapePart
-by_seeds = count (codes "seeds") ∷ words (codes " seeds, least ") ∷ count (codes "least") ∷ words (codes ": ") ∷ says ∷ []
+by_seeds = count (codes "seeds") ∷ words (codes " seeds, least ") ∷ count (codes "least")
+    ∷ words (codes ": ") ∷ says ∷ []
 
 -- `holds 3 seeds, least 0: finished ok`
 abbrev pub row_holds : List ShapePart
@@ -47,8 +52,10 @@ row_without = tells (fact (codes "property") (text (codes "no verdict"))) ∷ wo
 -- `2 files, 3 roots: 1 fails, 0 refused`
 abbrev pub summary : List ShapePart
 summary =
-    count (codes "files") ∷ words (codes " file") ∷ maybe (codes "s") ∷ words (codes ", ") ∷ count (codes "roots") ∷ words (codes " root")
-    ∷ maybe (codes "s") ∷ words (codes ": ") ∷ count (codes "fail") ∷ words (codes " fail") ∷ maybe (codes "s") ∷ words (codes ", ")
+    count (codes "files") ∷ words (codes " file") ∷ maybe (codes "s") ∷ words (codes ", ") ∷ count (codes "roots")
+    ∷ words (codes " root")
+    ∷ maybe (codes "s") ∷ words (codes ": ") ∷ count (codes "fail") ∷ words (codes " fail") ∷ maybe (codes "s")
+    ∷ words (codes ", ")
     ∷ count (codes "refused") ∷ words (codes " refused") ∷ []
 
 -- ---- refusals
@@ -79,19 +86,22 @@ blank_line = tells (fact (codes "blank") (truth true)) ∷ []
 
 abbrev pub shapes : List (List ShapePart)
 shapes =
-    event_shape ∷ no_verdict ∷ schedule ∷ no_failure ∷ stopped ∷ row_holds ∷ row_fails ∷ row_without ∷ summary ∷ refusal ∷ refusal_at ∷ position ∷ instead
+    event_shape ∷ no_verdict ∷ schedule ∷ no_failure ∷ stopped ∷ row_holds ∷ row_fails ∷ row_without ∷ summary ∷ refusal
+    ∷ refusal_at ∷ position ∷ instead
     ∷ write ∷ blank_line ∷ []
 
 -- ---- what is reported after a name, in a hunt over several files or roots
 
 -- `seed 0 fails`
 abbrev pub seed_fails : List ShapePart
-seed_fails = tells (fact (codes "failure") (truth true)) ∷ words (codes "seed ") ∷ count (codes "seed") ∷ words (codes " fails") ∷ []
+seed_fails = tells (fact (codes "failure") (truth true)) ∷ words (codes "seed ") ∷ count (codes "seed")
+    ∷ words (codes " fails") ∷ []
 
 -- `stopped behind 512 seeds, no failure`
 abbrev pub stopped_well : List ShapePart
 stopped_well =
-    tells (fact (codes "stopped") (truth true)) ∷ tells (fact (codes "failure") (truth false)) ∷ words (codes "stopped behind ")
+    tells (fact (codes "stopped") (truth true)) ∷ tells (fact (codes "failure") (truth false))
+    ∷ words (codes "stopped behind ")
     ∷ count (codes "seeds") ∷ words (codes " seeds, no failure") ∷ []
 
 -- `no exported function without arguments`

@@ -13,7 +13,8 @@ unfolding facts_by_first
 worked_turn = refl
 
 pub worked_delivery : facts_of (codes "1/3 <0>-><2> deliver message")
-    ≡ fact (codes "choice") (number 1) ∷ fact (codes "count") (number 3) ∷ fact (codes "actor") (text (codes "<0>-><2>"))
+    ≡ fact (codes "choice") (number 1) ∷ fact (codes "count") (number 3) ∷ fact (codes "actor")
+    (text (codes "<0>-><2>"))
     ∷ fact (codes "label") (text (codes "deliver message")) ∷ []
 unfolding facts_by_first
 worked_delivery = refl
@@ -55,24 +56,28 @@ unfolding facts_by_first
 worked_row = refl
 
 pub worked_root : facts_of (codes "a.erl 'a: b c': seed 0 fails")
-    ≡ fact (codes "file") (text (codes "a.erl")) ∷ fact (codes "root") (text (codes "'a: b c'")) ∷ fact (codes "failure") (truth true)
+    ≡ fact (codes "file") (text (codes "a.erl")) ∷ fact (codes "root") (text (codes "'a: b c'"))
+    ∷ fact (codes "failure") (truth true)
     ∷ fact (codes "seed") (number 0) ∷ []
 unfolding facts_by_first
 worked_root = refl
 
 pub worked_file : facts_of (codes "seed 3 fails: E4 at 0")
-    ≡ fact (codes "file") (text (codes "seed 3 fails")) ∷ fact (codes "refusal") (text (codes "E4")) ∷ fact (codes "at") (number 0) ∷ []
+    ≡ fact (codes "file") (text (codes "seed 3 fails")) ∷ fact (codes "refusal") (text (codes "E4")) ∷ fact (codes "at")
+    (number 0) ∷ []
 unfolding facts_by_first
 worked_file = refl
 
 pub worked_summary : facts_of (codes "6 files, 1 root: 1 fails, 2 refused")
-    ≡ fact (codes "files") (number 6) ∷ fact (codes "roots") (number 1) ∷ fact (codes "fail") (number 1) ∷ fact (codes "refused") (number 2) ∷ []
+    ≡ fact (codes "files") (number 6) ∷ fact (codes "roots") (number 1) ∷ fact (codes "fail") (number 1)
+    ∷ fact (codes "refused") (number 2) ∷ []
 unfolding facts_by_first
 worked_summary = refl
 
 -- ---- a check
 
-pub worked_refusal : facts_of (codes "E6 at 41") ≡ fact (codes "refusal") (text (codes "E6")) ∷ fact (codes "at") (number 41) ∷ []
+pub worked_refusal : facts_of (codes "E6 at 41") ≡ fact (codes "refusal") (text (codes "E6")) ∷ fact (codes "at")
+    (number 41) ∷ []
 unfolding facts_by_first
 worked_refusal = refl
 

@@ -2,7 +2,8 @@
 
 ghost use Rattle.std.specs.Prelude.{◌≡◌, ◌<◌, ◌≤◌, ◌+◌, ◌∷◌, ◌++◌, [], IfOk, IfSome, Some, length, option_map};
 ghost use Rattle.pf_json.specs.Facts.{facts_by_first};
-ghost use Rattle.pf_json.specs.Names.{blank_before, both_facts, is_quoted, last_start, named_root, of_file, of_root, root_facts};
+ghost use Rattle.pf_json.specs.Names.{blank_before, both_facts, is_quoted, last_start, named_root, of_file, of_root};
+ghost use Rattle.pf_json.specs.Names.{root_facts};
 ghost use Rattle.pf_json.specs.Shapes.{file_shapes, root_shapes};
 ghost use Rattle.pf_json.specs.Views.{view_of_fact, views_of};
 

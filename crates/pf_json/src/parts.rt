@@ -3,7 +3,8 @@
 ghost use Rattle.std.specs.Prelude.{◌≡◌, ◌≤◌, ◌+◌, IfOk, Some, drop, length, map, option_map};
 ghost use Rattle.std.specs.List.{prefix_len};
 ghost use Rattle.pf_tokens.specs.Bytes.{is_digit};
-ghost use Rattle.pf_json.specs.Facts.{after_words, coded, counted_fact, fact, facts_by, facts_by_first, is_code, is_no_blank, part_step, word_fact};
+ghost use Rattle.pf_json.specs.Facts.{after_words, coded, counted_fact, fact, facts_by, facts_by_first, is_code};
+ghost use Rattle.pf_json.specs.Facts.{is_no_blank, part_step, word_fact};
 ghost use Rattle.pf_json.specs.Views.{view_of_part, view_of_taken, view_of_value, views_of};
 
 use crate::facts::{Fact, Value, before_blank, said, value_of};
@@ -69,7 +70,8 @@ fn told<'a>(key: &'a [u8], value: Value<'a>, rest: &'a [u8]) -> Option<TakenPart
 
 /// The number at the front of a text.
 fn counted<'a>(key: &'a [u8], text: &'a [u8]) -> Option<TakenPart<'a>>
-    ensures { option_map view_of_taken result ≡ counted_fact key.entry.now text.entry.now (prefix_len is_digit text.entry.now) }
+    ensures { option_map view_of_taken result ≡ counted_fact key.entry.now text.entry.now
+        (prefix_len is_digit text.entry.now) }
 {
     let (number, rest) = text.split_at(digits(text));
     if is_numeral(number) {
@@ -81,7 +83,8 @@ fn counted<'a>(key: &'a [u8], text: &'a [u8]) -> Option<TakenPart<'a>>
 
 /// The word at the front of a text.
 fn worded<'a>(key: &'a [u8], text: &'a [u8]) -> Option<TakenPart<'a>>
-    ensures { option_map view_of_taken result ≡ word_fact key.entry.now text.entry.now (prefix_len is_no_blank text.entry.now) }
+    ensures { option_map view_of_taken result ≡ word_fact key.entry.now text.entry.now
+        (prefix_len is_no_blank text.entry.now) }
 {
     let (word, rest) = text.split_at(before_blank(text));
     if word.is_empty() {

@@ -1,6 +1,7 @@
 -- What names become is closed: a pattern binds as many variables as its scope grows by, and names none but those that
 -- are bound.
-use Rattle.std.proofs.Common.{◌≡◌, ℕ, zero, suc, ◌+◌, Bool, true, false, ◌||◌, ◌==◌, if◌then◌else◌, List, [], ◌∷◌, ◌++◌, Some, refl, subst, arith, length}
+use Rattle.std.proofs.Common.{◌≡◌, ℕ, zero, suc, ◌+◌, Bool, true, false, ◌||◌, ◌==◌, if◌then◌else◌, List, [], ◌∷◌, ◌++◌}
+use Rattle.std.proofs.Common.{Some, refl, subst, arith, length}
 use Rattle.std.specs.Prelude.{IsTrue, slice_get}
 use Rattle.std.proofs.lemmas.List.{length-append}
 use Rattle.std.proofs.lemmas.Grind.{common_steps}
@@ -8,7 +9,9 @@ use Rattle.std.proofs.lemmas.Option.{slice_get_within}
 use Rattle.pf_syntax.specs.Pattern.{Pattern, Patterns, known, no_patterns, pattern}
 use Rattle.pf_syntax.specs.ExprPattern.{ExprPattern, ExprPatterns}
 use Rattle.pf_syntax.specs.Scope.{Scope, has, is_new, binding, after_expr_pattern, after_expr_patterns}
-use Rattle.pf_syntax.specs.Naming.{Names, conses_of, empty_list, ExprPatternIs, ExprPatternsAre, integer, atom, text, anything, bound, fresh, tuple, list, list_on, no_more_expr_patterns, and_expr_patterns}
+use Rattle.pf_syntax.specs.Naming.{Names, conses_of, empty_list, ExprPatternIs, ExprPatternsAre, integer, atom, text}
+use Rattle.pf_syntax.specs.Naming.{anything, bound, fresh, tuple, list, list_on, no_more_expr_patterns}
+use Rattle.pf_syntax.specs.Naming.{and_expr_patterns}
 use Rattle.pf_rules.specs.Static.{parameters_of}
 use Rattle.pf_model.specs.Closed.{binds, all_bind, PatternIsClosed, PatternsAreClosed, pattern_count}
 
@@ -32,7 +35,8 @@ bound_stays g x h = rw h refl
 new_grows : (g : Scope) (x : ℕ) → IsTrue (is_new g x) → many (binding g x) ≡ many g + 1
 new_grows g x = by (is_new g x)
   where
-    by : (b : Bool) → IsTrue b → many (if b then record { bound = g.bound ++ x ∷ []; unsafe = g.unsafe } else g) ≡ many g + 1
+    by : (b : Bool) → IsTrue b → many (if b then record { bound = g.bound ++ x ∷ []; unsafe = g.unsafe }
+        else g) ≡ many g + 1
     by true h = length-append g.bound (x ∷ [])
     by false h = absurd (cc)
 
@@ -41,11 +45,14 @@ abbrev pub Binds : Scope → ExprPattern → Pattern → Type 0
 Binds g q y = PatternIsClosed (many g) y × (many (after_expr_pattern g q) ≡ many g + binds y)
 
 abbrev pub AllBind : Scope → ExprPatterns → Patterns → Type 0
-AllBind g qs ys = PatternsAreClosed (many g) ys × (many (after_expr_patterns g qs) ≡ many g + all_bind ys) × (pattern_count ys ≡ parameters_of qs)
+AllBind g qs ys = PatternsAreClosed (many g) ys × (many (after_expr_patterns g qs) ≡ many g + all_bind ys)
+    × (pattern_count ys ≡ parameters_of qs)
 
-conses_closed : (n k : ℕ) (ys : Patterns) (y : Pattern) → k ≡ n + all_bind ys → PatternsAreClosed n ys → PatternIsClosed k y
+conses_closed : (n k : ℕ) (ys : Patterns) (y : Pattern) → k ≡ n + all_bind ys → PatternsAreClosed n ys
+    → PatternIsClosed k y
     → PatternIsClosed n (conses_of ys y) × (binds (conses_of ys y) ≡ all_bind ys + binds y)
-conses_closed n k no_patterns y e h c = let d : k ≡ n = omega arith in (subst (λ i. PatternIsClosed i y) d c, omega arith)
+conses_closed n k no_patterns y e h c = let d : k ≡ n = omega arith in
+    (subst (λ i. PatternIsClosed i y) d c, omega arith)
 conses_closed n k (pattern p ps) y e h c =
     let r = conses_closed (n + binds p) k ps y (omega arith) h.1 c in let d = r.1 in ((h.0, r.0), omega arith)
 
@@ -56,7 +63,8 @@ module _ (n : Names) where
     pattern_binds _ _ _ (atom g a) = (tt, omega arith)
     pattern_binds _ _ _ (text g cs) = (tt, omega arith)
     pattern_binds _ _ _ (anything g) = (tt, omega arith)
-    pattern_binds _ _ _ (bound g x at k e) = let d = bound_stays g x (has_at g.bound k x e) in (slice_get_within g.bound k x e, omega arith)
+    pattern_binds _ _ _ (bound g x at k e) = let d = bound_stays g x (has_at g.bound k x e) in
+        (slice_get_within g.bound k x e, omega arith)
     pattern_binds _ _ _ (fresh g x at e) = (tt, new_grows g x e)
     pattern_binds _ _ _ (tuple g qs ys h) = let r = patterns_bind g qs ys h in (r.0, r.1)
     pattern_binds _ _ _ (list g qs ys h) =

@@ -17,14 +17,17 @@ are_right (r ∷ rows) = (builtin_arity r.builtin == r.arity) && are_right rows
 rows_right : are_right builtins ≡ true
 rows_right = refl
 
-named_takes : (name : List ℕ) (k : ℕ) (rows : List BuiltinRow) (f : Builtin) → are_right rows ≡ true → named_in name k rows ≡ Some f → builtin_arity f ≡ k
+named_takes : (name : List ℕ) (k : ℕ) (rows : List BuiltinRow) (f : Builtin) → are_right rows ≡ true
+    → named_in name k rows ≡ Some f → builtin_arity f ≡ k
 named_takes name k [] f right e = cc
-named_takes name k (r ∷ rows) f right e = by (bytes_eq r.name name && (r.arity == k)) refl e (λ h. named_takes name k rows f both.1 h)
+named_takes name k (r ∷ rows) f right e = by (bytes_eq r.name name && (r.arity == k)) refl e
+    (λ h. named_takes name k rows f both.1 h)
   where
     both : (builtin_arity r.builtin == r.arity ≡ true) × (are_right rows ≡ true)
     both = and_parts (builtin_arity r.builtin == r.arity) (are_right rows) right
 
-    by : (here : Bool) → bytes_eq r.name name && (r.arity == k) ≡ here → (if here then Some r.builtin else named_in name k rows) ≡ Some f
+    by : (here : Bool) → bytes_eq r.name name && (r.arity == k) ≡ here
+        → (if here then Some r.builtin else named_in name k rows) ≡ Some f
         → (named_in name k rows ≡ Some f → builtin_arity f ≡ k) → builtin_arity f ≡ k
     by true d h further =
         let same : r.builtin ≡ f = cc in

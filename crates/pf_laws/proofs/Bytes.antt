@@ -1,5 +1,6 @@
 -- Tests that all bytes of a text pass.
-use Rattle.std.proofs.Common.{◌≡◌, ◌⊎◌, inl, inr, ℕ, zero, suc, ◌/◌, ◌%◌, ◌<◌, Bool, true, false, ◌==◌, ◌||◌, if◌then◌else◌, List, [], ◌∷◌, ◌++◌, refl, arith, ℤ, pos, negsuc}
+use Rattle.std.proofs.Common.{◌≡◌, ◌⊎◌, inl, inr, ℕ, zero, suc, ◌/◌, ◌%◌, ◌<◌, Bool, true, false, ◌==◌, ◌||◌}
+use Rattle.std.proofs.Common.{if◌then◌else◌, List, [], ◌∷◌, ◌++◌, refl, arith, ℤ, pos, negsuc}
 use Rattle.std.specs.Prelude.{nat_le}
 use Rattle.std.specs.List.{flat_map, list_all}
 use Rattle.std.specs.Fmt.{decimal, digit_glyph, digits, digits_onto, signed_decimal}
@@ -20,12 +21,14 @@ module _ {X : Type 0} (p : X → Bool) where
       let parts = and_parts (p x) (list_all p xs) h in
       and_from (p x) (list_all p (xs ++ ys)) parts.0 (passes_append xs ys parts.1 k)
 
-  pub passes_flat : {Y : Type 0} (f : Y → List X) → ((y : Y) → list_all p (f y) ≡ true) → (ys : List Y) → list_all p (flat_map f ys) ≡ true
+  pub passes_flat : {Y : Type 0} (f : Y → List X) → ((y : Y) → list_all p (f y) ≡ true) → (ys : List Y)
+      → list_all p (flat_map f ys) ≡ true
   passes_flat f h [] = refl
   passes_flat f h (y ∷ ys) = passes_append (f y) (flat_map f ys) (h y) (passes_flat f h ys)
 
   -- what passes this test passes that
-  pub passes_too : (q : X → Bool) → ((x : X) → p x ≡ true → q x ≡ true) → (xs : List X) → list_all p xs ≡ true → list_all q xs ≡ true
+  pub passes_too : (q : X → Bool) → ((x : X) → p x ≡ true → q x ≡ true) → (xs : List X) → list_all p xs ≡ true
+      → list_all q xs ≡ true
   passes_too q h [] e = refl
   passes_too q h (x ∷ xs) e =
       let parts = and_parts (p x) (list_all p xs) e in
@@ -52,7 +55,8 @@ lines_append = passes_append is_printed
 
 pub line_printed : (text : List ℕ) → Seen text → InLines (line text)
 line_printed text h =
-    lines_append text (10 ∷ []) (passes_too is_visible is_printed (λ b e. or_left (is_visible b) (b == 10) e) text h) refl
+    lines_append text (10 ∷ []) (passes_too is_visible is_printed (λ b e. or_left (is_visible b) (b == 10) e) text h)
+    refl
 
 -- ---- numbers
 
@@ -65,10 +69,13 @@ seen_onto (suc k) n acc h =
     by (n / 10 == 0) (seen_onto k (n / 10) (digit_glyph false (n % 10) ∷ acc) more) more
   where
     more : Seen (digit_glyph false (n % 10) ∷ acc)
-    more = and_from (is_visible (digit_glyph false (n % 10))) (list_all is_visible acc) (seen_digit (n % 10) (mod_below n 10 (omega arith))) h
+    more = and_from (is_visible (digit_glyph false (n % 10))) (list_all is_visible acc)
+        (seen_digit (n % 10) (mod_below n 10 (omega arith))) h
 
-    by : (e : Bool) → Seen (digits_onto k 10 false (n / 10) (digit_glyph false (n % 10) ∷ acc)) → Seen (digit_glyph false (n % 10) ∷ acc)
-        → Seen (if e then digit_glyph false (n % 10) ∷ acc else digits_onto k 10 false (n / 10) (digit_glyph false (n % 10) ∷ acc))
+    by : (e : Bool) → Seen (digits_onto k 10 false (n / 10) (digit_glyph false (n % 10) ∷ acc))
+        → Seen (digit_glyph false (n % 10) ∷ acc)
+        → Seen (if e then digit_glyph false (n % 10) ∷ acc
+        else digits_onto k 10 false (n / 10) (digit_glyph false (n % 10) ∷ acc))
     by true rest last = last
     by false rest last = rest
 

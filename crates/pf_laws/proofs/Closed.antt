@@ -1,5 +1,6 @@
 -- Each module that is read is closed.
-use Rattle.std.proofs.Common.{◌≡◌, ℕ, zero, suc, Bool, true, false, ◌==◌, List, [], ◌∷◌, Option, Some, None, flat_map, refl, sym, ap, ◌∙◌, subst, arith, option_map}
+use Rattle.std.proofs.Common.{◌≡◌, ℕ, zero, suc, Bool, true, false, ◌==◌, List, [], ◌∷◌, Option, Some, None, flat_map}
+use Rattle.std.proofs.Common.{refl, sym, ap, ◌∙◌, subst, arith, option_map}
 use Rattle.std.specs.Prelude.{◌&&◌, if◌then◌else◌, slice_get, position}
 use Rattle.std.specs.Str.{bytes_eq}
 use Rattle.std.specs.List.{All}
@@ -16,7 +17,8 @@ use Rattle.pf_syntax.specs.Root.{root_of, root_at}
 use Rattle.pf_syntax.specs.SyntaxTree.{Head}
 use Rattle.pf_syntax.specs.Naming.{Names, HeadIs}
 use Rattle.pf_syntax.specs.ExprModule.{Tree}
-use Rattle.pf_rules.specs.Static.{fault_if, parameters_of, is_named_by_head, own_in, unlike_fault, unlike_faults, names_of_module, faults_of}
+use Rattle.pf_rules.specs.Static.{fault_if, parameters_of, is_named_by_head, own_in, unlike_fault, unlike_faults}
+use Rattle.pf_rules.specs.Static.{names_of_module, faults_of}
 use Rattle.pf_rules.specs.Checks.{Pairwise, FunctionIs, IsModule}
 use Rattle.pf_check.specs.Reads.{ReadOutcome, accepted, refused, Reads, token_fault, no_head, no_tree, static, checked}
 use Rattle.pf_model.specs.Closed.{HasArity, FunctionClauseIsClosed, ModuleIsClosed}
@@ -29,7 +31,8 @@ use Rattle.pf_laws.proofs.Builtins.{named_is_right}
 use Rattle.pf_laws.proofs.Closing.{StandRight, head_closes}
 
 -- what is at an index of a list has its like at the same index of the other
-like : {A B : Type 0} (R : A → B → Type 0) (xs : List A) (ys : List B) (i : ℕ) (x : A) → Pairwise R xs ys → slice_get xs i ≡ Some x
+like : {A B : Type 0} (R : A → B → Type 0) (xs : List A) (ys : List B) (i : ℕ) (x : A) → Pairwise R xs ys
+    → slice_get xs i ≡ Some x
     → (y : B) × (slice_get ys i ≡ Some y) × R x y
 like R [] ys i x h e = absurd (cc)
 like R (a ∷ xs) [] i x h e = absurd h
@@ -44,7 +47,8 @@ AsMany h x = parameters_of x.parameters ≡ parameters_of h.parameters
 as_many : (h x : Head) → unlike_fault h x ≡ [] → AsMany h x
 as_many h x = by (x.name == h.name) (parameters_of x.parameters == parameters_of h.parameters) refl
   where
-    by : (a b : Bool) → (parameters_of x.parameters == parameters_of h.parameters) ≡ b → (if a && b then [] else fault_if true HeadsDiffer x.offset) ≡ []
+    by : (a b : Bool) → (parameters_of x.parameters == parameters_of h.parameters) ≡ b
+        → (if a && b then [] else fault_if true HeadsDiffer x.offset) ≡ []
         → AsMany h x
     by true true e d = eqb-true (parameters_of x.parameters) (parameters_of h.parameters) e
     by true false e d = cc
@@ -60,11 +64,13 @@ same_parameters : (h : Head) (hs : List Head) → unlike_faults (h ∷ hs) ≡ [
 same_parameters h hs d = All-cons (AsMany h) h hs refl (others_as_many h hs d)
 
 -- a function that is named so has that number of parameters
-module _ (atoms : List (List ℕ)) (m : Tree) (fs : Program) (all : Pairwise (FunctionIs (names_of_module atoms m.functions) m.exports) m.functions fs) where
+module _ (atoms : List (List ℕ)) (m : Tree) (fs : Program)
+    (all : Pairwise (FunctionIs (names_of_module atoms m.functions) m.exports) m.functions fs) where
   abbrev names : Names
   names = names_of_module atoms m.functions
 
-  named_takes : (f k : ℕ) (hs : List Head) (g : Function) → is_named_by_head f k hs ≡ true → FunctionIs names m.exports hs g → g.arity ≡ k
+  named_takes : (f k : ℕ) (hs : List Head) (g : Function) → is_named_by_head f k hs ≡ true
+      → FunctionIs names m.exports hs g → g.arity ≡ k
   named_takes f k [] g e h = absurd h
   named_takes f k (x ∷ hs) g e h = let d = h.1 in grind (arith, common_steps)
 
@@ -92,7 +98,8 @@ module _ (atoms : List (List ℕ)) (m : Tree) (fs : Program) (all : Pairwise (Fu
   abbrev IsClosedFunction : Function → Type 0
   IsClosedFunction g = All (FunctionClauseIsClosed fs g.arity) g.clauses
 
-  function_closed : (hs : List Head) (g : Function) → FunctionIs names m.exports hs g → unlike_faults hs ≡ [] → IsClosedFunction g
+  function_closed : (hs : List Head) (g : Function) → FunctionIs names m.exports hs g → unlike_faults hs ≡ []
+      → IsClosedFunction g
   function_closed [] g h d = absurd h
   function_closed (x ∷ hs) g h d =
       subst (λ k. All (FunctionClauseIsClosed fs k) g.clauses) (sym h.1)
@@ -104,13 +111,16 @@ module _ (atoms : List (List ℕ)) (m : Tree) (fs : Program) (all : Pairwise (Fu
   functions_closed [] (g ∷ gs) h d = absurd h
   functions_closed (u ∷ us) [] h d = absurd h
   functions_closed (u ∷ us) (g ∷ gs) h d =
-      All-cons IsClosedFunction g gs (function_closed u g h.0 (left_empty (unlike_faults u) (flat_map unlike_faults us) d))
+      All-cons IsClosedFunction g gs (function_closed u g h.0
+      (left_empty (unlike_faults u) (flat_map unlike_faults us) d))
       (functions_closed us gs h.1 (right_empty (unlike_faults u) (flat_map unlike_faults us) d))
 
 -- ---- modules
 
-module_closed : (atoms : List (List ℕ)) (m : Tree) (c : Checked) → faults_of atoms m ≡ [] → IsModule atoms m c → ModuleIsClosed c.functions
-module_closed atoms m c none h = functions_closed atoms m c.functions h.functions m.functions c.functions h.functions (none_unlike atoms m none)
+module_closed : (atoms : List (List ℕ)) (m : Tree) (c : Checked) → faults_of atoms m ≡ [] → IsModule atoms m c
+    → ModuleIsClosed c.functions
+module_closed atoms m c none h = functions_closed atoms m c.functions h.functions m.functions c.functions h.functions
+    (none_unlike atoms m none)
 
 abbrev OutcomeIsClosed : ReadOutcome → Type 0
 OutcomeIsClosed (accepted name atoms functions) = ModuleIsClosed functions
@@ -123,7 +133,8 @@ read_is_closed bytes _ (no_tree ts at h k l i) = tt
 read_is_closed bytes _ (static ts m f h d i) = tt
 read_is_closed bytes _ (checked ts m c h d f i) = module_closed _ m c f i
 
-root_has : (word : List ℕ) (atoms : List (List ℕ)) (functions : Program) (root : ℕ) → root_of word atoms functions ≡ Some root
+root_has : (word : List ℕ) (atoms : List (List ℕ)) (functions : Program) (root : ℕ)
+    → root_of word atoms functions ≡ Some root
     → HasArity functions root 0
 root_has word atoms functions root = by (position (bytes_eq word) atoms)
   where

@@ -8,14 +8,20 @@ use Rattle.pf_syntax.specs.Expr.{Expr, Exprs, Condition, Branches}
 use Rattle.pf_syntax.specs.SyntaxTree.{Head}
 use Rattle.pf_syntax.specs.Scope.{Scope, no_scope, after_expr_pattern, after_expr_patterns, after, after_all}
 use Rattle.pf_syntax.specs.Naming as e
-use Rattle.pf_syntax.specs.Naming.{Names, arity_of, conses, empty_list, with_pattern, ending, ExprIs, ExprsAre, no_more, and_more, ElementIs, plain, BodyIs, last, before, GuardIs, no_more_tests, or_tests, BranchesAre, no_more_branches, and_branches, HeadIs}
+use Rattle.pf_syntax.specs.Naming.{Names, arity_of, conses, empty_list, with_pattern, ending, ExprIs, ExprsAre, no_more}
+use Rattle.pf_syntax.specs.Naming.{and_more, ElementIs, plain, BodyIs, last, before, GuardIs, no_more_tests, or_tests}
+use Rattle.pf_syntax.specs.Naming.{BranchesAre, no_more_branches, and_branches, HeadIs}
 use Rattle.pf_rules.specs.Static.{parameters_of}
-use Rattle.pf_model.specs.Closed.{binds, all_bind, PatternIsClosed, PatternsAreClosed, tree_count, HasArity, builtin_arity, IsClosed, AllAreClosed, ClausesAreClosed, GuardIsClosed, FunctionClauseIsClosed}
+use Rattle.pf_model.specs.Closed.{binds, all_bind, PatternIsClosed, PatternsAreClosed, tree_count, HasArity}
+use Rattle.pf_model.specs.Closed.{builtin_arity, IsClosed, AllAreClosed, ClausesAreClosed, GuardIsClosed}
+use Rattle.pf_model.specs.Closed.{FunctionClauseIsClosed}
 use Rattle.pf_laws.proofs.Bindings.{many, pattern_binds, patterns_bind}
 
-behind_closed : (n k : ℕ) (ys : Patterns) (y : Pattern) → k ≡ n + all_bind ys → PatternsAreClosed n ys → PatternIsClosed k y
+behind_closed : (n k : ℕ) (ys : Patterns) (y : Pattern) → k ≡ n + all_bind ys → PatternsAreClosed n ys
+    → PatternIsClosed k y
     → PatternsAreClosed n (with_pattern ys y) × (all_bind (with_pattern ys y) ≡ all_bind ys + binds y)
-behind_closed n k no_patterns y q h c = let d : k ≡ n = omega arith in ((subst (λ i. PatternIsClosed i y) d c, tt), omega arith)
+behind_closed n k no_patterns y q h c = let d : k ≡ n = omega arith in
+    ((subst (λ i. PatternIsClosed i y) d c, tt), omega arith)
 behind_closed n k (pattern p ps) y q h c =
     let r = behind_closed (n + binds p) k ps y (omega arith) h.1 c in let d = r.1 in ((h.0, r.0), omega arith)
 
@@ -24,7 +30,8 @@ module _ (fs : Program) where
   conses_closed n no_trees x h k = k
   conses_closed n (tree t ts) x h k = (h.0, conses_closed n ts x h.1 k)
 
-  ending_closed : (n : ℕ) (ys : Patterns) (x : Tree) → PatternsAreClosed n ys → IsClosed fs n x → IsClosed fs n (ending ys x)
+  ending_closed : (n : ℕ) (ys : Patterns) (x : Tree) → PatternsAreClosed n ys → IsClosed fs n x
+      → IsClosed fs n (ending ys x)
   ending_closed n no_patterns x h k = k
   ending_closed n (pattern y ys) x h k = (h, k)
 
@@ -42,7 +49,8 @@ module _ (fs : Program) where
 
   -- an element of a body, which binds what its patterns do
   abbrev ElementCloses : Scope → Expr → Patterns → Tree → Type 0
-  ElementCloses g e ys x = PatternsAreClosed (many g) ys × IsClosed fs (many g) x × (many (after g e) ≡ many g + all_bind ys)
+  ElementCloses g e ys x = PatternsAreClosed (many g) ys × IsClosed fs (many g) x
+      × (many (after g e) ≡ many g + all_bind ys)
 
   -- what is closed where as many variables are bound
   moved : (k n : ℕ) (x : Tree) → k ≡ n → IsClosed fs k x → IsClosed fs n x
@@ -94,7 +102,8 @@ module _ (fs : Program) where
           ((r.0, subst (λ i. AllAreClosed fs i xs) r.1 s.0), s.1 ∙ r.1, ap (λ i. 1 + i) s.2)
 
       element_closes : (g : Scope) (a : Expr) (ys : Patterns) (x : Tree) → ElementIs n g a ys x → ElementCloses g a ys x
-      element_closes _ _ _ _ (plain g a x h) = let r = expression_closes g a x h in let d = r.1 in (tt, r.0, omega arith)
+      element_closes _ _ _ _ (plain g a x h) = let r = expression_closes g a x h in let d = r.1 in
+          (tt, r.0, omega arith)
       element_closes _ _ _ _ (e.match g q a ys y x h k) =
           let r = element_closes g a ys x h in
           let s = pattern_binds n (after g a) q y k in
@@ -111,7 +120,8 @@ module _ (fs : Program) where
       guard_closes _ _ _ (no_more_tests g) = tt
       guard_closes _ _ _ (or_tests g es c xs d h k) = ((expressions_close g es xs h).0, guard_closes g c d k)
 
-      branches_close : (g : Scope) (bs : Branches) (cs : Clauses) → BranchesAre n g bs cs → ClausesAreClosed fs (many g) cs
+      branches_close : (g : Scope) (bs : Branches) (cs : Clauses) → BranchesAre n g bs cs
+          → ClausesAreClosed fs (many g) cs
       branches_close _ _ _ (no_more_branches g) = tt
       branches_close _ _ _ (and_branches g q c es bs y d x cs h k l o) =
           let r = pattern_binds n g q y h in
@@ -122,7 +132,8 @@ module _ (fs : Program) where
             branches_close g bs cs o,
           )
 
-    pub head_closes : (h : Head) (c : FunctionClause) → HeadIs n h c → FunctionClauseIsClosed fs (parameters_of h.parameters) c
+    pub head_closes : (h : Head) (c : FunctionClause) → HeadIs n h c
+        → FunctionClauseIsClosed fs (parameters_of h.parameters) c
     head_closes h c k =
         let s = after_expr_patterns no_scope h.parameters in
         let r = patterns_bind n no_scope h.parameters c.parameters k.parameters in

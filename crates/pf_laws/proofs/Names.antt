@@ -1,15 +1,18 @@
 -- The atoms of a source: each byte of theirs is one that quotes may contain.
-use Rattle.std.proofs.Common.{◌≡◌, inl, inr, ℕ, zero, suc, ◌+◌, ◌≤◌, Bool, true, false, ◌==◌, ◌||◌, ◌&&◌, not, if◌then◌else◌, List, [], ◌∷◌, ◌++◌, length, Option, Some, None, refl, sym, subst, arith}
+use Rattle.std.proofs.Common.{◌≡◌, inl, inr, ℕ, zero, suc, ◌+◌, ◌≤◌, Bool, true, false, ◌==◌, ◌||◌, ◌&&◌, not}
+use Rattle.std.proofs.Common.{if◌then◌else◌, List, [], ◌∷◌, ◌++◌, length, Option, Some, None, refl, sym, subst, arith}
 use Rattle.std.specs.Prelude.{nat_le}
 use Rattle.std.specs.List.{flat_map, list_all, list_any}
 use Rattle.std.specs.Str.{bytes_eq}
 use Rattle.std.proofs.lemmas.Bool.{and_from, and_parts, eqb-true, le-leb, leb-true, or_left}
 use Rattle.std.proofs.lemmas.Option.{same_Some}
 use Rattle.pf_terms.specs.Atoms.{fixed_names, name_of, with_name, names_entered}
-use Rattle.pf_tokens.specs.Bytes.{backslash, double_quote, escape_of, is_digit, is_lower, is_quotable, is_upper, is_visible, is_word_byte, single_quote}
+use Rattle.pf_tokens.specs.Bytes.{backslash, double_quote, escape_of, is_digit, is_lower, is_quotable, is_upper}
+use Rattle.pf_tokens.specs.Bytes.{is_visible, is_word_byte, single_quote}
 use Rattle.pf_tokens.specs.TokenKinds as kinds
 use Rattle.pf_tokens.specs.TokenKinds.{PlacedToken, TokenKind, put_first}
-use Rattle.pf_tokens.specs.Rules.{BeginsWithParts, HasTokens, IsName, IsPiece, IsToken, RulePart, WritesByte, WritesAll, is_plain_in, tokens_from}
+use Rattle.pf_tokens.specs.Rules.{BeginsWithParts, HasTokens, IsName, IsPiece, IsToken, RulePart, WritesByte, WritesAll}
+use Rattle.pf_tokens.specs.Rules.{is_plain_in, tokens_from}
 use Rattle.pf_tokens.specs.NumberedTokens.{atom_name, atoms_of}
 use Rattle.pf_laws.proofs.Bytes.{passes_append, passes_too}
 
@@ -41,12 +44,14 @@ lower_visible b = in_range 97 122 b (omega arith) (omega arith)
 
 upper_visible : (b : ℕ) → is_upper b ≡ true → is_visible b ≡ true
 upper_visible b =
-    either (nat_le 65 b && nat_le b 90) (b == 95) (in_range 65 90 b (omega arith) (omega arith)) (is_one is_visible 95 b refl)
+    either (nat_le 65 b && nat_le b 90) (b == 95) (in_range 65 90 b (omega arith) (omega arith))
+    (is_one is_visible 95 b refl)
 
 pub word_visible : (b : ℕ) → is_word_byte b ≡ true → is_visible b ≡ true
 word_visible b =
     either (is_lower b || is_upper b || is_digit b) (b == 64)
-    (either (is_lower b || is_upper b) (is_digit b) (either (is_lower b) (is_upper b) (lower_visible b) (upper_visible b))
+    (either (is_lower b || is_upper b) (is_digit b)
+    (either (is_lower b) (is_upper b) (lower_visible b) (upper_visible b))
     (in_range 48 57 b (omega arith) (omega arith)))
     (is_one is_visible 64 b refl)
 
@@ -59,7 +64,8 @@ word_quotable b e = or_left (is_visible b || b == 9) (b == 10) (or_left (is_visi
 own_escape : (b : ℕ) → (b == backslash || b == single_quote || b == double_quote) ≡ true → is_quotable b ≡ true
 own_escape b =
     either (b == backslash || b == single_quote) (b == double_quote)
-    (either (b == backslash) (b == single_quote) (is_one is_quotable backslash b refl) (is_one is_quotable single_quote b refl))
+    (either (b == backslash) (b == single_quote) (is_one is_quotable backslash b refl)
+    (is_one is_quotable single_quote b refl))
     (is_one is_quotable double_quote b refl)
 
 escape_quotable : (letter c : ℕ) → escape_of letter ≡ Some c → is_quotable c ≡ true
@@ -70,7 +76,8 @@ escape_quotable b c =
     this k h e = subst (λ z. is_quotable z ≡ true) (same_Some k c e) h
 
     by : (n t s own : Bool) → (own ≡ true → is_quotable b ≡ true)
-        → (if n then Some 10 else (if t then Some 9 else (if s then Some 32 else (if own then Some b else None)))) ≡ Some c → is_quotable c ≡ true
+        → (if n then Some 10 else (if t then Some 9 else (if s then Some 32 else (if own then Some b else None))))
+        ≡ Some c → is_quotable c ≡ true
     by true t s own h e = this 10 refl e
     by false true s own h e = this 9 refl e
     by false false true own h e = this 32 refl e
@@ -84,7 +91,8 @@ written_quotable quote c bytes (inr w) = escape_quotable w.0 c w.1
 all_written : (quote : ℕ) (meant bytes : List ℕ) → WritesAll quote meant bytes → Quotable meant
 all_written quote [] bytes w = refl
 all_written quote (c ∷ meant) bytes w =
-    and_from (is_quotable c) (list_all is_quotable meant) (written_quotable quote c w.0 w.3) (all_written quote meant w.1 w.4)
+    and_from (is_quotable c) (list_all is_quotable meant) (written_quotable quote c w.0 w.3)
+    (all_written quote meant w.1 w.4)
 
 -- ---- names of tokens
 
@@ -95,7 +103,8 @@ word_name (b ∷ bs) rest h = passes_too is_word_byte is_quotable word_quotable 
 atom_quotable : (kind : TokenKind) (bytes rest : List ℕ) → IsToken kind bytes rest → AreQuotable (atom_name kind)
 atom_quotable (kinds.atom name) bytes rest (inl h) =
     and_from (list_all is_quotable name) true (subst Quotable (sym h.1) (word_name bytes rest h.0)) refl
-atom_quotable (kinds.atom name) bytes rest (inr h) = and_from (list_all is_quotable name) true (all_written single_quote name h.0 h.1) refl
+atom_quotable (kinds.atom name) bytes rest (inr h) =
+    and_from (list_all is_quotable name) true (all_written single_quote name h.0 h.1) refl
 atom_quotable (kinds.integer n) bytes rest h = refl
 atom_quotable (kinds.variable name) bytes rest h = refl
 atom_quotable kinds.anonymous bytes rest h = refl
@@ -110,24 +119,28 @@ atom_quotable (kinds.reserved r) bytes rest h = refl
 abbrev names_in : List PlacedToken → List (List ℕ)
 names_in ts = flat_map (λ t. atom_name t.kind) ts
 
-put_quotable : (kind : Option TokenKind) (bytes rest : List ℕ) (start end : ℕ) (ts : List PlacedToken) → IsPiece kind bytes rest → AreQuotable (names_in ts)
+put_quotable : (kind : Option TokenKind) (bytes rest : List ℕ) (start end : ℕ) (ts : List PlacedToken)
+    → IsPiece kind bytes rest → AreQuotable (names_in ts)
     → AreQuotable (names_in (put_first kind start end ts))
 put_quotable None bytes rest start end ts h all = all
 put_quotable (Some kind) bytes rest start end ts h all =
     passes_append (list_all is_quotable) (atom_name kind) (names_in ts) (atom_quotable kind bytes rest h) all
 
-tokens_quotable : (offset : ℕ) (ps : List RulePart) (text rest : List ℕ) → BeginsWithParts ps text rest → AreQuotable (names_in (tokens_from offset ps))
+tokens_quotable : (offset : ℕ) (ps : List RulePart) (text rest : List ℕ) → BeginsWithParts ps text rest
+    → AreQuotable (names_in (tokens_from offset ps))
 tokens_quotable offset [] text rest h = refl
 tokens_quotable offset (p ∷ ps) text rest h =
     put_quotable p.kind p.bytes h.0 offset (offset + length p.bytes) (tokens_from (offset + length p.bytes) ps) h.2
     (tokens_quotable (offset + length p.bytes) ps h.0 rest h.3)
 
-with_quotable : (names : List (List ℕ)) (name : List ℕ) → AreQuotable names → Quotable name → AreQuotable (with_name names name)
+with_quotable : (names : List (List ℕ)) (name : List ℕ) → AreQuotable names → Quotable name
+    → AreQuotable (with_name names name)
 with_quotable names name h q = by (list_any (bytes_eq name) names)
   where
     by : (e : Bool) → AreQuotable (if e then names else names ++ name ∷ [])
     by true = h
-    by false = passes_append (list_all is_quotable) names (name ∷ []) h (and_from (list_all is_quotable name) true q refl)
+    by false = passes_append (list_all is_quotable) names (name ∷ []) h
+        (and_from (list_all is_quotable name) true q refl)
 
 all_with : (names more : List (List ℕ)) → AreQuotable names → AreQuotable more → AreQuotable (names_entered names more)
 all_with names [] h k = h
@@ -143,5 +156,7 @@ atoms_quotable text ts h =
 -- the name of a number is one of them, or empty
 pub name_quotable : (names : List (List ℕ)) (a : ℕ) → AreQuotable names → Quotable (name_of names a)
 name_quotable [] a h = refl
-name_quotable (name ∷ names) zero h = (and_parts (list_all is_quotable name) (list_all (list_all is_quotable) names) h).0
-name_quotable (name ∷ names) (suc a) h = name_quotable names a (and_parts (list_all is_quotable name) (list_all (list_all is_quotable) names) h).1
+name_quotable (name ∷ names) zero h = (and_parts (list_all is_quotable name)
+    (list_all (list_all is_quotable) names) h).0
+name_quotable (name ∷ names) (suc a) h = name_quotable names a
+    (and_parts (list_all is_quotable name) (list_all (list_all is_quotable) names) h).1

@@ -19,7 +19,8 @@ range low high n = (
 pub runs : (schedule : List ℕ) (runs : ℕ) → (may_shrink (shrink schedule runs) ≡ true) ↔ ((1 ≤ runs) × (runs ≤ 1000))
 runs schedule k = range 1 1000 k
 
-pub in_range : (limit choices : ℕ) → (is_in_range limit choices ≡ true) ↔ ((1 ≤ limit) × (limit ≤ 100000) × (choices ≤ 100000))
+pub in_range : (limit choices : ℕ) → (is_in_range limit choices ≡ true) ↔
+    ((1 ≤ limit) × (limit ≤ 100000) × (choices ≤ 100000))
 in_range limit choices = (
   λ e.
       let a = and_parts (nat_le 1 limit) (nat_le limit 100000 && nat_le choices 100000) e in
@@ -30,7 +31,8 @@ in_range limit choices = (
       (both (nat_le limit 100000) (nat_le choices 100000) (le-leb limit 100000 h.1) (le-leb choices 100000 h.2)),
 )
 
-pub weights : (seed run deliver : ℕ) → (may_weigh (weighted_seed seed run deliver) ≡ true) ↔ ((1 ≤ run) × (run ≤ 9) × (1 ≤ deliver) × (deliver ≤ 9))
+pub weights : (seed run deliver : ℕ) → (may_weigh (weighted_seed seed run deliver) ≡ true) ↔
+    ((1 ≤ run) × (run ≤ 9) × (1 ≤ deliver) × (deliver ≤ 9))
 weights seed run deliver = (
   λ e.
       let a = and_parts (nat_le 1 run) (nat_le run 9 && (nat_le 1 deliver && nat_le deliver 9)) e in
@@ -39,5 +41,6 @@ weights seed run deliver = (
       (leb-true 1 run a.0, leb-true run 9 b.0, d.0, d.1),
   λ h.
       both (nat_le 1 run) (nat_le run 9 && (nat_le 1 deliver && nat_le deliver 9)) (le-leb 1 run h.0)
-      (both (nat_le run 9) (nat_le 1 deliver && nat_le deliver 9) (le-leb run 9 h.1) ((range 1 9 deliver).1 (h.2, h.3))),
+      (both (nat_le run 9) (nat_le 1 deliver && nat_le deliver 9) (le-leb run 9 h.1)
+      ((range 1 9 deliver).1 (h.2, h.3))),
 )

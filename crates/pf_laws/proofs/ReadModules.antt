@@ -16,7 +16,8 @@ read_quotable bytes _ (token_fault code at h) = refl
 read_quotable bytes _ (no_head ts has h) = refl
 read_quotable bytes _ (no_tree ts at has head h i) = refl
 read_quotable bytes _ (static ts m f has tree h) = refl
-read_quotable bytes _ (checked ts m c has tree none is) = subst AreQuotable (sym is.atoms_are) (atoms_quotable bytes ts has)
+read_quotable bytes _ (checked ts m c has tree none is) =
+    subst AreQuotable (sym is.atoms_are) (atoms_quotable bytes ts has)
 
 pub read_modules_print_visibly : ReadModulesPrintVisibly
 read_modules_print_visibly bytes name atoms functions h =

@@ -1,5 +1,6 @@
 -- The texts of values, labels, events and reports, if each byte of an atom may be in quotes.
-use Rattle.std.proofs.Common.{◌≡◌, ℕ, Bool, true, false, ◌==◌, ◌||◌, ◌&&◌, not, if◌then◌else◌, List, [], ◌∷◌, ◌++◌, Option, Some, None, refl}
+use Rattle.std.proofs.Common.{◌≡◌, ℕ, Bool, true, false, ◌==◌, ◌||◌, ◌&&◌, not, if◌then◌else◌, List, [], ◌∷◌, ◌++◌}
+use Rattle.std.proofs.Common.{Option, Some, None, refl}
 use Rattle.std.specs.Prelude.{is_some, codes}
 use Rattle.std.specs.Fmt.{decimal}
 use Rattle.std.specs.List.{flat_map, list_all}
@@ -16,11 +17,14 @@ use Rattle.pf_model.specs.Properties.{Outcome, finished, ended, deadlock, limit,
 use Rattle.pf_model.specs.declared.report.Actor.{Actor}
 use Rattle.pf_model.specs.declared.report.Actor.TheVariants.{Process, Channel}
 use Rattle.pf_model.specs.Shrinking.{Found, Result, report, shrunk_to, nothing_fails}
-use Rattle.pf_model.specs.TermText.{atom_text, is_plain_name, line, pid_text, quoted_byte, rest_text, value_text, values_text}
-use Rattle.pf_model.specs.Text.{actor_text, complete_text, event_text, found_text, kind_text, label_text, outcome_text, reference_text, report_text, result_text, suffix_text, verdict_text}
+use Rattle.pf_model.specs.TermText.{atom_text, is_plain_name, line, pid_text, quoted_byte, rest_text, value_text}
+use Rattle.pf_model.specs.TermText.{values_text}
+use Rattle.pf_model.specs.Text.{actor_text, complete_text, event_text, found_text, kind_text, label_text, outcome_text}
+use Rattle.pf_model.specs.Text.{reference_text, report_text, result_text, suffix_text, verdict_text}
 use Rattle.pf_text.specs.Schedules.{numbers_text, schedule_text}
 use Rattle.pf_laws.specs.Printable.{PrintsVisibly}
-use Rattle.pf_laws.proofs.Bytes.{InLines, Seen, are_lines, are_visible, is_printed, line_printed, lines_append, passes_flat, passes_too, seen_append, seen_decimal, seen_signed}
+use Rattle.pf_laws.proofs.Bytes.{InLines, Seen, are_lines, are_visible, is_printed, line_printed, lines_append}
+use Rattle.pf_laws.proofs.Bytes.{passes_flat, passes_too, seen_append, seen_decimal, seen_signed}
 use Rattle.pf_laws.proofs.Names.{Quotable, lower_visible, word_visible}
 
 -- ---- parts one after the other
@@ -37,7 +41,8 @@ quoted_seen : (b : ℕ) → is_quotable b ≡ true → Seen (quoted_byte b)
 quoted_seen b = by (b == 10) (b == 9) (b == backslash) (b == single_quote) (is_visible b) (λ e. e)
   where
     by : (end tab slash quote seen : Bool) → (seen ≡ true → is_visible b ≡ true) → (seen || tab || end) ≡ true
-        → list_all is_visible (if end then codes "\\n" else (if tab then codes "\\t" else (if slash then backslash ∷ backslash ∷ []
+        → list_all is_visible (if end then codes "\\n"
+        else (if tab then codes "\\t" else (if slash then backslash ∷ backslash ∷ []
         else (if quote then backslash ∷ single_quote ∷ [] else b ∷ [])))) ≡ true
     by true tab slash quote seen h e = refl
     by false true slash quote seen h e = refl
@@ -57,12 +62,14 @@ plain_seen [] e = refl
 plain_seen (b ∷ bs) e =
     let words = (and_parts (is_lower b && list_all is_word_byte bs) (not (is_some (reserved_of (b ∷ bs)))) e).0 in
     let parts = and_parts (is_lower b) (list_all is_word_byte bs) words in
-    and_from (is_visible b) (list_all is_visible bs) (lower_visible b parts.0) (passes_too is_word_byte is_visible word_visible bs parts.1)
+    and_from (is_visible b) (list_all is_visible bs) (lower_visible b parts.0)
+    (passes_too is_word_byte is_visible word_visible bs parts.1)
 
 atom_seen : (name : List ℕ) → Quotable name → Seen (atom_text name)
 atom_seen name h = by (is_plain_name name) (plain_seen name)
   where
-    by : (e : Bool) → (e ≡ true → Seen name) → Seen (if e then name else codes "'" ++ flat_map quoted_byte name ++ codes "'")
+    by : (e : Bool) → (e ≡ true → Seen name) → Seen
+        (if e then name else codes "'" ++ flat_map quoted_byte name ++ codes "'")
     by true plain = plain refl
     by false plain = three (codes "'") (flat_map quoted_byte name) (codes "'") refl (all_quoted_seen name h) refl
 
@@ -144,19 +151,26 @@ module _ (name : ℕ → List ℕ) (quotable : (a : ℕ) → Quotable (name a)) 
   suffix_seen (ending_with r) = seen_append (codes " ends ") (value_text name r) refl (value_seen r)
 
   label_seen : (l : Label) → Seen (label_text name l)
-  label_seen (label.sends p v) = four (codes "send ") (pid_text p) (codes " ") (value_text name v) refl (pid_seen p) refl (value_seen v)
+  label_seen (label.sends p v) = four (codes "send ") (pid_text p) (codes " ") (value_text name v) refl (pid_seen p)
+      refl (value_seen v)
   label_seen (label.spawns false p) = seen_append (codes "spawn ") (pid_text p) refl (pid_seen p)
   label_seen (label.spawns true p) = seen_append (codes "spawn_link ") (pid_text p) refl (pid_seen p)
   label_seen (label.spawns_watched p r) =
-      four (codes "spawn_monitor ") (pid_text p) (codes " ") (reference_text r) refl (pid_seen p) refl (reference_seen r)
+      four (codes "spawn_monitor ") (pid_text p) (codes " ") (reference_text r) refl (pid_seen p) refl
+      (reference_seen r)
   label_seen (label.links p) = seen_append (codes "link ") (pid_text p) refl (pid_seen p)
   label_seen (label.unlinks p) = seen_append (codes "unlink ") (pid_text p) refl (pid_seen p)
-  label_seen (label.monitors r p) = four (codes "monitor ") (reference_text r) (codes " ") (pid_text p) refl (reference_seen r) refl (pid_seen p)
+  label_seen (label.monitors r p) = four (codes "monitor ") (reference_text r) (codes " ") (pid_text p) refl
+      (reference_seen r) refl (pid_seen p)
   label_seen (label.demonitors false r) = seen_append (codes "demonitor ") (reference_text r) refl (reference_seen r)
-  label_seen (label.demonitors true r) = three (codes "demonitor ") (reference_text r) (codes " flush") refl (reference_seen r) refl
-  label_seen (label.exits p r) = four (codes "exit ") (pid_text p) (codes " ") (value_text name r) refl (pid_seen p) refl (value_seen r)
-  label_seen (label.sets_flag b) = seen_append (codes "process_flag ") (value_text name (truth b)) refl (value_seen (truth b))
-  label_seen (label.registers n p) = four (codes "register ") (atom_text (name n)) (codes " ") (pid_text p) refl (name_seen n) refl (pid_seen p)
+  label_seen (label.demonitors true r) = three (codes "demonitor ") (reference_text r) (codes " flush") refl
+      (reference_seen r) refl
+  label_seen (label.exits p r) = four (codes "exit ") (pid_text p) (codes " ") (value_text name r) refl (pid_seen p)
+      refl (value_seen r)
+  label_seen (label.sets_flag b) = seen_append (codes "process_flag ") (value_text name (truth b)) refl
+      (value_seen (truth b))
+  label_seen (label.registers n p) = four (codes "register ") (atom_text (name n)) (codes " ") (pid_text p) refl
+      (name_seen n) refl (pid_seen p)
   label_seen (label.unregisters n) = seen_append (codes "unregister ") (atom_text (name n)) refl (name_seen n)
   label_seen (label.looks_up n) = seen_append (codes "whereis ") (atom_text (name n)) refl (name_seen n)
   label_seen (label.makes_reference r) = seen_append (codes "make_ref ") (reference_text r) refl (reference_seen r)
@@ -165,12 +179,15 @@ module _ (name : ℕ → List ℕ) (quotable : (a : ℕ) → Quotable (name a)) 
   label_seen (label.raises e) = seen_append (codes "raise ") (value_text name e) refl (value_seen e)
   label_seen (label.ends r) = seen_append (codes "end ") (value_text name r) refl (value_seen r)
   label_seen label.cut = refl
-  label_seen (label.delivers s x) = three (codes "deliver ") (kind_text s) (suffix_text name x) refl (kind_seen s) (suffix_seen x)
+  label_seen (label.delivers s x) = three (codes "deliver ") (kind_text s) (suffix_text name x) refl (kind_seen s)
+      (suffix_seen x)
 
   event_seen : (e : Event) → Seen (event_text name e)
   event_seen e =
-      let choice = four (decimal e.choice) (codes "/") (decimal e.count) (codes " ") (seen_decimal e.choice) refl (seen_decimal e.count) refl in
-      four (decimal e.choice ++ codes "/" ++ decimal e.count ++ codes " ") (actor_text e.actor) (codes " ") (label_text name e.label)
+      let choice = four (decimal e.choice) (codes "/") (decimal e.count) (codes " ") (seen_decimal e.choice) refl
+      (seen_decimal e.count) refl in
+      four (decimal e.choice ++ codes "/" ++ decimal e.count ++ codes " ") (actor_text e.actor) (codes " ")
+      (label_text name e.label)
       choice (actor_seen e.actor) refl (label_seen e.label)
 
   outcome_seen : (o : Outcome) → Seen (outcome_text name o)
@@ -178,14 +195,16 @@ module _ (name : ℕ → List ℕ) (quotable : (a : ℕ) → Quotable (name a)) 
   outcome_seen (ended r) = seen_append (codes "ended ") (value_text name r) refl (value_seen r)
   outcome_seen (deadlock ps) =
       seen_append (codes "deadlock") (flat_map (λ p. codes " " ++ pid_text p) ps) refl
-      (passes_flat is_visible (λ p. codes " " ++ pid_text p) (λ p. seen_append (codes " ") (pid_text p) refl (pid_seen p)) ps)
+      (passes_flat is_visible (λ p. codes " " ++ pid_text p)
+      (λ p. seen_append (codes " ") (pid_text p) refl (pid_seen p)) ps)
   outcome_seen limit = refl
   outcome_seen memory = refl
 
   -- ---- lines
 
   events_printed : (es : List Event) → InLines (flat_map (λ e. line (event_text name e)) es)
-  events_printed es = passes_flat is_printed (λ e. line (event_text name e)) (λ e. line_printed (event_text name e) (event_seen e)) es
+  events_printed es = passes_flat is_printed (λ e. line (event_text name e))
+      (λ e. line_printed (event_text name e) (event_seen e)) es
 
   report_printed : (r : Report) → InLines (report_text name r)
   report_printed r =
@@ -195,8 +214,10 @@ module _ (name : ℕ → List ℕ) (quotable : (a : ℕ) → Quotable (name a)) 
       let verdict = line (verdict_text r.verdict) in
       lines_append (events ++ outcome ++ steps) verdict
       (lines_append (events ++ outcome) steps
-      (lines_append events outcome (events_printed r.events) (line_printed (outcome_text name r.outcome) (outcome_seen r.outcome)))
-      (line_printed (codes "steps " ++ decimal r.steps) (seen_append (codes "steps ") (decimal r.steps) refl (seen_decimal r.steps))))
+      (lines_append events outcome (events_printed r.events)
+      (line_printed (outcome_text name r.outcome) (outcome_seen r.outcome)))
+      (line_printed (codes "steps " ++ decimal r.steps)
+      (seen_append (codes "steps ") (decimal r.steps) refl (seen_decimal r.steps))))
       (line_printed (verdict_text r.verdict) (verdict_seen r.verdict))
 
   result_printed : (r : Result) → InLines (result_text name r)

@@ -35,5 +35,6 @@ pub record PrintsVisibly (name : ℕ → List ℕ) : Type 0 where
 -- whatever the bytes of a source, if they are read as a module its runs print so, whatever they result in
 abbrev pub ReadModulesPrintVisibly : Type 0
 ReadModulesPrintVisibly =
-    (bytes : List ℕ) (name : ℕ) (atoms : List (List ℕ)) (functions : Program) → Reads bytes (accepted name atoms functions)
+    (bytes : List ℕ) (name : ℕ) (atoms : List (List ℕ)) (functions : Program)
+    → Reads bytes (accepted name atoms functions)
     → PrintsVisibly (name_of atoms)

@@ -15,5 +15,6 @@ pub record IsClosedModule (S : Type 0) (name : ℕ) (atoms : List (List ℕ)) (f
 
 -- whatever the states of what chooses
 abbrev pub ReadModulesAreClosed : (S : Type 0) → Type 0
-ReadModulesAreClosed S = (bytes : List ℕ) (name : ℕ) (atoms : List (List ℕ)) (functions : Program) → Reads bytes (accepted name atoms functions)
+ReadModulesAreClosed S = (bytes : List ℕ) (name : ℕ) (atoms : List (List ℕ)) (functions : Program)
+    → Reads bytes (accepted name atoms functions)
     → IsClosedModule S name atoms functions

@@ -15,7 +15,8 @@ use Rattle.pf_lower.proofs.Exists.{some_expr_pattern}
 
 -- ---- no variable becomes unsafe
 
-by_test : (g : Scope) (x : ℕ) (b : Bool) → (if b then record { bound = g.bound ++ x ∷ []; unsafe = g.unsafe } else g).unsafe ≡ g.unsafe
+by_test : (g : Scope) (x : ℕ) (b : Bool) → (if b then record { bound = g.bound ++ x ∷ []; unsafe = g.unsafe }
+    else g).unsafe ≡ g.unsafe
 by_test g x true = refl
 by_test g x false = refl
 
@@ -71,9 +72,11 @@ module _ (n k : Names) (e : (a : ℕ) → k.atom_of a ≡ n.atom_of a) where
     same_atoms _ _ _ (w.fresh g x at new) = w.fresh g x at new
     same_atoms _ _ _ (w.tuple g qs ys h) = w.tuple g qs ys (all_same_atoms g qs ys h)
     same_atoms _ _ _ (w.list g qs ys h) = w.list g qs ys (all_same_atoms g qs ys h)
-    same_atoms _ _ _ (w.list_on g qs q ys y h i) = w.list_on g qs q ys y (all_same_atoms g qs ys h) (same_atoms (after_expr_patterns g qs) q y i)
+    same_atoms _ _ _ (w.list_on g qs q ys y h i) = w.list_on g qs q ys y (all_same_atoms g qs ys h)
+        (same_atoms (after_expr_patterns g qs) q y i)
 
-    all_same_atoms : (g : Scope) (qs : ExprPatterns) (ys : Patterns) → ExprPatternsAre n g qs ys → ExprPatternsAre k g qs ys
+    all_same_atoms : (g : Scope) (qs : ExprPatterns) (ys : Patterns) → ExprPatternsAre n g qs ys
+        → ExprPatternsAre k g qs ys
     all_same_atoms _ _ _ (w.no_more_expr_patterns g) = w.no_more_expr_patterns g
     all_same_atoms _ _ _ (w.and_expr_patterns g q qs y ys h i) =
         w.and_expr_patterns g q qs y ys (same_atoms g q y h) (all_same_atoms (after_expr_pattern g q) qs ys i)

@@ -1,5 +1,6 @@
 -- The slots of names among those that are bound.
-use Rattle.std.proofs.Common.{◌≡◌, ℕ, zero, suc, ◌+◌, ◌-◌, ◌<◌, ◌≤◌, ◌^◌, List, [], ◌∷◌, ◌++◌, length, Bool, true, false, Some, None, refl, sym, ap, ◌∙◌, arith, set, inl, inr}
+use Rattle.std.proofs.Common.{◌≡◌, ℕ, zero, suc, ◌+◌, ◌-◌, ◌<◌, ◌≤◌, ◌^◌, List, [], ◌∷◌, ◌++◌, length, Bool, true}
+use Rattle.std.proofs.Common.{false, Some, None, refl, sym, ap, ◌∙◌, arith, set, inl, inr}
 use Rattle.std.specs.Prelude.{slice_get, slice_index, ◌==◌, ◌||◌, if◌then◌else◌, MatchOption, SomeIff, is_some, ◌⊎◌}
 use Rattle.std.specs.declared.option.Option.{Option}
 use Rattle.std.proofs.lemmas.Option.{slice_get_within}
@@ -31,12 +32,14 @@ pub kept_where_there : (ks : List ℕ) (x k : ℕ) → slice_get ks k ≡ Some x
 kept_where_there ks x k e = ap (λ b. if b then ks else ks ++ x ∷ []) (there x ks k e)
 
 -- where a look-up found it, it stays as it is
-pub kept_where_found : (ks : List ℕ) (x : ℕ) (r : Option ℕ) → MatchOption r (has ks x ≡ false) (λ k. slice_get ks k ≡ Some x) → is_some r ≡ true → ks ≡ with_bound ks x
+pub kept_where_found : (ks : List ℕ) (x : ℕ) (r : Option ℕ)
+    → MatchOption r (has ks x ≡ false) (λ k. slice_get ks k ≡ Some x) → is_some r ≡ true → ks ≡ with_bound ks x
 kept_where_found ks x (Some k) h e = sym (kept_where_there ks x k h)
 kept_where_found ks x None h e = cc
 
 -- where a look-up found nothing, it isn't among them
-pub new_where_missing : (ks : List ℕ) (x : ℕ) (r : Option ℕ) → MatchOption r (has ks x ≡ false) (λ k. slice_get ks k ≡ Some x) → is_some r ≡ false → has ks x ≡ false
+pub new_where_missing : (ks : List ℕ) (x : ℕ) (r : Option ℕ)
+    → MatchOption r (has ks x ≡ false) (λ k. slice_get ks k ≡ Some x) → is_some r ≡ false → has ks x ≡ false
 new_where_missing ks x (Some k) h e = cc
 new_where_missing ks x None h e = h
 
@@ -48,7 +51,8 @@ pub found_at : (x : ℕ) (ks : List ℕ) → has ks x ≡ true → (k : ℕ) × 
 found_at x [] e = absurd cc
 found_at x (y ∷ ks) e = by (y == x) refl e (found_at x ks)
   where
-    by : (b : Bool) → (y == x) ≡ b → b || has ks x ≡ true → (has ks x ≡ true → (k : ℕ) × (slice_get ks k ≡ Some x)) → (k : ℕ) × (slice_get (y ∷ ks) k ≡ Some x)
+    by : (b : Bool) → (y == x) ≡ b → b || has ks x ≡ true → (has ks x ≡ true → (k : ℕ) × (slice_get ks k ≡ Some x))
+        → (k : ℕ) × (slice_get (y ∷ ks) k ≡ Some x)
     by true s h rest = (0, ap (λ n. Some n) (same_name x y s))
     by false s h rest = let f = rest h in (suc f.0, f.1)
 
@@ -64,13 +68,15 @@ in_front (z ∷ ks) x zero y e = e
 in_front (z ∷ ks) x (suc k) y e = in_front ks x k y e
 
 -- what is among the names and one more is among the names, or is the one
-front_or_last : (ks : List ℕ) (x k y : ℕ) → slice_get (ks ++ x ∷ []) k ≡ Some y → (slice_get ks k ≡ Some y) ⊎ ((k ≡ length ks) × (y ≡ x))
+front_or_last : (ks : List ℕ) (x k y : ℕ) → slice_get (ks ++ x ∷ []) k ≡ Some y
+    → (slice_get ks k ≡ Some y) ⊎ ((k ≡ length ks) × (y ≡ x))
 front_or_last [] x zero y e = inr (refl, cc)
 front_or_last [] x (suc k) y e = absurd cc
 front_or_last (z ∷ ks) x zero y e = inl e
 front_or_last (z ∷ ks) x (suc k) y e = by (front_or_last ks x k y e)
   where
-    by : (slice_get ks k ≡ Some y) ⊎ ((k ≡ length ks) × (y ≡ x)) → (slice_get ks k ≡ Some y) ⊎ ((suc k ≡ suc (length ks)) × (y ≡ x))
+    by : (slice_get ks k ≡ Some y) ⊎ ((k ≡ length ks) × (y ≡ x))
+        → (slice_get ks k ≡ Some y) ⊎ ((suc k ≡ suc (length ks)) × (y ≡ x))
     by (inl h) = inl h
     by (inr h) = inr (ap (λ n. suc n) h.0, h.1)
 
@@ -93,7 +99,8 @@ unnoted ks ps x p e = by (has ks x) refl
     by true h = let f = found_at x ks h in let n = p.noted f.0 x f.1 in absurd (omega arith)
 
 -- one less than what the list has is the slot
-pub looked : (ks ps : List ℕ) (x : ℕ) (r : Option ℕ) → HasSlots ks ps → SomeIff r (1 ≤ slice_index ps x) (slice_index ps x - 1)
+pub looked : (ks ps : List ℕ) (x : ℕ) (r : Option ℕ) → HasSlots ks ps
+    → SomeIff r (1 ≤ slice_index ps x) (slice_index ps x - 1)
     → MatchOption r (has ks x ≡ false) (λ k. slice_get ks k ≡ Some x)
 looked ks ps x None p h = unnoted ks ps x p (by (slice_index ps x) h)
   where
@@ -130,14 +137,16 @@ unbound ks ps x p = record {
 
     by : (k y : ℕ) → (y ≡ x) ⊎ (y ≡ x → ⊥) → slice_index (set ps x 0) y ≡ k + 1 → slice_get ks k ≡ Some y
     by k y (inl s) e =
-        let zeros : slice_index (set ps x 0) y ≡ 0 = ap (slice_index (set ps x 0)) s ∙ get_or-set_same ps x 0 0 (past (ks ++ x ∷ []) ps (length ks) x p (behind ks x)) in
+        let zeros : slice_index (set ps x 0) y ≡ 0 = ap (slice_index (set ps x 0)) s ∙ get_or-set_same ps x 0 0
+        (past (ks ++ x ∷ []) ps (length ks) x p (behind ks x)) in
         absurd (omega arith)
     by k y (inr d) e =
         let was = sym (get_or-set_other ps x y 0 0 d) ∙ e in
         elim (front_or_last ks x k y (p.stands k y was)) [ inl h ↦ h | inr h ↦ absurd (d h.1) ]
 
 -- a name that isn't bound comes last, and the list has its slot and one
-pub bound : (ks ps : List ℕ) (x : ℕ) → HasSlots ks ps → has ks x ≡ false → length ks + 1 < 2 ^ 32 → x < length ps → HasSlots (ks ++ x ∷ []) (set ps x (length ks + 1))
+pub bound : (ks ps : List ℕ) (x : ℕ) → HasSlots ks ps → has ks x ≡ false → length ks + 1 < 2 ^ 32 → x < length ps
+    → HasSlots (ks ++ x ∷ []) (set ps x (length ks + 1))
 bound ks ps x p new room within = record {
   room = let long = length-append ks (x ∷ []) in omega arith;
   noted = λ k y e. noted k y (front_or_last ks x k y e);
@@ -150,13 +159,16 @@ bound ks ps x p new room within = record {
     other : (k y : ℕ) → slice_get ks k ≡ Some y → y ≡ x → ⊥
     other k y e s = let yes = there x ks k (e ∙ ap (λ n. Some n) s) in cc
 
-    noted : (k y : ℕ) → (slice_get ks k ≡ Some y) ⊎ ((k ≡ length ks) × (y ≡ x)) → slice_index (set ps x (length ks + 1)) y ≡ k + 1
+    noted : (k y : ℕ) → (slice_get ks k ≡ Some y) ⊎ ((k ≡ length ks) × (y ≡ x))
+        → slice_index (set ps x (length ks + 1)) y ≡ k + 1
     noted k y (inl h) = get_or-set_other ps x y (length ks + 1) 0 (λ s. other k y h s) ∙ p.noted k y h
     noted k y (inr h) = ap (slice_index (set ps x (length ks + 1))) h.1 ∙ here ∙ ap (λ n. n + 1) (sym h.0)
 
-    stands : (k y : ℕ) → (y ≡ x) ⊎ (y ≡ x → ⊥) → slice_index (set ps x (length ks + 1)) y ≡ k + 1 → slice_get (ks ++ x ∷ []) k ≡ Some y
+    stands : (k y : ℕ) → (y ≡ x) ⊎ (y ≡ x → ⊥) → slice_index (set ps x (length ks + 1)) y ≡ k + 1
+        → slice_get (ks ++ x ∷ []) k ≡ Some y
     stands k y (inl s) e =
-        let at : slice_index (set ps x (length ks + 1)) y ≡ length ks + 1 = ap (slice_index (set ps x (length ks + 1))) s ∙ here in
+        let at : slice_index (set ps x (length ks + 1)) y ≡ length ks + 1 =
+        ap (slice_index (set ps x (length ks + 1))) s ∙ here in
         let last : k ≡ length ks = omega arith in
         ap (slice_get (ks ++ x ∷ [])) last ∙ behind ks x ∙ ap (λ n. Some n) (sym s)
     stands k y (inr d) e = in_front ks x k y (p.stands k y (sym (get_or-set_other ps x y (length ks + 1) 0 d) ∙ e))

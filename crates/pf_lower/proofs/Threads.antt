@@ -14,7 +14,8 @@ module _ {S X Y : Type 0} (next : S → X → S) where
   Threaded R s (x ∷ xs) (y ∷ ys) = R s x y × Threaded R (next s x) xs ys
   Threaded R s _ _ = ⊥
 
-  pub threaded_weaker : (R Q : S → X → Y → Type 0) → ((s : S) (x : X) (y : Y) → R s x y → Q s x y) → (s : S) (xs : List X) (ys : List Y)
+  pub threaded_weaker : (R Q : S → X → Y → Type 0) → ((s : S) (x : X) (y : Y) → R s x y → Q s x y)
+      → (s : S) (xs : List X) (ys : List Y)
       → Threaded R s xs ys → Threaded Q s xs ys
   threaded_weaker R Q w s [] [] h = tt
   threaded_weaker R Q w s (x ∷ xs) (y ∷ ys) h = (w s x y h.0, threaded_weaker R Q w (next s x) xs ys h.1)
@@ -46,8 +47,10 @@ module _ {X Y : Type 0} (next : List ℕ → X → List ℕ) (R : Checked → Li
       let item : R m2 (fold next s0 xs) x y = subst (λ s. R m2 s x y) h.bound_is d.answer in
       (d.bound_is ∙ ap (λ s. next s x) h.bound_is, threaded_more next (R m2) s0 xs ys x y old item)
 
-  pub step : (m0 m1 m2 : Checked) (s0 s1 s2 : List ℕ) (xs : List X) (k : ℕ) (ys : List Y) (d : X) (y : Y) → k < length xs
-      → SoFar next R m0 m1 s0 s1 (take k xs) ys → Lowers m1 m2 s2 (next s1 (get_or xs k d)) (λ t. R t s1 (get_or xs k d) y)
+  pub step : (m0 m1 m2 : Checked) (s0 s1 s2 : List ℕ) (xs : List X) (k : ℕ) (ys : List Y) (d : X) (y : Y)
+      → k < length xs
+      → SoFar next R m0 m1 s0 s1 (take k xs) ys
+      → Lowers m1 m2 s2 (next s1 (get_or xs k d)) (λ t. R t s1 (get_or xs k d) y)
       → SoFar next R m0 m2 s0 s2 (take (k + 1) xs) (ys ++ y ∷ [])
   step m0 m1 m2 s0 s1 s2 xs k ys d y lt h lowered =
       let p = one_more m0 m1 m2 s0 s1 s2 (take k xs) ys (get_or xs k d) y h lowered in
@@ -57,7 +60,9 @@ module _ {X Y : Type 0} (next : List ℕ → X → List ℕ) (R : Checked → Li
         answer = subst (λ zs. Threaded next (R m2) s0 zs (ys ++ y ∷ [])) (sym (take_more xs k d lt)) p.1;
       }
 
-  pub step_at : (m0 m1 m2 : Checked) (s0 s1 s2 : List ℕ) (xs : List X) (k : ℕ) (ys : List Y) (x : X) (y : Y) → k < length xs → x ≡ get_or xs k x
-      → SoFar next R m0 m1 s0 s1 (take k xs) ys → Lowers m1 m2 s2 (next s1 x) (λ t. R t s1 x y) → SoFar next R m0 m2 s0 s2 (take (k + 1) xs) (ys ++ y ∷ [])
+  pub step_at : (m0 m1 m2 : Checked) (s0 s1 s2 : List ℕ) (xs : List X) (k : ℕ) (ys : List Y) (x : X) (y : Y)
+      → k < length xs → x ≡ get_or xs k x
+      → SoFar next R m0 m1 s0 s1 (take k xs) ys → Lowers m1 m2 s2 (next s1 x) (λ t. R t s1 x y)
+      → SoFar next R m0 m2 s0 s2 (take (k + 1) xs) (ys ++ y ∷ [])
   step_at m0 m1 m2 s0 s1 s2 xs k ys x y lt at h lowered =
       step m0 m1 m2 s0 s1 s2 xs k ys x y lt h (subst (λ z. Lowers m1 m2 s2 (next s1 z) (λ t. R t s1 z y)) at lowered)

@@ -41,18 +41,23 @@ EachElementMeans fs b t names _ _ = ⊥
 -- the guard and the body of a clause, after its pattern
 module _ (n : Names) (b : NodeTable) (names : List ℕ) (r : Branch) where
   abbrev pub BranchGuardBecomes : Guard → Type 0
-  BranchGuardBecomes d = (g : Scope) → g.bound ≡ names → expr_pattern_faults g (expr_pattern_at b r.expr_pattern.0) ≡ [] → HasAlternative (condition_over b r.condition) → ConditionFormed (condition_over b r.condition)
-      → condition_faults n (after_expr_pattern g (expr_pattern_at b r.expr_pattern.0)) (condition_over b r.condition) ≡ []
+  BranchGuardBecomes d = (g : Scope) → g.bound ≡ names → expr_pattern_faults g (expr_pattern_at b r.expr_pattern.0) ≡ []
+      → HasAlternative (condition_over b r.condition) → ConditionFormed (condition_over b r.condition)
+      → condition_faults n (after_expr_pattern g (expr_pattern_at b r.expr_pattern.0))
+      (condition_over b r.condition) ≡ []
       → GuardIs n (after_expr_pattern g (expr_pattern_at b r.expr_pattern.0)) (condition_over b r.condition) d
 
   abbrev pub BranchBodyBecomes : Tree → Type 0
-  BranchBodyBecomes x = (g : Scope) → g.bound ≡ names → expr_pattern_faults g (expr_pattern_at b r.expr_pattern.0) ≡ [] → HasFirst (exprs_at b r.body.items) → ExprsFormed true (exprs_at b r.body.items)
+  BranchBodyBecomes x = (g : Scope) → g.bound ≡ names → expr_pattern_faults g (expr_pattern_at b r.expr_pattern.0) ≡ []
+      → HasFirst (exprs_at b r.body.items) → ExprsFormed true (exprs_at b r.body.items)
       → exprs_faults n (after_expr_pattern g (expr_pattern_at b r.expr_pattern.0)) (exprs_at b r.body.items) ≡ []
       → BodyIs n (after_expr_pattern g (expr_pattern_at b r.expr_pattern.0)) (exprs_at b r.body.items) x
 
 -- a clause of a construct
-pub record BranchMeans (fs : List (List Head)) (b : NodeTable) (m : Checked) (names : List ℕ) (r : Branch) (c : Clause) : Type 0 where
+pub record BranchMeans (fs : List (List Head)) (b : NodeTable) (m : Checked) (names : List ℕ) (r : Branch)
+    (c : Clause) : Type 0 where
   pub stands : ClauseRepresents m.tables c
-  pub pattern : ExprPatternBecomes (names_of_module m.atoms fs) names (expr_pattern_at b r.expr_pattern.0) (pattern_at m.tables c.pattern.0)
+  pub pattern : ExprPatternBecomes (names_of_module m.atoms fs) names (expr_pattern_at b r.expr_pattern.0)
+      (pattern_at m.tables c.pattern.0)
   pub guard : BranchGuardBecomes (names_of_module m.atoms fs) b names r (guard_over m.tables c.guard)
   pub body : BranchBodyBecomes (names_of_module m.atoms fs) b names r (part_over m.tables c.body)

@@ -5,7 +5,8 @@ use Rattle.pf_syntax.specs.ExprPattern.{ExprPattern, ExprPatterns}
 use Rattle.pf_syntax.specs.Expr.{Expr, Exprs, Condition, Branches}
 use Rattle.pf_syntax.specs.SyntaxTree.{Head}
 use Rattle.pf_syntax.specs.Scope.{Scope}
-use Rattle.pf_syntax.specs.Naming.{Names, ExprPatternIs, ExprPatternsAre, ExprIs, ExprsAre, ElementIs, BodyIs, GuardIs, BranchesAre}
+use Rattle.pf_syntax.specs.Naming.{Names, ExprPatternIs, ExprPatternsAre, ExprIs, ExprsAre, ElementIs, BodyIs, GuardIs}
+use Rattle.pf_syntax.specs.Naming.{BranchesAre}
 use Rattle.pf_syntax.specs.Pattern.{Pattern, Patterns}
 use Rattle.pf_syntax.specs.Tree.{Tree, Trees, Clauses}
 use Rattle.pf_syntax.specs.Tree.{Guard as GuardTree}
@@ -16,36 +17,45 @@ use Rattle.pf_syntax.specs.declared.node.PatternId.{PatternId}
 use Rattle.pf_syntax.specs.declared.node.Operand.{Operand}
 use Rattle.pf_syntax.specs.declared.node.Guard.{Guard}
 use Rattle.pf_syntax.specs.declared.node.Clause.{Clause}
-use Rattle.pf_rules.specs.Static.{names_of_module, expr_pattern_faults, expr_patterns_faults, expr_faults, exprs_faults, condition_faults, branches_faults}
-use Rattle.pf_rules.specs.Formed.{ExprPatternFormed, ExprPatternsFormed, ExprFormed, ExprsFormed, ConditionFormed, BranchesFormed, HasFirst, HasAlternative}
+use Rattle.pf_rules.specs.Static.{names_of_module, expr_pattern_faults, expr_patterns_faults, expr_faults, exprs_faults}
+use Rattle.pf_rules.specs.Static.{condition_faults, branches_faults}
+use Rattle.pf_rules.specs.Formed.{ExprPatternFormed, ExprPatternsFormed, ExprFormed, ExprsFormed, ConditionFormed}
+use Rattle.pf_rules.specs.Formed.{BranchesFormed, HasFirst, HasAlternative}
 use Rattle.pf_lower.specs.Grown.{Grown}
 
 -- ---- what each of them becomes, where these names are bound: where it has no fault, what the names say
 
 module _ (n : Names) (names : List ℕ) where
   abbrev pub ExprPatternBecomes : ExprPattern → Pattern → Type 0
-  ExprPatternBecomes q y = (g : Scope) → g.bound ≡ names → ExprPatternFormed q → expr_pattern_faults g q ≡ [] → ExprPatternIs n g q y
+  ExprPatternBecomes q y = (g : Scope) → g.bound ≡ names → ExprPatternFormed q → expr_pattern_faults g q ≡ []
+      → ExprPatternIs n g q y
 
   abbrev pub ExprPatternsBecome : ExprPatterns → Patterns → Type 0
-  ExprPatternsBecome qs ys = (g : Scope) → g.bound ≡ names → ExprPatternsFormed qs → expr_patterns_faults g qs ≡ [] → ExprPatternsAre n g qs ys
+  ExprPatternsBecome qs ys = (g : Scope) → g.bound ≡ names → ExprPatternsFormed qs → expr_patterns_faults g qs ≡ []
+      → ExprPatternsAre n g qs ys
 
   abbrev pub ExprBecomes : Expr → Tree → Type 0
   ExprBecomes e x = (g : Scope) → g.bound ≡ names → ExprFormed false e → expr_faults n g e ≡ [] → ExprIs n g e x
 
   abbrev pub ExprsBecome : Exprs → Trees → Type 0
-  ExprsBecome es xs = (g : Scope) → g.bound ≡ names → ExprsFormed false es → exprs_faults n g es ≡ [] → ExprsAre n g es xs
+  ExprsBecome es xs = (g : Scope) → g.bound ≡ names → ExprsFormed false es → exprs_faults n g es ≡ []
+      → ExprsAre n g es xs
 
   abbrev pub ElementBecomes : Expr → Patterns → Tree → Type 0
-  ElementBecomes e ys x = (g : Scope) → g.bound ≡ names → ExprFormed true e → expr_faults n g e ≡ [] → ElementIs n g e ys x
+  ElementBecomes e ys x = (g : Scope) → g.bound ≡ names → ExprFormed true e → expr_faults n g e ≡ []
+      → ElementIs n g e ys x
 
   abbrev pub BodyBecomes : Exprs → Tree → Type 0
-  BodyBecomes es x = (g : Scope) → g.bound ≡ names → HasFirst es → ExprsFormed true es → exprs_faults n g es ≡ [] → BodyIs n g es x
+  BodyBecomes es x = (g : Scope) → g.bound ≡ names → HasFirst es → ExprsFormed true es → exprs_faults n g es ≡ []
+      → BodyIs n g es x
 
   abbrev pub GuardBecomes : Condition → GuardTree → Type 0
-  GuardBecomes c d = (g : Scope) → g.bound ≡ names → HasAlternative c → ConditionFormed c → condition_faults n g c ≡ [] → GuardIs n g c d
+  GuardBecomes c d = (g : Scope) → g.bound ≡ names → HasAlternative c → ConditionFormed c → condition_faults n g c ≡ []
+      → GuardIs n g c d
 
   abbrev pub BranchesBecome : Branches → Clauses → Type 0
-  BranchesBecome bs cs = (g : Scope) → g.bound ≡ names → BranchesFormed bs → branches_faults n g bs ≡ [] → BranchesAre n g bs cs
+  BranchesBecome bs cs = (g : Scope) → g.bound ≡ names → BranchesFormed bs → branches_faults n g bs ≡ []
+      → BranchesAre n g bs cs
 
 -- ---- each of them in a module, whose atoms name the built-in functions
 

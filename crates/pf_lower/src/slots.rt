@@ -1,6 +1,7 @@
 //! The slots of bound variables: where each name is among those that are bound, in the order of binding.
 
-ghost use Rattle.std.specs.Prelude.{◌≡◌, ℕ, ◌-◌, ◌<◌, [], false, length, take, MatchOption, OnOk, slice_get, slice_index, Some};
+ghost use Rattle.std.specs.Prelude.{◌≡◌, ℕ, ◌-◌, ◌<◌, [], false, length, take, MatchOption, OnOk, slice_get};
+ghost use Rattle.std.specs.Prelude.{slice_index, Some};
 ghost use Rattle.pf_syntax.specs.Scope.{has};
 ghost use Rattle.pf_lower.specs.Bound.{with_bound};
 

@@ -1,5 +1,6 @@
 -- A flush of a list from its front.
-use Rattle.std.proofs.Common.{◌≡◌, ℕ, zero, suc, ◌<◌, ◌==◌, Bool, true, false, List, [], ◌∷◌, length, map, refl, ap, ◌∙◌, Some, arith}
+use Rattle.std.proofs.Common.{◌≡◌, ℕ, zero, suc, ◌<◌, ◌==◌, Bool, true, false, List, [], ◌∷◌, length, map, refl, ap}
+use Rattle.std.proofs.Common.{◌∙◌, Some, arith}
 use Rattle.std.specs.Prelude.{slice_get, remove}
 use Rattle.std.specs.List.{list_any}
 use Rattle.pf_terms.specs.Value.{Value, none, more, int, atom, ref, pid, tuple, list}
@@ -10,7 +11,8 @@ use Rattle.pf_model.specs.Flush.{flushed, tells_of}
 -- ---- whether one message is about a reference
 
 -- a tuple is about no reference if other than three elements follow its first two
-quiet_pair : (r : ℕ) (v b : Value) (ts : List Term) → (length ts ≡ 3 → ⊥) → tells_of r (tuple (more v (more b (values_of ts)))) ≡ false
+quiet_pair : (r : ℕ) (v b : Value) (ts : List Term) → (length ts ≡ 3 → ⊥)
+    → tells_of r (tuple (more v (more b (values_of ts)))) ≡ false
 quiet_pair r v (ref x) [] n = refl
 quiet_pair r v (ref x) (p ∷ []) n = refl
 quiet_pair r v (ref x) (p ∷ q ∷ []) n = refl
@@ -40,9 +42,12 @@ tells_by_second r (a ∷ b ∷ []) x n s = absurd (omega arith)
 tells_by_second r (a ∷ b ∷ c ∷ []) x n s = absurd (omega arith)
 tells_by_second r (a ∷ b ∷ c ∷ d ∷ []) x n s = absurd (omega arith)
 tells_by_second r (a ∷ b ∷ c ∷ d ∷ e ∷ f ∷ ts) x n s = absurd (omega arith)
-tells_by_second r (a ∷ b ∷ c ∷ d ∷ e ∷ []) x n s = let same : b ≡ x = cc in by (value_of b) ∙ ap (λ t. second_tells r (value_of t)) same
+tells_by_second r (a ∷ b ∷ c ∷ d ∷ e ∷ []) x n s = let same : b ≡ x = cc in
+    by (value_of b) ∙ ap (λ t. second_tells r (value_of t)) same
   where
-    by : (v : Value) → tells_of r (tuple (more (value_of a) (more v (more (value_of c) (more (value_of d) (more (value_of e) none)))))) ≡ second_tells r v
+    by : (v : Value)
+        → tells_of r (tuple (more (value_of a)
+        (more v (more (value_of c) (more (value_of d) (more (value_of e) none)))))) ≡ second_tells r v
     by (int z) = refl
     by (atom y) = refl
     by (ref y) = refl
@@ -65,13 +70,15 @@ module _ (r : ℕ) where
   flushed_at [] k x q s t = absurd cc
   flushed_at (y ∷ ys) zero x q s t = let e : y ≡ x = cc in rw (e, t) refl
   flushed_at (y ∷ ys) (suc k) x q s t =
-      rw (q zero y (omega arith) refl) (ap (λ l. value_of y ∷ l) (flushed_at ys k x (λ j z l. q (suc j) z (omega arith)) s t))
+      rw (q zero y (omega arith) refl) (ap (λ l. value_of y ∷ l)
+      (flushed_at ys k x (λ j z l. q (suc j) z (omega arith)) s t))
 
   pub told_at : (xs : List Term) (k : ℕ) (x : Term) → QuietTo k xs → slice_get xs k ≡ Some x → Tells true x
       → true ≡ list_any (tells_of r) (map value_of xs)
   told_at [] k x q s t = absurd cc
   told_at (y ∷ ys) zero x q s t = let e : y ≡ x = cc in rw (e, t) refl
-  told_at (y ∷ ys) (suc k) x q s t = rw (q zero y (omega arith) refl) (told_at ys k x (λ j z l. q (suc j) z (omega arith)) s t)
+  told_at (y ∷ ys) (suc k) x q s t = rw (q zero y (omega arith) refl)
+      (told_at ys k x (λ j z l. q (suc j) z (omega arith)) s t)
 
   pub flushed_none : (xs : List Term) → QuietTo (length xs) xs → map value_of xs ≡ flushed r (map value_of xs)
   flushed_none [] q = refl

@@ -15,13 +15,16 @@ use Rattle.pf_mailbox.specs.Tests.{awaited_clauses}
 -- no clause picks a message from the mark up to the index
 pub record PassesOver (m : Checked) (own : ℕ) (ks : Clauses) (l : Mail Term) (to : ℕ) : Type 0 where
   pub on : l.mark ≤ to
-  pub all : (k : ℕ) (x : Term) → l.mark ≤ k → k < to → slice_get l.items k ≡ Some x → picked (module_of m) own ks (value_of x) ≡ None
+  pub all : (k : ℕ) (x : Term) → l.mark ≤ k → k < to → slice_get l.items k ≡ Some x
+      → picked (module_of m) own ks (value_of x) ≡ None
 
 -- what the test of the message at the mark answers: the body of the first clause that picks it, or none
-pub record TestsMarked (m : Checked) (own base : ℕ) (before : List Term) (l : List Clause) (after' : List Term) (list : Mail Term) (o : Option Operand) : Type 0 where
+pub record TestsMarked (m : Checked) (own base : ℕ) (before : List Term) (l : List Clause) (after' : List Term)
+    (list : Mail Term) (o : Option Operand) : Type 0 where
   pub message : Term
   pub there : slice_get list.items list.mark ≡ Some message
-  pub picks : Picked m base before after' o (picked (module_of m) own (awaited_clauses m base before l) (value_of message))
+  pub picks : Picked m base before after' o (picked (module_of m) own (awaited_clauses m base before l)
+      (value_of message))
 
 -- where the mark is after a test: at the message that is picked, or past it
 abbrev pub mark_after : Option Operand → ℕ → ℕ

@@ -9,9 +9,12 @@ use Rattle.pf_ops.specs.Operations.{limited, operated, consed}
 use Rattle.pf_ops.specs.Guards.{truth_of}
 use Rattle.pf_ops.specs.Reasons.{no_case}
 use Rattle.pf_model.specs.Module.{Module, name_in}
-use Rattle.pf_model.specs.Contraction.{Change, Asks, Act, contract, as_value, as_values, add_value, with_both, worked_out, decided, entered, called, matched, bound, picked, body_or_raise}
+use Rattle.pf_model.specs.Contraction.{Change, Asks, Act, contract, as_value, as_values, add_value, with_both}
+use Rattle.pf_model.specs.Contraction.{worked_out, decided, entered, called, matched, bound, picked, body_or_raise}
 use Rattle.pf_model.specs.Contraction as c
-use Rattle.pf_model.specs.Context.{Frame, element_of, first_of, tail_of, left_of, right_of, negation, and_also_of, or_else_of, argument_of, builtin_argument_of, match_of, bind_of, case_of, receiver_of, message_of, after_values, around, fill}
+use Rattle.pf_model.specs.Context.{Frame, element_of, first_of, tail_of, left_of, right_of, negation, and_also_of}
+use Rattle.pf_model.specs.Context.{or_else_of, argument_of, builtin_argument_of, match_of, bind_of, case_of}
+use Rattle.pf_model.specs.Context.{receiver_of, message_of, after_values, around, fill}
 use Rattle.pf_model.specs.Laws.{OneContext}
 
 around_no_value : (f : Frame) (x : Tree) → as_value (around f x) ≡ None
@@ -49,8 +52,10 @@ same_values (more v vs) none x y ts us hx hy e = absurd (no_value y v hy (cc))
 same_values (more v vs) (more w ws) x y ts us hx hy e =
     let k = same_values vs ws x y ts us hx hy (cc) in let q : v ≡ w = cc in (cc, k.1, k.2)
 
-same_around : (f g : Frame) (x y : Tree) → as_value x ≡ None → as_value y ≡ None → around f x ≡ around g y → (f ≡ g) × (x ≡ y)
-same_around (element_of vs ts) (element_of ws us) x y hx hy e = let k = same_values vs ws x y ts us hx hy (cc) in (cc, k.1)
+same_around : (f g : Frame) (x y : Tree) → as_value x ≡ None → as_value y ≡ None → around f x ≡ around g y
+    → (f ≡ g) × (x ≡ y)
+same_around (element_of vs ts) (element_of ws us) x y hx hy e =
+    let k = same_values vs ws x y ts us hx hy (cc) in (cc, k.1)
 same_around (element_of vs ts) g x y hx hy e = absurd (cc)
 same_around (first_of a) (first_of b) x y hx hy e = (cc, cc)
 same_around (first_of a) (tail_of w) x y hx hy e = absurd (no_value x w hx (cc))
@@ -94,20 +99,24 @@ module _ (m : Module) (own : ℕ) where
   redex_no_value (lit v) d h = cc
   redex_no_value r d h = refl
 
-  pub fill_no_value : (fs : List Frame) (r : Tree) (d : Change) → contract m own r ≡ Some d → as_value (fill fs r) ≡ None
+  pub fill_no_value : (fs : List Frame) (r : Tree) (d : Change) → contract m own r ≡ Some d
+      → as_value (fill fs r) ≡ None
   fill_no_value [] r d h = redex_no_value r d h
   fill_no_value (f ∷ fs) r d h = around_no_value f (fill fs r)
 
   around_no_redex : (f : Frame) (x : Tree) → as_value x ≡ None → contract m own (around f x) ≡ None
-  around_no_redex (element_of vs ts) x h = ap (option_map (λ ws. worked_out (limited (value.tuple ws)))) (values_none vs x ts h)
+  around_no_redex (element_of vs ts) x h = ap (option_map (λ ws. worked_out (limited (value.tuple ws))))
+      (values_none vs x ts h)
   around_no_redex (first_of a) x h = ap (λ o. with_both o (as_value a) (λ v w. worked_out (consed v w))) h
   around_no_redex (tail_of v) x h = ap (λ o. with_both (Some v) o (λ v w. worked_out (consed v w))) h
-  around_no_redex (left_of p a) x h = ap (λ o. with_both o (as_value a) (λ v w. worked_out (operated (name_in m) p v w))) h
+  around_no_redex (left_of p a) x h = ap (λ o.
+      with_both o (as_value a) (λ v w. worked_out (operated (name_in m) p v w))) h
   around_no_redex (right_of p v) x h = ap (λ o. with_both (Some v) o (λ v w. worked_out (operated (name_in m) p v w))) h
   around_no_redex negation x h = ap (option_map (λ v. worked_out (negated v))) h
   around_no_redex (and_also_of a) x h = ap (option_map (λ v. decided false v a (truth_of v))) h
   around_no_redex (or_else_of a) x h = ap (option_map (λ v. decided true v a (truth_of v))) h
-  around_no_redex (argument_of f vs ts) x h = ap (option_map (entered m own (slice_get m.functions f))) (values_none vs x ts h)
+  around_no_redex (argument_of f vs ts) x h = ap (option_map (entered m own (slice_get m.functions f)))
+      (values_none vs x ts h)
   around_no_redex (builtin_argument_of f vs ts) x h = ap (option_map (called own f)) (values_none vs x ts h)
   around_no_redex (match_of ps) x h = ap (option_map (matched ps)) h
   around_no_redex (bind_of ps r) x h = ap (option_map (λ v. bound ps v r)) h
@@ -116,7 +125,8 @@ module _ (m : Module) (own : ℕ) where
   around_no_redex (message_of v) x h = ap (λ o. with_both (Some v) o (λ v w. Asks (c.send v w))) h
 
   -- frames round a redex make no redex
-  no_redex_around : (f : Frame) (fs : List Frame) (r s : Tree) (d e : Change) → contract m own r ≡ Some d → contract m own s ≡ Some e
+  no_redex_around : (f : Frame) (fs : List Frame) (r s : Tree) (d e : Change) → contract m own r ≡ Some d
+      → contract m own s ≡ Some e
       → s ≡ fill (f ∷ fs) r → ⊥
   no_redex_around f fs r s d e hr hs q =
       let k = around_no_redex f (fill fs r) (fill_no_value fs r d hr) in let p = ap (contract m own) q in cc

@@ -2,19 +2,24 @@
 use Rattle.std.proofs.Common.{◌≡◌, ◌+◌, List, [], ◌∷◌, refl, ap}
 use Rattle.pf_terms.specs.Value.{Values, none, more}
 use Rattle.pf_syntax.specs.Tree.{Tree, Trees, tree, Program}
-use Rattle.pf_model.specs.Context.{Frame, element_of, first_of, tail_of, left_of, right_of, negation, and_also_of, or_else_of, argument_of, builtin_argument_of, match_of, bind_of, case_of, receiver_of, message_of, after_values, around, fill}
+use Rattle.pf_model.specs.Context.{Frame, element_of, first_of, tail_of, left_of, right_of, negation, and_also_of}
+use Rattle.pf_model.specs.Context.{or_else_of, argument_of, builtin_argument_of, match_of, bind_of, case_of}
+use Rattle.pf_model.specs.Context.{receiver_of, message_of, after_values, around, fill}
 use Rattle.pf_model.specs.Closed.{tree_count, IsClosed, AllAreClosed}
 
-same_count : (vs : Values) (x y : Tree) (ts : Trees) → tree_count (after_values vs (tree y ts)) ≡ tree_count (after_values vs (tree x ts))
+same_count : (vs : Values) (x y : Tree) (ts : Trees)
+    → tree_count (after_values vs (tree y ts)) ≡ tree_count (after_values vs (tree x ts))
 same_count none x y ts = refl
 same_count (more v vs) x y ts = ap (λ n. 1 + n) (same_count vs x y ts)
 
 module _ (fs : Program) where
-  hole_of_values : (vs : Values) (x : Tree) (ts : Trees) → AllAreClosed fs 0 (after_values vs (tree x ts)) → IsClosed fs 0 x
+  hole_of_values : (vs : Values) (x : Tree) (ts : Trees) → AllAreClosed fs 0 (after_values vs (tree x ts))
+      → IsClosed fs 0 x
   hole_of_values none x ts h = h.0
   hole_of_values (more v vs) x ts h = hole_of_values vs x ts h.1
 
-  values_around : (vs : Values) (x y : Tree) (ts : Trees) → AllAreClosed fs 0 (after_values vs (tree x ts)) → IsClosed fs 0 y
+  values_around : (vs : Values) (x y : Tree) (ts : Trees) → AllAreClosed fs 0 (after_values vs (tree x ts))
+      → IsClosed fs 0 y
       → AllAreClosed fs 0 (after_values vs (tree y ts))
   values_around none x y ts h k = (k, h.1)
   values_around (more v vs) x y ts h k = (tt, values_around vs x y ts h.1 k)
@@ -57,6 +62,8 @@ module _ (fs : Program) where
   hole_closed [] x h = h
   hole_closed (g ∷ gs) x h = hole_closed gs x (hole_of g (fill gs x) h)
 
-  pub fill_closed : (gs : List Frame) (x y : Tree) → IsClosed fs 0 (fill gs x) → IsClosed fs 0 y → IsClosed fs 0 (fill gs y)
+  pub fill_closed : (gs : List Frame) (x y : Tree) → IsClosed fs 0 (fill gs x) → IsClosed fs 0 y
+      → IsClosed fs 0 (fill gs y)
   fill_closed [] x y h k = k
-  fill_closed (g ∷ gs) x y h k = around_closed g (fill gs x) (fill gs y) h (fill_closed gs x y (hole_of g (fill gs x) h) k)
+  fill_closed (g ∷ gs) x y h k = around_closed g (fill gs x) (fill gs y) h
+      (fill_closed gs x y (hole_of g (fill gs x) h) k)

@@ -1,5 +1,6 @@
 -- What a map gives after a change.
-use Rattle.std.proofs.Common.{◌≡◌, ℕ, Bool, true, false, List, [], ◌∷◌, Some, None, ◌==◌, nat_lt, if◌then◌else◌, refl, ap}
+use Rattle.std.proofs.Common.{◌≡◌, ℕ, Bool, true, false, List, [], ◌∷◌, Some, None, ◌==◌, nat_lt, if◌then◌else◌, refl}
+use Rattle.std.proofs.Common.{ap}
 use Rattle.std.proofs.lemmas.Bool.{eq-eqb, eqb-true}
 use Rattle.pf_sorted.specs.Maps.{got, put, without}
 
@@ -17,7 +18,8 @@ pub got_put : {T : Type 0} → (k : ℕ) (x : T) (ps : List (ℕ × T)) → got 
 got_put k x [] = rw (eq_self k) refl
 got_put k x (p ∷ ps) = by k x p ps (k == p.0) (nat_lt k p.0) refl (got_put k x ps)
   where
-    by : {T : Type 0} → (k : ℕ) (x : T) (p : ℕ × T) (ps : List (ℕ × T)) (e l : Bool) → (k == p.0) ≡ e → got k (put k x ps) ≡ Some x
+    by : {T : Type 0} → (k : ℕ) (x : T) (p : ℕ × T) (ps : List (ℕ × T)) (e l : Bool) → (k == p.0) ≡ e
+        → got k (put k x ps) ≡ Some x
         → got k (put_at k x p ps e l) ≡ Some x
     by k x p ps true l h rest = rw (eq_self k) refl
     by k x p ps false true h rest = rw (eq_self k) refl
@@ -27,7 +29,8 @@ pub got_other : {T : Type 0} → (i k : ℕ) (x : T) (ps : List (ℕ × T)) → 
 got_other i k x [] d = rw d refl
 got_other i k x (p ∷ ps) d = by i k x p ps (k == p.0) (nat_lt k p.0) d refl (got_other i k x ps d)
   where
-    by : {T : Type 0} → (i k : ℕ) (x : T) (p : ℕ × T) (ps : List (ℕ × T)) (e l : Bool) → (i == k) ≡ false → (k == p.0) ≡ e
+    by : {T : Type 0} → (i k : ℕ) (x : T) (p : ℕ × T) (ps : List (ℕ × T)) (e l : Bool) → (i == k) ≡ false
+        → (k == p.0) ≡ e
         → got i (put k x ps) ≡ got i ps → got i (put_at k x p ps e l) ≡ got i (p ∷ ps)
     by i k x p ps true l d h rest = let q = not_both i k p.0 d h in rw (d, q) refl
     by i k x p ps false true d h rest = rw d refl
@@ -37,16 +40,19 @@ pub got_without : {T : Type 0} → (k : ℕ) (ps : List (ℕ × T)) → got k (w
 got_without k [] = refl
 got_without k (p ∷ ps) = by k p ps (k == p.0) refl (got_without k ps)
   where
-    by : {T : Type 0} → (k : ℕ) (p : ℕ × T) (ps : List (ℕ × T)) (e : Bool) → (k == p.0) ≡ e → got k (without k ps) ≡ None
+    by : {T : Type 0} → (k : ℕ) (p : ℕ × T) (ps : List (ℕ × T)) (e : Bool) → (k == p.0) ≡ e
+        → got k (without k ps) ≡ None
         → got k (if e then without k ps else p ∷ without k ps) ≡ None
     by k p ps true h rest = rest
     by k p ps false h rest = rw h rest
 
-pub got_without_other : {T : Type 0} → (i k : ℕ) (ps : List (ℕ × T)) → (i == k) ≡ false → got i (without k ps) ≡ got i ps
+pub got_without_other : {T : Type 0} → (i k : ℕ) (ps : List (ℕ × T)) → (i == k) ≡ false
+    → got i (without k ps) ≡ got i ps
 got_without_other i k [] d = refl
 got_without_other i k (p ∷ ps) d = by i k p ps (k == p.0) d refl (got_without_other i k ps d)
   where
-    by : {T : Type 0} → (i k : ℕ) (p : ℕ × T) (ps : List (ℕ × T)) (e : Bool) → (i == k) ≡ false → (k == p.0) ≡ e → got i (without k ps) ≡ got i ps
+    by : {T : Type 0} → (i k : ℕ) (p : ℕ × T) (ps : List (ℕ × T)) (e : Bool) → (i == k) ≡ false → (k == p.0) ≡ e
+        → got i (without k ps) ≡ got i ps
         → got i (if e then without k ps else p ∷ without k ps) ≡ got i (p ∷ ps)
     by i k p ps true d h rest = let q = not_both i k p.0 d h in rw q rest
     by i k p ps false d h rest = ap (λ o. if i == p.0 then Some p.1 else o) rest

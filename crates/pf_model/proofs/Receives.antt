@@ -4,7 +4,8 @@ use Rattle.pf_terms.specs.Value.{Value}
 use Rattle.pf_syntax.specs.Tree.{Tree, Clauses}
 use Rattle.pf_model.specs.Module.{Module}
 use Rattle.pf_model.specs.Contraction.{picked}
-use Rattle.pf_model.specs.Receive.{Taken, taking, and_before, taken_or_later, selected, FitsNone, ReceiveTakes, ReceiveIsRelation}
+use Rattle.pf_model.specs.Receive.{Taken, taking, and_before, taken_or_later, selected, FitsNone, ReceiveTakes}
+use Rattle.pf_model.specs.Receive.{ReceiveIsRelation}
 
 module _ (m : Module) (own : ℕ) (ks : Clauses) where
   -- a message that no clause picks is before what is taken of the others
@@ -20,8 +21,17 @@ module _ (m : Module) (own : ℕ) (ks : Clauses) where
         picks = k.picks;
       }
 
-  takes_first : (v : Value) (vs : List Value) (body : Tree) → picked m own ks v ≡ Some body → ReceiveTakes m own ks (v ∷ vs) (taking body v vs)
-  takes_first v vs body h = record { front = []; back = vs; mailbox_is = refl; others_are = refl; none_before = tt; picks = h }
+  takes_first : (v : Value) (vs : List Value) (body : Tree) → picked m own ks v ≡ Some body
+      → ReceiveTakes m own ks (v ∷ vs) (taking body v vs)
+  takes_first v vs body h = record {
+    front = [];
+    back = vs;
+    mailbox_is = refl;
+    others_are = refl;
+    none_before =
+        tt;
+    picks = h;
+  }
 
   -- ---- from the function to the relation
 
@@ -34,9 +44,11 @@ module _ (m : Module) (own : ℕ) (ks : Clauses) where
   takes_some [] t e = absurd (cc)
   takes_some (v ∷ vs) t e = by (picked m own ks v) refl (takes_some vs) e
     where
-      by : (o : Option Tree) → picked m own ks v ≡ o → ((u : Taken) → selected m own ks vs ≡ Some u → ReceiveTakes m own ks vs u)
+      by : (o : Option Tree) → picked m own ks v ≡ o
+          → ((u : Taken) → selected m own ks vs ≡ Some u → ReceiveTakes m own ks vs u)
           → taken_or_later o v vs (selected m own ks vs) ≡ Some t → ReceiveTakes m own ks (v ∷ vs) t
-      by (Some body) h next d = let q : taking body v vs ≡ t = cc in subst (ReceiveTakes m own ks (v ∷ vs)) q (takes_first v vs body h)
+      by (Some body) h next d = let q : taking body v vs ≡ t = cc in
+          subst (ReceiveTakes m own ks (v ∷ vs)) q (takes_first v vs body h)
       by None h next d =
           let k = behind_is v (selected m own ks vs) t d in
           subst (ReceiveTakes m own ks (v ∷ vs)) (sym k.2) (takes_behind v vs k.0 h (next k.0 k.1))
@@ -56,7 +68,8 @@ module _ (m : Module) (own : ℕ) (ks : Clauses) where
 
   -- ---- from the relation to the function
 
-  selected_behind : (front back : List Value) (body : Tree) (v : Value) → FitsNone m own ks front → picked m own ks v ≡ Some body
+  selected_behind : (front back : List Value) (body : Tree) (v : Value) → FitsNone m own ks front
+      → picked m own ks v ≡ Some body
       → selected m own ks (front ++ v ∷ back) ≡ Some (taking body v (front ++ back))
   selected_behind [] back body v h p = ap (λ o. taken_or_later o v back (selected m own ks back)) p
   selected_behind (w ∷ ws) back body v h p =
@@ -70,4 +83,9 @@ module _ (m : Module) (own : ℕ) (ks : Clauses) where
 
 pub receive_is_a_relation : ReceiveIsRelation
 receive_is_a_relation m own ks mailbox =
-    record { some = takes_some m own ks mailbox; only = takes_only m own ks mailbox; nothing = fits_none m own ks mailbox }
+    record {
+      some = takes_some m own ks mailbox;
+      only = takes_only m own ks mailbox;
+      nothing =
+          fits_none m own ks mailbox;
+    }

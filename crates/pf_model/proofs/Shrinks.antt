@@ -1,9 +1,11 @@
 -- Shrinking finds a schedule that fails, and of which no candidate does where it is complete.
-use Rattle.std.proofs.Common.{◌≡◌, ◌<◌, ◌⊎◌, inl, inr, ◌/◌, ◌+◌, ℕ, zero, suc, Bool, true, false, List, [], ◌∷◌, ◌++◌, Some, None, refl, sym, subst, arith, if◌then◌else◌}
+use Rattle.std.proofs.Common.{◌≡◌, ◌<◌, ◌⊎◌, inl, inr, ◌/◌, ◌+◌, ℕ, zero, suc, Bool, true, false, List, [], ◌∷◌, ◌++◌}
+use Rattle.std.proofs.Common.{Some, None, refl, sym, subst, arith, if◌then◌else◌}
 use Rattle.std.specs.Prelude.{All, sum, ◌↔◌}
 use Rattle.std.proofs.lemmas.List.Elements.{All-nil, All-cons, All-head, All-tail, All-append, All-map, All-weaker}
 use Rattle.std.proofs.lemmas.List.Sums.{sum_by-cons}
-use Rattle.pf_model.specs.Shrinking.{with_beginnings, without_last, without_one, halved, candidates, Found, search, shrunk}
+use Rattle.pf_model.specs.Shrinking.{with_beginnings, without_last, without_one, halved, candidates, Found, search}
+use Rattle.pf_model.specs.Shrinking.{shrunk}
 use Rattle.pf_model.specs.Laws.{IsSmaller, IsFoundOf, ShrinkingIsRight}
 
 -- ---- smaller schedules
@@ -35,7 +37,8 @@ smaller_of_smaller ls ms ns (inr h) (inr k) =
 
 without_last_smaller : (ns : List ℕ) → AllSmaller ns (without_last ns)
 without_last_smaller [] = All-nil (λ c. IsSmaller c [])
-without_last_smaller (n ∷ []) = All-cons (λ c. IsSmaller c (n ∷ [])) [] [] (inl (omega arith)) (All-nil (λ c. IsSmaller c (n ∷ [])))
+without_last_smaller (n ∷ []) = All-cons (λ c. IsSmaller c (n ∷ [])) [] [] (inl (omega arith))
+    (All-nil (λ c. IsSmaller c (n ∷ [])))
 without_last_smaller (n ∷ m ∷ ns) = all_behind n (m ∷ ns) (without_last (m ∷ ns)) (without_last_smaller (m ∷ ns))
 
 without_one_smaller : (ns : List ℕ) → AllSmaller ns (without_one ns)
@@ -62,7 +65,8 @@ candidates_smaller : (ns : List ℕ) → AllSmaller ns (candidates ns)
 candidates_smaller ns =
     let P : List ℕ → Type 0 = λ c. IsSmaller c ns in
     All-append P (without_last ns ++ without_one ns) (halved ns)
-    (All-append P (without_last ns) (without_one ns) (without_last_smaller ns) (without_one_smaller ns)) (halved_smaller ns)
+    (All-append P (without_last ns) (without_one ns) (without_last_smaller ns) (without_one_smaller ns))
+    (halved_smaller ns)
 
 -- ---- the search
 
@@ -72,7 +76,11 @@ module _ (fails : List ℕ → Bool) where
 
   -- what is found of a smaller schedule is found of the larger one
   found_of_smaller : (ms ns : List ℕ) (f : Found) → IsSmaller ms ns → IsFoundOf fails ms f → IsFoundOf fails ns f
-  found_of_smaller ms ns f h k = record { still_fails = k.still_fails; no_larger = inr (by k.no_larger); none_left = k.none_left }
+  found_of_smaller ms ns f h k = record {
+    still_fails = k.still_fails;
+    no_larger = inr (by k.no_larger);
+    none_left = k.none_left;
+  }
     where
       by : (f.schedule ≡ ms) ⊎ IsSmaller f.schedule ms → IsSmaller f.schedule ns
       by (inl e) = subst (λ x. IsSmaller x ns) (sym e) h
@@ -81,24 +89,38 @@ module _ (fails : List ℕ → Bool) where
   -- with these candidates left, where none but they may fail
   search_finds : (k : ℕ) (ns : List ℕ) (cs : List (List ℕ)) → fails ns ≡ true → AllSmaller ns cs
       → (NoneFails cs → NoneFails (candidates ns)) → IsFoundOf fails ns (search fails k ns cs)
-  search_finds k ns [] e s rest = record { still_fails = e; no_larger = inl refl; none_left = λ h. rest (All-nil (λ c. fails c ≡ false)) }
-  search_finds zero ns (c ∷ cs) e s rest = record { still_fails = e; no_larger = inl refl; none_left = λ h. absurd (cc) }
+  search_finds k ns [] e s rest = record {
+    still_fails = e;
+    no_larger = inl refl;
+    none_left =
+        λ h. rest (All-nil (λ c. fails c ≡ false));
+  }
+  search_finds zero ns (c ∷ cs) e s rest = record {
+    still_fails = e;
+    no_larger = inl refl;
+    none_left =
+        λ h. absurd (cc);
+  }
   search_finds (suc k) ns (c ∷ cs) e s rest = by (fails c) refl (search_finds k c (candidates c)) (search_finds k ns cs)
     where
       by : (b : Bool) → fails c ≡ b
           → (fails c ≡ true → AllSmaller c (candidates c) → (NoneFails (candidates c) → NoneFails (candidates c))
           → IsFoundOf fails c (search fails k c (candidates c)))
-          → (fails ns ≡ true → AllSmaller ns cs → (NoneFails cs → NoneFails (candidates ns)) → IsFoundOf fails ns (search fails k ns cs))
+          → (fails ns ≡ true → AllSmaller ns cs → (NoneFails cs → NoneFails (candidates ns))
+          → IsFoundOf fails ns (search fails k ns cs))
           → IsFoundOf fails ns (if b then search fails k c (candidates c) else search fails k ns cs)
       by true h again on =
-          found_of_smaller c ns (search fails k c (candidates c)) (All-head (λ x. IsSmaller x ns) c cs s) (again h (candidates_smaller c) (λ x. x))
-      by false h again on = on e (All-tail (λ x. IsSmaller x ns) c cs s) (λ x. rest (All-cons (λ y. fails y ≡ false) c cs h x))
+          found_of_smaller c ns (search fails k c (candidates c)) (All-head (λ x. IsSmaller x ns) c cs s)
+          (again h (candidates_smaller c) (λ x. x))
+      by false h again on = on e (All-tail (λ x. IsSmaller x ns) c cs s)
+          (λ x. rest (All-cons (λ y. fails y ≡ false) c cs h x))
 
   shrunk_finds : (runs : ℕ) (ns : List ℕ) (f : Found) → shrunk fails runs ns ≡ Some f → IsFoundOf fails ns f
   shrunk_finds zero ns f e = absurd (cc)
   shrunk_finds (suc k) ns f e = by (fails ns) refl e
     where
-      by : (b : Bool) → fails ns ≡ b → (if b then Some (search fails k ns (candidates ns)) else None) ≡ Some f → IsFoundOf fails ns f
+      by : (b : Bool) → fails ns ≡ b → (if b then Some (search fails k ns (candidates ns)) else None) ≡ Some f
+          → IsFoundOf fails ns f
       by false h d = absurd (cc)
       by true h d =
           let q : search fails k ns (candidates ns) ≡ f = cc in
@@ -114,4 +136,9 @@ module _ (fails : List ℕ → Bool) where
 
 pub shrinking_is_right : ShrinkingIsRight
 shrinking_is_right fails runs ns =
-    record { found = shrunk_finds fails runs ns; nothing = shrunk_nothing fails runs ns; candidates_are_smaller = candidates_smaller ns }
+    record {
+      found = shrunk_finds fails runs ns;
+      nothing = shrunk_nothing fails runs ns;
+      candidates_are_smaller =
+          candidates_smaller ns;
+    }

@@ -1,5 +1,6 @@
 -- A process that is spawned begins closed.
-use Rattle.std.proofs.Common.{◌≡◌, ℕ, ◌+◌, Bool, true, false, Option, Some, None, refl, ap, ◌∙◌, subst, arith, option_map, ◌==◌, if◌then◌else◌}
+use Rattle.std.proofs.Common.{◌≡◌, ℕ, ◌+◌, Bool, true, false, Option, Some, None, refl, ap, ◌∙◌, subst, arith}
+use Rattle.std.proofs.Common.{option_map, ◌==◌, if◌then◌else◌}
 use Rattle.std.specs.Prelude.{slice_get}
 use Rattle.std.proofs.lemmas.Grind.{common_steps}
 use Rattle.std.proofs.lemmas.List.Quantifiers.{position-Some}
@@ -33,7 +34,8 @@ module _ (fs : Program) (name k : ℕ) where
   pub exported_has : (f : ℕ) → exported_at fs (first_named name k fs) ≡ Some f → HasArity fs f k
   exported_has f = by (first_named name k fs) refl
     where
-      at : (i : ℕ) → first_named name k fs ≡ Some i → (o : Option Function) → slice_get fs i ≡ o → exported_of i o ≡ Some f
+      at : (i : ℕ) → first_named name k fs ≡ Some i → (o : Option Function) → slice_get fs i ≡ o
+          → exported_of i o ≡ Some f
           → HasArity fs f k
       at i h None e d = absurd (cc)
       at i h (Some g) e d = exported g.exported d

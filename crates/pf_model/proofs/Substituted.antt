@@ -1,14 +1,20 @@
 -- Values in place of the first variables in scope leave a tree closed.
-use Rattle.std.proofs.Common.{◌≡◌, ℕ, zero, suc, ◌+◌, ◌-◌, ◌<◌, ◌≤◌, [], ◌∷◌, Option, Some, None, refl, ap, arith, length}
+use Rattle.std.proofs.Common.{◌≡◌, ℕ, zero, suc, ◌+◌, ◌-◌, ◌<◌, ◌≤◌, [], ◌∷◌, Option, Some, None, refl, ap, arith}
+use Rattle.std.proofs.Common.{length}
 use Rattle.std.specs.Prelude.{slice_get}
 use Rattle.std.proofs.lemmas.List.{length-append}
 use Rattle.pf_terms.specs.Value.{Value, Values}
-use Rattle.pf_syntax.specs.Pattern.{Pattern, Patterns, any, new, slot, known, tuple_of, cons_of, never, no_patterns, pattern}
-use Rattle.pf_syntax.specs.Tree.{Tree, Trees, Clauses, Guard, lit, var, tuple, cons, op, neg, and_also, or_else, call, builtin, match, bind, case, if_expression, receive, send, no_trees, tree, no_clauses, clause, no_alternatives, alternative, Program}
+use Rattle.pf_syntax.specs.Pattern.{Pattern, Patterns, any, new, slot, known, tuple_of, cons_of, never, no_patterns}
+use Rattle.pf_syntax.specs.Pattern.{pattern}
+use Rattle.pf_syntax.specs.Tree.{Tree, Trees, Clauses, Guard, lit, var, tuple, cons, op, neg, and_also, or_else, call}
+use Rattle.pf_syntax.specs.Tree.{builtin, match, bind, case, if_expression, receive, send, no_trees, tree, no_clauses}
+use Rattle.pf_syntax.specs.Tree.{clause, no_alternatives, alternative, Program}
 use Rattle.pf_patterns.specs.Fit.{ValueScope, Fits, FitsAll, fit, fit_all}
-use Rattle.pf_patterns.specs.Substitution.{sub, sub_trees, sub_clauses, sub_guard, sub_pattern, sub_patterns, value_or_var, known_or_slot}
+use Rattle.pf_patterns.specs.Substitution.{sub, sub_trees, sub_clauses, sub_guard, sub_pattern, sub_patterns}
+use Rattle.pf_patterns.specs.Substitution.{value_or_var, known_or_slot}
 use Rattle.pf_patterns.proofs.FitLaws.{fits_from_fit, all_from_fit}
-use Rattle.pf_model.specs.Closed.{binds, all_bind, PatternIsClosed, PatternsAreClosed, tree_count, IsClosed, AllAreClosed, ClausesAreClosed, GuardIsClosed}
+use Rattle.pf_model.specs.Closed.{binds, all_bind, PatternIsClosed, PatternsAreClosed, tree_count, IsClosed}
+use Rattle.pf_model.specs.Closed.{AllAreClosed, ClausesAreClosed, GuardIsClosed}
 
 -- ---- fit gives as many values as the pattern binds
 
@@ -72,23 +78,30 @@ module _ (e : ValueScope) where
   slot_closed k n x q h (Some v) d = tt
 
   mutual
-    pub sub_pattern_closed : (k n : ℕ) (p : Pattern) → k ≡ length e + n → PatternIsClosed k p → PatternIsClosed n (sub_pattern e p)
+    pub sub_pattern_closed : (k n : ℕ) (p : Pattern) → k ≡ length e + n → PatternIsClosed k p
+        → PatternIsClosed n (sub_pattern e p)
     sub_pattern_closed k n any q h = tt
     sub_pattern_closed k n new q h = tt
     sub_pattern_closed k n (slot x) q h = slot_closed k n x q h (slice_get e x) refl
     sub_pattern_closed k n (known v) q h = tt
     sub_pattern_closed k n (tuple_of ps) q h = sub_patterns_closed k n ps q h
     sub_pattern_closed k n (cons_of p r) q h =
-        let d = sub_binds p in
-        (sub_pattern_closed k n p q h.0, sub_pattern_closed (k + binds p) (n + binds (sub_pattern e p)) r (omega arith) h.1)
+        let d = sub_binds p in (
+          sub_pattern_closed k n p q h.0,
+          sub_pattern_closed (k + binds p) (n + binds (sub_pattern e p)) r
+              (omega arith) h.1,
+        )
     sub_pattern_closed k n never q h = tt
 
     pub sub_patterns_closed : (k n : ℕ) (ps : Patterns) → k ≡ length e + n → PatternsAreClosed k ps
         → PatternsAreClosed n (sub_patterns e ps)
     sub_patterns_closed k n no_patterns q h = tt
     sub_patterns_closed k n (pattern p ps) q h =
-        let d = sub_binds p in
-        (sub_pattern_closed k n p q h.0, sub_patterns_closed (k + binds p) (n + binds (sub_pattern e p)) ps (omega arith) h.1)
+        let d = sub_binds p in (
+          sub_pattern_closed k n p q h.0,
+          sub_patterns_closed (k + binds p) (n + binds (sub_pattern e p)) ps
+              (omega arith) h.1,
+        )
 
   module _ (fs : Program) where
     var_closed : (k n x : ℕ) → k ≡ length e + n → x < k → (o : Option Value) → slice_get e x ≡ o
@@ -120,11 +133,13 @@ module _ (e : ValueScope) where
       sub_closed k n (receive ks) q h = sub_clauses_closed k n ks q h
       sub_closed k n (send a t) q h = (sub_closed k n a q h.0, sub_closed k n t q h.1)
 
-      sub_trees_closed : (k n : ℕ) (ts : Trees) → k ≡ length e + n → AllAreClosed fs k ts → AllAreClosed fs n (sub_trees e ts)
+      sub_trees_closed : (k n : ℕ) (ts : Trees) → k ≡ length e + n → AllAreClosed fs k ts
+          → AllAreClosed fs n (sub_trees e ts)
       sub_trees_closed k n no_trees q h = tt
       sub_trees_closed k n (tree t ts) q h = (sub_closed k n t q h.0, sub_trees_closed k n ts q h.1)
 
-      sub_clauses_closed : (k n : ℕ) (ks : Clauses) → k ≡ length e + n → ClausesAreClosed fs k ks → ClausesAreClosed fs n (sub_clauses e ks)
+      sub_clauses_closed : (k n : ℕ) (ks : Clauses) → k ≡ length e + n → ClausesAreClosed fs k ks
+          → ClausesAreClosed fs n (sub_clauses e ks)
       sub_clauses_closed k n no_clauses q h = tt
       sub_clauses_closed k n (clause p g body ks) q h =
           let d = sub_binds p in
@@ -135,6 +150,7 @@ module _ (e : ValueScope) where
             sub_clauses_closed k n ks q h.3,
           )
 
-      sub_guard_closed : (k n : ℕ) (g : Guard) → k ≡ length e + n → GuardIsClosed fs k g → GuardIsClosed fs n (sub_guard e g)
+      sub_guard_closed : (k n : ℕ) (g : Guard) → k ≡ length e + n → GuardIsClosed fs k g
+          → GuardIsClosed fs n (sub_guard e g)
       sub_guard_closed k n no_alternatives q h = tt
       sub_guard_closed k n (alternative ts g) q h = (sub_trees_closed k n ts q h.0, sub_guard_closed k n g q h.1)

@@ -3,18 +3,21 @@ use Rattle.std.proofs.Common.{◌≡◌, ℕ, zero, suc, ◌<◌, true, List, So
 use Rattle.pf_syntax.specs.Tree.{Tree}
 use Rattle.pf_model.specs.Module.{Module}
 use Rattle.pf_model.specs.Contraction.{Change, Becomes, Raises, Exits, Asks, Awaits}
-use Rattle.pf_model.specs.Context.{Frame, ProcessState, running, waiting, ending, ended, returned, Move, goes_on, asks, awaits, returns, moved, Moves}
+use Rattle.pf_model.specs.Context.{Frame, ProcessState, running, waiting, ending, ended, returned, Move, goes_on, asks}
+use Rattle.pf_model.specs.Context.{awaits, returns, moved, Moves}
 use Rattle.pf_model.specs.Channels.{Queue, row_of, with_row, row_with_left, taken, taken_from}
 use Rattle.pf_sorted.specs.Maps.{got}
 use Rattle.pf_model.specs.Configuration.{Core, Configuration, of}
 use Rattle.pf_model.specs.Actions.{acted}
 use Rattle.pf_model.specs.Receive.{selected}
 use Rattle.pf_model.specs.Deliveries.{Deed}
-use Rattle.pf_model.specs.Turns.{Turn, cut_running, cut_ending, end, contraction, act, last_of_turn, after_act, received, ended_so}
+use Rattle.pf_model.specs.Turns.{Turn, cut_running, cut_ending, end, contraction, act, last_of_turn, after_act}
+use Rattle.pf_model.specs.Turns.{received, ended_so}
 use Rattle.pf_model.specs.Runs.{can_go, Passed, Passes, turn, delivery}
 use Rattle.pf_model.specs.declared.report.Actor.{Actor}
 use Rattle.pf_model.specs.declared.report.Actor.TheVariants.{Process, Channel}
-use Rattle.pf_model.specs.Evaluation.{SoughtRedex, valued, placed, sought, move_of, Turned, turned, one_more, turned_by, turn_of, turn_passed, delivery_passed, pass_of}
+use Rattle.pf_model.specs.Evaluation.{SoughtRedex, valued, placed, sought, move_of, Turned, turned, one_more, turned_by}
+use Rattle.pf_model.specs.Evaluation.{turn_of, turn_passed, delivery_passed, pass_of}
 use Rattle.pf_model.proofs.Sought.{moves_as_sought, one_move}
 
 -- where a process goes on by itself it can go
@@ -38,11 +41,13 @@ module _ (m : Module) (a : ℕ) (c : Core) where
   abbrev pub IsTurn : ℕ → ProcessState → Turned → Type 0
   IsTurn n s t = Turn m a c n s t.deed t.used
 
-  turned_as : (n : ℕ) (t : Tree) (x : Move) → Moves m a t x → GoesOn x → ((s : ProcessState) → can_go s ≡ true → IsTurn n s (turn_of m a c n s))
+  turned_as : (n : ℕ) (t : Tree) (x : Move) → Moves m a t x → GoesOn x
+      → ((s : ProcessState) → can_go s ≡ true → IsTurn n s (turn_of m a c n s))
       → IsTurn (suc n) (running t) (turned_by m a c (turn_of m a c n) x)
   turned_as n t (goes_on s) h g rest = let k = turn_of m a c n s in contraction n k.used t s k.deed h (rest s g)
   turned_as n t (asks fs x) h g rest = act n t (asks fs x) (after_act a fs (acted m c a x)) h refl
-  turned_as n t (awaits fs ks) h g rest = act n t (awaits fs ks) (received c a fs ks (selected m a ks (of c a).mailbox)) h refl
+  turned_as n t (awaits fs ks) h g rest = act n t (awaits fs ks)
+      (received c a fs ks (selected m a ks (of c a).mailbox)) h refl
   turned_as n t (returns v) h g rest = act n t (returns v) (ended_so c a (returned v)) h refl
 
   pub turns_as : (n : ℕ) (s : ProcessState) → can_go s ≡ true → IsTurn n s (turn_of m a c n s)
@@ -61,7 +66,8 @@ module _ (m : Module) (a : ℕ) (c : Core) where
 
   -- ---- and no other
 
-  last_only : (n : ℕ) (x : Move) (d : Deed) → last_of_turn m c a x ≡ Some d → turned_by m a c (turn_of m a c n) x ≡ turned d 1
+  last_only : (n : ℕ) (x : Move) (d : Deed) → last_of_turn m c a x ≡ Some d
+      → turned_by m a c (turn_of m a c n) x ≡ turned d 1
   last_only n (goes_on s) d e = absurd (cc)
   last_only n (asks fs x) d e = cc
   last_only n (awaits fs ks) d e = cc
@@ -72,10 +78,12 @@ module _ (m : Module) (a : ℕ) (c : Core) where
   turn_only _ _ _ _ (cut_ending r) = refl
   turn_only _ _ _ _ (end n r) = refl
   turn_only _ _ _ _ (contraction n k t s d h r) =
-      ap (turned_by m a c (turn_of m a c n)) (one_move m a t (move_of (sought m a t)) (goes_on s) (moves_as_sought m a t) h)
+      ap (turned_by m a c (turn_of m a c n)) (one_move m a t (move_of (sought m a t)) (goes_on s)
+      (moves_as_sought m a t) h)
       ∙ ap one_more (turn_only n s d k r)
   turn_only _ _ _ _ (act n t x d h e) =
-      ap (turned_by m a c (turn_of m a c n)) (one_move m a t (move_of (sought m a t)) x (moves_as_sought m a t) h) ∙ last_only n x d e
+      ap (turned_by m a c (turn_of m a c n)) (one_move m a t (move_of (sought m a t)) x (moves_as_sought m a t) h)
+      ∙ last_only n x d e
 
 -- ---- transitions
 
@@ -86,7 +94,8 @@ CanPass c (Channel a b) = (q : Queue) × (got b (row_of a c.channels) ≡ Some q
 
 module _ (m : Module) (n : ℕ) (c : Configuration) where
   pub passes_as : (x : Actor) → CanPass c x → Passes m n c x (pass_of m n c x)
-  passes_as (Process a) h = let t = turn_of m a c.core n (of c.core a).state in turn a t.used t.deed (turns_as m a c.core n (of c.core a).state h)
+  passes_as (Process a) h = let t = turn_of m a c.core n (of c.core a).state in
+      turn a t.used t.deed (turns_as m a c.core n (of c.core a).state h)
   passes_as (Channel a b) h =
       let cs = with_row a (row_with_left b h.0.rest (row_of a c.channels)) c.channels in
       let e : taken a b c.channels ≡ Some (h.0.first, cs) = ap (taken_from a b c.channels) h.1 in

@@ -8,7 +8,8 @@ use Rattle.pf_syntax.specs.declared.operator.Operator.TheVariants as operators
 use Rattle.pf_syntax.specs.declared.operator.Builtin.{Builtin}
 use Rattle.pf_ops.specs.Arithmetic.{in_range, ranged, is_zero, negated}
 use Rattle.pf_ops.specs.Reasons.{fits_limits, pair, tagged}
-use Rattle.pf_ops.specs.Operations.{limited, on_integers, divided, appended, operated, values_before, consed, element_at, head_of, tail_of, list_length, element_of, tuple_length}
+use Rattle.pf_ops.specs.Operations.{limited, on_integers, divided, appended, operated, values_before, consed}
+use Rattle.pf_ops.specs.Operations.{element_at, head_of, tail_of, list_length, element_of, tuple_length}
 
 -- what an operation evaluates to isn't the raise of `undef`
 abbrev pub IsAnother : Result Value Value → Type 0
@@ -51,7 +52,8 @@ pub negated_another : (v : Value) → IsAnother (negated v)
 negated_another (int z) = ranged_another (neg_ℤ z)
 negated_another v = λ e. another_atom _ _ (λ d. absurd (omega arith)) e
 
-on_integers_another : (f : ℤ → ℤ → Result Value Value) → ((x y : ℤ) → IsAnother (f x y)) → (v w : Value) → IsAnother (on_integers f v w)
+on_integers_another : (f : ℤ → ℤ → Result Value Value) → ((x y : ℤ) → IsAnother (f x y)) → (v w : Value)
+    → IsAnother (on_integers f v w)
 on_integers_another f h (int x) (int y) = h x y
 on_integers_another f h v w = λ e. another_atom _ _ (λ d. absurd (omega arith)) e
 

@@ -3,7 +3,8 @@
 use Rattle.std.specs.Prelude.{◌≡◌, ℕ, List, [], ◌∷◌, Some}
 use Rattle.pf_terms.specs.Value.{Value, Values, none, more}
 use Rattle.pf_syntax.specs.Pattern.{Patterns}
-use Rattle.pf_syntax.specs.Tree.{Tree, Trees, Clauses, lit, tuple, cons, op, neg, and_also, or_else, call, builtin, match, bind, case, send, no_trees, tree}
+use Rattle.pf_syntax.specs.Tree.{Tree, Trees, Clauses, lit, tuple, cons, op, neg, and_also, or_else, call, builtin}
+use Rattle.pf_syntax.specs.Tree.{match, bind, case, send, no_trees, tree}
 use Rattle.pf_syntax.specs.declared.operator.Builtin.{Builtin}
 use Rattle.pf_syntax.specs.declared.operator.Operator.{Operator}
 use Rattle.pf_ops.specs.Reasons.{ending_reason}

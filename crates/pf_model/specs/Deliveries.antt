@@ -32,7 +32,8 @@ with_message p v = record p { mailbox = p.mailbox ++ v ∷ []; state = woken p.s
 -- {'DOWN', Reference, process, Pid, Reason} and {'EXIT', Pid, Reason}; where the term would be too large,
 -- `system_limit` stands for the reason
 abbrev pub down_message : (reference from : ℕ) → Value → Value
-down_message r a = built (λ reason. tuple (more down_atom (more (ref r) (more process (more (pid a) (more reason none))))))
+down_message r a =
+    built (λ reason. tuple (more down_atom (more (ref r) (more process (more (pid a) (more reason none))))))
 
 abbrev pub exit_message : (from : ℕ) → Value → Value
 exit_message a = built (λ reason. tuple (more exit_atom (more (pid a) (more reason none))))
@@ -57,13 +58,15 @@ at_ended c a s = drops c s
 abbrev pub down_at : Core → (from to : ℕ) → (reference : ℕ) → Value → Option ℕ → Deed
 down_at c a b r reason None = drops c (down r reason)
 down_at c a b r reason (Some p) =
-    changes c b (with_message (record (of c b) { active = without r (of c b).active }) (down_message r a reason)) (down r reason) took_effect
+    changes c b (with_message (record (of c b) { active = without r (of c b).active }) (down_message r a reason))
+    (down r reason) took_effect
 
 -- an exit signal that isn't dropped for lack of a link
 abbrev pub exit_at : Core → (from to : ℕ) → (by_link : Bool) → Value → Deed
 exit_at c a b by_link r =
     if not by_link && same r kill then ends_with c b (exit by_link r) killed
-    else (if (of c b).traps_exits then changes c b (with_message (of c b) (exit_message a r)) (exit by_link r) as_message
+    else (if (of c b).traps_exits then changes c b (with_message (of c b) (exit_message a r))
+    (exit by_link r) as_message
     else (if same r normal && not (a == b) then drops c (exit by_link r)
     else ends_with c b (exit by_link r) r))
 
@@ -79,8 +82,10 @@ abbrev pub at_living : Core → (from to : ℕ) → Signal → Deed
 at_living c a b (message v) = changes c b (with_message (of c b) v) (message v) took_effect
 at_living c a b link = changes c b (record (of c b) { links = with_number a (of c b).links }) link took_effect
 at_living c a b unlink = changes c b (record (of c b) { links = without_number a (of c b).links }) unlink took_effect
-at_living c a b (monitor r) = changes c b (record (of c b) { watchers = put r a (of c b).watchers }) (monitor r) took_effect
-at_living c a b (demonitor r) = changes c b (record (of c b) { watchers = without r (of c b).watchers }) (demonitor r) took_effect
+at_living c a b (monitor r) = changes c b (record (of c b) { watchers = put r a (of c b).watchers })
+    (monitor r) took_effect
+at_living c a b (demonitor r) = changes c b (record (of c b) { watchers = without r (of c b).watchers })
+    (demonitor r) took_effect
 at_living c a b (down r reason) = down_at c a b r reason (got r (of c b).active)
 at_living c a b (exit true r) = exit_by_link_at c a b r
 at_living c a b (exit false r) = exit_at c a b false r

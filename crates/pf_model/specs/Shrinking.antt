@@ -1,5 +1,6 @@
 -- Shrinking: from a schedule that fails to one that fails and of which no candidate does.
-use Rattle.std.specs.Prelude.{◌≡◌, ℕ, zero, suc, ◌/◌, Bool, true, false, if◌then◌else◌, List, [], ◌∷◌, ◌++◌, Option, Some, None, map}
+use Rattle.std.specs.Prelude.{◌≡◌, ℕ, zero, suc, ◌/◌, Bool, true, false, if◌then◌else◌, List, [], ◌∷◌, ◌++◌, Option}
+use Rattle.std.specs.Prelude.{Some, None, map}
 use Rattle.pf_model.specs.Meaning.{Job, Report, Means, schedule}
 
 -- these schedules, each with this number before it
@@ -72,7 +73,9 @@ pub data Result : Type 0 where
 -- found
 pub data IsResult (j : Job) : Result → Type 0 where
   plain : (r : Report) → j.runs ≡ zero → Means j r → IsResult j (report r)
-  smaller : (k : ℕ) (ns : List ℕ) (fails : List ℕ → Bool) (f : Found) (r : Report) → j.runs ≡ suc k → j.choices ≡ schedule ns
-      → TellsFailures j fails → shrunk fails (suc k) ns ≡ Some f → Means (by_schedule j f.schedule) r → IsResult j (shrunk_to f r)
+  smaller : (k : ℕ) (ns : List ℕ) (fails : List ℕ → Bool) (f : Found) (r : Report) → j.runs ≡ suc k
+      → j.choices ≡ schedule ns
+      → TellsFailures j fails → shrunk fails (suc k) ns ≡ Some f → Means (by_schedule j f.schedule) r
+      → IsResult j (shrunk_to f r)
   no_failure : (k : ℕ) (ns : List ℕ) (fails : List ℕ → Bool) → j.runs ≡ suc k → j.choices ≡ schedule ns
       → TellsFailures j fails → shrunk fails (suc k) ns ≡ None → IsResult j nothing_fails

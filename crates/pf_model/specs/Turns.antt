@@ -4,7 +4,8 @@ use Rattle.pf_terms.specs.Value.{Value}
 use Rattle.pf_syntax.specs.Tree.{Tree, Clauses, lit, receive}
 use Rattle.pf_ops.specs.Reasons.{ending_reason}
 use Rattle.pf_model.specs.Module.{Module}
-use Rattle.pf_model.specs.Context.{Frame, fill, ProcessState, running, waiting, ending, returned, failed, End, Move, goes_on, asks, awaits, returns, Moves}
+use Rattle.pf_model.specs.Context.{Frame, fill, ProcessState, running, waiting, ending, returned, failed, End, Move}
+use Rattle.pf_model.specs.Context.{goes_on, asks, awaits, returns, Moves}
 use Rattle.pf_model.specs.Configuration.{Core, leaving, of, with_process, with_state}
 use Rattle.pf_model.specs.Labels as label
 use Rattle.pf_model.specs.Actions.{Acted, acted}
@@ -24,7 +25,8 @@ after_act a fs x = deed (leaving (with_state x.left.core a (with_answer fs x.ans
 abbrev pub received : Core → ℕ → List Frame → Clauses → Option Taken → Deed
 received c a fs ks None = deed (leaving (with_state c a (waiting (fill fs (receive ks)))) []) label.waits
 received c a fs ks (Some t) =
-    deed (leaving (with_process c a (record (of c a) { state = running (fill fs t.body); mailbox = t.others })) []) (label.takes t.message)
+    deed (leaving (with_process c a (record (of c a) { state = running (fill fs t.body); mailbox = t.others })) [])
+    (label.takes t.message)
 
 abbrev pub ended_so : Core → ℕ → End → Deed
 ended_so c a e = deed (ended_by c a e) (label.ends (reason_of e))
@@ -42,5 +44,7 @@ pub data Turn (m : Module) (a : ℕ) (c : Core) : ℕ → ProcessState → Deed 
   cut_running : (t : Tree) → Turn m a c zero (running t) (deed (leaving (with_state c a (running t)) []) label.cut) zero
   cut_ending : (r : Value) → Turn m a c zero (ending r) (deed (leaving (with_state c a (ending r)) []) label.cut) zero
   end : (n : ℕ) (r : Value) → Turn m a c (suc n) (ending r) (ended_so c a (failed r)) 1
-  contraction : (n k : ℕ) (t : Tree) (s : ProcessState) (d : Deed) → Moves m a t (goes_on s) → Turn m a c n s d k → Turn m a c (suc n) (running t) d (suc k)
-  act : (n : ℕ) (t : Tree) (x : Move) (d : Deed) → Moves m a t x → last_of_turn m c a x ≡ Some d → Turn m a c (suc n) (running t) d 1
+  contraction : (n k : ℕ) (t : Tree) (s : ProcessState) (d : Deed) → Moves m a t (goes_on s) → Turn m a c n s d k
+      → Turn m a c (suc n) (running t) d (suc k)
+  act : (n : ℕ) (t : Tree) (x : Move) (d : Deed) → Moves m a t x → last_of_turn m c a x ≡ Some d
+      → Turn m a c (suc n) (running t) d 1

@@ -60,15 +60,21 @@ module _ (X : RattleType) where
 
   module _ {M : Type 1} {𝓤 : Ura M} {𝓛 : Logic 𝓤} {K : Type 0} {Γ : List (Item 𝓤)} {G : Goal 𝓤 𝓛.H} where
     pub box_had : K → (d : Bw.Denot) (vs : List Val)
-        → (vs ≡ box_val d.ptr ∷ [] → Seq K 𝓛 (‵ (box_owns heap_token (param 0 X) d.ptr d.value) ∷ ‵ ((heap.the_row).own_val d.alloc (heap_val ∷ [])) ∷ Γ) G) → Seq K 𝓛 (‵ (Bw.own_val d vs) ∷ Γ) G
+        → (vs ≡ box_val d.ptr ∷ [] → Seq K 𝓛 (‵ (box_owns heap_token (param 0 X) d.ptr d.value)
+        ∷ ‵ ((heap.the_row).own_val d.alloc (heap_val ∷ [])) ∷ Γ) G) → Seq K 𝓛 (‵ (Bw.own_val d vs) ∷ Γ) G
     box_had t d vs k =
         fsplit t $ fpick t (λ vss. fsplit t $ feq_l t (λ ev. fsplit t $ feq_l t (λ ep. fsplit t $
-        peeks t heap.the_row (Is heap.the_row) (shows 𝓛 heap.the_row) d.alloc vss.1.0 (λ is. let eh = heap_Tells d.alloc vss.1.0 is in
-        rewrite t 0 (λ (us : List Val). ‵ ((heap.the_row).own_val d.alloc us)) eh refl $ move t (1 ∷ []) $ drop t $ move t (1 ∷ []) $
+        peeks t heap.the_row (Is heap.the_row) (shows 𝓛 heap.the_row) d.alloc vss.1.0
+        (λ is. let eh = heap_Tells d.alloc vss.1.0 is in
+        rewrite t 0 (λ (us : List Val). ‵ ((heap.the_row).own_val d.alloc us)) eh refl $ move t (1 ∷ []) $ drop t
+        $ move t (1 ∷ []) $
         k (ev ∙ (λ j. vstruct (of_list (ep j ++ (eh j ++ []))) ∷ []))))))
 
-    pub box_made : K → (d : Bw.Denot) → Step K 𝓛 (‵ (Bw.own_val d (box_val d.ptr ∷ [])) ∷ Γ) G (‵ (box_owns heap_token (param 0 X) d.ptr d.value) ∷ ‵ ((heap.the_row).own_val d.alloc (heap_val ∷ [])) ∷ Γ) G
+    pub box_made : K → (d : Bw.Denot) → Step K 𝓛 (‵ (Bw.own_val d (box_val d.ptr ∷ [])) ∷ Γ) G
+        (‵ (box_owns heap_token (param 0 X) d.ptr d.value) ∷ ‵ ((heap.the_row).own_val d.alloc (heap_val ∷ [])) ∷ Γ) G
     box_made t d = step (λ s.
-        nothing t $ move t (2 ∷ 0 ∷ []) $ fjoin t $ feq_i t (List Val) (ptr_val d.ptr ∷ []) (ptr_val d.ptr ∷ []) refl $ fjoin t $
+        nothing t $ move t (2 ∷ 0 ∷ []) $ fjoin t $ feq_i t (List Val) (ptr_val d.ptr ∷ []) (ptr_val d.ptr ∷ [])
+        refl $ fjoin t $
         feq_i t (List Val) (box_val d.ptr ∷ []) (box_val d.ptr ∷ []) refl $ fjoin t $
-        fpack t (Valss (RawPtr ∷ heap.the_row ∷ [])) (within (shape (box.the_type (param 0 X) heap.the_row ghosts)) (d.ptr, (d.alloc, tt)) (box_val d.ptr ∷ [])) (ptr_val d.ptr ∷ [], (heap_val ∷ [], tt)) $ fjoin t $ s)
+        fpack t (Valss (RawPtr ∷ heap.the_row ∷ [])) (within (shape (box.the_type (param 0 X) heap.the_row ghosts))
+        (d.ptr, (d.alloc, tt)) (box_val d.ptr ∷ [])) (ptr_val d.ptr ∷ [], (heap_val ∷ [], tt)) $ fjoin t $ s)

@@ -35,4 +35,5 @@ module _ (T : RattleType) (s : IsSend T) where
   pub nodes_send : IsSend (nodes.the_row T)
   nodes_send =
       let O = nodes.the_type T in let all : AllSend (fields O) = (search sendable, tt) in
-      owning_send O all (λ d. nodes-Keyless d.items) (λ k. quiet (to O) (exits_of k (fields O)) ((struct_send (shape O) all).leaving k))
+      owning_send O all (λ d. nodes-Keyless d.items)
+      (λ k. quiet (to O) (exits_of k (fields O)) ((struct_send (shape O) all).leaving k))

@@ -31,4 +31,5 @@ alike false false f g = refl
 
 pub same_ptr_comm : (p q : Ptr) → same_ptr p q ≡ same_ptr q p
 same_ptr_comm p q = alike (same_ptr p q) (same_ptr q p)
-    (λ e. subst (λ r. same_ptr r p ≡ true) (same_ptr_eq p q e) (same_ptr_refl p)) (λ e. subst (λ r. same_ptr r q ≡ true) (same_ptr_eq q p e) (same_ptr_refl q))
+    (λ e. subst (λ r. same_ptr r p ≡ true) (same_ptr_eq p q e) (same_ptr_refl p))
+    (λ e. subst (λ r. same_ptr r q ≡ true) (same_ptr_eq q p e) (same_ptr_refl q))

@@ -23,7 +23,8 @@ module _ (T : RattleType) (L : Laws T) where
   pub nodes_lent_laws : (ns : List (Ptr × ListNode T.Denot)) → ShrLaws (nodes_lent T ns)
   nodes_lent_laws [] = nothing_shr_laws
   nodes_lent_laws (n ∷ ns) =
-      beside_shr_laws _ _ (lent_at_shr_laws (node.the_row T) (node_laws.the_row_laws T L).shr_laws n.0 n.1) (nodes_lent_laws ns)
+      beside_shr_laws _ _ (lent_at_shr_laws (node.the_row T) (node_laws.the_row_laws T L).shr_laws n.0 n.1)
+      (nodes_lent_laws ns)
 
   module _ {M : Type 1} {𝓤 : Ura M} (𝓛 : Logic 𝓤) (l : Lft) (inc : Incl l (node.the_row T).lives) where
     pub Lends-nodes : (ns : List (Ptr × ListNode T.Denot)) → Lends 𝓛 (nodes_own T ns) (nodes_lent T ns) l
@@ -32,4 +33,5 @@ module _ (T : RattleType) (L : Laws T) where
         let R : RattleType = node.the_row T in
         Lends-both 𝓛 (box_owns heap_token R n.0 n.1) (nodes_own T ns) (lent_at R n.0 n.1) (nodes_lent T ns) l
         (Lends-first 𝓛 (lies_at R full_share n.0 n.1) (heap_token (bare (lone R.mir)) n.0) (lent_at R n.0 n.1) l
-        (Lends-lies 𝓛 R l n.0 n.1 (Shares-less 𝓛 R R.lives l inc ((node_laws.the_row_laws T L).shares 𝓛) n.1))) (Lends-nodes ns)
+        (Lends-lies 𝓛 R l n.0 n.1 (Shares-less 𝓛 R R.lives l inc ((node_laws.the_row_laws T L).shares 𝓛) n.1)))
+        (Lends-nodes ns)

@@ -1,5 +1,6 @@
 //! The mail list: its items in the order in which they came, and a mark.
-ghost use Rattle.std.specs.Prelude.{◌≡◌, ℕ, ◌+◌, ◌-◌, ◌^◌, ◌<◌, ◌≤◌, ◌==◌, [], ◌∷◌, ◌++◌, length, remove, slice_get, min};
+ghost use Rattle.std.specs.Prelude.{◌≡◌, ℕ, ◌+◌, ◌-◌, ◌^◌, ◌<◌, ◌≤◌, ◌==◌, [], ◌∷◌, ◌++◌, length, remove, slice_get};
+ghost use Rattle.std.specs.Prelude.{min};
 ghost use Rattle.std.specs.Prelude.{Some, IfSome, MatchOption, IsOk, IfErr, OnOk, OnErr};
 ghost use Rattle.pf_nodes.specs.Mail.{mail};
 

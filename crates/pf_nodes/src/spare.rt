@@ -54,7 +54,8 @@ impl<T> Pool<T> {
 impl<T: Drop> Pool<T> {
     /// Takes a spare node out, if there is one.
     fn take(&mut self) -> Option<Box<ListNode<T>>>
-        ensures { MatchOption result ((self.old ≡ 0) × (self.new ≡ 0)) (λ b. IsSpare b.value × (self.new + 1 ≡ self.old)) }
+        ensures { MatchOption result ((self.old ≡ 0) × (self.new ≡ 0))
+            (λ b. IsSpare b.value × (self.new + 1 ≡ self.old)) }
     {
         let Some(node_ref) = self.top else {
             return None;

@@ -1,5 +1,6 @@
 -- Elements of a list or a tuple, counted and by number.
-use Rattle.std.proofs.Common.{◌≡◌, ℕ, zero, suc, ◌≤◌, List, [], ◌∷◌, length, Option, Some, None, Ok, Err, ℤ, pos, negsuc, ◌<ℤ◌, w64, to_z, refl, sym, ap, ◌∙◌, arith}
+use Rattle.std.proofs.Common.{◌≡◌, ℕ, zero, suc, ◌≤◌, List, [], ◌∷◌, length, Option, Some, None, Ok, Err, ℤ, pos}
+use Rattle.std.proofs.Common.{negsuc, ◌<ℤ◌, w64, to_z, refl, sym, ap, ◌∙◌, arith}
 use Rattle.std.specs.Prelude.{slice_get, Result}
 use Rattle.std.proofs.lemmas.Int.{ints, to_z_pos}
 use Rattle.pf_terms.specs.declared.limits.TheConstants.{MOST_NODES}
@@ -24,7 +25,8 @@ count_le none = omega arith
 count_le (more v vs) = omega (arith, nodes_pos v, count_le vs)
 
 -- how many elements a tuple has, as 64 bits hold it
-pub size_is : (ts : List Term) (vs : Values) → values_of ts ≡ vs → nodes (tuple vs) ≤ MOST_NODES → to_z w64 (length ts) ≡ pos (count vs)
+pub size_is : (ts : List Term) (vs : Values) → values_of ts ≡ vs → nodes (tuple vs) ≤ MOST_NODES
+    → to_z w64 (length ts) ≡ pos (count vs)
 size_is ts vs e h =
     let n : length ts ≡ count vs = length_count ts ∙ ap count e in
     ap (to_z w64) n ∙ to_z_pos w64 (count vs) (omega (arith, count_le vs))
@@ -47,11 +49,13 @@ at_number (u ∷ ts) zero = refl
 at_number (u ∷ ts) (suc i) = at_number ts i
 
 -- the element of a number is the item at 1 less
-pub item_is : (ts : List Term) (z : ℤ) (i : ℕ) (o : Option Term) → pos (suc i) ≡ z → o ≡ slice_get ts i → item_or o ≡ element_of (int z) (tuple (values_of ts))
+pub item_is : (ts : List Term) (z : ℤ) (i : ℕ) (o : Option Term) → pos (suc i) ≡ z → o ≡ slice_get ts i
+    → item_or o ≡ element_of (int z) (tuple (values_of ts))
 item_is ts z i o e h = ap item_or h ∙ sym (at_number ts i) ∙ ap (λ y. element_of (int y) (tuple (values_of ts))) e
 
 -- no built-in function that only looks at its arguments has three
-none_of_three : (own : ℕ) (b : Builtin) (u v w : Value) (vs : Values) → None ≡ computed own b (more u (more v (more w vs)))
+none_of_three : (own : ℕ) (b : Builtin) (u v w : Value) (vs : Values)
+    → None ≡ computed own b (more u (more v (more w vs)))
 none_of_three own b u v w vs = grind arith
 
 pub past_two : (own : ℕ) (b : Builtin) (ts : List Term) → 3 ≤ length ts → None ≡ computed own b (values_of ts)

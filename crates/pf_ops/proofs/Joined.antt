@@ -7,7 +7,8 @@ use Rattle.pf_terms.specs.Term.{value_of, values_of}
 use Rattle.pf_terms.specs.declared.term.Term.{Term}
 use Rattle.pf_ops.specs.Operations.{limited, values_before}
 
-pub before_push : (ts : List Term) (t : Term) (vs : Values) → values_before (values_of (ts ++ t ∷ [])) vs ≡ values_before (values_of ts) (more (value_of t) vs)
+pub before_push : (ts : List Term) (t : Term) (vs : Values)
+    → values_before (values_of (ts ++ t ∷ [])) vs ≡ values_before (values_of ts) (more (value_of t) vs)
 before_push [] t vs = refl
 before_push (u ∷ ts) t vs = ap (more (value_of u)) (before_push ts t vs)
 
@@ -28,6 +29,8 @@ fits_not : (v : Value) → ¬ IsWithinLimits v → limited v ≡ Err system_limi
 fits_not v h = grind (arith, nat_tests)
 
 -- where a list is past the limits, so is one that ends with it
-pub ends_past : (us : Values) (vs : Values) → ¬ IsWithinLimits (list vs) → limited (list (values_before us vs)) ≡ Err system_limit
+pub ends_past : (us : Values) (vs : Values) → ¬ IsWithinLimits (list vs)
+    → limited (list (values_before us vs)) ≡ Err system_limit
 ends_past us vs h =
-    fits_not (list (values_before us vs)) (λ w. h (omega (arith, nodes_before us vs, w.0), omega (arith, depth_before us vs, w.1)))
+    fits_not (list (values_before us vs)) (λ w.
+    h (omega (arith, nodes_before us vs, w.0), omega (arith, depth_before us vs, w.1)))

@@ -1,5 +1,6 @@
 -- Integers of 64 bits, and the operator on one of them.
-use Rattle.std.specs.Prelude.{◌^◌, Bool, false, nat_lt, if◌then◌else◌, ℤ, pos, negsuc, neg_ℤ, Option, Some, None, Result, Ok, Err}
+use Rattle.std.specs.Prelude.{◌^◌, Bool, false, nat_lt, if◌then◌else◌, ℤ, pos, negsuc, neg_ℤ, Option, Some, None}
+use Rattle.std.specs.Prelude.{Result, Ok, Err}
 use lib.Signed.{mag}
 use Rattle.pf_terms.specs.Value.{Value, int}
 use Rattle.pf_terms.specs.Fixed.{badarith, system_limit}

@@ -1,10 +1,12 @@
 -- Guards: what their tests are worth in the process of this pid. A guard takes no step, and an error in a test makes
 -- its alternative fail.
-use Rattle.std.specs.Prelude.{ℕ, Bool, true, false, ◌&&◌, ◌||◌, if◌then◌else◌, List, Option, Some, None, Result, Ok, Err, option_and_then}
+use Rattle.std.specs.Prelude.{ℕ, Bool, true, false, ◌&&◌, ◌||◌, if◌then◌else◌, List, Option, Some, None, Result, Ok}
+use Rattle.std.specs.Prelude.{Err, option_and_then}
 use Rattle.pf_terms.specs.Value.{Value, Values, tuple, none, more, same}
 use Rattle.pf_terms.specs.Fixed.{true_atom, false_atom}
 use Rattle.pf_syntax.specs.Tree as tree
-use Rattle.pf_syntax.specs.Tree.{Tree, Trees, Guard, lit, cons, op, neg, and_also, or_else, builtin, no_trees, no_alternatives, alternative}
+use Rattle.pf_syntax.specs.Tree.{Tree, Trees, Guard, lit, cons, op, neg, and_also, or_else, builtin, no_trees}
+use Rattle.pf_syntax.specs.Tree.{no_alternatives, alternative}
 use Rattle.pf_ops.specs.Arithmetic.{negated}
 use Rattle.pf_ops.specs.Operations.{limited, operated, consed, computed}
 
@@ -30,17 +32,23 @@ abbrev mutual
   pub worth : (ℕ → List ℕ) → ℕ → Tree → Option Value
   worth name own (lit v) = Some v
   worth name own (tree.tuple ts) = option_and_then (λ vs. value_in (limited (tuple vs))) (all_worth name own ts)
-  worth name own (cons a b) = option_and_then (λ v. option_and_then (λ w. value_in (consed v w)) (worth name own b)) (worth name own a)
-  worth name own (op o a b) = option_and_then (λ v. option_and_then (λ w. value_in (operated name o v w)) (worth name own b)) (worth name own a)
+  worth name own (cons a b) = option_and_then (λ v. option_and_then (λ w. value_in (consed v w)) (worth name own b))
+      (worth name own a)
+  worth name own (op o a b) = option_and_then
+      (λ v. option_and_then (λ w. value_in (operated name o v w)) (worth name own b)) (worth name own a)
   worth name own (neg a) = option_and_then (λ v. value_in (negated v)) (worth name own a)
-  worth name own (and_also a b) = option_and_then (λ v. unless_decided false v (truth_of v) (worth name own b)) (worth name own a)
-  worth name own (or_else a b) = option_and_then (λ v. unless_decided true v (truth_of v) (worth name own b)) (worth name own a)
-  worth name own (builtin f ts) = option_and_then (λ vs. option_and_then value_in (computed own f vs)) (all_worth name own ts)
+  worth name own (and_also a b) = option_and_then (λ v. unless_decided false v (truth_of v) (worth name own b))
+      (worth name own a)
+  worth name own (or_else a b) = option_and_then (λ v. unless_decided true v (truth_of v) (worth name own b))
+      (worth name own a)
+  worth name own (builtin f ts) = option_and_then (λ vs. option_and_then value_in (computed own f vs))
+      (all_worth name own ts)
   worth name own t = None
 
   pub all_worth : (ℕ → List ℕ) → ℕ → Trees → Option Values
   all_worth name own no_trees = Some none
-  all_worth name own (tree.tree t ts) = option_and_then (λ v. option_and_then (λ vs. Some (more v vs)) (all_worth name own ts)) (worth name own t)
+  all_worth name own (tree.tree t ts) = option_and_then
+      (λ v. option_and_then (λ vs. Some (more v vs)) (all_worth name own ts)) (worth name own t)
 
 -- whether every test gives `true`
 abbrev pub is_true : Option Value → Bool

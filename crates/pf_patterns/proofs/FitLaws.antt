@@ -3,7 +3,8 @@ use Rattle.std.proofs.Common.{◌≡◌, Bool, true, false, [], ◌∷◌, ◌++
 use Rattle.std.specs.Prelude.{slice_get}
 use Rattle.pf_terms.specs.Value.{Value, Values, tuple, list, none, more, same}
 use Rattle.pf_terms.proofs.SameValues.{same_true, same_itself}
-use Rattle.pf_syntax.specs.Pattern.{Pattern, Patterns, any, new, slot, known, tuple_of, cons_of, never, no_patterns, pattern}
+use Rattle.pf_syntax.specs.Pattern.{Pattern, Patterns, any, new, slot, known, tuple_of, cons_of, never, no_patterns}
+use Rattle.pf_syntax.specs.Pattern.{pattern}
 use Rattle.pf_patterns.specs.Fit.{ValueScope, Fits, FitsAll, fit, fit_all, kept_if, fit_bound, and_then}
 
 some_is : (s t : ValueScope) → Some s ≡ Some t → t ≡ s
@@ -23,7 +24,8 @@ bound_is (Some w) v s t h = let k = kept_is w v s t (same w v) refl h in (ap (λ
 is_bound : (o : Option Value) (v : Value) (s t : ValueScope) → o ≡ Some v → t ≡ s → fit_bound o v s ≡ Some t
 is_bound o v s t e d = ap (λ x. fit_bound x v s) e ∙ is_kept v v s t refl d
 
-then_is : (o : Option ValueScope) (go : ValueScope → Option ValueScope) (t : ValueScope) → and_then o go ≡ Some t → (middle : ValueScope) × (o ≡ Some middle) × (go middle ≡ Some t)
+then_is : (o : Option ValueScope) (go : ValueScope → Option ValueScope) (t : ValueScope) → and_then o go ≡ Some t
+    → (middle : ValueScope) × (o ≡ Some middle) × (go middle ≡ Some t)
 then_is None go t h = absurd (cc)
 then_is (Some e) go t h = (e, refl, h)
 

@@ -2,7 +2,8 @@
 use Rattle.std.specs.Prelude.{◌≡◌, ℕ, ◌+◌, [], ◌∷◌, ◌++◌, length, Some, Result, Ok, Err, slice_get}
 use Rattle.pf_terms.specs.Value.{Value, Values, tuple, list, none, more}
 use Rattle.pf_terms.specs.Term.{value_of, elements_of}
-use Rattle.pf_syntax.specs.Pattern.{Pattern, Patterns, any, new, slot, known, tuple_of, cons_of, never, no_patterns, pattern}
+use Rattle.pf_syntax.specs.Pattern.{Pattern, Patterns, any, new, slot, known, tuple_of, cons_of, never, no_patterns}
+use Rattle.pf_syntax.specs.Pattern.{pattern}
 use Rattle.pf_patterns.specs.Fit.{ValueScope}
 use Rattle.pf_patterns.specs.declared.seen.ValuePart.{ValuePart}
 use Rattle.pf_patterns.specs.declared.seen.ValuePart.TheVariants as seen
@@ -15,7 +16,11 @@ abbrev mutual
   bindings (slot x) v = []
   bindings (known w) v = []
   bindings (tuple_of ps) v = elim v [ tuple vs ↦ all_bindings ps vs | _ ↦ [] ]
-  bindings (cons_of p q) v = elim v [ list vs ↦ elim vs [ none ↦ [] | more w ws ↦ bindings p w ++ bindings q (list ws) ] | _ ↦ [] ]
+  bindings (cons_of p q) v = elim v [
+    | list vs ↦ elim vs
+        [ none ↦ [] | more w ws ↦ bindings p w ++ bindings q (list ws) ]
+    | _ ↦ []
+  ]
   bindings never v = []
 
   pub all_bindings : Patterns → Values → ValueScope

@@ -1,7 +1,8 @@
 -- Fit: when a value fits a pattern, and what the pattern binds.
 use Rattle.std.specs.Prelude.{◌≡◌, Bool, if◌then◌else◌, List, [], ◌∷◌, ◌++◌, Option, Some, None, slice_get}
 use Rattle.pf_terms.specs.Value.{Value, Values, tuple, list, none, more, same}
-use Rattle.pf_syntax.specs.Pattern.{Pattern, Patterns, any, new, slot, known, tuple_of, cons_of, never, no_patterns, pattern}
+use Rattle.pf_syntax.specs.Pattern.{Pattern, Patterns, any, new, slot, known, tuple_of, cons_of, never, no_patterns}
+use Rattle.pf_syntax.specs.Pattern.{pattern}
 
 -- the values of the variables in scope: a finite map from slots, counted from 0
 abbrev pub ValueScope : Type 0
@@ -17,14 +18,16 @@ abbrev mutual
   Fits (known w) v before after = (w ≡ v) × (after ≡ before)
   Fits (tuple_of ps) v before after = (vs : Values) × (v ≡ tuple vs) × FitsAll ps vs before after
   Fits (cons_of p q) v before after =
-      (w : Value) × (ws : Values) × (middle : ValueScope) × (v ≡ list (more w ws)) × Fits p w before middle × Fits q (list ws) middle after
+      (w : Value) × (ws : Values) × (middle : ValueScope) × (v ≡ list (more w ws)) × Fits p w before middle
+      × Fits q (list ws) middle after
   Fits never v before after = ⊥
 
   -- each value fits its pattern, from left to right
   pub FitsAll : Patterns → Values → ValueScope → ValueScope → Type 0
   FitsAll no_patterns vs before after = (vs ≡ none) × (after ≡ before)
   FitsAll (pattern p ps) vs before after =
-      (w : Value) × (ws : Values) × (middle : ValueScope) × (vs ≡ more w ws) × Fits p w before middle × FitsAll ps ws middle after
+      (w : Value) × (ws : Values) × (middle : ValueScope) × (vs ≡ more w ws) × Fits p w before middle
+      × FitsAll ps ws middle after
 
 -- ---- the same as functions, which the law `fit_is_a_relation` ties to the relations
 
@@ -47,7 +50,11 @@ abbrev mutual
   fit (slot x) v e = fit_bound (slice_get e x) v e
   fit (known w) v e = kept_if (same w v) e
   fit (tuple_of ps) v e = elim v [ tuple vs ↦ fit_all ps vs e | _ ↦ None ]
-  fit (cons_of p q) v e = elim v [ list vs ↦ elim vs [ none ↦ None | more w ws ↦ and_then (fit p w e) (fit q (list ws)) ] | _ ↦ None ]
+  fit (cons_of p q) v e = elim v [
+    | list vs ↦ elim vs
+        [ none ↦ None | more w ws ↦ and_then (fit p w e) (fit q (list ws)) ]
+    | _ ↦ None
+  ]
   fit never v e = None
 
   pub fit_all : Patterns → Values → ValueScope → Option ValueScope
@@ -56,4 +63,5 @@ abbrev mutual
 
 -- the function of fit answers as the relation holds
 abbrev pub FitIsRelation : Type 0
-FitIsRelation = (p : Pattern) (v : Value) (before after : ValueScope) → (fit p v before ≡ Some after → Fits p v before after) × (Fits p v before after → fit p v before ≡ Some after)
+FitIsRelation = (p : Pattern) (v : Value) (before after : ValueScope)
+    → (fit p v before ≡ Some after → Fits p v before after) × (Fits p v before after → fit p v before ≡ Some after)

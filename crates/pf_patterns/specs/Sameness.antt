@@ -1,7 +1,8 @@
 -- Whether two patterns are the same.
 use Rattle.std.specs.Prelude.{Bool, true, false, ◌&&◌, ◌==◌}
 use Rattle.pf_terms.specs.Value.{same}
-use Rattle.pf_syntax.specs.Pattern.{Pattern, Patterns, any, new, slot, known, tuple_of, cons_of, never, no_patterns, pattern}
+use Rattle.pf_syntax.specs.Pattern.{Pattern, Patterns, any, new, slot, known, tuple_of, cons_of, never, no_patterns}
+use Rattle.pf_syntax.specs.Pattern.{pattern}
 
 abbrev mutual
   pub same_pattern : Pattern → Pattern → Bool

@@ -1,6 +1,7 @@
 -- How many nodes a pattern has.
 use Rattle.std.specs.Prelude.{ℕ, ◌+◌}
-use Rattle.pf_syntax.specs.Pattern.{Pattern, Patterns, any, new, slot, known, tuple_of, cons_of, never, no_patterns, pattern}
+use Rattle.pf_syntax.specs.Pattern.{Pattern, Patterns, any, new, slot, known, tuple_of, cons_of, never, no_patterns}
+use Rattle.pf_syntax.specs.Pattern.{pattern}
 
 abbrev mutual
   pub pattern_size : Pattern → ℕ

@@ -40,7 +40,8 @@ pub record IsBoundFrom (all : ValueScope) (n : ℕ) (these : ValueScope) : Type 
   pub few : length all < 2 ^ 32
 
 -- the fit of a part that binds these, where n were bound: how many then are
-pub record Walked (w : PatternWalk) (n : ℕ) (these : ValueScope) (meant : ValueScope → Option ValueScope) (result : Option ℕ) : Type 0 where
+pub record Walked (w : PatternWalk) (n : ℕ) (these : ValueScope) (meant : ValueScope → Option ValueScope)
+    (result : Option ℕ) : Type 0 where
   pub fit : meant (scope_at w n) ≡ option_map (scope_at w) result
   pub count : IfSome result (λ m. m ≡ n + length these)
 

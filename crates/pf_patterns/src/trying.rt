@@ -8,7 +8,8 @@ ghost use Rattle.pf_syntax.specs.Module.{literal_at, pattern_at};
 ghost use Rattle.pf_patterns.specs.Fit as spec;
 ghost use Rattle.pf_patterns.specs.Slots.{activation};
 ghost use Rattle.pf_patterns.specs.Bindings.{seen_value};
-ghost use Rattle.pf_patterns.specs.Walks.{cons_at, part_at, pattern_parts, scope_at, AllStandAt, AllWalkedAt, IsAtPart, WalkedAt};
+ghost use Rattle.pf_patterns.specs.Walks.{cons_at, part_at, pattern_parts, scope_at, AllStandAt, AllWalkedAt, IsAtPart};
+ghost use Rattle.pf_patterns.specs.Walks.{WalkedAt};
 
 use crate::finding::find;
 use crate::seen::{ValuePart, equal_seen};

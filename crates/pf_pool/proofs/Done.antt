@@ -9,19 +9,22 @@ use Rattle.pf_book.specs.Queued.{job_at}
 use Rattle.pf_book.proofs.Worked.{is_waiting, none_waiting, queued_at}
 use Rattle.pf_pool.proofs.Own.{own_job}
 use Rattle.pf_world.specs.World.{RunProfile, RunProgress, going, over, ClaimedRun, Hand, Deque}
-use Rattle.pf_world.specs.Chores.{Effect, MOST_PARKED, new_run, is_run_of, is_going, sliced, in_hand, onto_deque, claimed_as, hand_emptied, claim_effect, file_effect, chore_effect}
+use Rattle.pf_world.specs.Chores.{Effect, MOST_PARKED, new_run, is_run_of, is_going, sliced, in_hand, onto_deque}
+use Rattle.pf_world.specs.Chores.{claimed_as, hand_emptied, claim_effect, file_effect, chore_effect}
 use Rattle.pf_request.specs.declared.step.Chore.TheVariants.{Claim, Slice, Park, File, HandBack}
 use Rattle.pf_pool.specs.Hands.{is_free, hand_holds, holds_going}
 
 -- ---- tests
 
-both : (a g c : Bool) (x : Effect) → (a && g) ≡ true → c ≡ true → (if a then (if g && c then Some x else None) else None) ≡ Some x
+both : (a g c : Bool) (x : Effect) → (a && g) ≡ true → c ≡ true
+    → (if a then (if g && c then Some x else None) else None) ≡ Some x
 both true true true x h i = refl
 both true true false x h i = absurd (cc)
 both true false c x h i = absurd (cc)
 both false g c x h i = absurd (cc)
 
-not_first : (a g c : Bool) (x : Effect) → (a && g) ≡ false → (if a then (if g && c then Some x else None) else None) ≡ None
+not_first : (a g c : Bool) (x : Effect) → (a && g) ≡ false
+    → (if a then (if g && c then Some x else None) else None) ≡ None
 not_first true true c x h = absurd (cc)
 not_first true false c x h = refl
 not_first false g c x h = refl
@@ -45,7 +48,8 @@ module _ (p : RunProfile) (q t : ℕ) (d : Desk) where
 
   pub claim_unqueued : (rs : Deque) → job_at d.trials t ≡ None → chore_effect p q t Claim d None rs ≡ None
   claim_unqueued rs h =
-      ap (λ (b : Bool). claim_effect q t (held_at d.trials t) (if b then Some (after_claim d t) else None)) (none_waiting d.trials t h)
+      ap (λ (b : Bool). claim_effect q t (held_at d.trials t) (if b then Some (after_claim d t) else None))
+      (none_waiting d.trials t h)
       ∙ by (held_at d.trials t)
     where
       by : (o : Option Trial) → claim_effect q t o None ≡ None
@@ -57,19 +61,24 @@ module _ (p : RunProfile) (q t : ℕ) (d : Desk) where
   claim_queued j rs h =
       let waits = is_waiting d.trials t j h in
       let a = queued_at (held_at d.trials t) waits in
-      let same : j ≡ a.trial.job = subst (λ (o : Option Trial). IfSome o (λ x. j ≡ x.job)) a.is (own_job d.trials t j j h refl) in
-      let claims : claim_step d t ≡ Some (after_claim d t) = ap (λ (b : Bool). if b then Some (after_claim d t) else None) waits in
-      (λ n. claim_effect q t (a.is n) (claims n)) ∙ ap (λ (i : Job). Some (claimed_as (after_claim d t) (new_run q t i))) (sym same)
+      let same : j ≡ a.trial.job = subst (λ (o : Option Trial). IfSome o (λ x. j ≡ x.job)) a.is
+      (own_job d.trials t j j h refl) in
+      let claims : claim_step d t ≡ Some (after_claim d t) =
+      ap (λ (b : Bool). if b then Some (after_claim d t) else None) waits in
+      (λ n. claim_effect q t (a.is n) (claims n))
+      ∙ ap (λ (i : Job). Some (claimed_as (after_claim d t) (new_run q t i))) (sym same)
 
   -- ---- slices
 
-  pub slice_none : (n : ℕ) (h : Hand) (rs : Deque) → holds_going q t h ≡ false → chore_effect p q t (Slice n) d h rs ≡ None
+  pub slice_none : (n : ℕ) (h : Hand) (rs : Deque) → holds_going q t h ≡ false
+      → chore_effect p q t (Slice n) d h rs ≡ None
   slice_none n None rs h = refl
   slice_none n (Some r) rs h = not_first (is_run_of q t r) (is_going r.progress) (nat_lt 0 n) (in_hand (sliced p n r)) h
 
   pub slice_zero : (n : ℕ) (h : Hand) (rs : Deque) → nat_lt 0 n ≡ false → chore_effect p q t (Slice n) d h rs ≡ None
   slice_zero n None rs h = refl
-  slice_zero n (Some r) rs h = not_second (is_run_of q t r) (is_going r.progress) (nat_lt 0 n) (in_hand (sliced p n r)) h
+  slice_zero n (Some r) rs h = not_second (is_run_of q t r) (is_going r.progress) (nat_lt 0 n)
+      (in_hand (sliced p n r)) h
 
   pub slice_does : (n : ℕ) (r : ClaimedRun) (rs : Deque) → holds_going q t (Some r) ≡ true → nat_lt 0 n ≡ true
       → chore_effect p q t (Slice n) d (Some r) rs ≡ Some (in_hand (sliced p n r))
@@ -79,15 +88,20 @@ module _ (p : RunProfile) (q t : ℕ) (d : Desk) where
 
   pub park_none : (h : Hand) (rs : Deque) → holds_going q t h ≡ false → chore_effect p q t Park d h rs ≡ None
   park_none None rs h = refl
-  park_none (Some r) rs h = not_first (is_run_of q t r) (is_going r.progress) (nat_lt (length rs) MOST_PARKED) (onto_deque r rs) h
+  park_none (Some r) rs h = not_first (is_run_of q t r) (is_going r.progress) (nat_lt (length rs) MOST_PARKED)
+      (onto_deque r rs) h
 
-  pub park_full : (h : Hand) (rs : Deque) → nat_lt (length rs) MOST_PARKED ≡ false → chore_effect p q t Park d h rs ≡ None
+  pub park_full : (h : Hand) (rs : Deque) → nat_lt (length rs) MOST_PARKED ≡ false
+      → chore_effect p q t Park d h rs ≡ None
   park_full None rs h = refl
-  park_full (Some r) rs h = not_second (is_run_of q t r) (is_going r.progress) (nat_lt (length rs) MOST_PARKED) (onto_deque r rs) h
+  park_full (Some r) rs h = not_second (is_run_of q t r) (is_going r.progress) (nat_lt (length rs) MOST_PARKED)
+      (onto_deque r rs) h
 
-  pub park_does : (r : ClaimedRun) (rs : Deque) → holds_going q t (Some r) ≡ true → nat_lt (length rs) MOST_PARKED ≡ true
+  pub park_does : (r : ClaimedRun) (rs : Deque) → holds_going q t (Some r) ≡ true
+      → nat_lt (length rs) MOST_PARKED ≡ true
       → chore_effect p q t Park d (Some r) rs ≡ Some (onto_deque r rs)
-  park_does r rs h i = both (is_run_of q t r) (is_going r.progress) (nat_lt (length rs) MOST_PARKED) (onto_deque r rs) h i
+  park_does r rs h i = both (is_run_of q t r) (is_going r.progress) (nat_lt (length rs) MOST_PARKED)
+      (onto_deque r rs) h i
 
   -- ---- files
 
@@ -107,7 +121,8 @@ module _ (p : RunProfile) (q t : ℕ) (d : Desk) where
   pub file_does : (r : ClaimedRun) (rs : Deque) (m : FileMark) → is_run_of q t r ≡ true → r.progress ≡ over m
       → chore_effect p q t File d (Some r) rs ≡ Some (hand_emptied (file_step p.profile d t m))
   file_does r rs m own is =
-      ap (λ (b : Bool). if b then file_effect p t d r.progress else None) own ∙ ap (λ (g : RunProgress). file_effect p t d g) is
+      ap (λ (b : Bool). if b then file_effect p t d r.progress else None) own
+      ∙ ap (λ (g : RunProgress). file_effect p t d g) is
 
   -- ---- hand-backs
 
@@ -115,6 +130,7 @@ module _ (p : RunProfile) (q t : ℕ) (d : Desk) where
   back_none None rs h = refl
   back_none (Some r) rs h = ap (λ (b : Bool). if b then Some (hand_emptied (hand_back_step d t)) else None) h
 
-  pub back_does : (h : Hand) (rs : Deque) → hand_holds q t h ≡ true → chore_effect p q t HandBack d h rs ≡ Some (hand_emptied (hand_back_step d t))
+  pub back_does : (h : Hand) (rs : Deque) → hand_holds q t h ≡ true
+      → chore_effect p q t HandBack d h rs ≡ Some (hand_emptied (hand_back_step d t))
   back_does None rs h = absurd (cc)
   back_does (Some r) rs h = ap (λ (b : Bool). if b then Some (hand_emptied (hand_back_step d t)) else None) h

@@ -1,5 +1,6 @@
 -- What workers hold, and what becomes of it.
-use Rattle.std.specs.Prelude.{◌≡◌, ◌⊎◌, ℕ, Bool, true, false, ◌&&◌, List, Option, Some, None, Result, Ok, Err, slice_get, slice_set}
+use Rattle.std.specs.Prelude.{◌≡◌, ◌⊎◌, ℕ, Bool, true, false, ◌&&◌, List, Option, Some, None, Result, Ok, Err}
+use Rattle.std.specs.Prelude.{slice_get, slice_set}
 use Rattle.std.specs.Option.{option_flatten}
 use Rattle.pf_errors.specs.declared.memory.NoMemory.{NoMemory}
 use Rattle.pf_desks.specs.Desks.{work_done, not_now}
@@ -56,8 +57,10 @@ pub record RunCameTo (q t : ℕ) (x : ClaimedRun) (f : FinishedView) : Type 0 wh
 -- TakesFinished w q t hs f hs': the result of the run of a ticket is taken from a worker's hand, which is empty then;
 -- or the worker doesn't hold that run, or it isn't over, and all stays as it was
 abbrev pub TakesFinished : (worker project ticket : ℕ) → List Hand → Option FinishedView → List Hand → Type 0
-TakesFinished w q t hs (Some f) hs' = (x : ClaimedRun) × (slice_get hs w ≡ Some (Some x)) × RunCameTo q t x f × (hs' ≡ slice_set hs w None)
-TakesFinished w q t hs None hs' = ((hand_holds q t (held_of_worker hs w) ≡ false) ⊎ (holds_going q t (held_of_worker hs w) ≡ true)) × (hs' ≡ hs)
+TakesFinished w q t hs (Some f) hs' = (x : ClaimedRun) × (slice_get hs w ≡ Some (Some x)) × RunCameTo q t x f
+    × (hs' ≡ slice_set hs w None)
+TakesFinished w q t hs None hs' = ((hand_holds q t (held_of_worker hs w) ≡ false)
+    ⊎ (holds_going q t (held_of_worker hs w) ≡ true)) × (hs' ≡ hs)
 
 -- what it leaves if a worker takes the oldest run of a deque: its hand is empty, and the run is that of the ticket
 abbrev pub take_effect : (project ticket : ℕ) → Option Hand → Option Deque → Option Effect
@@ -67,4 +70,5 @@ take_effect q t h rs = None
 -- TakesUpRun w v q t s r s': a worker takes the oldest run of a worker's deque, or can't now
 abbrev pub TakesUpRun : (worker owner project ticket : ℕ) → World → Response → World → Type 0
 TakesUpRun w v q t s r s' =
-    ◌≡◌ {A = World × chores.Response} (with_effect s w v q (take_effect q t (slice_get s.hands w) (slice_get s.deques v))) (s', view_of_response r)
+    ◌≡◌ {A = World × chores.Response} (with_effect s w v q
+    (take_effect q t (slice_get s.hands w) (slice_get s.deques v))) (s', view_of_response r)

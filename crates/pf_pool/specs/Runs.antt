@@ -23,7 +23,13 @@ progress_in (Going p) = going p.at
 progress_in (Over f) = over (mark_of f.result)
 
 abbrev pub run_in : run.Inside → ClaimedRun
-run_in r = record { project = r.project; ticket = r.ticket; job = job_of_progress r.progress; progress = progress_in r.progress }
+run_in r = record {
+  project = r.project;
+  ticket = r.ticket;
+  job = job_of_progress r.progress;
+  progress =
+      progress_in r.progress;
+}
 
 -- an allocation failed in it
 abbrev pub is_memory : FileMark → Bool

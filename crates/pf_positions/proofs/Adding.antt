@@ -1,11 +1,13 @@
 -- Spots that are added one after another.
-use Rattle.std.proofs.Common.{◌≡◌, ℕ, zero, suc, ◌+◌, ◌<◌, ◌≤◌, List, [], ◌∷◌, ◌++◌, Some, None, refl, sym, ap, ◌∙◌, append_assoc, append-nil, length, get_or, drop}
+use Rattle.std.proofs.Common.{◌≡◌, ℕ, zero, suc, ◌+◌, ◌<◌, ◌≤◌, List, [], ◌∷◌, ◌++◌, Some, None, refl, sym, ap, ◌∙◌}
+use Rattle.std.proofs.Common.{append_assoc, append-nil, length, get_or, drop}
 use Rattle.std.specs.Prelude.{slice_get}
 use Rattle.std.proofs.lemmas.List.{at_drop_more, at_drop_all, drop_more}
 use Rattle.std.proofs.lemmas.Option.{get_or_from_slice_get, none-some, slice_get_within}
 
 -- more were added, and so less is left to add
-pub go_on : {X : Type 0} (before after more rest behind whole : List X) → after ≡ before ++ more → rest ≡ more ++ behind → before ++ rest ≡ whole
+pub go_on : {X : Type 0} (before after more rest behind whole : List X) → after ≡ before ++ more → rest ≡ more ++ behind
+    → before ++ rest ≡ whole
     → after ++ behind ≡ whole
 go_on before after more rest behind whole added left so_far =
     ap (λ xs. xs ++ behind) added ∙ append_assoc before more behind ∙ ap (λ xs. before ++ xs) (sym left) ∙ so_far
@@ -15,13 +17,15 @@ pub all_added : {X : Type 0} (before rest whole : List X) → rest ≡ [] → be
 all_added before rest whole none so_far = sym (append-nil before) ∙ ap (λ xs. before ++ xs) (sym none) ∙ so_far
 
 -- two additions in turn
-pub in_turn : {X : Type 0} (first second third more behind : List X) → second ≡ first ++ more → third ≡ second ++ behind → third ≡ first ++ (more ++ behind)
+pub in_turn : {X : Type 0} (first second third more behind : List X) → second ≡ first ++ more → third ≡ second ++ behind
+    → third ≡ first ++ (more ++ behind)
 in_turn first second third more behind one two = two ∙ ap (λ xs. xs ++ behind) one ∙ append_assoc first more behind
 
 -- ---- lists that are walked by index
 
 -- from an element on
-pub drop_at_some : {X : Type 0} (xs : List X) (i : ℕ) (x : X) → slice_get xs i ≡ Some x → drop i xs ≡ x ∷ drop (i + 1) xs
+pub drop_at_some : {X : Type 0} (xs : List X) (i : ℕ) (x : X) → slice_get xs i ≡ Some x
+    → drop i xs ≡ x ∷ drop (i + 1) xs
 drop_at_some xs i x e =
     drop_more xs i x (slice_get_within xs i x e) ∙ ap (λ y. y ∷ drop (i + 1) xs) (get_or_from_slice_get xs i x x e)
 
@@ -33,14 +37,18 @@ drop_at_none (x ∷ xs) zero e = absurd (none-some x (sym e))
 drop_at_none (x ∷ xs) (suc i) e = drop_at_none xs i e
 
 -- one element more of a walk over a list: F gives what it adds from there on, and G what the element itself does
-pub walked : {X Y : Type 0} (F : List X → List Y) (G : X → List Y) (step : (x : X) (xs : List X) → F (x ∷ xs) ≡ G x ++ F xs)
-    (xs : List X) (i : ℕ) (d : X) (before after whole : List Y) → i < length xs → after ≡ before ++ G (get_or xs i d) → before ++ F (drop i xs) ≡ whole
+pub walked : {X Y : Type 0} (F : List X → List Y) (G : X → List Y) (step : (x : X) (xs : List X)
+    → F (x ∷ xs) ≡ G x ++ F xs)
+    (xs : List X) (i : ℕ) (d : X) (before after whole : List Y) → i < length xs → after ≡ before ++ G (get_or xs i d)
+    → before ++ F (drop i xs) ≡ whole
     → after ++ F (drop (i + 1) xs) ≡ whole
 walked F G step xs i d before after whole lt added so_far =
     go_on before after (G (get_or xs i d)) (F (drop i xs)) (F (drop (i + 1) xs)) whole added
     (at_drop_more F xs i d lt ∙ step (get_or xs i d) (drop (i + 1) xs)) so_far
 
 -- the walk is at the end
-pub walked_all : {X Y : Type 0} (F : List X → List Y) (nothing : F [] ≡ []) (xs : List X) (i : ℕ) (before whole : List Y) → length xs ≤ i
+pub walked_all : {X Y : Type 0} (F : List X → List Y) (nothing : F [] ≡ []) (xs : List X) (i : ℕ)
+    (before whole : List Y) → length xs ≤ i
     → before ++ F (drop i xs) ≡ whole → before ≡ whole
-walked_all F nothing xs i before whole le so_far = all_added before (F (drop i xs)) whole (at_drop_all F xs i le ∙ nothing) so_far
+walked_all F nothing xs i before whole le so_far =
+    all_added before (F (drop i xs)) whole (at_drop_all F xs i le ∙ nothing) so_far

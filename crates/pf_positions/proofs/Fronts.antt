@@ -14,7 +14,8 @@ front_added f front before after x u at xu ua parted added =
     ap (tree_spots f) (sym xu) ∙ parted
     ∙ ap (λ (y : Tree). front y ++ spots_of_part f (last_part x)) (xu ∙ ua)
     ∙ ap (λ (y : Tree). front at ++ spots_of_part f (last_part y)) xu in
-    go_on before after (front at) (tree_spots f u) (spots_of_part f (last_part u)) (before ++ tree_spots f u) added whole refl
+    go_on before after (front at) (tree_spots f u) (spots_of_part f (last_part u)) (before ++ tree_spots f u)
+    added whole refl
 
 -- the walk goes on at the last part
 pub gone_on : (f : ℕ) (before after whole : List Spot) (u v : Tree) → last_part u ≡ Some v
@@ -25,6 +26,7 @@ gone_on f before after whole u v last added so_far =
 
 -- the walk ends with a tree that has no last part
 pub gone_through : (f : ℕ) (before after whole : List Spot) (u : Tree) → last_part u ≡ None
-    → after ++ spots_of_part f (last_part u) ≡ before ++ tree_spots f u → before ++ tree_spots f u ≡ whole → after ≡ whole
+    → after ++ spots_of_part f (last_part u) ≡ before ++ tree_spots f u → before ++ tree_spots f u ≡ whole
+    → after ≡ whole
 gone_through f before after whole u none added so_far =
     sym (append-nil after) ∙ ap (λ (o : Option Tree). after ++ spots_of_part f o) (sym none) ∙ added ∙ so_far

@@ -1,10 +1,12 @@
 -- The first part of a tree that takes a step.
-use Rattle.std.proofs.Common.{◌≡◌, ℕ, zero, suc, ◌+◌, ◌<◌, ◌≤◌, Bool, true, false, List, [], ◌∷◌, Option, Some, refl, sym, ap, ◌∙◌, drop, map, inl, inr, arith}
+use Rattle.std.proofs.Common.{◌≡◌, ℕ, zero, suc, ◌+◌, ◌<◌, ◌≤◌, Bool, true, false, List, [], ◌∷◌, Option, Some, refl}
+use Rattle.std.proofs.Common.{sym, ap, ◌∙◌, drop, map, inl, inr, arith}
 use Rattle.std.specs.Prelude.{find, if◌then◌else◌, ◌⊎◌}
 use Rattle.std.specs.Global.{Vec}
 use Rattle.std.proofs.lemmas.List.{drop-map}
 use Rattle.std.proofs.lemmas.Option.{none-some, same_Some}
-use Rattle.pf_syntax.specs.Tree.{Tree, Trees, lit, var, tuple, cons, op, neg, and_also, or_else, call, builtin, match, bind, case, if_expression, receive, send, no_trees, tree}
+use Rattle.pf_syntax.specs.Tree.{Tree, Trees, lit, var, tuple, cons, op, neg, and_also, or_else, call, builtin, match}
+use Rattle.pf_syntax.specs.Tree.{bind, case, if_expression, receive, send, no_trees, tree}
 use Rattle.pf_syntax.specs.Module.{Tables}
 use Rattle.pf_syntax.specs.Over.{part_over, parts_over, tree_over}
 use Rattle.pf_syntax.specs.declared.node.PatternId.{PatternId}
@@ -59,7 +61,8 @@ parts_of t (does.Send a b) = refl
 
 -- one operand, two or several, by the forms of nodes that have them
 pub one_operand : (n : Node) (a : Operand)
-    → (n ≡ does.Negate a) ⊎ (((x : Operand) × (n ≡ does.AndAlso a x)) ⊎ (((x : Operand) × (n ≡ does.OrElse a x)) ⊎ (((ps : Vec PatternId) × (n ≡ does.Match ps a))
+    → (n ≡ does.Negate a) ⊎ (((x : Operand) × (n ≡ does.AndAlso a x))
+    ⊎ (((x : Operand) × (n ≡ does.OrElse a x)) ⊎ (((ps : Vec PatternId) × (n ≡ does.Match ps a))
     ⊎ (((ps : Vec PatternId) × (r : Operand) × (n ≡ does.Bind ps a r)) ⊎ ((cs : Vec Clause) × (n ≡ does.Case a cs))))))
     → a ∷ [] ≡ operands n
 one_operand n a (inl e) = sym (ap operands e)
@@ -69,18 +72,21 @@ one_operand n a (inr (inr (inr (inl p)))) = sym (ap operands p.1)
 one_operand n a (inr (inr (inr (inr (inl p))))) = sym (ap operands p.2)
 one_operand n a (inr (inr (inr (inr (inr p))))) = sym (ap operands p.1)
 
-pub two_operands : (n : Node) (a b : Operand) → (n ≡ does.Cons a b) ⊎ (((o : Operator) × (n ≡ does.Binary o a b)) ⊎ (n ≡ does.Send a b)) → a ∷ b ∷ [] ≡ operands n
+pub two_operands : (n : Node) (a b : Operand)
+    → (n ≡ does.Cons a b) ⊎ (((o : Operator) × (n ≡ does.Binary o a b)) ⊎ (n ≡ does.Send a b)) → a ∷ b ∷ [] ≡ operands n
 two_operands n a b (inl e) = sym (ap operands e)
 two_operands n a b (inr (inl p)) = sym (ap operands p.1)
 two_operands n a b (inr (inr e)) = sym (ap operands e)
 
-pub several_operands : (n : Node) (ps : Vec Operand) → (n ≡ does.Tuple ps) ⊎ (((f : FunctionId) × (n ≡ does.Call f ps)) ⊎ ((f : Builtin) × (n ≡ does.Builtin f ps)))
+pub several_operands : (n : Node) (ps : Vec Operand)
+    → (n ≡ does.Tuple ps) ⊎ (((f : FunctionId) × (n ≡ does.Call f ps)) ⊎ ((f : Builtin) × (n ≡ does.Builtin f ps)))
     → ps.items ≡ operands n
 several_operands n ps (inl e) = sym (ap operands e)
 several_operands n ps (inr (inl p)) = sym (ap operands p.1)
 several_operands n ps (inr (inr p)) = sym (ap operands p.1)
 
-pub next_of : (t : Tables) (n : Node) (ps rest : List Operand) (done : ℕ) (u : Tree) (found : Option Tree) → tree_over t n ≡ u → ps ≡ operands n
+pub next_of : (t : Tables) (n : Node) (ps rest : List Operand) (done : ℕ) (u : Tree) (found : Option Tree)
+    → tree_over t n ≡ u → ps ≡ operands n
     → rest ≡ drop done ps → found ≡ find takes_step (map (part_over t) rest) → found ≡ next_part done u
 next_of t n ps rest done u found nu are behind is =
     is
@@ -103,13 +109,15 @@ none_found : (n : ℕ) (u : Tree) → find takes_step (drop n []) ≡ Some u →
 none_found zero u e = none-some u e
 none_found (suc n) u e = none-some u e
 
-found_here : (b : Bool) (t u : Tree) (rest : Option Tree) (m : ℕ) → (rest ≡ Some u → weight u ≤ m) → (if b then Some t else rest) ≡ Some u → weight u ≤ weight t + m
+found_here : (b : Bool) (t u : Tree) (rest : Option Tree) (m : ℕ) → (rest ≡ Some u → weight u ≤ m)
+    → (if b then Some t else rest) ≡ Some u → weight u ≤ weight t + m
 found_here true t u rest m h e = let w = ap weight (same_Some t u e) in omega arith
 found_here false t u rest m h e = let w = h e in omega arith
 
 found_lighter : (n : ℕ) (ts : Trees) (u : Tree) → find takes_step (drop n (tree_list ts)) ≡ Some u → weight u ≤ total ts
 found_lighter n no_trees u e = absurd (none_found n u e)
-found_lighter zero (tree t ts) u e = found_here (takes_step t) t u (find takes_step (tree_list ts)) (total ts) (found_lighter zero ts u) e
+found_lighter zero (tree t ts) u e = found_here (takes_step t) t u (find takes_step (tree_list ts)) (total ts)
+    (found_lighter zero ts u) e
 found_lighter (suc n) (tree t ts) u e = let h = found_lighter n ts u e in omega arith
 
 pub next_lighter : (n : ℕ) (t u : Tree) → next_part n t ≡ Some u → weight u < weight t

@@ -1,29 +1,37 @@
 -- Places that are set, sign by sign and spot by spot.
-use Rattle.std.proofs.Common.{◌≡◌, ◌<◌, ◌≤◌, ◌+◌, ℕ, Bool, true, false, List, [], Option, Some, None, refl, sym, ap, ◌∙◌, subst, length, take, inl, inr, arith}
+use Rattle.std.proofs.Common.{◌≡◌, ◌<◌, ◌≤◌, ◌+◌, ℕ, Bool, true, false, List, [], Option, Some, None, refl, sym, ap}
+use Rattle.std.proofs.Common.{◌∙◌, subst, length, take, inl, inr, arith}
 use Rattle.std.specs.Prelude.{IsSome, slice_get, ◌==◌, if◌then◌else◌}
 use Rattle.std.proofs.lemmas.Bool.{cases_lt, cases_eq}
 use Rattle.std.proofs.lemmas.Bool.Decides.{nat_tests}
 use Rattle.std.proofs.lemmas.Option.{none-some, same_Some, slice_get_within}
 use Rattle.pf_positions.specs.declared.sign.Sign.{Sign}
-use Rattle.pf_positions.specs.declared.sign.Sign.TheVariants.{Receive, Case, If, AndAlso, OrElse, Send, Match, Name, Brace, Plus, Minus, Times, Quotient, Remainder, Append, Equal, Unequal, Less, AtMost, Greater, AtLeast, Unwritten}
+use Rattle.pf_positions.specs.declared.sign.Sign.TheVariants.{Receive, Case, If, AndAlso, OrElse, Send, Match, Name}
+use Rattle.pf_positions.specs.declared.sign.Sign.TheVariants.{Brace, Plus, Minus, Times, Quotient, Remainder, Append}
+use Rattle.pf_positions.specs.declared.sign.Sign.TheVariants.{Equal, Unequal, Less, AtMost, Greater, AtLeast, Unwritten}
 use Rattle.pf_positions.specs.declared.spot.Spot.{Spot}
 use Rattle.pf_positions.specs.declared.written.WrittenSign.{WrittenSign}
 use Rattle.pf_positions.specs.declared.places.Position.{Position}
 use Rattle.pf_positions.specs.Signs.{sign_number}
-use Rattle.pf_positions.specs.Placed.{AreAmong, AreAmongBelow, IsPlaceAt, spots_with_sign, has_number, line_behind, spot_node, place_in, told_lines}
+use Rattle.pf_positions.specs.Placed.{AreAmong, AreAmongBelow, IsPlaceAt, spots_with_sign, has_number, line_behind}
+use Rattle.pf_positions.specs.Placed.{spot_node, place_in, told_lines}
 
 -- the places of the signs below a number, and of the spots before an index that have the sign of this number
-pub record SoFar (number : ℕ) (spots : List Spot) (ws : List WrittenSign) (index : ℕ) (places : List (Option Position)) : Type 0 where
+pub record SoFar (number : ℕ) (spots : List Spot) (ws : List WrittenSign) (index : ℕ)
+    (places : List (Option Position)) : Type 0 where
   pub each : (n : ℕ) (p : Position) → place_in places n ≡ Some p → (i : ℕ) × IsPlaceAt spots ws i n p
-  pub below : (i n : ℕ) (s : Spot) → slice_get spots i ≡ Some s → sign_number s.sign < number → spot_node s ≡ Some n → IsSome (place_in places n)
-  pub here : (i n : ℕ) (s : Spot) → i < index → slice_get spots i ≡ Some s → sign_number s.sign ≡ number → spot_node s ≡ Some n → IsSome (place_in places n)
+  pub below : (i n : ℕ) (s : Spot) → slice_get spots i ≡ Some s → sign_number s.sign < number → spot_node s ≡ Some n
+      → IsSome (place_in places n)
+  pub here : (i n : ℕ) (s : Spot) → i < index → slice_get spots i ≡ Some s → sign_number s.sign ≡ number
+      → spot_node s ≡ Some n → IsSome (place_in places n)
 
 -- ---- the whole
 
 no_place : (n : ℕ) (p : Position) → place_in [] n ≡ Some p → ⊥
 no_place n p e = cc
 
-pub none_yet : (spots : List Spot) (ws : List WrittenSign) (places : List (Option Position)) → places ≡ [] → AreAmongBelow 0 spots ws places
+pub none_yet : (spots : List Spot) (ws : List WrittenSign) (places : List (Option Position)) → places ≡ []
+    → AreAmongBelow 0 spots ws places
 none_yet spots ws places e = record {
   each = λ n p h. absurd (no_place n p (ap (λ ps. place_in ps n) (sym e) ∙ h));
   all = λ i n s h lt k. absurd (omega arith);
@@ -53,7 +61,8 @@ below_all Greater = omega arith
 below_all AtLeast = omega arith
 below_all Unwritten = omega arith
 
-pub all_signs : (number : ℕ) (spots : List Spot) (ws : List WrittenSign) (places : List (Option Position)) → 22 ≤ number → AreAmongBelow number spots ws places
+pub all_signs : (number : ℕ) (spots : List Spot) (ws : List WrittenSign) (places : List (Option Position)) → 22 ≤ number
+    → AreAmongBelow number spots ws places
     → AreAmong spots ws places
 all_signs number spots ws places le a = record {
   each = a.each;
@@ -62,11 +71,13 @@ all_signs number spots ws places le a = record {
 
 -- ---- one sign
 
-pub begun : (number : ℕ) (spots : List Spot) (ws : List WrittenSign) (places : List (Option Position)) → AreAmongBelow number spots ws places
+pub begun : (number : ℕ) (spots : List Spot) (ws : List WrittenSign) (places : List (Option Position))
+    → AreAmongBelow number spots ws places
     → SoFar number spots ws 0 places
 begun number spots ws places a = record { each = a.each; below = a.all; here = λ i n s lt h e k. absurd (omega arith) }
 
-pub ended : (number : ℕ) (spots : List Spot) (ws : List WrittenSign) (index : ℕ) (places : List (Option Position)) → length spots ≤ index
+pub ended : (number : ℕ) (spots : List Spot) (ws : List WrittenSign) (index : ℕ) (places : List (Option Position))
+    → length spots ≤ index
     → SoFar number spots ws index places → AreAmongBelow (number + 1) spots ws places
 ended number spots ws index places le a = record {
   each = a.each;
@@ -79,7 +90,8 @@ ended number spots ws index places le a = record {
 -- ---- one spot
 
 -- it has another sign
-pub other_sign : (number : ℕ) (spots : List Spot) (ws : List WrittenSign) (index : ℕ) (places : List (Option Position)) (s : Spot)
+pub other_sign : (number : ℕ) (spots : List Spot) (ws : List WrittenSign) (index : ℕ)
+    (places : List (Option Position)) (s : Spot)
     → slice_get spots index ≡ Some s → has_number number s.sign ≡ false → SoFar number spots ws index places
     → SoFar number spots ws (index + 1) places
 other_sign number spots ws index places s at other a = record {
@@ -95,7 +107,8 @@ other_sign number spots ws index places s at other a = record {
 }
 
 -- it is the sign of no node
-pub no_node : (number : ℕ) (spots : List Spot) (ws : List WrittenSign) (index : ℕ) (places : List (Option Position)) (s : Spot)
+pub no_node : (number : ℕ) (spots : List Spot) (ws : List WrittenSign) (index : ℕ)
+    (places : List (Option Position)) (s : Spot)
     → slice_get spots index ≡ Some s → spot_node s ≡ None → SoFar number spots ws index places
     → SoFar number spots ws (index + 1) places
 no_node number spots ws index places s at none a = record {
@@ -113,7 +126,8 @@ no_node number spots ws index places s at none a = record {
 abbrev IsPut : (before after : List (Option Position)) (node : ℕ) → Position → Type 0
 IsPut before after node place = (n : ℕ) → place_in after n ≡ if n == node then Some place else place_in before n
 
-some_kept : (before after : List (Option Position)) (node : ℕ) (place : Position) → IsPut before after node place → (n : ℕ) → IsSome (place_in before n)
+some_kept : (before after : List (Option Position)) (node : ℕ) (place : Position) → IsPut before after node place
+    → (n : ℕ) → IsSome (place_in before n)
     → IsSome (place_in after n)
 some_kept before after node place put n some = kept (n == node) (place_in before n) (place_in after n) (put n) some
   where
@@ -121,7 +135,8 @@ some_kept before after node place put n some = kept (n == node) (place_in before
     kept true x y e h = subst IsSome (sym e) refl
     kept false x y e h = subst IsSome (sym e) h
 
-pub put_here : (number : ℕ) (spots : List Spot) (ws : List WrittenSign) (index : ℕ) (before after : List (Option Position)) (s : Spot) (node : ℕ) (place : Position)
+pub put_here : (number : ℕ) (spots : List Spot) (ws : List WrittenSign) (index : ℕ)
+    (before after : List (Option Position)) (s : Spot) (node : ℕ) (place : Position)
     → slice_get spots index ≡ Some s → spot_node s ≡ Some node
     → place ≡ record { function = s.function; line = line_behind spots ws (take index spots) s.sign }
     → IsPut before after node place → SoFar number spots ws index before → SoFar number spots ws (index + 1) after
@@ -151,8 +166,10 @@ abbrev pub no_spot : Spot
 no_spot = record { sign = Receive; function = record { 0 = 0 }; node = None }
 
 -- the line of this rank is that of the spot
-pub line_is : (number : ℕ) (spots : List Spot) (ws : List WrittenSign) (i : ℕ) (s : Sign) (shown lines : List ℕ) (rank : ℕ) (line : Option ℕ)
-    → has_number number s ≡ true → shown ≡ lines → lines ≡ told_lines number spots ws → rank ≡ spots_with_sign number (take i spots) → line ≡ slice_get shown rank
+pub line_is : (number : ℕ) (spots : List Spot) (ws : List WrittenSign) (i : ℕ) (s : Sign) (shown lines : List ℕ)
+    (rank : ℕ) (line : Option ℕ)
+    → has_number number s ≡ true → shown ≡ lines → lines ≡ told_lines number spots ws
+    → rank ≡ spots_with_sign number (take i spots) → line ≡ slice_get shown rank
     → line ≡ line_behind spots ws (take i spots) s
 line_is number spots ws i s shown lines rank line has same are ranked read =
     let is : number ≡ sign_number s = grind (arith, nat_tests, has) in

@@ -1,9 +1,13 @@
 -- How much there is to walk in a pattern and in a tree: a part has less than what it is part of.
 use Rattle.std.proofs.Common.{◌≡◌, ℕ, zero, suc, ◌+◌, ◌<◌, List, [], ◌∷◌, Some, length, get_or, refl, ap, arith}
-use Rattle.pf_syntax.specs.Pattern.{Pattern, Patterns, any, new, slot, known, tuple_of, cons_of, never, no_patterns, pattern}
-use Rattle.pf_syntax.specs.Tree.{Tree, Trees, Clauses, Guard, lit, var, tuple, cons, op, neg, and_also, or_else, call, builtin, match, bind, case, if_expression, receive, send, no_trees, tree, no_clauses, clause, no_alternatives, alternative}
+use Rattle.pf_syntax.specs.Pattern.{Pattern, Patterns, any, new, slot, known, tuple_of, cons_of, never, no_patterns}
+use Rattle.pf_syntax.specs.Pattern.{pattern}
+use Rattle.pf_syntax.specs.Tree.{Tree, Trees, Clauses, Guard, lit, var, tuple, cons, op, neg, and_also, or_else, call}
+use Rattle.pf_syntax.specs.Tree.{builtin, match, bind, case, if_expression, receive, send, no_trees, tree, no_clauses}
+use Rattle.pf_syntax.specs.Tree.{clause, no_alternatives, alternative}
 use Rattle.pf_syntax.specs.Module.{Tables, pattern_at}
-use Rattle.pf_syntax.specs.Over.{patterns_at, part_over, parts_over, guard_over, guard_from, alternatives_over, clauses_over}
+use Rattle.pf_syntax.specs.Over.{patterns_at, part_over, parts_over, guard_over, guard_from, alternatives_over}
+use Rattle.pf_syntax.specs.Over.{clauses_over}
 use Rattle.pf_syntax.specs.declared.node.PatternId.{PatternId}
 use Rattle.pf_syntax.specs.declared.node.Operand.{Operand}
 use Rattle.pf_syntax.specs.declared.node.Alternative.{Alternative}
@@ -86,7 +90,8 @@ alternative_lighter t (g ∷ gs) zero d lt = omega arith
 alternative_lighter t (g ∷ gs) (suc i) d lt = let h = alternative_lighter t gs i d (omega arith) in omega arith
 
 -- where there are alternatives, the guard is made of them
-pub guard_of_some : (t : Tables) (gs : List Alternative) (i : ℕ) → i < length gs → guard_from t gs ≡ alternatives_over t gs
+pub guard_of_some : (t : Tables) (gs : List Alternative) (i : ℕ) → i < length gs
+    → guard_from t gs ≡ alternatives_over t gs
 guard_of_some t [] i lt = absurd (omega arith)
 guard_of_some t (g ∷ gs) i lt = refl
 

@@ -7,4 +7,5 @@ use Rattle.pf_positions.specs.Spots.{Spot, guard_spots, pattern_spots, tree_spot
 
 -- those of its pattern, of its guard and of its body
 abbrev pub clause_spots : Tables → ℕ → Clause → List Spot
-clause_spots t f c = pattern_spots f (pattern_at t c.pattern.0) ++ (guard_spots f (guard_over t c.guard) ++ tree_spots f (part_over t c.body))
+clause_spots t f c = pattern_spots f (pattern_at t c.pattern.0)
+    ++ (guard_spots f (guard_over t c.guard) ++ tree_spots f (part_over t c.body))

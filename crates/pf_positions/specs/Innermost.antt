@@ -1,6 +1,7 @@
 -- Where a process is in a tree of which it worked out some parts.
 use Rattle.std.specs.Prelude.{◌≡◌, ℕ, Bool, true, false, if◌then◌else◌, List, [], ◌∷◌, Option, Some, None, drop, find}
-use Rattle.pf_syntax.specs.Tree.{Tree, Trees, lit, var, tuple, cons, op, neg, and_also, or_else, call, builtin, match, bind, case, if_expression, receive, send, no_trees, tree}
+use Rattle.pf_syntax.specs.Tree.{Tree, Trees, lit, var, tuple, cons, op, neg, and_also, or_else, call, builtin, match}
+use Rattle.pf_syntax.specs.Tree.{bind, case, if_expression, receive, send, no_trees, tree}
 
 abbrev pub tree_list : Trees → List Tree
 tree_list no_trees = []

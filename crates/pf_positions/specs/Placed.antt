@@ -1,5 +1,6 @@
 -- The places of nodes.
-use Rattle.std.specs.Prelude.{◌≡◌, ℕ, ◌<◌, Bool, ◌==◌, if◌then◌else◌, List, [], Option, Some, None, IsSome, length, take, map, filter, count_by, option_map, slice_get, slice_index_or}
+use Rattle.std.specs.Prelude.{◌≡◌, ℕ, ◌<◌, Bool, ◌==◌, if◌then◌else◌, List, [], Option, Some, None, IsSome, length}
+use Rattle.std.specs.Prelude.{take, map, filter, count_by, option_map, slice_get, slice_index_or}
 use Rattle.pf_syntax.specs.Module.{Checked}
 use Rattle.pf_positions.specs.Signs.{sign_number}
 use Rattle.pf_positions.specs.Spots.{spots_of}
@@ -52,9 +53,11 @@ pub record AreAmong (spots : List Spot) (ws : List WrittenSign) (places : List (
   pub all : (i n : ℕ) (s : Spot) → slice_get spots i ≡ Some s → spot_node s ≡ Some n → IsSome (place_in places n)
 
 -- the same, of the signs below this number alone
-pub record AreAmongBelow (number : ℕ) (spots : List Spot) (ws : List WrittenSign) (places : List (Option Position)) : Type 0 where
+pub record AreAmongBelow (number : ℕ) (spots : List Spot) (ws : List WrittenSign)
+    (places : List (Option Position)) : Type 0 where
   pub each : (n : ℕ) (p : Position) → place_in places n ≡ Some p → (i : ℕ) × IsPlaceAt spots ws i n p
-  pub all : (i n : ℕ) (s : Spot) → slice_get spots i ≡ Some s → sign_number s.sign < number → spot_node s ≡ Some n → IsSome (place_in places n)
+  pub all : (i n : ℕ) (s : Spot) → slice_get spots i ≡ Some s → sign_number s.sign < number → spot_node s ≡ Some n
+      → IsSome (place_in places n)
 
 -- the places of the nodes of a module that was read from this source, by numbers
 pub record ArePlaces (m : Checked) (source : List ℕ) (places : List (Option Position)) : Type 0 where

@@ -1,7 +1,9 @@
 -- The signs of nodes.
 use Rattle.std.specs.Prelude.{ℕ}
 use Rattle.pf_positions.specs.declared.sign.Sign.{Sign}
-use Rattle.pf_positions.specs.declared.sign.Sign.TheVariants.{Receive, Case, If, AndAlso, OrElse, Send, Match, Name, Brace, Plus, Minus, Times, Quotient, Remainder, Append, Equal, Unequal, Less, AtMost, Greater, AtLeast, Unwritten}
+use Rattle.pf_positions.specs.declared.sign.Sign.TheVariants.{Receive, Case, If, AndAlso, OrElse, Send, Match, Name}
+use Rattle.pf_positions.specs.declared.sign.Sign.TheVariants.{Brace, Plus, Minus, Times, Quotient, Remainder, Append}
+use Rattle.pf_positions.specs.declared.sign.Sign.TheVariants.{Equal, Unequal, Less, AtMost, Greater, AtLeast, Unwritten}
 use Rattle.pf_syntax.specs.declared.operator.Operator.TheVariants as operators
 use Rattle.pf_syntax.specs.declared.operator.Operator.{Operator}
 

@@ -1,11 +1,15 @@
 -- The spots of a module: the signs of its nodes, in the order of the text.
-use Rattle.std.specs.Prelude.{ℕ, ◌+◌, Bool, false, if◌then◌else◌, List, [], ◌∷◌, ◌++◌, Option, Some, None, flat_map, pos, int_lt}
+use Rattle.std.specs.Prelude.{ℕ, ◌+◌, Bool, false, if◌then◌else◌, List, [], ◌∷◌, ◌++◌, Option, Some, None, flat_map}
+use Rattle.std.specs.Prelude.{pos, int_lt}
 use Rattle.pf_terms.specs.Value.{Value, int}
 use Rattle.pf_syntax.specs.Pattern.{Pattern, Patterns, known, tuple_of, cons_of, no_patterns, pattern}
-use Rattle.pf_syntax.specs.Tree.{Tree, Trees, Clauses, Guard, lit, var, tuple, cons, op, neg, and_also, or_else, call, builtin, match, bind, case, if_expression, receive, send, no_trees, tree, no_clauses, clause, no_alternatives, alternative, Function, FunctionClause, Program}
+use Rattle.pf_syntax.specs.Tree.{Tree, Trees, Clauses, Guard, lit, var, tuple, cons, op, neg, and_also, or_else, call}
+use Rattle.pf_syntax.specs.Tree.{builtin, match, bind, case, if_expression, receive, send, no_trees, tree, no_clauses}
+use Rattle.pf_syntax.specs.Tree.{clause, no_alternatives, alternative, Function, FunctionClause, Program}
 use Rattle.pf_syntax.specs.Module.{Checked}
 use Rattle.pf_positions.specs.declared.sign.Sign.{Sign}
-use Rattle.pf_positions.specs.declared.sign.Sign.TheVariants.{Receive, Case, If, AndAlso, OrElse, Send, Match, Name, Brace, Minus, Unwritten}
+use Rattle.pf_positions.specs.declared.sign.Sign.TheVariants.{Receive, Case, If, AndAlso, OrElse, Send, Match, Name}
+use Rattle.pf_positions.specs.declared.sign.Sign.TheVariants.{Brace, Minus, Unwritten}
 use Rattle.pf_positions.specs.Signs.{operator_sign}
 
 -- a spot: a sign, the function in which it is, and the node that it is the sign of, if it is one's

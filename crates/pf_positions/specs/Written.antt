@@ -1,5 +1,6 @@
 -- The signs of a source: which of its tokens are some, and on which line each is.
-use Rattle.std.specs.Prelude.{◌≡◌, ℕ, ◌+◌, Bool, true, false, not, if◌then◌else◌, ◌==◌, List, [], ◌∷◌, ◌++◌, Option, Some, None, take, count_by}
+use Rattle.std.specs.Prelude.{◌≡◌, ℕ, ◌+◌, Bool, true, false, not, if◌then◌else◌, ◌==◌, List, [], ◌∷◌, ◌++◌, Option}
+use Rattle.std.specs.Prelude.{Some, None, take, count_by}
 use Rattle.pf_tokens.specs.Rules.{HasTokens, HasSomeFault}
 use Rattle.pf_tokens.specs.TokenKinds.{TokenKind, PlacedToken}
 use Rattle.pf_tokens.specs.TokenKinds as token
@@ -94,5 +95,6 @@ signs_of source (t ∷ ts) = sign_at (line_at source t.start) (token_sign t.kind
 
 -- the signs of a source; a source with a fault has none
 pub data AreSignsOf (source : List ℕ) (ws : List WrittenSign) : Type 0 where
-  read : (tokens : List PlacedToken) → HasTokens source tokens → ws ≡ signs_of source (functions_in false tokens) → AreSignsOf source ws
+  read : (tokens : List PlacedToken) → HasTokens source tokens → ws ≡ signs_of source (functions_in false tokens)
+      → AreSignsOf source ws
   refused : HasSomeFault source → ws ≡ [] → AreSignsOf source ws

@@ -5,7 +5,8 @@ ghost use Rattle.pf_terms.specs.Term.{value_of};
 ghost use Rattle.pf_syntax.specs.Module.{literal_at, pattern_at, tree_at};
 ghost use Rattle.pf_syntax.specs.Over.{patterns_at};
 ghost use Rattle.pf_positions.specs.Added.{AreAdded};
-ghost use Rattle.pf_positions.specs.Spots.{before_value, equations, is_negative, minus_if, pattern_spots, patterns_spots, value_spots};
+ghost use Rattle.pf_positions.specs.Spots.{before_value, equations, is_negative, minus_if, pattern_spots};
+ghost use Rattle.pf_positions.specs.Spots.{patterns_spots, value_spots};
 
 use crate::sign::Sign;
 use crate::spot::{Home, Spot};

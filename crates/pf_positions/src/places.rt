@@ -3,7 +3,8 @@
 ghost use Rattle.std.specs.Prelude.{◌≡◌, ◌+◌, ◌==◌, [], ℕ, IfOk, OnOk, Some, if◌then◌else◌, slice_get, unwrap_or};
 ghost use Rattle.pf_syntax.specs.Module.{tree_at};
 ghost use Rattle.pf_positions.specs.Innermost.{IsInnermostAt};
-ghost use Rattle.pf_positions.specs.Placed.{AreAmongBelow, ArePlaces, spots_with_sign, has_number, sign_lines, place_in, told_lines};
+ghost use Rattle.pf_positions.specs.Placed.{AreAmongBelow, ArePlaces, spots_with_sign, has_number, sign_lines};
+ghost use Rattle.pf_positions.specs.Placed.{place_in, told_lines};
 
 use crate::functions::spots_of;
 use crate::innermost::innermost;

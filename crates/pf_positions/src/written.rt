@@ -3,7 +3,8 @@
 ghost use Rattle.std.specs.Prelude.{◌≡◌, ◌<◌, ◌≤◌, ◌^◌, ◌==◌, IfOk, count_by, false, length, map};
 ghost use Rattle.pf_tokens.specs.Rules.{IsOrdered};
 ghost use Rattle.pf_tokens.specs.TokenKinds.{kind_of, placed_of};
-ghost use Rattle.pf_positions.specs.Written.{AreSignsOf, functions_in, is_dot, is_minus, line_at, mark_sign, name_sign, signs_of, token_sign, word_sign};
+ghost use Rattle.pf_positions.specs.Written.{AreSignsOf, functions_in, is_dot, is_minus, line_at, mark_sign, name_sign};
+ghost use Rattle.pf_positions.specs.Written.{signs_of, token_sign, word_sign};
 
 use crate::sign::Sign;
 use pf_errors::{NoMemory, OrNoMemory};

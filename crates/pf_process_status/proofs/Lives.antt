@@ -1,5 +1,7 @@
 -- Who lives after an event of a run, by what it shows, and which pid a process has that begins.
-use Rattle.std.proofs.Common.{◌≡◌, ◌<◌, ℕ, zero, suc, Bool, true, false, not, ◌&&◌, if◌then◌else◌, nat_lt, ◌==◌, List, [], ◌∷◌, ◌++◌, length, map, slice_set, Option, Some, None, Result, Ok, Err, refl, sym, ap, ◌∙◌, subst, arith}
+use Rattle.std.proofs.Common.{◌≡◌, ◌<◌, ℕ, zero, suc, Bool, true, false, not, ◌&&◌, if◌then◌else◌, nat_lt, ◌==◌, List}
+use Rattle.std.proofs.Common.{[], ◌∷◌, ◌++◌, length, map, slice_set, Option, Some, None, Result, Ok, Err, refl, sym, ap}
+use Rattle.std.proofs.Common.{◌∙◌, subst, arith}
 use Rattle.std.specs.Prelude.{IfSome, is_some, slice_get}
 use Rattle.std.proofs.lemmas.List.{length-map}
 use Rattle.std.proofs.lemmas.Option.{same_Some}
@@ -9,13 +11,20 @@ use Rattle.pf_syntax.specs.Tree.{Clauses}
 use Rattle.pf_model.specs.Module.{Module, exported_as}
 use Rattle.pf_model.specs.Channels as signal
 use Rattle.pf_model.specs.Channels.{Signal}
-use Rattle.pf_model.specs.Context.{Frame, ProcessState, running, waiting, ending, ended, End, returned, failed, Move, goes_on, asks, awaits, returns}
-use Rattle.pf_model.specs.Contraction.{Act, send, spawn, link, unlink, monitor, demonitor, exit_other, set_flag, register, unregister, whereis, make_ref}
+use Rattle.pf_model.specs.Context.{Frame, ProcessState, running, waiting, ending, ended, End, returned, failed, Move}
+use Rattle.pf_model.specs.Context.{goes_on, asks, awaits, returns}
+use Rattle.pf_model.specs.Contraction.{Act, send, spawn, link, unlink, monitor, demonitor, exit_other, set_flag}
+use Rattle.pf_model.specs.Contraction.{register, unregister, whereis, make_ref}
 use Rattle.pf_model.specs.declared.bond.Bond.{Bond}
 use Rattle.pf_model.specs.declared.bond.Bond.TheVariants.{Unbound, Linking, Watching}
-use Rattle.pf_model.specs.Configuration.{Configuration, Core, Process, fresh, is_alive, of, process_at, with_process, with_state}
-use Rattle.pf_model.specs.Actions.{Acted, acted, and_flushed, as_atom, as_elements, as_pid, as_reference, begun, demonitored, demonitored_so, flag_set, given, linked_to, may_register, monitored, only_if, raising, receiver, registered, spawned, start_of, unlinked_from, unregistered}
-use Rattle.pf_model.specs.Deliveries.{Deed, at_ended, at_living, changes, delivered, down_at, drops, ends_with, exit_at, exit_by_link_at, exit_message, with_message, woken}
+use Rattle.pf_model.specs.Configuration.{Configuration, Core, Process, fresh, is_alive, of, process_at, with_process}
+use Rattle.pf_model.specs.Configuration.{with_state}
+use Rattle.pf_model.specs.Actions.{Acted, acted, and_flushed, as_atom, as_elements, as_pid, as_reference, begun}
+use Rattle.pf_model.specs.Actions.{demonitored, demonitored_so, flag_set, given, linked_to, may_register, monitored}
+use Rattle.pf_model.specs.Actions.{only_if, raising, receiver, registered, spawned, start_of, unlinked_from}
+use Rattle.pf_model.specs.Actions.{unregistered}
+use Rattle.pf_model.specs.Deliveries.{Deed, at_ended, at_living, changes, delivered, down_at, drops, ends_with, exit_at}
+use Rattle.pf_model.specs.Deliveries.{exit_by_link_at, exit_message, with_message, woken}
 use Rattle.pf_model.specs.Ends.{ended_by}
 use Rattle.pf_model.specs.Flush.{flushes}
 use Rattle.pf_model.specs.Labels.{Label, as_message}
@@ -24,7 +33,8 @@ use Rattle.pf_model.specs.Receive.{Taken, selected}
 use Rattle.pf_model.specs.Runs.{Passed, Passes, turn, delivery}
 use Rattle.pf_model.specs.declared.report.Actor.{Actor}
 use Rattle.pf_model.specs.declared.report.Actor.TheVariants as actors
-use Rattle.pf_model.specs.Turns.{Turn, cut_running, cut_ending, end, contraction, act, after_act, with_answer, ended_so, last_of_turn, received}
+use Rattle.pf_model.specs.Turns.{Turn, cut_running, cut_ending, end, contraction, act, after_act, with_answer, ended_so}
+use Rattle.pf_model.specs.Turns.{last_of_turn, received}
 use Rattle.pf_system.proofs.Bodies.{map_more, more_length, set_length, set_map}
 use Rattle.pf_system.proofs.Delivering.{at_set}
 use Rattle.pf_process_status.specs.Fates.{begun_in, who_ends}
@@ -106,7 +116,8 @@ module _ (c : Core) (a : ℕ) (here : lives (of c a) ≡ true) where
   raises : (e : Value) → Steady c a (raising c e)
   raises e = record { here = here; shows = refl; next = tt }
 
-  steady_given : {T : Type 0} (o : Option T) (go : T → Acted) → ((x : T) → Steady c a (go x)) → Steady c a (given c o go)
+  steady_given : {T : Type 0} (o : Option T) (go : T → Acted) → ((x : T) → Steady c a (go x))
+      → Steady c a (given c o go)
   steady_given None go h = raises _
   steady_given (Some x) go h = h x
 
@@ -132,7 +143,8 @@ module _ (c : Core) (a : ℕ) (here : lives (of c a) ≡ true) where
   more_here p q e =
       ap lives (at_more (slice_set c.processes a p) a q (in_range (slice_set c.processes a p) a (on p e))) ∙ on p e
 
-  more_live : (p q : Process) → Alike p → lives q ≡ true → map lives (slice_set c.processes a p ++ q ∷ []) ≡ lives_in c ++ true ∷ []
+  more_live : (p q : Process) → Alike p → lives q ≡ true
+      → map lives (slice_set c.processes a p ++ q ∷ []) ≡ lives_in c ++ true ∷ []
   more_live p q e l =
       map_more lives (slice_set c.processes a p) q ∙ ap (λ b. map lives (slice_set c.processes a p) ++ b ∷ []) l
       ∙ ap (λ bs. bs ++ true ∷ []) (same_lives p e)
@@ -156,18 +168,21 @@ module _ (c : Core) (a : ℕ) (here : lives (of c a) ≡ true) where
 
   unlinked_steady : (p : ℕ) → Steady c a (unlinked_from c a p)
   unlinked_steady p =
-      by_test _ _ _ (record { here = on _ refl; shows = same_lives _ refl; next = tt }) (record { here = here; shows = refl; next = tt })
+      by_test _ _ _ (record { here = on _ refl; shows = same_lives _ refl; next = tt })
+      (record { here = here; shows = refl; next = tt })
 
   linked_steady : (p : ℕ) → Steady c a (linked_to c a p)
   linked_steady p =
-      by_test _ _ _ (record { here = here; shows = refl; next = tt }) (record { here = on _ refl; shows = same_lives _ refl; next = tt })
+      by_test _ _ _ (record { here = here; shows = refl; next = tt })
+      (record { here = on _ refl; shows = same_lives _ refl; next = tt })
 
   demonitored_steady : (r : ℕ) (o : Option ℕ) → Steady c a (demonitored c a r o)
   demonitored_steady r None = record { here = here; shows = refl; next = tt }
   demonitored_steady r (Some p) = record { here = on _ refl; shows = same_lives _ refl; next = tt }
 
   -- a flush after an action of which nothing began or ended
-  flushed_steady : (r : ℕ) (x : Acted) → lives (of x.left.core a) ≡ true → lives_in x.left.core ≡ lives_in c → Steady c a (and_flushed a r x)
+  flushed_steady : (r : ℕ) (x : Acted) → lives (of x.left.core a) ≡ true → lives_in x.left.core ≡ lives_in c
+      → Steady c a (and_flushed a r x)
   flushed_steady r x h e = record {
     here = lives_on x.left.core a _ h h;
     shows = kept x.left.core a _ h h ∙ e;
@@ -185,25 +200,32 @@ module _ (c : Core) (a : ℕ) (here : lives (of c a) ≡ true) where
   acted_steady : (m : Module) (x : Act) → Steady c a (acted m c a x)
   acted_steady m (send to v) = steady_given (receiver c to) _ (λ b. record { here = here; shows = refl; next = tt })
   acted_steady m (spawn b w f vs) =
-      steady_given (as_atom w) _ (λ home. steady_given (as_atom f) (λ name. given c (as_elements vs) (λ arguments. spawned c a b (start_of m home name arguments)))
+      steady_given (as_atom w) _ (λ home. steady_given (as_atom f)
+      (λ name. given c (as_elements vs) (λ arguments. spawned c a b (start_of m home name arguments)))
       (λ name. steady_given (as_elements vs) (λ arguments. spawned c a b (start_of m home name arguments))
-      (λ arguments. spawns_steady b (start_of m home name arguments) (begun_lives (called m home name arguments) arguments))))
+      (λ arguments. spawns_steady b (start_of m home name arguments)
+      (begun_lives (called m home name arguments) arguments))))
   acted_steady m (link p) = steady_given (as_pid p) (linked_to c a) linked_steady
   acted_steady m (unlink p) = steady_given (as_pid p) (unlinked_from c a) unlinked_steady
   acted_steady m (monitor k p) =
       steady_given (as_pid p) (λ b. only_if c (same k process_atom) (monitored c a b))
-      (λ b. steady_if (same k process_atom) (monitored c a b) (record { here = on _ refl; shows = same_lives _ refl; next = tt }))
+      (λ b. steady_if (same k process_atom) (monitored c a b)
+      (record { here = on _ refl; shows = same_lives _ refl; next = tt }))
   acted_steady m (demonitor r o) =
-      steady_given (as_reference r) (λ x. given c (flushes o) (demonitored_so c a x)) (λ x. steady_given (flushes o) (demonitored_so c a x) (demonitored_so_steady x))
+      steady_given (as_reference r) (λ x. given c (flushes o) (demonitored_so c a x))
+      (λ x. steady_given (flushes o) (demonitored_so c a x) (demonitored_so_steady x))
   acted_steady m (exit_other p r) = steady_given (as_pid p) _ (λ b. record { here = here; shows = refl; next = tt })
   acted_steady m (set_flag k v) =
       steady_given _ (λ b. only_if c (same k trap_exit) (flag_set c a b))
-      (λ b. steady_if (same k trap_exit) (flag_set c a b) (record { here = on _ refl; shows = same_lives _ refl; next = tt }))
+      (λ b. steady_if (same k trap_exit) (flag_set c a b)
+      (record { here = on _ refl; shows = same_lives _ refl; next = tt }))
   acted_steady m (register n p) =
       steady_given (as_atom n) (λ x. given c (as_pid p) (registered c x))
-      (λ x. steady_given (as_pid p) (registered c x) (λ y. steady_if (may_register c x y) _ (record { here = here; shows = refl; next = tt })))
+      (λ x. steady_given (as_pid p) (registered c x)
+      (λ y. steady_if (may_register c x y) _ (record { here = here; shows = refl; next = tt })))
   acted_steady m (unregister n) =
-      steady_given (as_atom n) (unregistered c) (λ x. steady_if (is_some (got x c.names)) _ (record { here = here; shows = refl; next = tt }))
+      steady_given (as_atom n) (unregistered c)
+      (λ x. steady_if (is_some (got x c.names)) _ (record { here = here; shows = refl; next = tt }))
   acted_steady m (whereis n) = steady_given (as_atom n) _ (λ x. record { here = here; shows = refl; next = tt })
   acted_steady m make_ref = record { here = here; shows = refl; next = tt }
 
@@ -231,7 +253,8 @@ module _ (a : ℕ) (c : Core) (here : lives (of c a) ≡ true) where
 
   act_shows : (fs : List Frame) (x : Acted) → Steady c a x → TurnShows (after_act a fs x)
   act_shows fs x h = record {
-    shows = kept x.left.core a (record (of x.left.core a) { state = with_answer fs x.answer }) h.here (answer_lives fs x.answer) ∙ h.shows;
+    shows = kept x.left.core a (record (of x.left.core a) { state = with_answer fs x.answer }) h.here
+        (answer_lives fs x.answer) ∙ h.shows;
     next = h.next;
   }
 
@@ -241,11 +264,13 @@ module _ (a : ℕ) (c : Core) (here : lives (of c a) ≡ true) where
   last_shows : (m : Module) (x : Move) (d : Deed) → last_of_turn m c a x ≡ Some d → TurnShows d
   last_shows m (goes_on s) d e = absurd (cc)
   last_shows m (asks fs x) d e =
-      let same : after_act a fs (acted m c a x) ≡ d = cc in subst TurnShows same (act_shows fs (acted m c a x) (acted_steady c a here m x))
+      let same : after_act a fs (acted m c a x) ≡ d = cc in
+      subst TurnShows same (act_shows fs (acted m c a x) (acted_steady c a here m x))
   last_shows m (awaits fs ks) d e =
       let same : received c a fs ks (selected m a ks (of c a).mailbox) ≡ d = cc in
       subst TurnShows same (received_shows fs ks (selected m a ks (of c a).mailbox))
-  last_shows m (returns v) d e = let same : ended_so c a (returned v) ≡ d = cc in subst TurnShows same (ended_shows (returned v))
+  last_shows m (returns v) d e = let same : ended_so c a (returned v) ≡ d = cc in
+      subst TurnShows same (ended_shows (returned v))
 
   turn_shows : (m : Module) (n : ℕ) (s : ProcessState) (d : Deed) (k : ℕ) → Turn m a c n s d k → TurnShows d
   turn_shows m _ _ _ _ (cut_running t) = record { shows = state_kept (running t) refl; next = tt }
@@ -255,7 +280,8 @@ module _ (a : ℕ) (c : Core) (here : lives (of c a) ≡ true) where
   turn_shows m _ _ _ _ (act n t x d h e) = last_shows m x d e
 
 -- who has a turn lives
-turn_lives : (m : Module) (a : ℕ) (c : Core) (n : ℕ) (s : ProcessState) (d : Deed) (k : ℕ) → Turn m a c n s d k → is_alive s ≡ true
+turn_lives : (m : Module) (a : ℕ) (c : Core) (n : ℕ) (s : ProcessState) (d : Deed) (k : ℕ) → Turn m a c n s d k
+    → is_alive s ≡ true
 turn_lives m a c _ _ _ _ (cut_running t) = refl
 turn_lives m a c _ _ _ _ (cut_ending r) = refl
 turn_lives m a c _ _ _ _ (end n r) = refl
@@ -274,7 +300,8 @@ woken_lives (ended e) h = absurd (cc)
 abbrev Strikes : (from to : ℕ) → Core → Deed → Type 0
 Strikes a b c d = Shows (actors.Channel a b) c d
 
-either : (a b : ℕ) (c : Core) (t : Bool) (x y : Deed) → Strikes a b c x → Strikes a b c y → Strikes a b c (if t then x else y)
+either : (a b : ℕ) (c : Core) (t : Bool) (x y : Deed) → Strikes a b c x → Strikes a b c y
+    → Strikes a b c (if t then x else y)
 either a b c true x y h k = h
 either a b c false x y h k = k
 
@@ -294,15 +321,20 @@ module _ (c : Core) (b : ℕ) (here : lives (of c b) ≡ true) where
 
   exit_shows : (a : ℕ) (by_link : Bool) (r : Value) → Strikes a b c (exit_at c a b by_link r)
   exit_shows a by_link r =
-      either a b c (not by_link && same r kill) (ends_with c b (signal.exit by_link r) killed) _ (ends_with_shows a b c (signal.exit by_link r) killed)
-      (either a b c (of c b).traps_exits (changes c b (with_message (of c b) (exit_message a r)) (signal.exit by_link r) as_message) _
+      either a b c (not by_link && same r kill) (ends_with c b (signal.exit by_link r) killed) _
+      (ends_with_shows a b c (signal.exit by_link r) killed)
+      (either a b c (of c b).traps_exits (changes c b (with_message (of c b) (exit_message a r))
+      (signal.exit by_link r) as_message) _
       (record { shows = kept c b (with_message (of c b) (exit_message a r)) here woken_here; next = tt })
-      (either a b c (same r normal && not (a == b)) (drops c (signal.exit by_link r)) (ends_with c b (signal.exit by_link r) r)
+      (either a b c (same r normal && not (a == b)) (drops c (signal.exit by_link r))
+      (ends_with c b (signal.exit by_link r) r)
       (drops_shows a b c (signal.exit by_link r)) (ends_with_shows a b c (signal.exit by_link r) r)))
 
 -- a link is taken away first
-exit_by_link_shows : (c : Core) (b : ℕ) → lives (of c b) ≡ true → (a : ℕ) (r : Value) → Strikes a b c (exit_by_link_at c a b r)
-exit_by_link_shows c b here a r = either a b c (has a (of c b).links) (exit_at d a b true r) (drops c (signal.exit true r)) linked (drops_shows a b c _)
+exit_by_link_shows : (c : Core) (b : ℕ) → lives (of c b) ≡ true → (a : ℕ) (r : Value)
+    → Strikes a b c (exit_by_link_at c a b r)
+exit_by_link_shows c b here a r = either a b c (has a (of c b).links) (exit_at d a b true r)
+    (drops c (signal.exit true r)) linked (drops_shows a b c _)
   where
     unlinked : Process
     unlinked = record (of c b) { links = without_number a (of c b).links }
@@ -355,7 +387,8 @@ pass_lives m n c _ _ (turn a k d t) =
 pass_lives m n c _ _ (delivery a b s cs e) = (delivered_shows c.core a b s).shows
 
 -- a process that begins has the next pid
-pub pass_begins : (m : Module) (n : ℕ) (c : Configuration) (x : Actor) (p : Passed) → Passes m n c x p → IsNext p.label (length c.core.processes)
+pub pass_begins : (m : Module) (n : ℕ) (c : Configuration) (x : Actor) (p : Passed) → Passes m n c x p
+    → IsNext p.label (length c.core.processes)
 pass_begins m n c _ _ (turn a k d t) =
     (turn_shows a c.core (turn_lives m a c.core n (of c.core a).state d k t) m n (of c.core a).state d k t).next
 pass_begins m n c _ _ (delivery a b s cs e) = (delivered_shows c.core a b s).next
@@ -388,8 +421,10 @@ spared_and_one q None bs h = h
 spared_and_one q (Some p) bs h = spared_more q bs h
 
 -- a process that an event doesn't end lives on
-pub spared_behind : (q : ℕ) (x : Actor) (l : Label) (bs : List Bool) → (who_ends x l ≡ Some q → ⊥) → Spared q bs → Spared q (behind x l bs)
-spared_behind q x l bs n h = spared_and_one q (begun_in l) (without (who_ends x l) bs) (spared_without q (who_ends x l) bs n h)
+pub spared_behind : (q : ℕ) (x : Actor) (l : Label) (bs : List Bool) → (who_ends x l ≡ Some q → ⊥) → Spared q bs
+    → Spared q (behind x l bs)
+spared_behind q x l bs n h = spared_and_one q (begun_in l) (without (who_ends x l) bs)
+    (spared_without q (who_ends x l) bs n h)
 
 -- ---- how many there are
 
@@ -406,7 +441,8 @@ length_and_one None bs = refl
 length_and_one (Some p) bs = more_length bs true
 
 length_behind : (x : Actor) (l : Label) (bs : List Bool) → length (behind x l bs) ≡ as_many (begun_in l) (length bs)
-length_behind x l bs = length_and_one (begun_in l) (without (who_ends x l) bs) ∙ ap (as_many (begun_in l)) (length_without (who_ends x l) bs)
+length_behind x l bs = length_and_one (begun_in l) (without (who_ends x l) bs) ∙ ap (as_many (begun_in l))
+    (length_without (who_ends x l) bs)
 
 -- there is one process more after a transition that begins one, and as many after all others
 pub pass_count : (m : Module) (n : ℕ) (c : Configuration) (x : Actor) (p : Passed) → Passes m n c x p

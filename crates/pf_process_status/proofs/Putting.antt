@@ -1,5 +1,6 @@
 -- Statuses are put together, event by event.
-use Rattle.std.proofs.Common.{◌≡◌, ◌⊎◌, inl, inr, ◌<◌, ◌==◌, ℕ, suc, Bool, true, false, if◌then◌else◌, nat_lt, List, Some, None, refl, sym, ap, ◌∙◌, subst, arith}
+use Rattle.std.proofs.Common.{◌≡◌, ◌⊎◌, inl, inr, ◌<◌, ◌==◌, ℕ, suc, Bool, true, false, if◌then◌else◌, nat_lt, List}
+use Rattle.std.proofs.Common.{Some, None, refl, sym, ap, ◌∙◌, subst, arith}
 use Rattle.std.specs.Prelude.{slice_get}
 use Rattle.std.proofs.lemmas.Bool.{eqb-true}
 use Rattle.std.proofs.lemmas.Bool.Decides.{nat_tests}
@@ -32,7 +33,8 @@ module _ (es : List Event) (i : ℕ) (e : Event) (at : slice_get es i ≡ Some e
   abbrev Tells : ℕ → ℕ → ProcessFate → ProcessFate → Type 0
   Tells n p x y = HasEnded es p y ⊎ ((y ≡ x) × NoneBelow es n p)
 
-  tells_next : (p : ℕ) (x y : ProcessFate) → (who_ends e.actor e.label ≡ Some p → ⊥) → Tells i p x y → Tells (suc i) p x y
+  tells_next : (p : ℕ) (x y : ProcessFate) → (who_ends e.actor e.label ≡ Some p → ⊥) → Tells i p x y
+      → Tells (suc i) p x y
   tells_next p x y not (inl h) = inl h
   tells_next p x y not (inr h) = inr (h.0, below_next p not h.1)
 
@@ -42,23 +44,34 @@ module _ (es : List Event) (i : ℕ) (e : Event) (at : slice_get es i ≡ Some e
     none_ended n = record {
       count = h.count;
       each = λ p y s.
-          let q = h.each p y s in
-          (q.0, q.1, q.2, q.3, tells_next p q.0.fate y.fate (λ k. let never : None ≡ Some p = sym n ∙ k in absurd (cc)) q.4);
+          let q = h.each p y s in (
+            q.0,
+            q.1,
+            q.2,
+            q.3,
+            tells_next p q.0.fate y.fate (λ k. let never : None ≡ Some p = sym n ∙ k in
+                absurd (cc)) q.4,
+          );
     }
 
     -- where it ends a process, which has this fate then
-    pub one_ended : (zs : List ProcessStatus) (pid : ℕ) (f : ProcessFate) → who_ends e.actor e.label ≡ Some pid → HasEnded es pid f → IsPut pid f ys zs
+    pub one_ended : (zs : List ProcessStatus) (pid : ℕ) (f : ProcessFate) → who_ends e.actor e.label ≡ Some pid
+        → HasEnded es pid f → IsPut pid f ys zs
         → TellEnds es (suc i) xs zs
     one_ended zs pid f ends has put = record { count = put.count ∙ h.count; each = λ p z s. over p z (put.each p z s) }
       where
-        over : (p : ℕ) (z : ProcessStatus) → IsStatusOf (λ x y. y ≡ (if p == pid then f else x)) (slice_get ys p) z → IsStatusOf (Tells (suc i) p) (slice_get xs p) z
+        over : (p : ℕ) (z : ProcessStatus) → IsStatusOf (λ x y. y ≡ (if p == pid then f else x)) (slice_get ys p) z
+            → IsStatusOf (Tells (suc i) p) (slice_get xs p) z
         over p z q =
             let r = h.each p q.0 q.1 in
             (r.0, r.1, q.2 ∙ r.2, q.3 ∙ r.3, by (p == pid) refl q.4 r.4)
           where
-            by : (t : Bool) → (p == pid) ≡ t → z.fate ≡ (if t then f else q.0.fate) → Tells i p (h.each p q.0 q.1).0.fate q.0.fate
+            by : (t : Bool) → (p == pid) ≡ t → z.fate ≡ (if t then f else q.0.fate)
+                → Tells i p (h.each p q.0 q.1).0.fate q.0.fate
                 → Tells (suc i) p (h.each p q.0 q.1).0.fate z.fate
-            by true k g t = inl (subst (HasEnded es p) (sym g) (subst (λ n. HasEnded es n f) (sym (eqb-true p pid k)) has))
+            by true k g t = inl (subst (HasEnded es p) (sym g)
+                (subst (λ n. HasEnded es n f) (sym (eqb-true p pid k)) has))
             by false k g t =
                 subst (Tells (suc i) p (h.each p q.0 q.1).0.fate) (sym g)
-                (tells_next p (h.each p q.0 q.1).0.fate q.0.fate (λ n. other_pid p pid k (same_Some pid p (sym ends ∙ n))) t)
+                (tells_next p (h.each p q.0 q.1).0.fate q.0.fate
+                (λ n. other_pid p pid k (same_Some pid p (sym ends ∙ n))) t)

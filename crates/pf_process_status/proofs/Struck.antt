@@ -6,7 +6,8 @@ use Rattle.pf_model.specs.Labels as label
 use Rattle.pf_model.specs.Labels.{Label}
 use Rattle.pf_process_status.specs.Fates.{is_struck}
 
-pub struck_by : (l : Label) → is_struck l ≡ true → (s : Signal) × (r : Value) × (l ≡ label.delivers s (label.ending_with r))
+pub struck_by : (l : Label) → is_struck l ≡ true
+    → (s : Signal) × (r : Value) × (l ≡ label.delivers s (label.ending_with r))
 struck_by (label.sends to v) h = absurd (cc)
 struck_by (label.spawns k p) h = absurd (cc)
 struck_by (label.spawns_watched p r) h = absurd (cc)

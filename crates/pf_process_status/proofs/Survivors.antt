@@ -1,5 +1,6 @@
 -- Statuses of those that live.
-use Rattle.std.proofs.Common.{◌≡◌, ◌⊎◌, ◌<◌, inl, inr, ℕ, suc, true, List, [], ◌∷◌, ◌++◌, Some, Result, Ok, Err, length, sym, ap, ◌∙◌, subst, arith}
+use Rattle.std.proofs.Common.{◌≡◌, ◌⊎◌, ◌<◌, inl, inr, ℕ, suc, true, List, [], ◌∷◌, ◌++◌, Some, Result, Ok, Err, length}
+use Rattle.std.proofs.Common.{sym, ap, ◌∙◌, subst, arith}
 use Rattle.std.specs.Prelude.{IfOk, get_or, option_map, slice_get}
 use Rattle.std.proofs.lemmas.Option.{slice_get-get_or, slice_get-map, slice_get_within}
 use Rattle.pf_syntax.specs.Module.{Checked}
@@ -28,22 +29,27 @@ if_ok (Ok x) h p = h x p
 if_ok (Err e) h p = p
 
 -- the item of a loop over a list that was borrowed
-pub item_at : {X : Type 0} (xs ys : List X) (i : ℕ) (d : X) → xs ≡ ys → i < length xs → slice_get ys i ≡ Some (get_or xs i d)
+pub item_at : {X : Type 0} (xs ys : List X) (i : ℕ) (d : X) → xs ≡ ys → i < length xs
+    → slice_get ys i ≡ Some (get_or xs i d)
 item_at xs ys i d e l = ap (λ zs. slice_get zs i) (sym e) ∙ slice_get-get_or xs i d l
 
 -- one process more has its status
-pub one_more : (m : Checked) (c : Configuration) (fs : List Begun) (i : ℕ) (b : Begun) (xs : List ProcessStatus) (x : ProcessStatus)
-    → AreByPid fs → AreStanding m c fs i xs → slice_get fs i ≡ Some b → x.pid ≡ b.pid → x.begun ≡ b.function → (is_alive (of c.core b.pid).state ≡ true → LivesSo m (of c.core b.pid).state x.fate)
+pub one_more : (m : Checked) (c : Configuration) (fs : List Begun) (i : ℕ) (b : Begun) (xs : List ProcessStatus)
+    (x : ProcessStatus)
+    → AreByPid fs → AreStanding m c fs i xs → slice_get fs i ≡ Some b → x.pid ≡ b.pid → x.begun ≡ b.function
+    → (is_alive (of c.core b.pid).state ≡ true → LivesSo m (of c.core b.pid).state x.fate)
     → AreStanding m c fs (suc i) (xs ++ x ∷ [])
 one_more m c fs i b xs x pids h is pid same lives =
     record {
       count = more_length xs x ∙ ap suc h.count;
       begun =
-          at_pushed (λ p y. (a : Begun) × (slice_get fs p ≡ Some a) × (y.pid ≡ a.pid) × (y.begun ≡ a.function)) xs x h.begun
+          at_pushed (λ p y. (a : Begun) × (slice_get fs p ≡ Some a) × (y.pid ≡ a.pid)
+          × (y.begun ≡ a.function)) xs x h.begun
           (b, ap (slice_get fs) h.count ∙ is, pid, same);
       fates =
           at_pushed (λ p y. is_alive (of c.core p).state ≡ true → LivesSo m (of c.core p).state y.fate) xs x h.fates
-          (subst (λ p. is_alive (of c.core p).state ≡ true → LivesSo m (of c.core p).state x.fate) (pids i b is ∙ sym h.count) lives);
+          (subst (λ p. is_alive (of c.core p).state ≡ true → LivesSo m (of c.core p).state x.fate)
+          (pids i b is ∙ sym h.count) lives);
     }
 
 -- after the last event
@@ -83,11 +89,14 @@ module _ (k : KnownRun) (d : Configuration) (h : RunLeadsTo k d) where
   none_ends : (p : ℕ) → NoneBelow (events_of k) (length (events_of k)) p → NoneEnds p h.transitions
   none_ends p none i t at =
       let there : slice_get (events_of k) i ≡ Some (meaning.event_of_transition t) =
-      ap (λ es. slice_get es i) h.events ∙ slice_get-map meaning.event_of_transition h.transitions i ∙ ap (option_map meaning.event_of_transition) at in
-      none i (meaning.event_of_transition t) (slice_get_within (events_of k) i (meaning.event_of_transition t) there) there
+      ap (λ es. slice_get es i) h.events ∙ slice_get-map meaning.event_of_transition h.transitions i
+      ∙ ap (option_map meaning.event_of_transition) at in
+      none i (meaning.event_of_transition t) (slice_get_within (events_of k) i (meaning.event_of_transition t) there)
+      there
 
   -- a process that no event ended lives, and all others ended
-  pub stand : (xs ys zs : List ProcessStatus) → AreAtEnd k d xs → TellEnds (events_of k) (length (events_of k)) xs ys → ArePlaced ys zs → AreStandings k d zs
+  pub stand : (xs ys zs : List ProcessStatus) → AreAtEnd k d xs → TellEnds (events_of k) (length (events_of k)) xs ys
+      → ArePlaced ys zs → AreStandings k d zs
   stand xs ys zs a t b = record {
     count = b.count ∙ t.count ∙ a.count;
     pids = λ p z s.
@@ -111,5 +120,7 @@ module _ (k : KnownRun) (d : Configuration) (h : RunLeadsTo k d) where
       by p x y z at e (inr r) =
           let within = slice_get_within xs p x at in
           let count = a.count in
-          let alive = lives_on (module_of_run k) (choose_by_picks h.picks) 0 k.limit k.root.0 k.edition h.transitions d h.steps h.made h.goes p (none_ends p r.1) (omega arith) in
-          inr (alike_lives (checked_of k) (of d.core p).state y z e (subst (LivesSo (checked_of k) (of d.core p).state) (sym r.0) (a.fates p x at alive)))
+          let alive = lives_on (module_of_run k) (choose_by_picks h.picks) 0 k.limit k.root.0 k.edition h.transitions d
+          h.steps h.made h.goes p (none_ends p r.1) (omega arith) in
+          inr (alike_lives (checked_of k) (of d.core p).state y z e
+          (subst (LivesSo (checked_of k) (of d.core p).state) (sym r.0) (a.fates p x at alive)))

@@ -4,7 +4,8 @@ use Rattle.std.specs.Prelude.{OnOk}
 use Rattle.pf_process_status.specs.Lines.{IsTextBefore, Puts}
 
 -- a text that is so after these bytes
-pub behind : (old middle new front : List ℕ) (so : List ℕ → Type 0) → middle ≡ old ++ front → Puts middle new so → Puts old new (IsTextBefore front so)
+pub behind : (old middle new front : List ℕ) (so : List ℕ → Type 0) → middle ≡ old ++ front → Puts middle new so
+    → Puts old new (IsTextBefore front so)
 behind old middle new front so e p =
     (front ++ p.0, (p.0, p.1, refl), p.2 ∙ ap (λ z. z ++ p.0) e ∙ append_assoc old front p.0)
 

@@ -1,5 +1,6 @@
 -- The status of each process of a run after its last event.
-use Rattle.std.specs.Prelude.{◌≡◌, ◌⊎◌, if◌then◌else◌, ℕ, zero, suc, Bool, true, false, List, Option, Some, None, length, slice_get, take}
+use Rattle.std.specs.Prelude.{◌≡◌, ◌⊎◌, if◌then◌else◌, ℕ, zero, suc, Bool, true, false, List, Option, Some, None}
+use Rattle.std.specs.Prelude.{length, slice_get, take}
 use Rattle.pf_terms.specs.Value.{Value}
 use Rattle.pf_terms.specs.Fixed.{normal}
 use Rattle.pf_syntax.specs.Module.{Checked}

@@ -14,7 +14,8 @@ use Rattle.pf_process_status.specs.declared.known.KnownRun.{KnownRun}
 
 -- the actor of a choice went on within a limit of steps and showed this; or no step is left, or there is no such actor
 abbrev pub HasGone : (limit choice : ℕ) → Configuration → SystemView → Label → SystemView → Bool → Type 0
-HasGone limit i c s l s' true = (x : Actor) × (slice_get (enabled c) i ≡ Some x) × ((used : ℕ) × SimulatesTransition (limit - s.steps) s x l used s')
+HasGone limit i c s l s' true = (x : Actor) × (slice_get (enabled c) i ≡ Some x)
+    × ((used : ℕ) × SimulatesTransition (limit - s.steps) s x l used s')
 HasGone limit i c s l s' false = (limit ≤ s.steps) ⊎ (slice_get (enabled c) i ≡ None)
 
 -- each has its pid

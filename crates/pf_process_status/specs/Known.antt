@@ -27,7 +27,8 @@ pub record Comes (k : KnownRun) (es : List Event) (c : Configuration) : Type 0 w
   pub transitions : List Transition
   pub steps : ℕ
   pub made : ℕ
-  pub goes : Goes (module_of_run k) (choose_by_picks picks) zero k.limit (start k.root.0 k.edition) transitions c steps made
+  pub goes : Goes (module_of_run k) (choose_by_picks picks) zero k.limit (start k.root.0 k.edition)
+      transitions c steps made
   pub events : es ≡ map meaning.event_of_transition transitions
 
 -- all its events lead there

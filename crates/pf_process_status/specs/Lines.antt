@@ -49,7 +49,8 @@ abbrev pub IsNodeAt : Checked → Point → Option NodeId → Type 0
 IsNodeAt m (p.Before n) None = ⊥
 IsNodeAt m (p.Before n) (Some x) = IsInnermostAt (tree_at m.tables n.0) 0 (tree_at m.tables x.0)
 IsNodeAt m (p.Within n i) None = ⊥
-IsNodeAt m (p.Within n i) (Some x) = IsInnermostAt (tree_at m.tables n.0) (min (suc i) (2 ^ 32 - 1)) (tree_at m.tables x.0)
+IsNodeAt m (p.Within n i) (Some x) = IsInnermostAt (tree_at m.tables n.0) (min (suc i) (2 ^ 32 - 1))
+    (tree_at m.tables x.0)
 IsNodeAt m (p.Calls f) x = x ≡ None
 IsNodeAt m p.Nowhere x = x ≡ None
 
@@ -79,7 +80,8 @@ call_text m (Some f) = codes ", at the call of " ++ function_text m f
 -- where a process is, as much of it as is known
 abbrev pub IsPointText : Checked → List (Option Position) → Point → List ℕ → Type 0
 IsPointText m places x text =
-    (node : Option NodeId) × IsNodeAt m x node × (text ≡ place_text m (place_of places node) ++ call_text m (called_function m x node))
+    (node : Option NodeId) × IsNodeAt m x node
+    × (text ≡ place_text m (place_of places node) ++ call_text m (called_function m x node))
 
 -- ---- fates
 
@@ -106,8 +108,10 @@ IsFateText k places (fate.Failed n x) text =
     IsTextBefore (codes " failed" ++ reason_text k.module.now.value.atoms (slice_get (events_of k) n))
     (IsPointText k.module.now.value places (or_nowhere x)) text
 IsFateText k places (fate.Killed a) text = text ≡ codes " was ended by an exit signal of " ++ pid_text a
-IsFateText k places (fate.Waits x) text = IsTextBefore (codes " waits at a receive") (IsPointText k.module.now.value places x) text
-IsFateText k places (fate.Goes x) text = IsTextBefore (codes " could go on") (IsPointText k.module.now.value places x) text
+IsFateText k places (fate.Waits x) text = IsTextBefore (codes " waits at a receive")
+    (IsPointText k.module.now.value places x) text
+IsFateText k places (fate.Goes x) text = IsTextBefore (codes " could go on")
+    (IsPointText k.module.now.value places x) text
 
 -- ---- lines
 
@@ -128,7 +132,8 @@ name_text m (Some f) = function_text m f.0
 
 -- by pid the names of the functions in whose calls the processes began, an empty one where none is given
 abbrev pub AreNames : KnownRun → Configuration → List (List ℕ) → Type 0
-AreNames k d names = (bs : List Begun) × AreBegun k d bs × (names ≡ map (λ b. name_text k.module.now.value b.function) bs)
+AreNames k d names = (bs : List Begun) × AreBegun k d bs
+    × (names ≡ map (λ b. name_text k.module.now.value b.function) bs)
 
 -- a text that is so was put after others
 abbrev pub Puts : (old new : List ℕ) → (so : List ℕ → Type 0) → Type 0

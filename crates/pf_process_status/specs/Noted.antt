@@ -1,5 +1,6 @@
 -- What is noted while a run is made again to see where its processes failed.
-use Rattle.std.specs.Prelude.{◌≡◌, ◌⊎◌, ◌++◌, ◌<◌, ◌==◌, if◌then◌else◌, ℕ, suc, List, [], ◌∷◌, Option, Some, None, length, slice_get}
+use Rattle.std.specs.Prelude.{◌≡◌, ◌⊎◌, ◌++◌, ◌<◌, ◌==◌, if◌then◌else◌, ℕ, suc, List, [], ◌∷◌, Option, Some, None}
+use Rattle.std.specs.Prelude.{length, slice_get}
 use Rattle.pf_model.specs.Labels.{Label, raises}
 use Rattle.pf_model.specs.Meaning.{Event}
 use Rattle.pf_model.specs.declared.report.Actor.{Actor}
@@ -48,8 +49,10 @@ failure q n at = record { pid = q; event = n; point = at }
 
 -- an event of this number was made, whose last step was here: an action that raised is noted, or else a failure
 abbrev pub IsNoted : (number : ℕ) → (raising failing : Option ℕ) → (at : Option Point) → (old new : Notes) → Type 0
-IsNoted n (Some q) o at a b = (b.failed.items ≡ a.failed.items) × (b.raised.items ≡ a.raised.items ++ failure q n at ∷ [])
-IsNoted n None (Some q) at a b = (b.failed.items ≡ a.failed.items ++ failure q n (failed_from a.raised.items q at) ∷ []) × (b.raised.items ≡ a.raised.items)
+IsNoted n (Some q) o at a b = (b.failed.items ≡ a.failed.items)
+    × (b.raised.items ≡ a.raised.items ++ failure q n at ∷ [])
+IsNoted n None (Some q) at a b = (b.failed.items ≡ a.failed.items ++ failure q n (failed_from a.raised.items q at) ∷ [])
+    × (b.raised.items ≡ a.raised.items)
 IsNoted n None None at a b = (b.failed.items ≡ a.failed.items) × (b.raised.items ≡ a.raised.items)
 
 -- the same of this event, as it raises or fails
@@ -59,7 +62,8 @@ IsMade n e a b = (o : Option ℕ) × (at : Option Point) × Fails e o × IsNoted
 -- the first n events were made, one after another: of each it is noted whose action raised in it, or who failed
 pub data AreMade (es : List Event) : (n : ℕ) → Notes → Type 0 where
   none_made : (s : Notes) → s.failed.items ≡ [] → s.raised.items ≡ [] → AreMade es 0 s
-  one_more : (n : ℕ) (e : Event) (a b : Notes) → slice_get es n ≡ Some e → AreMade es n a → IsMade n e a b → AreMade es (suc n) b
+  one_more : (n : ℕ) (e : Event) (a b : Notes) → slice_get es n ≡ Some e → AreMade es n a → IsMade n e a b
+      → AreMade es (suc n) b
 
 -- of this failure there is a note
 abbrev pub HasNote : List FailedProcess → (pid event : ℕ) → Type 0
@@ -67,7 +71,8 @@ HasNote fs q n = (i : ℕ) × (f : FailedProcess) × (slice_get fs i ≡ Some f)
 
 -- of this failure there is a note with this point
 abbrev pub HasPoint : List FailedProcess → (pid event : ℕ) → Option Point → Type 0
-HasPoint fs q n at = (i : ℕ) × (f : FailedProcess) × (slice_get fs i ≡ Some f) × (f.pid ≡ q) × (f.event ≡ n) × (f.point ≡ at)
+HasPoint fs q n at = (i : ℕ) × (f : FailedProcess) × (slice_get fs i ≡ Some f) × (f.pid ≡ q) × (f.event ≡ n)
+    × (f.point ≡ at)
 
 -- of each of the first events in which a process failed there is a note
 abbrev pub AreNoted : List Event → (n : ℕ) → List FailedProcess → Type 0
@@ -82,7 +87,8 @@ PutsPoint f xs ys =
 -- each process that failed by its status in an event of which there is a note has the point of such a note
 abbrev pub TakePoints : List FailedProcess → List ProcessStatus → Type 0
 TakePoints fs xs =
-    (q : ℕ) (x : ProcessStatus) (n : ℕ) (at : Option Point) → slice_get xs q ≡ Some x → x.fate ≡ fate.Failed n at → HasNote fs q n → HasPoint fs q n at
+    (q : ℕ) (x : ProcessStatus) (n : ℕ) (at : Option Point) → slice_get xs q ≡ Some x → x.fate ≡ fate.Failed n at
+    → HasNote fs q n → HasPoint fs q n at
 
 -- the processes that failed in these events have the places that were noted as the events were made, of each failure
 -- one

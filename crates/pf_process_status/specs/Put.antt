@@ -12,17 +12,21 @@ use Rattle.pf_process_status.specs.declared.standing.ProcessFate.TheVariants as 
 use Rattle.pf_process_status.specs.declared.standing.ProcessStatus.{ProcessStatus}
 
 -- each of the first n processes has the function in whose call it began, and one that lives its fate
-pub record AreStanding (m : Checked) (c : Configuration) (bs : List Begun) (n : ℕ) (xs : List ProcessStatus) : Type 0 where
+pub record AreStanding (m : Checked) (c : Configuration) (bs : List Begun) (n : ℕ)
+    (xs : List ProcessStatus) : Type 0 where
   pub count : length xs ≡ n
-  pub begun : (p : ℕ) (x : ProcessStatus) → slice_get xs p ≡ Some x → (b : Begun) × (slice_get bs p ≡ Some b) × (x.pid ≡ b.pid) × (x.begun ≡ b.function)
-  pub fates : (p : ℕ) (x : ProcessStatus) → slice_get xs p ≡ Some x → is_alive (of c.core p).state ≡ true → LivesSo m (of c.core p).state x.fate
+  pub begun : (p : ℕ) (x : ProcessStatus) → slice_get xs p ≡ Some x
+      → (b : Begun) × (slice_get bs p ≡ Some b) × (x.pid ≡ b.pid) × (x.begun ≡ b.function)
+  pub fates : (p : ℕ) (x : ProcessStatus) → slice_get xs p ≡ Some x → is_alive (of c.core p).state ≡ true
+      → LivesSo m (of c.core p).state x.fate
 
 -- the same of the run that led to a configuration
 pub record AreAtEnd (k : KnownRun) (d : Configuration) (xs : List ProcessStatus) : Type 0 where
   pub count : length xs ≡ length d.core.processes
   pub pids : (p : ℕ) (x : ProcessStatus) → slice_get xs p ≡ Some x → x.pid ≡ p
   pub begun : (p : ℕ) (x : ProcessStatus) → slice_get xs p ≡ Some x → Began k p x.begun
-  pub fates : (p : ℕ) (x : ProcessStatus) → slice_get xs p ≡ Some x → is_alive (of d.core p).state ≡ true → LivesSo (checked_of k) (of d.core p).state x.fate
+  pub fates : (p : ℕ) (x : ProcessStatus) → slice_get xs p ≡ Some x → is_alive (of d.core p).state ≡ true
+      → LivesSo (checked_of k) (of d.core p).state x.fate
 
 -- the status of a process was another, of the same pid and function, and the fates are so
 abbrev pub IsStatusOf : (so : ProcessFate → ProcessFate → Type 0) → Option ProcessStatus → ProcessStatus → Type 0

@@ -1,5 +1,6 @@
 -- Bytes are some property, or none.
-use Rattle.std.proofs.Common.{◌≡◌, ◌⊎◌, inl, inr, ℕ, Bool, true, false, List, [], ◌∷◌, ◌++◌, Option, Some, None, Ok, Err, take, drop, refl, sym}
+use Rattle.std.proofs.Common.{◌≡◌, ◌⊎◌, inl, inr, ℕ, Bool, true, false, List, [], ◌∷◌, ◌++◌, Option, Some, None, Ok}
+use Rattle.std.proofs.Common.{Err, take, drop, refl, sym}
 use Rattle.std.specs.Prelude.{codes, nat_eq}
 use Rattle.std.specs.Cmp.Lexicographic.{pointwise}
 use Rattle.std.specs.Str.{bytes_eq}
@@ -32,7 +33,8 @@ lacks_or_has : (ts : List PlacedToken) → LacksModule ts ⊎ (LacksModule ts �
 lacks_or_has [] = inl tt
 lacks_or_has (t ∷ ts) = both (module_or_other t.kind) (lacks_or_has ts)
   where
-    both : (t.kind ≡ own_module) ⊎ (t.kind ≡ own_module → ⊥) → LacksModule ts ⊎ (LacksModule ts → ⊥) → LacksModule (t ∷ ts) ⊎ (LacksModule (t ∷ ts) → ⊥)
+    both : (t.kind ≡ own_module) ⊎ (t.kind ≡ own_module → ⊥) → LacksModule ts ⊎ (LacksModule ts → ⊥)
+        → LacksModule (t ∷ ts) ⊎ (LacksModule (t ∷ ts) → ⊥)
     both (inl e) rest = inr (λ h. h.0 e)
     both (inr other) (inl h) = inl (other, h)
     both (inr other) (inr h) = inr (λ k. h k.1)
@@ -48,11 +50,21 @@ module _ (names : List (List ℕ)) where
       none_derives : ((q : ExprPattern) → DerivesPatternAlone names q ts → ⊥) → PatternOrNone
       none_derives none = inr (without_pattern names text ts has (Fault NoProperty) (refl, none)).1
 
-      by_reading : LacksModule ts → (o : Option ExprPattern) → read_by (atoms_after names ts) (numbered_after names ts) ≡ o → PatternOrNone
+      by_reading : LacksModule ts → (o : Option ExprPattern)
+          → read_by (atoms_after names ts) (numbered_after names ts) ≡ o → PatternOrNone
       by_reading lacks None e = none_derives (λ q d. let whole = alone_complete names ts q d in cc)
       by_reading lacks (Some q) e =
           let made = some_alone q in
-          inl (made.0, record { tokens = ts; has_tokens = has; written = q; derives = alone_sound names ts q lacks e; becomes = made.1 })
+          inl (
+            made.0,
+            record {
+              tokens = ts;
+              has_tokens = has;
+              written = q;
+              derives = alone_sound names ts q lacks e;
+              becomes = made.1;
+            },
+          )
 
       by_module : LacksModule ts ⊎ (LacksModule ts → ⊥) → PatternOrNone
       by_module (inl lacks) = by_reading lacks (read_by (atoms_after names ts) (numbered_after names ts)) refl
@@ -60,7 +72,8 @@ module _ (names : List (List ℕ)) where
 
     by_tokens : (read : Read (List PlacedToken)) → Tells text read → PatternOrNone
     by_tokens (Ok ts) has = by_module ts has (lacks_or_has ts)
-    by_tokens (Err e) fault = inr (λ p r. no_tokens text (record { code = e.0; offset = e.1 }) fault (r.tokens, r.has_tokens))
+    by_tokens (Err e) fault = inr (λ p r. no_tokens text (record { code = e.0; offset = e.1 }) fault
+        (r.tokens, r.has_tokens))
 
     pattern_or_none : PatternOrNone
     pattern_or_none = by_tokens (tokens text) (tokens_tell text)
@@ -82,22 +95,29 @@ module _ (names : List (List ℕ)) where
     behind text e (inl found) = (Some (never found.0), (text, e, found.1))
     behind text e (inr none) = (None, none_behind names bytes text e none)
 
-    prefix_or_none : ((text : List ℕ) × (bytes ≡ codes "never:" ++ text)) ⊎ ((text : List ℕ) → bytes ≡ codes "never:" ++ text → ⊥)
+    prefix_or_none : ((text : List ℕ) × (bytes ≡ codes "never:" ++ text)) ⊎ ((text : List ℕ)
+        → bytes ≡ codes "never:" ++ text → ⊥)
     prefix_or_none = by (pointwise nat_eq (codes "never:") (take 6 bytes)) refl
       where
         by : (b : Bool) → pointwise nat_eq (codes "never:") (take 6 bytes) ≡ b
-            → ((text : List ℕ) × (bytes ≡ codes "never:" ++ text)) ⊎ ((text : List ℕ) → bytes ≡ codes "never:" ++ text → ⊥)
+            → ((text : List ℕ) × (bytes ≡ codes "never:" ++ text)) ⊎ ((text : List ℕ)
+            → bytes ≡ codes "never:" ++ text → ⊥)
         by true e = inl (drop 6 bytes, (starts_is Decides-eqb bytes (codes "never:") true (sym e)).0 refl)
-        by false e = inr (λ text h. let yes = (starts_is Decides-eqb bytes (codes "never:") false (sym e)).1 text h in cc)
+        by false e = inr (λ text h. let yes = (starts_is Decides-eqb bytes (codes "never:") false (sym e)).1 text h in
+            cc)
 
-    none_of_all : (bytes ≡ codes "returns" → ⊥) → (bytes ≡ codes "true" → ⊥) → (bytes ≡ codes "nocrash" → ⊥) → (bytes ≡ codes "nodeadlock" → ⊥) → (bytes ≡ codes "withinlimit" → ⊥)
+    none_of_all : (bytes ≡ codes "returns" → ⊥) → (bytes ≡ codes "true" → ⊥) → (bytes ≡ codes "nocrash" → ⊥)
+        → (bytes ≡ codes "nodeadlock" → ⊥) → (bytes ≡ codes "withinlimit" → ⊥)
         → ((text : List ℕ) → bytes ≡ codes "never:" ++ text → ⊥) → (p : Property) → ReadsProperty names bytes p → ⊥
     none_of_all not_returns not_true not_no_crash not_no_deadlock not_within_limit not_never returns h = not_returns h
     none_of_all not_returns not_true not_no_crash not_no_deadlock not_within_limit not_never returns_true h = not_true h
     none_of_all not_returns not_true not_no_crash not_no_deadlock not_within_limit not_never no_crash h = not_no_crash h
-    none_of_all not_returns not_true not_no_crash not_no_deadlock not_within_limit not_never no_deadlock h = not_no_deadlock h
-    none_of_all not_returns not_true not_no_crash not_no_deadlock not_within_limit not_never within_limit h = not_within_limit h
-    none_of_all not_returns not_true not_no_crash not_no_deadlock not_within_limit not_never (never p) h = not_never h.0 h.1
+    none_of_all not_returns not_true not_no_crash not_no_deadlock not_within_limit not_never no_deadlock h =
+        not_no_deadlock h
+    none_of_all not_returns not_true not_no_crash not_no_deadlock not_within_limit not_never within_limit h =
+        not_within_limit h
+    none_of_all not_returns not_true not_no_crash not_no_deadlock not_within_limit not_never (never p) h =
+        not_never h.0 h.1
 
     pub any_property : Outcomes
     any_property =
@@ -116,7 +136,11 @@ module _ (names : List (List ℕ)) where
                                 elim (word_or_other (codes "withinlimit")) [
                                   | inl h ↦ (Some within_limit, h)
                                   | inr e ↦
-                                      elim prefix_or_none [ inl h ↦ behind h.0 h.1 (pattern_or_none h.0) | inr f ↦ (None, none_of_all a b c d e f) ]
+                                      elim prefix_or_none [
+                                        | inl h ↦ behind h.0 h.1 (pattern_or_none h.0)
+                                        | inr f ↦
+                                            (None, none_of_all a b c d e f)
+                                      ]
                                 ]
                           ]
                     ]

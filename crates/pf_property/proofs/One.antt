@@ -77,14 +77,17 @@ module _ (names : List (List ℕ)) (bytes : List ℕ) where
       ap never (one_pattern names a.0 x y a.2 (subst (λ text. ReadsPattern names text y) rest b.2))
 
   -- no pattern follows `never:`, so the bytes are no property
-  pub none_behind : (text : List ℕ) → bytes ≡ codes "never:" ++ text → ((p : Pattern) → ReadsPattern names text p → ⊥) → (p : Property) → ReadsProperty names bytes p → ⊥
+  pub none_behind : (text : List ℕ) → bytes ≡ codes "never:" ++ text → ((p : Pattern) → ReadsPattern names text p → ⊥)
+      → (p : Property) → ReadsProperty names bytes p → ⊥
   none_behind text e none returns h = subst IsBare (tells returns h ∙ ap told e) tt
   none_behind text e none returns_true h = subst IsBare (tells returns_true h ∙ ap told e) tt
   none_behind text e none no_crash h = subst IsBare (tells no_crash h ∙ ap told e) tt
   none_behind text e none no_deadlock h = subst IsBare (tells no_deadlock h ∙ ap told e) tt
   none_behind text e none within_limit h = subst IsBare (tells within_limit h ∙ ap told e) tt
-  none_behind text e none (never p) h = none p (subst (λ rest. ReadsPattern names rest p) (same_rest h.0 text (sym h.1 ∙ e)) h.2)
+  none_behind text e none (never p) h = none p
+      (subst (λ rest. ReadsPattern names rest p) (same_rest h.0 text (sym h.1 ∙ e)) h.2)
 
-  pub refused_behind : (text : List ℕ) → bytes ≡ codes "never:" ++ text → (f : OrNoMemory Code) → IsNoPatternText names text f → IsNoPropertyText names bytes f
+  pub refused_behind : (text : List ℕ) → bytes ≡ codes "never:" ++ text → (f : OrNoMemory Code)
+      → IsNoPatternText names text f → IsNoPropertyText names bytes f
   refused_behind text e NoMemory h = tt
   refused_behind text e (Fault c) h = (h.0, none_behind text e h.1)

@@ -40,14 +40,19 @@ no_tokens text r fault has =
 module _ (names : List (List ℕ)) (text : List ℕ) where
   -- ---- a text that is no pattern
 
-  pub without_pattern : (ts : List PlacedToken) → HasTokens text ts → (f : OrNoMemory Code) → alone.IsNoPattern names ts f → IsNoPatternText names text f
+  pub without_pattern : (ts : List PlacedToken) → HasTokens text ts → (f : OrNoMemory Code)
+      → alone.IsNoPattern names ts f → IsNoPatternText names text f
   without_pattern ts has NoMemory h = tt
-  without_pattern ts has (Fault c) h =
-      (h.0, λ p r. h.1 r.written (subst (DerivesPatternAlone names r.written) (one_tokens text r.tokens ts r.has_tokens has) r.derives))
+  without_pattern ts has (Fault c) h = (
+    h.0,
+    λ p r. h.1 r.written (subst (DerivesPatternAlone names r.written)
+        (one_tokens text r.tokens ts r.has_tokens has) r.derives),
+  )
 
   -- ---- a text that is one
 
-  pub with_pattern : (ts : List PlacedToken) → HasTokens text ts → (q : ExprPattern) → DerivesPatternAlone names q ts → (p : Pattern) → BecomesAlone q p
+  pub with_pattern : (ts : List PlacedToken) → HasTokens text ts → (q : ExprPattern) → DerivesPatternAlone names q ts
+      → (p : Pattern) → BecomesAlone q p
       → ReadsPattern names text p
   with_pattern ts has q d p becomes = record {
     tokens = ts;
@@ -61,5 +66,7 @@ module _ (names : List (List ℕ)) (text : List ℕ) where
   one_pattern p q a b =
       let tokens = one_tokens text b.tokens a.tokens b.has_tokens a.has_tokens in
       let derives = subst (DerivesPatternAlone names b.written) tokens b.derives in
-      let written = some_is a.written b.written (sym (alone_complete names a.tokens a.written a.derives) ∙ alone_complete names a.tokens b.written derives) in
-      one_expr_pattern only_atoms no_scope b.written p q none_seen (subst (λ w. ExprPatternIs only_atoms no_scope w p) written a.becomes) b.becomes
+      let written = some_is a.written b.written (sym (alone_complete names a.tokens a.written a.derives)
+      ∙ alone_complete names a.tokens b.written derives) in
+      one_expr_pattern only_atoms no_scope b.written p q none_seen
+      (subst (λ w. ExprPatternIs only_atoms no_scope w p) written a.becomes) b.becomes

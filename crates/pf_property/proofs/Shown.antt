@@ -28,7 +28,8 @@ pub one_event_more : (so : Label → Bool) (es : List meaning.Event) (e : meanin
     → some_label so (labels_in (es ++ e ∷ [])) ≡ (some_label so (labels_in es) || so e.label)
 one_event_more so [] e = or_false (so e.label)
 one_event_more so (d ∷ es) e =
-    ap (λ b. so d.label || b) (one_event_more so es e) ∙ or_assoc (so d.label) (some_label so (labels_in es)) (so e.label)
+    ap (λ b. so d.label || b) (one_event_more so es e) ∙ or_assoc (so d.label)
+    (some_label so (labels_in es)) (so e.label)
 
 -- ---- what the events of a run show is what its transitions do
 
@@ -40,5 +41,6 @@ of_transitions : (ts : List Transition) → labels_in (map meaning.event_of_tran
 of_transitions [] = refl
 of_transitions (t ∷ ts) = ap (λ (ls : List Label). t.label ∷ ls) (of_transitions ts)
 
-pub labels_of_run : (es : List meaning.Event) (ts : List Transition) → es ≡ map meaning.event_of_transition ts → labels_in es ≡ map (λ t. t.label) ts
+pub labels_of_run : (es : List meaning.Event) (ts : List Transition) → es ≡ map meaning.event_of_transition ts
+    → labels_in es ≡ map (λ t. t.label) ts
 labels_of_run es ts e = ap labels_in e ∙ of_transitions ts

@@ -17,7 +17,8 @@ both_numbers _ _ = None
 
 -- await P T: the project and the ticket of a line that waits
 abbrev pub awaited_ticket : List (List ℕ) → Option (ℕ × ℕ)
-awaited_ticket (w ∷ p ∷ t ∷ []) = if bytes_eq w (codes "await") then both_numbers (number_of_digits p) (number_of_digits t) else None
+awaited_ticket (w ∷ p ∷ t ∷ []) = if bytes_eq w (codes "await") then
+    both_numbers (number_of_digits p) (number_of_digits t) else None
 awaited_ticket _ = None
 
 -- a call is one of the client's own if it is a call of its project
@@ -36,4 +37,5 @@ own_line project None bytes rest = own_command project (command_at bytes)
 
 -- what the bytes of a project's file ask for first, and what follows
 abbrev pub client_line_at : (project : ℕ) → List ℕ → Option (ClientLine × List ℕ)
-client_line_at project bytes = own_line project (awaited_ticket (words_of_line (first_line bytes).text)) bytes (first_line bytes).rest
+client_line_at project bytes = own_line project (awaited_ticket (words_of_line (first_line bytes).text)) bytes
+    (first_line bytes).rest

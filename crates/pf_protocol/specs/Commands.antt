@@ -1,5 +1,6 @@
 -- Commands: what the bytes that `steps` reads ask for. One command is on a line, its words parted by single spaces.
-use Rattle.std.specs.Prelude.{◌≡◌, ℕ, ◌==◌, Bool, true, false, ◌&&◌, ◌||◌, not, nat_le, nat_lt, if◌then◌else◌, List, [], ◌∷◌, length, take, drop, Option, Some, None, codes}
+use Rattle.std.specs.Prelude.{◌≡◌, ℕ, ◌==◌, Bool, true, false, ◌&&◌, ◌||◌, not, nat_le, nat_lt, if◌then◌else◌, List, []}
+use Rattle.std.specs.Prelude.{◌∷◌, length, take, drop, Option, Some, None, codes}
 use Rattle.std.specs.List.{list_any, slice_split}
 use Rattle.std.specs.Option.{option_map}
 use Rattle.std.specs.Str.{bytes_eq}
@@ -66,7 +67,8 @@ abbrev pub with_three : (ℕ → ℕ → ℕ → LineContent) → Option ℕ →
 with_three f (Some l) (Some m) (Some n) = Some (f l m n)
 with_three f _ _ _ = None
 
-abbrev pub with_four : (ℕ → ℕ → ℕ → ℕ → Option LineContent) → Option ℕ → Option ℕ → Option ℕ → Option ℕ → Option LineContent
+abbrev pub with_four : (ℕ → ℕ → ℕ → ℕ → Option LineContent) → Option ℕ → Option ℕ → Option ℕ → Option ℕ
+    → Option LineContent
 with_four f (Some k) (Some l) (Some m) (Some n) = f k l m n
 with_four f _ _ _ _ = None
 
@@ -76,7 +78,8 @@ of_three f (a ∷ b ∷ c ∷ []) = with_three f (number_of_digits a) (number_of
 of_three f _ = None
 
 abbrev pub of_four : (ℕ → ℕ → ℕ → ℕ → Option LineContent) → List (List ℕ) → Option LineContent
-of_four f (a ∷ b ∷ c ∷ d ∷ []) = with_four f (number_of_digits a) (number_of_digits b) (number_of_digits c) (number_of_digits d)
+of_four f (a ∷ b ∷ c ∷ d ∷ []) = with_four f (number_of_digits a) (number_of_digits b) (number_of_digits c)
+    (number_of_digits d)
 of_four f _ = None
 
 abbrev pub with_weights : (number process channel : Option ℕ) → Option Choices
@@ -86,16 +89,19 @@ with_weights _ _ _ = None
 -- N, or N:R:D: a long number, and by weights two numbers more, the weight of a process and that of a channel
 abbrev pub of_seed : List (List ℕ) → Option Choices
 of_seed (n ∷ []) = option_map seed (long_number_of n)
-of_seed (n ∷ process ∷ channel ∷ []) = with_weights (long_number_of n) (number_of_digits process) (number_of_digits channel)
+of_seed (n ∷ process ∷ channel ∷ []) = with_weights (long_number_of n) (number_of_digits process)
+    (number_of_digits channel)
 of_seed _ = None
 
 -- choices are `seed:`, a seed and maybe its weights, parted by colons, or else a schedule
 abbrev pub choices_at : List ℕ → Option Choices
 choices_at text =
-    if bytes_eq (take 5 text) (codes "seed:") then of_seed (parts_between 58 (drop 5 text)) else option_map schedule (schedule_of text)
+    if bytes_eq (take 5 text) (codes "seed:") then of_seed (parts_between 58 (drop 5 text))
+    else option_map schedule (schedule_of text)
 
 -- an order of a module of a project: from a root, with a property, of a kind and within a limit
-abbrev pub with_order : (root property : List ℕ) → (project n : Option ℕ) → Option RequestKind → (limit : Option ℕ) → Option LineContent
+abbrev pub with_order : (root property : List ℕ) → (project n : Option ℕ) → Option RequestKind → (limit : Option ℕ)
+    → Option LineContent
 with_order root property (Some project) (Some n) (Some k) (Some limit) =
     Some (made (client_calls project (order n (record { root = root; property = property; kind = k; limit = limit }))))
 with_order root property _ _ _ _ = None
@@ -104,7 +110,8 @@ with_order root property _ _ _ _ = None
 abbrev pub of_order : List (List ℕ) → Option LineContent
 of_order (p ∷ m ∷ root ∷ property ∷ choices ∷ limit ∷ []) =
     if is_line_word root && is_line_word property
-    then with_order root property (number_of_digits p) (number_of_digits m) (option_map run (choices_at choices)) (number_of_digits limit)
+    then with_order root property (number_of_digits p) (number_of_digits m) (option_map run (choices_at choices))
+    (number_of_digits limit)
     else None
 of_order _ = None
 
@@ -117,7 +124,8 @@ with_runs _ _ = None
 abbrev pub of_shrink : List (List ℕ) → Option LineContent
 of_shrink (p ∷ m ∷ root ∷ property ∷ numbers ∷ runs ∷ limit ∷ []) =
     if is_line_word root && is_line_word property
-    then with_order root property (number_of_digits p) (number_of_digits m) (with_runs (schedule_of numbers) (number_of_digits runs)) (number_of_digits limit)
+    then with_order root property (number_of_digits p) (number_of_digits m)
+    (with_runs (schedule_of numbers) (number_of_digits runs)) (number_of_digits limit)
     else None
 of_shrink _ = None
 
@@ -189,12 +197,14 @@ complete_command (Some (submission project size)) ended rest = with_source ended
 
 -- the command that some bytes begin with, and what follows it
 abbrev pub command_at : List ℕ → Option (WorldStep × List ℕ)
-command_at bytes = complete_command (content_of_line (words_of_line (first_line bytes).text)) (first_line bytes).is_ended (first_line bytes).rest
+command_at bytes = complete_command (content_of_line (words_of_line (first_line bytes).text))
+    (first_line bytes).is_ended (first_line bytes).rest
 
 -- Commands bytes steps good: the bytes are the commands of these steps; then they are over, or a line follows that is
 -- no command
 pub data Commands : List ℕ → List WorldStep → Bool → Type 0 where
   over : Commands [] [] true
   no_command : (b : ℕ) (bs : List ℕ) → command_at (b ∷ bs) ≡ None → Commands (b ∷ bs) [] false
-  command : (b : ℕ) (bs rest : List ℕ) (s : WorldStep) (ss : List WorldStep) (good : Bool) → command_at (b ∷ bs) ≡ Some (s, rest)
+  command : (b : ℕ) (bs rest : List ℕ) (s : WorldStep) (ss : List WorldStep) (good : Bool)
+      → command_at (b ∷ bs) ≡ Some (s, rest)
       → Commands rest ss good → Commands (b ∷ bs) (s ∷ ss) good

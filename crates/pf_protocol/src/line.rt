@@ -7,7 +7,8 @@ ghost use Rattle.pf_request.specs.Calls.{fetch, status, drop_trial, withdraw, us
 ghost use Rattle.pf_request.specs.View.{view_of_call};
 ghost use Rattle.pf_world.specs.Steps.{client_calls};
 ghost use Rattle.pf_protocol.specs.Commands as commands;
-ghost use Rattle.pf_protocol.specs.Commands.{made, submission, is_line_word, of_call, of_one, of_project, of_two, content_of_line, words_of_line};
+ghost use Rattle.pf_protocol.specs.Commands.{made, submission, is_line_word, of_call, of_one, of_project, of_two};
+ghost use Rattle.pf_protocol.specs.Commands.{content_of_line, words_of_line};
 ghost use Rattle.pf_protocol.specs.View.{view_of_content};
 
 use crate::order::{read_order, read_shrink};
@@ -45,7 +46,8 @@ fn one_number(words: &[u8]) -> Option<u32>
 
 /// The numbers that the words are, if they are two numbers.
 pub(crate) fn two_numbers(words: &[u8]) -> Option<(u32, u32)>
-    ensures { (f : ℕ → ℕ → commands.LineContent) → option_map (λ p. f p.0 p.1) result ≡ of_two f (words_of_line words.now) }
+    ensures { (f : ℕ → ℕ → commands.LineContent)
+        → option_map (λ p. f p.0 p.1) result ≡ of_two f (words_of_line words.now) }
 {
     let (first, others) = first_word(words)?;
     let second = only_word(others)?;

@@ -5,7 +5,8 @@ ghost use Rattle.std.specs.Option.{option_map};
 ghost use Rattle.pf_text.specs.Numbers.{number_of_digits, schedule_of};
 ghost use Rattle.pf_request.specs.Request as request;
 ghost use Rattle.pf_request.specs.View.{view_of_choices, view_of_kind};
-ghost use Rattle.pf_protocol.specs.Commands.{choices_at, is_line_word, of_order, of_seed, of_shrink, parts_between, with_order, with_runs, words_of_line};
+ghost use Rattle.pf_protocol.specs.Commands.{choices_at, is_line_word, of_order, of_seed, of_shrink, parts_between};
+ghost use Rattle.pf_protocol.specs.Commands.{with_order, with_runs, words_of_line};
 ghost use Rattle.pf_protocol.specs.View.{view_of_content};
 
 use crate::line::{LineContent, is_word};

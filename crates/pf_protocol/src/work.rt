@@ -3,7 +3,8 @@
 ghost use Rattle.std.specs.Prelude.{◌≡◌, ℕ, Option, option_and_then};
 ghost use Rattle.std.specs.Option.{option_map};
 ghost use Rattle.pf_protocol.specs.Commands as commands;
-ghost use Rattle.pf_protocol.specs.Commands.{of_chore, of_four, of_three, slice_of, theft_of, words_of_line, work_asked};
+ghost use Rattle.pf_protocol.specs.Commands.{of_chore, of_four, of_three, slice_of, theft_of, words_of_line};
+ghost use Rattle.pf_protocol.specs.Commands.{work_asked};
 ghost use Rattle.pf_protocol.specs.View.{view_of_content};
 
 use crate::line::LineContent;

@@ -136,5 +136,6 @@ pub fn limits_hold()
         → refusal_of edition usage charge ≡ None → IsWithinLimits edition (charged usage charge) }
     ensures refund { (edition : ℕ) (usage : Usage) (thing : Holding) → IsWithinLimits edition usage
         → IsWithinLimits edition (refunded usage thing) }
-    ensures edition { (low high : ℕ) (usage : Usage) → low ≤ high → 1 ≤ low → IsWithinLimits low usage → IsWithinLimits high usage }
+    ensures edition { (low high : ℕ) (usage : Usage) → low ≤ high → 1 ≤ low → IsWithinLimits low usage
+        → IsWithinLimits high usage }
 {}

@@ -16,8 +16,10 @@ same_grown a b e = rw e (grown_not a)
 pub grown_by : (a b : ExprArena) (c : NodeTable) → b ≡ with_node_table a c → GoesOn a.node_table c → Grown a b
 grown_by a b c e on = rw e (record { name = refl; exports = refl; functions = refl; node_table = on })
 
-pub grown_by_expr_pattern : (a b : ExprArena) (n : ExprPatternNode) → b ≡ with_node_table a (with_expr_pattern a.node_table n) → Grown a b
-grown_by_expr_pattern a b n e = grown_by a b (with_expr_pattern a.node_table n) e (on_by_expr_pattern a.node_table (expr_pattern_over a.node_table n))
+pub grown_by_expr_pattern : (a b : ExprArena) (n : ExprPatternNode)
+    → b ≡ with_node_table a (with_expr_pattern a.node_table n) → Grown a b
+grown_by_expr_pattern a b n e = grown_by a b (with_expr_pattern a.node_table n) e
+    (on_by_expr_pattern a.node_table (expr_pattern_over a.node_table n))
 
 pub grown_by_expr : (a b : ExprArena) (n : ExprNode) → b ≡ with_node_table a (with_expr a.node_table n) → Grown a b
 grown_by_expr a b n e = grown_by a b (with_expr a.node_table n) e (on_by_expr a.node_table n)

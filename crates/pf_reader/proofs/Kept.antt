@@ -4,7 +4,8 @@ use Rattle.std.specs.Prelude.{map}
 use Rattle.std.specs.List.{All}
 use Rattle.std.proofs.lemmas.List.Elements.{All-head, All-tail, All-push, All-weaker}
 use Rattle.pf_syntax.specs.SyntaxTree.{NodeTable}
-use Rattle.pf_syntax.specs.SyntaxTreeOver.{alternatives_at, expr_patterns_at, exprs_at, branches_over, head_over, ExprPatternRepresents, ExprRepresents, BranchRepresents, HeadRepresents}
+use Rattle.pf_syntax.specs.SyntaxTreeOver.{alternatives_at, expr_patterns_at, exprs_at, branches_over, head_over}
+use Rattle.pf_syntax.specs.SyntaxTreeOver.{ExprPatternRepresents, ExprRepresents, BranchRepresents, HeadRepresents}
 use Rattle.pf_syntax.specs.declared.expr.Branch.{Branch}
 use Rattle.pf_syntax.specs.declared.expr.Head.{Head}
 use Rattle.pf_syntax.specs.declared.expr.Tests.{Tests}
@@ -13,10 +14,12 @@ use Rattle.pf_syntax.specs.declared.expr.ExprId.{ExprId}
 use Rattle.pf_syntax.proofs.NodeTableExtends.{GoesOn, all_exprs_stand, condition_kept, head_kept, head_stands}
 use Rattle.pf_grammar.specs.Parse.{expr_patterns_of, exprs_of, branches_of, condition_of}
 use Rattle.pf_reader.specs.declared.part.FrontPart.{FrontPart}
-use Rattle.pf_reader.specs.Given.{expr_pattern_of, expr_of, clause_of, view_of_front, view_of_tests, FrontRepresents, TestsStand}
+use Rattle.pf_reader.specs.Given.{expr_pattern_of, expr_of, clause_of, view_of_front, view_of_tests, FrontRepresents}
+use Rattle.pf_reader.specs.Given.{TestsStand}
 
 -- where each keeps its meaning, all do
-pub seen_alike : {X A : Type 0} (P : X → Type 0) (f g : X → A) → ((x : X) → P x → f x ≡ g x) → (xs : List X) → All P xs → map f xs ≡ map g xs
+pub seen_alike : {X A : Type 0} (P : X → Type 0) (f g : X → A) → ((x : X) → P x → f x ≡ g x) → (xs : List X) → All P xs
+    → map f xs ≡ map g xs
 seen_alike P f g h [] a = refl
 seen_alike P f g h (x ∷ xs) a =
     let y = h x (All-head P x xs a) in
@@ -24,18 +27,22 @@ seen_alike P f g h (x ∷ xs) a =
     cc
 
 module _ (b c : NodeTable) (on : GoesOn b c) where
-  pub expr_patterns_alike : (qs : List ExprPatternId) → All (ExprPatternRepresents b) qs → map (expr_pattern_of c) qs ≡ map (expr_pattern_of b) qs
-  expr_patterns_alike qs h = seen_alike (ExprPatternRepresents b) (expr_pattern_of c) (expr_pattern_of b) (λ q s. on.expr_patterns q.0 s) qs h
+  pub expr_patterns_alike : (qs : List ExprPatternId) → All (ExprPatternRepresents b) qs
+      → map (expr_pattern_of c) qs ≡ map (expr_pattern_of b) qs
+  expr_patterns_alike qs h = seen_alike (ExprPatternRepresents b) (expr_pattern_of c) (expr_pattern_of b)
+      (λ q s. on.expr_patterns q.0 s) qs h
 
   pub exprs_alike : (es : List ExprId) → All (ExprRepresents b) es → map (expr_of c) es ≡ map (expr_of b) es
   exprs_alike es h = seen_alike (ExprRepresents b) (expr_of c) (expr_of b) (λ e s. on.exprs e.0 s) es h
 
 -- one more that is there
-pub pushed_stands : {X : Type 0} (P : X → Type 0) (xs ys : List X) (x : X) → ys ≡ xs ++ x ∷ [] → All P xs → P x → All P ys
+pub pushed_stands : {X : Type 0} (P : X → Type 0) (xs ys : List X) (x : X) → ys ≡ xs ++ x ∷ [] → All P xs
+    → P x → All P ys
 pushed_stands P xs ys x e h p = subst (All P) (sym e) (All-push P xs x h p)
 
 -- parts in a row, as they are read and as the table of nodes has them
-pub expr_patterns_in_row : (b : NodeTable) (qs : List ExprPatternId) → expr_patterns_at b qs ≡ expr_patterns_of (map (expr_pattern_of b) qs)
+pub expr_patterns_in_row : (b : NodeTable) (qs : List ExprPatternId)
+    → expr_patterns_at b qs ≡ expr_patterns_of (map (expr_pattern_of b) qs)
 expr_patterns_in_row b [] = refl
 expr_patterns_in_row b (q ∷ qs) = let e = expr_patterns_in_row b qs in cc
 
@@ -45,13 +52,17 @@ exprs_in_row b (e ∷ es) = let r = exprs_in_row b es in cc
 
 -- ---- guards
 
-pub tests_alike : (b c : NodeTable) → GoesOn b c → (gs : List Tests) → All (TestsStand b) gs → map (view_of_tests c) gs ≡ map (view_of_tests b) gs
-tests_alike b c on gs h = seen_alike (TestsStand b) (view_of_tests c) (view_of_tests b) (λ g s. exprs_alike b c on g.tests.items s) gs h
+pub tests_alike : (b c : NodeTable) → GoesOn b c → (gs : List Tests) → All (TestsStand b) gs
+    → map (view_of_tests c) gs ≡ map (view_of_tests b) gs
+tests_alike b c on gs h = seen_alike (TestsStand b) (view_of_tests c) (view_of_tests b)
+    (λ g s. exprs_alike b c on g.tests.items s) gs h
 
 pub all_tests_stand : (b c : NodeTable) → GoesOn b c → (gs : List Tests) → All (TestsStand b) gs → All (TestsStand c) gs
-all_tests_stand b c on gs h = All-weaker (TestsStand b) (TestsStand c) (λ g s. all_exprs_stand b c on g.tests.items s) gs h
+all_tests_stand b c on gs h = All-weaker (TestsStand b) (TestsStand c)
+    (λ g s. all_exprs_stand b c on g.tests.items s) gs h
 
-pub alternatives_in_row : (b : NodeTable) (gs : List Tests) → alternatives_at b gs ≡ condition_of (map (view_of_tests b) gs)
+pub alternatives_in_row : (b : NodeTable) (gs : List Tests)
+    → alternatives_at b gs ≡ condition_of (map (view_of_tests b) gs)
 alternatives_in_row b [] = refl
 alternatives_in_row b (g ∷ gs) =
     let es = exprs_in_row b g.tests.items in
@@ -60,7 +71,8 @@ alternatives_in_row b (g ∷ gs) =
 
 -- ---- clauses
 
-pub front_alike : (b c : NodeTable) → GoesOn b c → (f : FrontPart) → FrontRepresents b f → (view_of_front c f).0 ≡ (view_of_front b f).0
+pub front_alike : (b c : NodeTable) → GoesOn b c → (f : FrontPart) → FrontRepresents b f
+    → (view_of_front c f).0 ≡ (view_of_front b f).0
 front_alike b c on f h =
     let q = on.expr_patterns f.expr_pattern.0 h.0 in
     let g = condition_kept b c on f.condition h.1 in
@@ -73,7 +85,8 @@ clause_alike b c on x h =
     let es = exprs_alike b c on x.body.items h.2 in
     cc
 
-pub clauses_alike : (b c : NodeTable) → GoesOn b c → (xs : List Branch) → All (BranchRepresents b) xs → map (clause_of c) xs ≡ map (clause_of b) xs
+pub clauses_alike : (b c : NodeTable) → GoesOn b c → (xs : List Branch) → All (BranchRepresents b) xs
+    → map (clause_of c) xs ≡ map (clause_of b) xs
 clauses_alike b c on xs h = seen_alike (BranchRepresents b) (clause_of c) (clause_of b) (clause_alike b c on) xs h
 
 pub clauses_in_row : (b : NodeTable) (xs : List Branch) → branches_over b xs ≡ branches_of (map (clause_of b) xs)
@@ -85,8 +98,10 @@ clauses_in_row b (x ∷ xs) =
 
 -- ---- clauses of functions
 
-pub heads_alike : (b c : NodeTable) → GoesOn b c → (xs : List Head) → All (HeadRepresents b) xs → map (head_over c) xs ≡ map (head_over b) xs
+pub heads_alike : (b c : NodeTable) → GoesOn b c → (xs : List Head) → All (HeadRepresents b) xs
+    → map (head_over c) xs ≡ map (head_over b) xs
 heads_alike b c on xs h = seen_alike (HeadRepresents b) (head_over c) (head_over b) (head_kept b c on) xs h
 
-pub all_heads_stand : (b c : NodeTable) → GoesOn b c → (xs : List Head) → All (HeadRepresents b) xs → All (HeadRepresents c) xs
+pub all_heads_stand : (b c : NodeTable) → GoesOn b c → (xs : List Head) → All (HeadRepresents b) xs
+    → All (HeadRepresents c) xs
 all_heads_stand b c on xs h = All-weaker (HeadRepresents b) (HeadRepresents c) (head_stands b c on) xs h

@@ -78,7 +78,8 @@ clause_of b c = ((expr_pattern_at b c.expr_pattern.0, condition_over b c.conditi
 -- ---- what is before what is read
 
 -- the items before, and those read after them
-abbrev pub with_front : {A : Type 0} → List A → Option (List A × List NumberedToken) → Option (List A × List NumberedToken)
+abbrev pub with_front : {A : Type 0} → List A → Option (List A × List NumberedToken)
+    → Option (List A × List NumberedToken)
 with_front front o = o >>= λ x. Some (front ++ x.0, x.1)
 
 -- the same, up to the end of the tokens

@@ -19,7 +19,8 @@ IsParsedAs m (Err _) = ⊥
 -- a refusal of the tokens: they have no first form, or they have one and are no module
 abbrev pub IsRefusedSource : List (List ℕ) → List NumberedToken → ℕ → Code → ℕ → Type 0
 IsRefusedSource atoms ts end NoHead offset = (HasHead atoms ts → ⊥) × (offset ≡ 0)
-IsRefusedSource atoms ts end NotGrammar offset = HasHead atoms ts × ((m : Tree) → DerivesTree atoms m ts → ⊥) × IsOffsetOf ts end offset
+IsRefusedSource atoms ts end NotGrammar offset = HasHead atoms ts × ((m : Tree) → DerivesTree atoms m ts → ⊥)
+    × IsOffsetOf ts end offset
 IsRefusedSource atoms ts end _ offset = ⊥
 
 -- out of memory says nothing of the tokens

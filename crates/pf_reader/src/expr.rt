@@ -3,14 +3,18 @@
 ghost use Rattle.std.specs.Prelude.{◌≡◌, ◌<◌, length, IfErr, IfOk, map, false, true};
 ghost use Rattle.std.specs.List.{All};
 ghost use Rattle.pf_syntax.specs.SyntaxTree.{NodeTable};
-ghost use Rattle.pf_syntax.specs.SyntaxTreeOver.{branches_over, condition_over, BranchRepresents, ConditionRepresents, ExprRepresents};
+ghost use Rattle.pf_syntax.specs.SyntaxTreeOver.{branches_over, condition_over, BranchRepresents, ConditionRepresents};
+ghost use Rattle.pf_syntax.specs.SyntaxTreeOver.{ExprRepresents};
 ghost use Rattle.pf_tokens.specs.declared.marks.TokenMark.TheVariants.{Comma, OpenParenthesis, Semicolon};
 ghost use Rattle.pf_tokens.specs.NumberedTokens.{mark};
 ghost use Rattle.pf_grammar.specs.Grammar.{top, unguarded};
 ghost use Rattle.pf_reader.specs.ListItems.{item_at};
-ghost use Rattle.pf_grammar.specs.Parse.{after_kind, body_parse, branches, call_parse_step, case_of, clause, element, parse_expr, front, guard, items, list, marked, prim, readers, unary, until, when, reserved_parse};
+ghost use Rattle.pf_grammar.specs.Parse.{after_kind, body_parse, branches, call_parse_step, case_of, clause, element};
+ghost use Rattle.pf_grammar.specs.Parse.{parse_expr, front, guard, items, list, marked, prim, readers, unary, until};
+ghost use Rattle.pf_grammar.specs.Parse.{when, reserved_parse};
 ghost use Rattle.pf_reader.specs.View.{names_of, tokens_in};
-ghost use Rattle.pf_reader.specs.Given.{clause_of, view_of_front, expression_seen, expr_of, FrontRepresents, Gives, Grown};
+ghost use Rattle.pf_reader.specs.Given.{clause_of, view_of_front, expression_seen, expr_of, FrontRepresents, Gives};
+ghost use Rattle.pf_reader.specs.Given.{Grown};
 
 use crate::expr_pattern::{read_expr_pattern, read_match_ahead};
 use crate::fault::{ReadFault, Syntax};

@@ -6,7 +6,8 @@ ghost use Rattle.pf_syntax.specs.SyntaxTreeOver.{ExprPatternRepresents};
 ghost use Rattle.pf_tokens.specs.declared.marks.TokenMark.TheVariants.{Comma};
 ghost use Rattle.pf_tokens.specs.NumberedTokens.{mark};
 ghost use Rattle.pf_grammar.specs.Grammar.{TokenNames};
-ghost use Rattle.pf_grammar.specs.Parse.{items, list_expr_pattern, marked_expr_pattern, match_ahead, negative, pattern, pattern_with, until};
+ghost use Rattle.pf_grammar.specs.Parse.{items, list_expr_pattern, marked_expr_pattern, match_ahead, negative, pattern};
+ghost use Rattle.pf_grammar.specs.Parse.{pattern_with, until};
 ghost use Rattle.pf_reader.specs.View.{names_of, tokens_in};
 ghost use Rattle.pf_reader.specs.Given.{seen_expr_pattern, expr_pattern_of, Gives, Grown};
 

@@ -1,7 +1,8 @@
 //! Parts that were read into a syntax tree, and what follows each of them.
 
 ghost use Rattle.std.specs.Prelude.{◌≡◌, if◌then◌else◌, IfOk, None, Some};
-ghost use Rattle.pf_syntax.specs.SyntaxTreeOver.{expr_over, expr_pattern_over, ExprPartsStand, ExprRepresents, ExprPatternPartsStand, ExprPatternRepresents};
+ghost use Rattle.pf_syntax.specs.SyntaxTreeOver.{expr_over, expr_pattern_over, ExprPartsStand, ExprRepresents};
+ghost use Rattle.pf_syntax.specs.SyntaxTreeOver.{ExprPatternPartsStand, ExprPatternRepresents};
 ghost use Rattle.pf_grammar.specs.Parse.{is_short, within};
 ghost use Rattle.pf_syntax.specs.Expr as expressions;
 ghost use Rattle.pf_syntax.specs.ExprPattern as patterns;

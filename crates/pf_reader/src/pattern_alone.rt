@@ -9,7 +9,8 @@ ghost use Rattle.pf_tokens.specs.View.{token_list};
 ghost use Rattle.pf_grammar.specs.Parse.{pattern};
 ghost use Rattle.pf_reader.specs.View.{names_of};
 ghost use Rattle.pf_reader.specs.Given.{Gives};
-ghost use Rattle.pf_reader.specs.PatternAlone.{pattern_alone, pattern_of, DerivesPatternAlone, IsNoPattern, IsPatternReadAs, LacksModule};
+ghost use Rattle.pf_reader.specs.PatternAlone.{pattern_alone, pattern_of, DerivesPatternAlone, IsNoPattern};
+ghost use Rattle.pf_reader.specs.PatternAlone.{IsPatternReadAs, LacksModule};
 
 use crate::expr_pattern::read_expr_pattern;
 use crate::fault::{ReadFault, Syntax};

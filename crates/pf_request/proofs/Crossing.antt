@@ -45,8 +45,22 @@ call_field_sync = search (check.source_sync, order_field_sync, sendable) depth 3
 
 -- ---- all together
 
-pub ruleset sends = (check.source_send, choices_field_send, kind_field_send, request_field_send, order_field_send, call_field_send)
+pub ruleset sends = (
+  check.source_send,
+  choices_field_send,
+  kind_field_send,
+  request_field_send,
+  order_field_send,
+  call_field_send,
+)
 
-pub ruleset shares = (check.source_sync, choices_field_sync, kind_field_sync, request_field_sync, order_field_sync, call_field_sync)
+pub ruleset shares = (
+  check.source_sync,
+  choices_field_sync,
+  kind_field_sync,
+  request_field_sync,
+  order_field_sync,
+  call_field_sync,
+)
 
 pub ruleset crosses = (sends, shares)

@@ -31,7 +31,8 @@ choices_from-parts_of (schedule ns) = refl
 choices_from-parts_of (weighted_seed n process channel) = refl
 
 abbrev pub coded_choices : Coded Choices
-coded_choices = code_by _ (coded⊎ coded_ℕ (coded⊎ (coded_list coded_ℕ) (coded× coded_ℕ (coded× coded_ℕ coded_ℕ)))) parts_of_choices choices_from choices_from-parts_of
+coded_choices = code_by _ (coded⊎ coded_ℕ (coded⊎ (coded_list coded_ℕ) (coded× coded_ℕ (coded× coded_ℕ coded_ℕ))))
+    parts_of_choices choices_from choices_from-parts_of
 
 abbrev pub parts_of_property : Property → ℕ ⊎ Pattern
 parts_of_property returns = inl 0
@@ -65,12 +66,23 @@ coded_property = code_by _ (coded⊎ coded_ℕ coded_pattern) parts_of_property 
 
 abbrev pub coded_asked : Coded model.Job
 coded_asked =
-    code_by _ (coded× (coded× coded_module coded_ℕ) (coded× coded_property (coded× coded_choices (coded× coded_ℕ (coded× coded_ℕ coded_ℕ)))))
+    code_by _ (coded× (coded× coded_module coded_ℕ)
+    (coded× coded_property (coded× coded_choices (coded× coded_ℕ (coded× coded_ℕ coded_ℕ)))))
     (λ j. ((j.code, j.root), (j.property, (j.choices, (j.limit, (j.runs, j.edition))))))
-    (λ p. record { code = p.0.0; root = p.0.1; property = p.1.0; choices = p.1.1.0; limit = p.1.1.1.0; runs = p.1.1.1.1.0; edition = p.1.1.1.1.1 }) (λ _. refl)
+    (λ p. record {
+      code = p.0.0;
+      root = p.0.1;
+      property = p.1.0;
+      choices = p.1.1.0;
+      limit = p.1.1.1.0;
+      runs =
+          p.1.1.1.1.0;
+      edition = p.1.1.1.1.1;
+    }) (λ _. refl)
 
 abbrev pub coded_job : Coded Job
-coded_job = code_by _ (coded× (coded_list coded_ℕ) coded_asked) (λ j. (j.source, j.asked)) (λ p. record { source = p.0; asked = p.1 }) (λ _. refl)
+coded_job = code_by _ (coded× (coded_list coded_ℕ) coded_asked) (λ j. (j.source, j.asked))
+    (λ p. record { source = p.0; asked = p.1 }) (λ _. refl)
 
 -- ---- requests and calls
 
@@ -87,7 +99,8 @@ kind_from-parts_of (run cs) = refl
 kind_from-parts_of (shrink ns k) = refl
 
 abbrev pub coded_kind : Coded RequestKind
-coded_kind = code_by _ (coded⊎ coded_choices (coded× (coded_list coded_ℕ) coded_ℕ)) parts_of_kind kind_from kind_from-parts_of
+coded_kind = code_by _ (coded⊎ coded_choices (coded× (coded_list coded_ℕ) coded_ℕ)) parts_of_kind kind_from
+    kind_from-parts_of
 
 abbrev pub coded_request : Coded Request
 coded_request =
@@ -136,5 +149,6 @@ call_from-parts_of log = refl
 
 abbrev pub coded_call : Coded Call
 coded_call =
-    code_by _ (coded⊎ (coded_list coded_ℕ) (coded⊎ (coded× coded_ℕ coded_request) (coded⊎ (coded× coded_ℕ coded_ℕ) coded_ℕ)))
+    code_by _ (coded⊎ (coded_list coded_ℕ) (coded⊎ (coded× coded_ℕ coded_request)
+    (coded⊎ (coded× coded_ℕ coded_ℕ) coded_ℕ)))
     parts_of_call call_from call_from-parts_of

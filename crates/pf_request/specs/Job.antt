@@ -37,7 +37,8 @@ job_from m e i q r =
 -- ---- the rule of a request: its root, its property, its range, its weights
 
 abbrev pub within_bounds : Request → Job → Result Job Code
-within_bounds r j = if is_within r then (if may_weigh (choices_in r.kind) then Ok j else Err code.WeightsOutOfRange) else Err code.OutOfRange
+within_bounds r j = if is_within r then (if may_weigh (choices_in r.kind) then Ok j else Err code.WeightsOutOfRange)
+    else Err code.OutOfRange
 
 abbrev pub with_property : ReadModule → (edition root : ℕ) → Option Property → Request → Result Job Code
 with_property m e i None r = Err code.NoProperty

@@ -39,7 +39,8 @@ count_of (weighted_seed n process channel) = 0
 abbrev pub may_weigh : Choices → Bool
 may_weigh (seed n) = true
 may_weigh (schedule ns) = true
-may_weigh (weighted_seed n process channel) = nat_le 1 process && (nat_le process 9 && (nat_le 1 channel && nat_le channel 9))
+may_weigh (weighted_seed n process channel) =
+    nat_le 1 process && (nat_le process 9 && (nat_le 1 channel && nat_le channel 9))
 
 -- a shrinking has from 1 to MOST_RUNS runs
 abbrev pub may_shrink : RequestKind → Bool

@@ -21,7 +21,12 @@ view_of_kind (Run cs) = request.run (view_of_choices cs)
 view_of_kind (Shrink numbers runs) = request.shrink numbers.value.items runs
 
 abbrev pub view_of_request : Request → request.Request
-view_of_request r = record { root = r.root.items; property = r.property.items; kind = view_of_kind r.kind; limit = r.limit }
+view_of_request r = record {
+  root = r.root.items;
+  property = r.property.items;
+  kind = view_of_kind r.kind;
+  limit = r.limit;
+}
 
 abbrev pub view_of_order : Order → calls.Call
 view_of_order o = calls.order o.module (view_of_request o.request)

@@ -22,7 +22,8 @@ is_exported exports f arity = list_any (λ e. (e.name == f) && (e.arity == arity
 abbrev pub FunctionIs : Names → List Export → List Head → Function → Type 0
 FunctionIs n exports [] f = ⊥
 FunctionIs n exports (h ∷ hs) f =
-    (f.name ≡ h.name) × (f.arity ≡ parameters_of h.parameters) × (f.exported ≡ is_exported exports h.name (parameters_of h.parameters))
+    (f.name ≡ h.name) × (f.arity ≡ parameters_of h.parameters)
+    × (f.exported ≡ is_exported exports h.name (parameters_of h.parameters))
     × Pairwise (HeadIs n) (h ∷ hs) f.clauses
 
 -- the module, whose functions keep their order

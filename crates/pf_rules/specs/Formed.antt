@@ -69,11 +69,13 @@ abbrev mutual
 
   pub BranchesFormed : Branches → Type 0
   BranchesFormed no_branches = Unit {0}
-  BranchesFormed (branch q c es bs) = ExprPatternFormed q × HasAlternative c × ConditionFormed c × HasFirst es × ExprsFormed true es × BranchesFormed bs
+  BranchesFormed (branch q c es bs) = ExprPatternFormed q × HasAlternative c × ConditionFormed c × HasFirst es
+      × ExprsFormed true es × BranchesFormed bs
 
 -- a clause of a function
 abbrev pub HeadFormed : Head → Type 0
-HeadFormed h = ExprPatternsFormed h.parameters × HasAlternative h.condition × ConditionFormed h.condition × HasFirst h.body × ExprsFormed true h.body
+HeadFormed h = ExprPatternsFormed h.parameters × HasAlternative h.condition × ConditionFormed h.condition
+    × HasFirst h.body × ExprsFormed true h.body
 
 -- a function has a clause
 abbrev pub FunctionFormed : List Head → Type 0

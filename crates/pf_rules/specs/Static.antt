@@ -1,8 +1,10 @@
 -- The static rules: all faults of a module, each a code and an offset.
-use Rattle.std.specs.Prelude.{◌≡◌, ◌⊎◌, ℕ, suc, ◌<◌, ◌≤◌, Bool, true, false, ◌==◌, ◌&&◌, ◌||◌, is_some, if◌then◌else◌, List, [], ◌∷◌, ◌++◌, flat_map, position, Contains, Option}
+use Rattle.std.specs.Prelude.{◌≡◌, ◌⊎◌, ℕ, suc, ◌<◌, ◌≤◌, Bool, true, false, ◌==◌, ◌&&◌, ◌||◌, is_some, if◌then◌else◌}
+use Rattle.std.specs.Prelude.{List, [], ◌∷◌, ◌++◌, flat_map, position, Contains, Option}
 use Rattle.pf_errors.specs.Codes.{rank_of}
 use Rattle.pf_errors.specs.declared.code.Code.{Code}
-use Rattle.pf_errors.specs.declared.code.Code.TheVariants.{Unbound, Unsafe, Undefined, DefinedTwice, ExportOfNothing, HeadsDiffer}
+use Rattle.pf_errors.specs.declared.code.Code.TheVariants.{Unbound, Unsafe, Undefined, DefinedTwice, ExportOfNothing}
+use Rattle.pf_errors.specs.declared.code.Code.TheVariants.{HeadsDiffer}
 use Rattle.pf_errors.specs.declared.refusal.SourceRefusal.{SourceRefusal}
 use Rattle.pf_terms.specs.Atoms.{name_of}
 use Rattle.pf_syntax.specs.ExprPattern as s
@@ -10,7 +12,8 @@ use Rattle.pf_syntax.specs.ExprPattern.{ExprPattern, ExprPatterns, no_expr_patte
 use Rattle.pf_syntax.specs.Expr as p
 use Rattle.pf_syntax.specs.Expr.{Expr, Exprs, Condition, Branches, no_exprs, expr, no_tests, tests, no_branches, branch}
 use Rattle.pf_syntax.specs.SyntaxTree.{Export, Head}
-use Rattle.pf_syntax.specs.Scope.{Scope, no_scope, is_unsafe, is_new, after_expr_pattern, after_expr_patterns, after, after_all}
+use Rattle.pf_syntax.specs.Scope.{Scope, no_scope, is_unsafe, is_new, after_expr_pattern, after_expr_patterns, after}
+use Rattle.pf_syntax.specs.Scope.{after_all}
 use Rattle.pf_syntax.specs.Naming.{Names, arity_of}
 use Rattle.pf_syntax.specs.Forms.{builtin_named}
 use Rattle.pf_syntax.specs.ExprModule.{Tree}
@@ -37,7 +40,12 @@ own_in fs f arity = position (is_named_by_head f arity) fs
 
 -- the names of a module with these atoms: atoms keep their numbers, and a call finds an own function, or a built-in one
 abbrev pub names_of_module : List (List ℕ) → List (List Head) → Names
-names_of_module atoms fs = record { atom_of = λ a. a; own_of = own_in fs; builtin_of = λ f arity. builtin_named (name_of atoms f) arity }
+names_of_module atoms fs = record {
+  atom_of = λ a. a;
+  own_of = own_in fs;
+  builtin_of = λ f arity.
+      builtin_named (name_of atoms f) arity;
+}
 
 -- whether a built-in function has this name and number of arguments
 abbrev pub is_builtin : List (List ℕ) → ℕ → ℕ → Bool
@@ -58,7 +66,8 @@ abbrev mutual
 
   pub expr_patterns_faults : Scope → ExprPatterns → List SourceRefusal
   expr_patterns_faults g no_expr_patterns = []
-  expr_patterns_faults g (expr_pattern q qs) = expr_pattern_faults g q ++ expr_patterns_faults (after_expr_pattern g q) qs
+  expr_patterns_faults g (expr_pattern q qs) = expr_pattern_faults g q ++ expr_patterns_faults
+      (after_expr_pattern g q) qs
 
 -- ---- expressions
 
@@ -77,7 +86,8 @@ abbrev mutual
   expr_faults n g (p.tuple es) = exprs_faults n g es
   expr_faults n g (p.list es) = exprs_faults n g es
   expr_faults n g (p.list_on es e) = exprs_faults n g es ++ expr_faults n (after_all g es) e
-  expr_faults n g (p.call f at es) = (if is_defined n f (arity_of es) then [] else fault_if true Undefined at) ++ exprs_faults n g es
+  expr_faults n g (p.call f at es) = (if is_defined n f (arity_of es) then [] else fault_if true Undefined at)
+      ++ exprs_faults n g es
   expr_faults n g (p.binary o a b) = expr_faults n g a ++ expr_faults n (after g a) b
   expr_faults n g (p.negate a) = expr_faults n g a
   expr_faults n g (p.and_also a b) = expr_faults n g a ++ expr_faults n (after g a) b
@@ -100,7 +110,8 @@ abbrev mutual
   pub branches_faults : Names → Scope → Branches → List SourceRefusal
   branches_faults n g no_branches = []
   branches_faults n g (branch q c es bs) =
-      expr_pattern_faults g q ++ condition_faults n (after_expr_pattern g q) c ++ exprs_faults n (after_expr_pattern g q) es ++ branches_faults n g bs
+      expr_pattern_faults g q ++ condition_faults n (after_expr_pattern g q) c
+      ++ exprs_faults n (after_expr_pattern g q) es ++ branches_faults n g bs
 
 -- ---- modules
 
@@ -116,7 +127,8 @@ abbrev pub defined_faults : List (List ℕ) → List (List Head) → List (List 
 defined_faults atoms earlier [] = []
 defined_faults atoms earlier ([] ∷ fs) = defined_faults atoms (earlier ++ [] ∷ []) fs
 defined_faults atoms earlier ((h ∷ hs) ∷ fs) =
-    fault_if (is_some (own_in earlier h.name (parameters_of h.parameters)) || is_builtin atoms h.name (parameters_of h.parameters)) DefinedTwice h.offset
+    fault_if (is_some (own_in earlier h.name (parameters_of h.parameters)) || is_builtin atoms h.name
+    (parameters_of h.parameters)) DefinedTwice h.offset
     ++ defined_faults atoms (earlier ++ (h ∷ hs) ∷ []) fs
 
 -- a clause whose name or number of arguments isn't that of the function's first

@@ -45,7 +45,8 @@ impl Signatures {
     /// Adds a function. It says whether none of this name takes this number of arguments yet.
     pub fn add(&mut self, name: AtomId, arity: u64) -> Result<bool, NoMemory>
         ensures fresh { IfOk result (λ fresh. fresh ≡ not (lists self.old name.0 arity)) }
-        ensures added { OnOk result ((f a : ℕ) → lists self.new f a ≡ (lists self.old f a || ((name.0 == f) && (arity == a)))) }
+        ensures added { OnOk result ((f a : ℕ)
+            → lists self.new f a ≡ (lists self.old f a || ((name.0 == f) && (arity == a)))) }
     {
         let fresh = self.signatures.insert(Signature {
             name: name.0,

@@ -1,5 +1,6 @@
 -- How many processes live, and what an action or the end of one makes of that.
-use Rattle.std.proofs.Common.{◌≡◌, ◌+◌, ◌<◌, ℕ, zero, suc, Bool, true, false, cond, List, [], ◌∷◌, ◌++◌, length, Option, Some, None, refl, ap, ◌∙◌, arith}
+use Rattle.std.proofs.Common.{◌≡◌, ◌+◌, ◌<◌, ℕ, zero, suc, Bool, true, false, cond, List, [], ◌∷◌, ◌++◌, length, Option}
+use Rattle.std.proofs.Common.{Some, None, refl, ap, ◌∙◌, arith}
 use Rattle.std.specs.Prelude.{count_by, if◌then◌else◌, is_some, nat_lt, slice_set, ◌==◌}
 use Rattle.std.specs.List.{sum_by}
 use Rattle.std.proofs.lemmas.List.Sums.{sum_by-cons, sum_by_push}
@@ -7,11 +8,15 @@ use Rattle.pf_terms.specs.Fixed.{process, trap_exit}
 use Rattle.pf_terms.specs.Value.{Value, Values, count, same}
 use Rattle.pf_model.specs.Module.{Module, exported_as}
 use Rattle.pf_model.specs.Context.{ProcessState}
-use Rattle.pf_model.specs.Contraction.{Act, send, spawn, link, unlink, monitor, demonitor, exit_other, set_flag, register, unregister, whereis, make_ref}
+use Rattle.pf_model.specs.Contraction.{Act, send, spawn, link, unlink, monitor, demonitor, exit_other, set_flag}
+use Rattle.pf_model.specs.Contraction.{register, unregister, whereis, make_ref}
 use Rattle.pf_model.specs.declared.bond.Bond.{Bond}
 use Rattle.pf_model.specs.declared.bond.Bond.TheVariants.{Unbound, Linking, Watching}
 use Rattle.pf_model.specs.Configuration.{Core, Process, fresh, is_alive, of, process_at, with_process}
-use Rattle.pf_model.specs.Actions.{Acted, acted, and_flushed, as_atom, as_elements, as_pid, as_reference, begun, demonitored, demonitored_so, flag_set, given, linked_to, may_register, monitored, only_if, raising, receiver, registered, spawned, start_of, unlinked_from, unregistered}
+use Rattle.pf_model.specs.Actions.{Acted, acted, and_flushed, as_atom, as_elements, as_pid, as_reference, begun}
+use Rattle.pf_model.specs.Actions.{demonitored, demonitored_so, flag_set, given, linked_to, may_register, monitored}
+use Rattle.pf_model.specs.Actions.{only_if, raising, receiver, registered, spawned, start_of, unlinked_from}
+use Rattle.pf_model.specs.Actions.{unregistered}
 use Rattle.pf_model.specs.Flush.{flushes}
 use Rattle.pf_ops.specs.Guards.{truth_of}
 use Rattle.pf_sorted.specs.Maps.{got}
@@ -108,7 +113,8 @@ module _ (c : Core) (a : ℕ) (here : lives (of c a) ≡ true) where
   raises : (e : Value) → Steady c a (raising c e)
   raises e = record { here = here; counts = refl }
 
-  steady_given : {T : Type 0} (o : Option T) (go : T → Acted) → ((x : T) → Steady c a (go x)) → Steady c a (given c o go)
+  steady_given : {T : Type 0} (o : Option T) (go : T → Acted) → ((x : T) → Steady c a (go x))
+      → Steady c a (given c o go)
   steady_given None go h = record { here = here; counts = refl }
   steady_given (Some x) go h = h x
 
@@ -134,7 +140,8 @@ module _ (c : Core) (a : ℕ) (here : lives (of c a) ≡ true) where
   more_here p q e =
       ap lives (at_more (slice_set c.processes a p) a q (in_range (slice_set c.processes a p) a (on p e))) ∙ on p e
 
-  more_counts : (p q : Process) → Alike p → lives q ≡ true → sum_by weight (slice_set c.processes a p ++ q ∷ []) + 0 ≡ alive c + 1
+  more_counts : (p q : Process) → Alike p → lives q ≡ true
+      → sum_by weight (slice_set c.processes a p ++ q ∷ []) + 0 ≡ alive c + 1
   more_counts p q e l =
       let m = counts_more (slice_set c.processes a p) q l in
       let k = kept p e in
@@ -155,17 +162,20 @@ module _ (c : Core) (a : ℕ) (here : lives (of c a) ≡ true) where
   }) (raises _)
 
   unlinked_steady : (p : ℕ) → Steady c a (unlinked_from c a p)
-  unlinked_steady p = by_test _ _ _ (record { here = on _ refl; counts = kept _ refl }) (record { here = here; counts = refl })
+  unlinked_steady p = by_test _ _ _ (record { here = on _ refl; counts = kept _ refl })
+      (record { here = here; counts = refl })
 
   linked_steady : (p : ℕ) → Steady c a (linked_to c a p)
-  linked_steady p = by_test _ _ _ (record { here = here; counts = refl }) (record { here = on _ refl; counts = kept _ refl })
+  linked_steady p = by_test _ _ _ (record { here = here; counts = refl })
+      (record { here = on _ refl; counts = kept _ refl })
 
   demonitored_steady : (r : ℕ) (o : Option ℕ) → Steady c a (demonitored c a r o)
   demonitored_steady r None = record { here = here; counts = refl }
   demonitored_steady r (Some p) = record { here = on _ refl; counts = kept _ refl }
 
   -- a flush after an action of which nothing began or ended
-  flushed_steady : (r : ℕ) (x : Acted) → Steady c a x → is_begin x.label ≡ false → is_end x.label ≡ false → Steady c a (and_flushed a r x)
+  flushed_steady : (r : ℕ) (x : Acted) → Steady c a x → is_begin x.label ≡ false → is_end x.label ≡ false
+      → Steady c a (and_flushed a r x)
   flushed_steady r x h b e = record {
     here = lives_on x.left.core a _ h.here h.here;
     counts =
@@ -187,24 +197,29 @@ module _ (c : Core) (a : ℕ) (here : lives (of c a) ≡ true) where
   pub acted_steady : (m : Module) (x : Act) → Steady c a (acted m c a x)
   acted_steady m (send to v) = steady_given (receiver c to) _ (λ b. record { here = here; counts = refl })
   acted_steady m (spawn b w f vs) =
-      steady_given (as_atom w) _ (λ home. steady_given (as_atom f) (λ name. given c (as_elements vs) (λ arguments. spawned c a b (start_of m home name arguments)))
+      steady_given (as_atom w) _ (λ home. steady_given (as_atom f)
+      (λ name. given c (as_elements vs) (λ arguments. spawned c a b (start_of m home name arguments)))
       (λ name. steady_given (as_elements vs) (λ arguments. spawned c a b (start_of m home name arguments))
-      (λ arguments. spawns_steady b (start_of m home name arguments) (begun_lives (called m home name arguments) arguments))))
+      (λ arguments. spawns_steady b (start_of m home name arguments)
+      (begun_lives (called m home name arguments) arguments))))
   acted_steady m (link p) = steady_given (as_pid p) (linked_to c a) linked_steady
   acted_steady m (unlink p) = steady_given (as_pid p) (unlinked_from c a) unlinked_steady
   acted_steady m (monitor k p) =
       steady_given (as_pid p) (λ b. only_if c (same k process) (monitored c a b))
       (λ b. steady_if (same k process) (monitored c a b) (record { here = on _ refl; counts = kept _ refl }))
   acted_steady m (demonitor r o) =
-      steady_given (as_reference r) (λ x. given c (flushes o) (demonitored_so c a x)) (λ x. steady_given (flushes o) (demonitored_so c a x) (demonitored_so_steady x))
+      steady_given (as_reference r) (λ x. given c (flushes o) (demonitored_so c a x))
+      (λ x. steady_given (flushes o) (demonitored_so c a x) (demonitored_so_steady x))
   acted_steady m (exit_other p r) = steady_given (as_pid p) _ (λ b. record { here = here; counts = refl })
   acted_steady m (set_flag k v) =
       steady_given (truth_of v) (λ b. only_if c (same k trap_exit) (flag_set c a b))
       (λ b. steady_if (same k trap_exit) (flag_set c a b) (record { here = on _ refl; counts = kept _ refl }))
   acted_steady m (register n p) =
       steady_given (as_atom n) (λ x. given c (as_pid p) (registered c x))
-      (λ x. steady_given (as_pid p) (registered c x) (λ y. steady_if (may_register c x y) _ (record { here = here; counts = refl })))
+      (λ x. steady_given (as_pid p) (registered c x)
+      (λ y. steady_if (may_register c x y) _ (record { here = here; counts = refl })))
   acted_steady m (unregister n) =
-      steady_given (as_atom n) (unregistered c) (λ x. steady_if (is_some (got x c.names)) _ (record { here = here; counts = refl }))
+      steady_given (as_atom n) (unregistered c)
+      (λ x. steady_if (is_some (got x c.names)) _ (record { here = here; counts = refl }))
   acted_steady m (whereis n) = steady_given (as_atom n) _ (λ x. record { here = here; counts = refl })
   acted_steady m make_ref = record { here = here; counts = refl }

@@ -1,5 +1,6 @@
 -- Which job a request of a module results in, and what is known of a job.
-use Rattle.std.proofs.Common.{◌≡◌, ◌⊎◌, inl, inr, ℕ, zero, ◌≤◌, true, false, if◌then◌else◌, ◌&&◌, List, [], Some, None, Result, Ok, Err, refl, sym, ap, ap₂, ◌∙◌, subst, arith}
+use Rattle.std.proofs.Common.{◌≡◌, ◌⊎◌, inl, inr, ℕ, zero, ◌≤◌, true, false, if◌then◌else◌, ◌&&◌, List, [], Some, None}
+use Rattle.std.proofs.Common.{Result, Ok, Err, refl, sym, ap, ap₂, ◌∙◌, subst, arith}
 use Rattle.std.specs.Prelude.{nat_le}
 use Rattle.std.proofs.lemmas.Bool.{and_parts, leb-true}
 use Rattle.pf_choice.specs.Chosen.{IsProfile}
@@ -14,7 +15,8 @@ use Rattle.pf_check.specs.Reading.{IsReadAs}
 use Rattle.pf_property.specs.Texts.{IsPropertyOf, ReadsProperty}
 use Rattle.pf_property.proofs.AnyProperty.{any_property}
 use Rattle.pf_check.specs.Module.{ReadModule}
-use Rattle.pf_request.specs.Request.{RequestKind, run, shrink, Request, choices_in, count_of, is_within, may_shrink, may_weigh, runs_in}
+use Rattle.pf_request.specs.Request.{RequestKind, run, shrink, Request, choices_in, count_of, is_within, may_shrink}
+use Rattle.pf_request.specs.Request.{may_weigh, runs_in}
 use Rattle.pf_request.specs.Job.{Job, job_from, reseeded, root_in, with_root, within_bounds as bounded}
 use Rattle.pf_sched.specs.declared.refusal.JobRefusal.{JobRefusal}
 use Rattle.pf_sched.specs.Asked.{Asks, IsRefusal, IsValid, NoSuch, module_of_job}
@@ -39,9 +41,14 @@ module _ (m : ReadModule) (e : ℕ) (r : Request) where
 
   module _ (i : ℕ) (root : root_in m r.root ≡ Some i) where
     -- what is no property is refused so, after its root
-    pub no_property : (bytes : List ℕ) → bytes ≡ r.property → (f : OrNoMemory JobRefusal) → NoSuch m.code.atoms bytes f → IsRefusal (Asks m e r) f
+    pub no_property : (bytes : List ℕ) → bytes ≡ r.property → (f : OrNoMemory JobRefusal) → NoSuch m.code.atoms bytes f
+        → IsRefusal (Asks m e r) f
     no_property bytes same NoMemory h = tt
-    no_property bytes same (Fault f) h = (None, subst (λ b. IsPropertyOf m.code.atoms b None) same h.1, ap (λ o. with_root m e o None r) root ∙ ap (λ c. Err c) (sym h.0))
+    no_property bytes same (Fault f) h = (
+      None,
+      subst (λ b. IsPropertyOf m.code.atoms b None) same h.1,
+      ap (λ o. with_root m e o None r) root ∙ ap (λ c. Err c) (sym h.0),
+    )
 
     module _ (q : Property) (reads : ReadsProperty m.code.atoms r.property q) where
       comes_to : (x : Result Job Code) → bounded r (job_from m e i q r) ≡ x → Asks m e r x
@@ -51,17 +58,22 @@ module _ (m : ReadModule) (e : ℕ) (r : Request) where
       pub out_of_range : is_within r ≡ false → Asks m e r (Err code.OutOfRange)
       out_of_range unfit =
           comes_to (Err code.OutOfRange)
-          (ap (λ b. if b then (if may_weigh (choices_in r.kind) then Ok (job_from m e i q r) else Err code.WeightsOutOfRange) else Err code.OutOfRange) unfit)
+          (ap (λ b. if b then (if may_weigh (choices_in r.kind) then Ok (job_from m e i q r)
+          else Err code.WeightsOutOfRange) else Err code.OutOfRange) unfit)
 
       within : (x : Result Job Code) → is_within r ≡ true
-          → (if may_weigh (choices_in r.kind) then Ok (job_from m e i q r) else Err code.WeightsOutOfRange) ≡ x → Asks m e r x
+          → (if may_weigh (choices_in r.kind) then Ok (job_from m e i q r) else Err code.WeightsOutOfRange) ≡ x
+          → Asks m e r x
       within x fits is =
           comes_to x
-          (ap (λ b. if b then (if may_weigh (choices_in r.kind) then Ok (job_from m e i q r) else Err code.WeightsOutOfRange) else Err code.OutOfRange) fits ∙ is)
+          (ap (λ b. if b then (if may_weigh (choices_in r.kind) then Ok (job_from m e i q r)
+          else Err code.WeightsOutOfRange) else Err code.OutOfRange) fits ∙ is)
 
       -- then weights that are
-      pub bad_weights : is_within r ≡ true → may_weigh (choices_in r.kind) ≡ false → Asks m e r (Err code.WeightsOutOfRange)
-      bad_weights fits unfit = within (Err code.WeightsOutOfRange) fits (ap (λ b. if b then Ok (job_from m e i q r) else Err code.WeightsOutOfRange) unfit)
+      pub bad_weights : is_within r ≡ true → may_weigh (choices_in r.kind) ≡ false
+          → Asks m e r (Err code.WeightsOutOfRange)
+      bad_weights fits unfit = within (Err code.WeightsOutOfRange) fits
+          (ap (λ b. if b then Ok (job_from m e i q r) else Err code.WeightsOutOfRange) unfit)
 
       -- ---- jobs
 
@@ -69,13 +81,16 @@ module _ (m : ReadModule) (e : ℕ) (r : Request) where
       abbrev pub shared : RequestKind → Job
       shared k = job_from m e i q (record r { kind = k })
 
-      pub is_asked : (k : RequestKind) → k ≡ r.kind → is_within r ≡ true → may_weigh (choices_in r.kind) ≡ true → Asks m e r (Ok (shared k))
+      pub is_asked : (k : RequestKind) → k ≡ r.kind → is_within r ≡ true → may_weigh (choices_in r.kind) ≡ true
+          → Asks m e r (Ok (shared k))
       is_asked k same fits weighs =
           within (Ok (shared k)) fits
-          (ap (λ b. if b then Ok (job_from m e i q r) else Err code.WeightsOutOfRange) weighs ∙ ap (λ z. Ok (shared z)) (sym same))
+          (ap (λ b. if b then Ok (job_from m e i q r) else Err code.WeightsOutOfRange) weighs
+          ∙ ap (λ z. Ok (shared z)) (sym same))
 
       -- and it is valid
-      pub is_valid : (name : List ℕ) → root_in m name ≡ Some i → IsReadAs m.source m → (k : RequestKind) → k ≡ r.kind → is_within r ≡ true
+      pub is_valid : (name : List ℕ) → root_in m name ≡ Some i → IsReadAs m.source m → (k : RequestKind) → k ≡ r.kind
+          → is_within r ≡ true
           → may_weigh (choices_in r.kind) ≡ true → IsEdition e → IsValid (shared k) × (may_shrink k ≡ true)
       is_valid name named read k same fits weighs edition =
           let parts = and_parts (is_in_range r.limit (count_of (choices_in r.kind))) (may_shrink r.kind) fits in
@@ -96,7 +111,8 @@ module _ (m : ReadModule) (e : ℕ) (r : Request) where
 -- a valid job is within bounds
 pub within_bounds : (j : Job) → IsValid j → (j.asked.limit ≤ 100000) × (j.asked.runs ≤ 1000)
 within_bounds j valid =
-    let range = and_parts (nat_le 1 j.asked.limit) (nat_le j.asked.limit 100000 && nat_le (count_of j.asked.choices) 100000) valid.limit in
+    let range = and_parts (nat_le 1 j.asked.limit)
+    (nat_le j.asked.limit 100000 && nat_le (count_of j.asked.choices) 100000) valid.limit in
     let limit = (and_parts (nat_le j.asked.limit 100000) (nat_le (count_of j.asked.choices) 100000) range.1).0 in
     (leb-true j.asked.limit 100000 limit, valid.runs)
 
@@ -128,17 +144,21 @@ none_given (schedule ns) s = refl
 none_given (weighted_seed n process channel) s = refl
 
 -- the run by a seed of a valid job is valid
-pub valid_by_seed : (j : Job) (m : ReadModule) (q : Property) (cs : Choices) (s : ℕ) → m ≡ module_of_job j → cs ≡ reseeded j.asked.choices s → IsValid j
-    → IsValid (job_from m j.asked.edition j.asked.root q (record { root = []; property = []; kind = run cs; limit = j.asked.limit }))
+pub valid_by_seed : (j : Job) (m : ReadModule) (q : Property) (cs : Choices) (s : ℕ) → m ≡ module_of_job j
+    → cs ≡ reseeded j.asked.choices s → IsValid j
+    → IsValid (job_from m j.asked.edition j.asked.root q
+    (record { root = []; property = []; kind = run cs; limit = j.asked.limit }))
 valid_by_seed j m q cs s e c valid =
-    let range = and_parts (nat_le 1 j.asked.limit) (nat_le j.asked.limit 100000 && nat_le (count_of j.asked.choices) 100000) valid.limit in
+    let range = and_parts (nat_le 1 j.asked.limit)
+    (nat_le j.asked.limit 100000 && nat_le (count_of j.asked.choices) 100000) valid.limit in
     let most = (and_parts (nat_le j.asked.limit 100000) (nat_le (count_of j.asked.choices) 100000) range.1).0 in
     let none : count_of cs ≡ zero = ap count_of c ∙ none_given j.asked.choices s in
     record {
       read = subst (λ n. IsReadAs n.source n) (sym e) valid.read;
       name = valid.name;
       root = ap (λ n. root_in n valid.name) e ∙ valid.root;
-      limit = ap (λ n. is_in_range j.asked.limit n) none ∙ ap₂ (λ low high. low && (high && nat_le 0 100000)) range.0 most;
+      limit = ap (λ n. is_in_range j.asked.limit n) none
+          ∙ ap₂ (λ low high. low && (high && nat_le 0 100000)) range.0 most;
       runs = omega arith;
       shrinks = inl refl;
       weighs = ap may_weigh c ∙ weighs_reseeded j.asked.choices s valid.weighs;

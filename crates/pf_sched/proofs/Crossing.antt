@@ -47,13 +47,15 @@ written_report_field_send : IsSend (WrittenReport.the_field).row
 written_report_field_send = search (event_lines_field_send, model.sends, sendable) depth 30
 
 written_report_send : IsSend WrittenReport.the_row
-written_report_send = recorded_send (WrittenReport.the_field).row _ _ (WrittenReport.the_type).to_one written_report_field_send
+written_report_send = recorded_send (WrittenReport.the_field).row _ _ (WrittenReport.the_type).to_one
+    written_report_field_send
 
 written_report_field_sync : IsSync (WrittenReport.the_field).row
 written_report_field_sync = search (event_lines_field_sync, model.shares, sendable) depth 30
 
 written_report_sync : IsSync WrittenReport.the_row
-written_report_sync = recorded_sync (WrittenReport.the_field).row _ _ (WrittenReport.the_type).to_one written_report_field_sync
+written_report_sync = recorded_sync (WrittenReport.the_field).row _ _ (WrittenReport.the_type).to_one
+    written_report_field_sync
 
 -- ---- a parked job
 

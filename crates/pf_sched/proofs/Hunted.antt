@@ -1,12 +1,16 @@
 -- Hunts of shrinkings: what true answers make of them, what they find, and how many events their runs have.
-use Rattle.std.proofs.Common.{◌≡◌, ◌⊎◌, inl, inr, ℕ, zero, suc, ◌+◌, ◌*◌, ◌<◌, ◌≤◌, Bool, true, false, List, [], ◌∷◌, ◌++◌, length, max, Option, Some, None, refl, sym, ap, ◌∙◌, subst, arith, append_assoc, if◌then◌else◌}
+use Rattle.std.proofs.Common.{◌≡◌, ◌⊎◌, inl, inr, ℕ, zero, suc, ◌+◌, ◌*◌, ◌<◌, ◌≤◌, Bool, true, false, List, [], ◌∷◌}
+use Rattle.std.proofs.Common.{◌++◌, length, max, Option, Some, None, refl, sym, ap, ◌∙◌, subst, arith, append_assoc}
+use Rattle.std.proofs.Common.{if◌then◌else◌}
 use Rattle.std.proofs.lemmas.List.{append-nil, length-append}
 use Rattle.std.proofs.lemmas.Nat.{mul-le}
 use Rattle.pf_choice.specs.Chosen.{IsProfile}
 use Rattle.pf_model.specs.Meaning.{Job, Report, Means, profile_of, schedule}
-use Rattle.pf_model.specs.Shrinking.{by_schedule, candidates, Found, is_failure, search, shrunk, Result, IsResult, smaller, no_failure}
+use Rattle.pf_model.specs.Shrinking.{by_schedule, candidates, Found, is_failure, search, shrunk, Result, IsResult}
+use Rattle.pf_model.specs.Shrinking.{smaller, no_failure}
 use Rattle.pf_model.proofs.Meanings.{one_meaning}
-use Rattle.pf_shrink.specs.Hunts.{Hunting, begins, searches, ended, searching, next_of, after_answer, found_of, search_result}
+use Rattle.pf_shrink.specs.Hunts.{Hunting, begins, searches, ended, searching, next_of, after_answer, found_of}
+use Rattle.pf_shrink.specs.Hunts.{search_result}
 use Rattle.pf_shrink.specs.Tried.{tried, tried_from}
 use Rattle.pf_shrink.proofs.Tried.{tried_within_runs, tries_in_order}
 use Rattle.pf_request.specs.Job as request
@@ -15,7 +19,8 @@ use Rattle.pf_sched.specs.Events.{RunsHave, no_runs, HasEvents, of_run, of_shrin
 use Rattle.pf_sched.specs.Parts.{IsHuntOf, stands_at}
 use Rattle.pf_sched.specs.Slices.{GoesPast, TellsFound}
 use Rattle.pf_sched.proofs.Asking.{is_profile, within_bounds}
-use Rattle.pf_sched.proofs.Tries.{fails_in, tells_failures, only_fails, few_events, first_run, only_so_many, so_many, few, one_more, parts}
+use Rattle.pf_sched.proofs.Tries.{fails_in, tells_failures, only_fails, few_events, first_run, only_so_many, so_many}
+use Rattle.pf_sched.proofs.Tries.{few, one_more, parts}
 use Rattle.std.proofs.lemmas.Option.{same_Some}
 
 -- ---- where a hunt is
@@ -32,30 +37,35 @@ stands_at_failed (searches k ms c cs) ns e = stands_searching k c (candidates c)
 stands_at_failed (ended f) ns e = absurd (cc)
 
 -- where it was
-pub stands_as_it_was : (h : Hunting) (ns : List ℕ) → next_of h ≡ Some ns → stands_at (after_answer false h) ≡ stands_at h
+pub stands_as_it_was : (h : Hunting) (ns : List ℕ) → next_of h ≡ Some ns
+    → stands_at (after_answer false h) ≡ stands_at h
 stands_as_it_was (begins k ms) ns e = refl
 stands_as_it_was (searches k ms c cs) ns e = stands_searching k ms cs
 stands_as_it_was (ended f) ns e = absurd (cc)
 
 -- ---- what a hunt finds
 
-comes_searching : (fails : List ℕ → Bool) (k : ℕ) (ns : List ℕ) (left : List (List ℕ)) → search_result fails (searching k ns left) ≡ Some (search fails k ns left)
+comes_searching : (fails : List ℕ → Bool) (k : ℕ) (ns : List ℕ) (left : List (List ℕ))
+    → search_result fails (searching k ns left) ≡ Some (search fails k ns left)
 comes_searching fails k ns [] = refl
 comes_searching fails zero ns (c ∷ cs) = refl
 comes_searching fails (suc k) ns (c ∷ cs) = refl
 
 -- a true answer changes nothing of it
-comes_on : (fails : List ℕ → Bool) (h : Hunting) (ns : List ℕ) → next_of h ≡ Some ns → search_result fails (after_answer (fails ns) h) ≡ search_result fails h
+comes_on : (fails : List ℕ → Bool) (h : Hunting) (ns : List ℕ) → next_of h ≡ Some ns
+    → search_result fails (after_answer (fails ns) h) ≡ search_result fails h
 comes_on fails (begins k ms) ns e =
     ap (λ z. search_result fails (after_answer (fails z) (begins k ms))) (same_Some ns ms (sym e)) ∙ by (fails ms)
   where
-    by : (b : Bool) → search_result fails (after_answer b (begins k ms)) ≡ (if b then Some (search fails k ms (candidates ms)) else None)
+    by : (b : Bool) → search_result fails (after_answer b (begins k ms))
+        ≡ (if b then Some (search fails k ms (candidates ms)) else None)
     by true = comes_searching fails k ms (candidates ms)
     by false = refl
 comes_on fails (searches k ms c cs) ns e =
     ap (λ z. search_result fails (after_answer (fails z) (searches k ms c cs))) (same_Some ns c (sym e)) ∙ by (fails c)
   where
-    by : (b : Bool) → search_result fails (after_answer b (searches k ms c cs)) ≡ Some (if b then search fails k c (candidates c) else search fails k ms cs)
+    by : (b : Bool) → search_result fails (after_answer b (searches k ms c cs))
+        ≡ Some (if b then search fails k c (candidates c) else search fails k ms cs)
     by true = comes_searching fails k c (candidates c)
     by false = comes_searching fails k ms cs
 comes_on fails (ended f) ns e = absurd (cc)
@@ -86,7 +96,8 @@ module _ (j : Job) where
       }
 
   module _ (h : Hunting) (before : ℕ) (hunt : IsHuntOf j h before) where
-    told_so : (ns : List ℕ) → next_of h ≡ Some ns → (r : Report) → Means (by_schedule j ns) r → IsHuntOf j (after_answer (hunt.fails ns) h) (before + length r.events)
+    told_so : (ns : List ℕ) → next_of h ≡ Some ns → (r : Report) → Means (by_schedule j ns) r
+        → IsHuntOf j (after_answer (hunt.fails ns) h) (before + length r.events)
     told_so ns e r means =
         let rest = tried_from hunt.fails (after_answer (hunt.fails ns) h) in
         record {
@@ -99,13 +110,15 @@ module _ (j : Job) where
           tells = hunt.tells;
           comes = comes_on hunt.fails h ns e ∙ hunt.comes;
           events = one_more j hunt.behind before ns r hunt.events means;
-          order = hunt.order ∙ ap (λ nss. hunt.behind ++ nss) ((tries_in_order hunt.fails h).first ns e) ∙ sym (append_assoc hunt.behind (ns ∷ []) rest);
+          order = hunt.order ∙ ap (λ nss. hunt.behind ++ nss) ((tries_in_order hunt.fails h).first ns e)
+              ∙ sym (append_assoc hunt.behind (ns ∷ []) rest);
         }
 
     -- after the answer by the next run's report
     pub hunt_told : (ns : List ℕ) → next_of h ≡ Some ns → (r : Report) → Means (by_schedule j ns) r
         → IsHuntOf j (after_answer (is_failure r.verdict) h) (before + length r.events)
-    hunt_told ns e r means = subst (λ b. IsHuntOf j (after_answer b h) (before + length r.events)) (hunt.tells ns r means) (told_so ns e r means)
+    hunt_told ns e r means = subst (λ b. IsHuntOf j (after_answer b h) (before + length r.events))
+        (hunt.tells ns r means) (told_so ns e r means)
 
     -- the events of the whole shrinking are those of the runs before it and of those to come
     all_events : (m : ℕ) → HasEvents j m → RunsHave j (hunt.behind ++ tried_from hunt.fails h) m
@@ -115,17 +128,20 @@ module _ (j : Job) where
         let given : schedule ns ≡ schedule hunt.given = sym c ∙ hunt.choices in
         let same : ns ≡ hunt.given = cc in
         subst (λ nss. RunsHave j nss m)
-        (ap (λ f. tried f (suc k) ns) (only_fails j fails hunt.fails tells hunt.tells) ∙ ap (λ n. tried hunt.fails n ns) counted
+        (ap (λ f. tried f (suc k) ns) (only_fails j fails hunt.fails tells hunt.tells)
+        ∙ ap (λ n. tried hunt.fails n ns) counted
         ∙ ap (tried hunt.fails (suc hunt.further)) same ∙ hunt.order)
         has
 
     -- if the next run has more than n events, so has the shrinking after those before it
-    pub hunt_goes_past : (ns : List ℕ) → next_of h ≡ Some ns → (n : ℕ) → ((r : Report) → Means (by_schedule j ns) r → n < length r.events)
+    pub hunt_goes_past : (ns : List ℕ) → next_of h ≡ Some ns → (n : ℕ)
+        → ((r : Report) → Means (by_schedule j ns) r → n < length r.events)
         → (m : ℕ) → HasEvents j m → before + n < m
     hunt_goes_past ns e n past m has =
         let rest = tried_from hunt.fails (after_answer (hunt.fails ns) h) in
         let p = parts j hunt.behind (tried_from hunt.fails h) m (all_events m has) in
-        let x = first_run j ns rest p.later (subst (λ nss. RunsHave j nss p.later) ((tries_in_order hunt.fails h).first ns e) p.rest) in
+        let x = first_run j ns rest p.later (subst (λ nss. RunsHave j nss p.later)
+        ((tries_in_order hunt.fails h).first ns e) p.rest) in
         let ahead : p.ahead ≡ before = only_so_many j hunt.behind p.ahead before p.first hunt.events in
         let more = past x.report x.means in
         let all = p.sums in
@@ -138,22 +154,26 @@ module _ (j : Job) where
         let none : tried_from hunt.fails h ≡ [] = (tries_in_order hunt.fails h).none.0 e in
         let order : hunt.behind ≡ tried hunt.fails (suc hunt.further) hunt.given =
         sym (append-nil hunt.behind) ∙ ap (λ nss. hunt.behind ++ nss) (sym none) ∙ sym hunt.order in
-        of_shrinking hunt.further hunt.given hunt.fails before hunt.runs hunt.choices hunt.tells (subst (λ nss. RunsHave j nss before) order hunt.events)
+        of_shrinking hunt.further hunt.given hunt.fails before hunt.runs hunt.choices hunt.tells
+        (subst (λ nss. RunsHave j nss before) order hunt.events)
 
     -- and what was found, with its report, is the job's result
     pub hunt_comes : next_of h ≡ None → (r : Result) → TellsFound j (found_of h) r → IsResult j r
     hunt_comes e r tells = by (found_of h) (sym hunt.comes ∙ sym (comes_found hunt.fails h e)) tells
       where
         by : (f : Option Found) → shrunk hunt.fails (suc hunt.further) hunt.given ≡ f → TellsFound j f r → IsResult j r
-        by None is told = subst (IsResult j) (sym told) (no_failure hunt.further hunt.given hunt.fails hunt.runs hunt.choices hunt.tells is)
+        by None is told = subst (IsResult j) (sym told)
+            (no_failure hunt.further hunt.given hunt.fails hunt.runs hunt.choices hunt.tells is)
         by (Some f) is told =
-            subst (IsResult j) (sym told.2) (smaller hunt.further hunt.given hunt.fails f told.0 hunt.runs hunt.choices hunt.tells is told.1)
+            subst (IsResult j) (sym told.2) (smaller hunt.further hunt.given hunt.fails f told.0 hunt.runs hunt.choices
+            hunt.tells is told.1)
 
   -- ---- how many events there can be
 
   -- the limit of each of its runs bounds the events of a job
   pub all_within : (m : ℕ) → HasEvents j m → m ≤ max 1 j.runs * j.limit
-  all_within _ (of_run r e means) = let one = few_events j r means in subst (λ k. length r.events ≤ max 1 k * j.limit) (sym e) (omega arith)
+  all_within _ (of_run r e means) = let one = few_events j r means in subst (λ k. length r.events ≤ max 1 k * j.limit)
+      (sym e) (omega arith)
   all_within _ (of_shrinking k ns fails m e c tells has) =
       let all = few j (tried fails (suc k) ns) m has in
       let within = tried_within_runs fails (suc k) ns in
@@ -163,7 +183,8 @@ module _ (j : Job) where
       bound m l k n a b = let more = mul-le l n (max 1 (suc k)) n (omega arith) (omega arith) in omega arith
 
   -- it has some number of them
-  some_events : IsProfile (profile_of j.choices) → (j.runs ≡ zero) ⊎ ((ns : List ℕ) × (j.choices ≡ schedule ns)) → (m : ℕ) × HasEvents j m
+  some_events : IsProfile (profile_of j.choices) → (j.runs ≡ zero) ⊎ ((ns : List ℕ) × (j.choices ≡ schedule ns))
+      → (m : ℕ) × HasEvents j m
   some_events weighs kept = by j.runs refl kept
     where
       plain : j.runs ≡ zero → (m : ℕ) × HasEvents j m
@@ -174,7 +195,8 @@ module _ (j : Job) where
           let s = so_many j (tried (fails_in j) (suc k) ns) in
           (s.0, of_shrinking k ns (fails_in j) s.0 e c (tells_failures j) s.1)
 
-      by : (k : ℕ) → j.runs ≡ k → (j.runs ≡ zero) ⊎ ((ns : List ℕ) × (j.choices ≡ schedule ns)) → (m : ℕ) × HasEvents j m
+      by : (k : ℕ) → j.runs ≡ k → (j.runs ≡ zero) ⊎ ((ns : List ℕ) × (j.choices ≡ schedule ns))
+          → (m : ℕ) × HasEvents j m
       by zero e kept = plain e
       by (suc k) e (inl alone) = plain alone
       by (suc k) e (inr s) = shrinking k s.0 e s.1
@@ -199,11 +221,13 @@ past_bound j n past =
     omega arith
 
 -- few events are those before a hunt's next run
-pub few_before : (j : request.Job) → IsValid j → (h : Hunting) (before : ℕ) → IsHuntOf j.asked h before → before ≤ 100000000
+pub few_before : (j : request.Job) → IsValid j → (h : Hunting) (before : ℕ) → IsHuntOf j.asked h before
+    → before ≤ 100000000
 few_before j valid h before hunt =
     let bounds = within_bounds j valid in
     let rest = tried_from hunt.fails h in
-    let all : length (tried hunt.fails (suc hunt.further) hunt.given) ≡ length hunt.behind + length rest = ap length hunt.order ∙ length-append hunt.behind rest in
+    let all : length (tried hunt.fails (suc hunt.further) hunt.given) ≡ length hunt.behind + length rest =
+    ap length hunt.order ∙ length-append hunt.behind rest in
     let tried_few = tried_within_runs hunt.fails (suc hunt.further) hunt.given in
     let asked : j.asked.runs ≡ suc hunt.further = hunt.runs in
     let runs : length hunt.behind ≤ 1000 = let b = bounds.1 in omega arith in

@@ -1,5 +1,6 @@
 -- As many processes live at any point of a run as what it showed leaves, and as many wait at its end as are reported.
-use Rattle.std.proofs.Common.{◌≡◌, ◌+◌, ℕ, zero, suc, Bool, true, false, ◌&&◌, List, [], ◌∷◌, ◌++◌, length, map, Option, Some, None, Result, Ok, Err, refl, sym, ap, ◌∙◌, subst, arith}
+use Rattle.std.proofs.Common.{◌≡◌, ◌+◌, ℕ, zero, suc, Bool, true, false, ◌&&◌, List, [], ◌∷◌, ◌++◌, length, map, Option}
+use Rattle.std.proofs.Common.{Some, None, Result, Ok, Err, refl, sym, ap, ◌∙◌, subst, arith}
 use Rattle.std.specs.Prelude.{count_by, if◌then◌else◌, not, ◌==◌}
 use Rattle.std.proofs.lemmas.List.Sums.{sum_by-cons}
 use Rattle.pf_terms.specs.Value.{Value, same}
@@ -9,20 +10,24 @@ use Rattle.pf_model.specs.Choosers.{Chooser}
 use Rattle.pf_model.specs.Module.{Module}
 use Rattle.pf_model.specs.Channels as signal
 use Rattle.pf_model.specs.Channels.{Signal, Channels, heads}
-use Rattle.pf_model.specs.Context.{Frame, ProcessState, running, waiting, ending, ended, End, returned, failed, Move, goes_on, asks, awaits, returns}
+use Rattle.pf_model.specs.Context.{Frame, ProcessState, running, waiting, ending, ended, End, returned, failed, Move}
+use Rattle.pf_model.specs.Context.{goes_on, asks, awaits, returns}
 use Rattle.pf_model.specs.Configuration.{Configuration, Core, Process, fresh, is_alive, of, with_process, with_state}
 use Rattle.pf_model.specs.Actions.{Acted, acted}
-use Rattle.pf_model.specs.Deliveries.{Deed, at_ended, at_living, changes, delivered, down_at, drops, ends_with, exit_at, exit_by_link_at, exit_message, with_message, woken}
+use Rattle.pf_model.specs.Deliveries.{Deed, at_ended, at_living, changes, delivered, down_at, drops, ends_with, exit_at}
+use Rattle.pf_model.specs.Deliveries.{exit_by_link_at, exit_message, with_message, woken}
 use Rattle.pf_model.specs.Ends.{ended_by}
 use Rattle.pf_model.specs.Labels.{Label, as_message}
 use Rattle.pf_sorted.specs.Maps.{got, has, without_number}
 use Rattle.pf_model.specs.Meaning.{outcome_of, outcome_with}
 use Rattle.pf_model.specs.Properties.{is_finished}
 use Rattle.pf_model.specs.Receive.{Taken, selected}
-use Rattle.pf_model.specs.Runs.{Goes, stays, more, Passed, Passes, turn, delivery, Transition, can_go, enabled, is_waiting, pids_in_state, ready, start}
+use Rattle.pf_model.specs.Runs.{Goes, stays, more, Passed, Passes, turn, delivery, Transition, can_go, enabled}
+use Rattle.pf_model.specs.Runs.{is_waiting, pids_in_state, ready, start}
 use Rattle.pf_model.specs.declared.report.Actor.{Actor}
 use Rattle.pf_model.specs.declared.report.Actor.TheVariants as actors
-use Rattle.pf_model.specs.Turns.{Turn, cut_running, cut_ending, end, contraction, act, after_act, with_answer, ended_so, last_of_turn, received}
+use Rattle.pf_model.specs.Turns.{Turn, cut_running, cut_ending, end, contraction, act, after_act, with_answer, ended_so}
+use Rattle.pf_model.specs.Turns.{last_of_turn, received}
 use Rattle.pf_property.specs.Views.{labels_in}
 use Rattle.pf_property.proofs.Shown.{labels_of_run}
 use Rattle.pf_sched.specs.Waiting.{LivingIsRight, WaitingIsRight, is_begin, is_end, living}
@@ -52,7 +57,8 @@ module _ (a : ℕ) (c : Core) (here : lives (of c a) ≡ true) where
   act_counts : (m : Module) (fs : List Frame) (x : Acted) → x ≡ x → (steady : lives (of x.left.core a) ≡ true)
       → alive x.left.core + one (is_end x.label) ≡ alive c + one (is_begin x.label) → Counts c (after_act a fs x)
   act_counts m fs x _ steady counts =
-      ap (λ n. n + one (is_end x.label)) (counts_kept x.left.core a (record (of x.left.core a) { state = with_answer fs x.answer }) steady (answer_lives fs x.answer)) ∙ counts
+      ap (λ n. n + one (is_end x.label)) (counts_kept x.left.core a
+      (record (of x.left.core a) { state = with_answer fs x.answer }) steady (answer_lives fs x.answer)) ∙ counts
 
   last_counts : (m : Module) (x : Move) (d : Deed) → last_of_turn m c a x ≡ Some d → Counts c d
   last_counts m (goes_on s) d e = absurd (cc)
@@ -63,7 +69,8 @@ module _ (a : ℕ) (c : Core) (here : lives (of c a) ≡ true) where
   last_counts m (awaits fs ks) d e =
       let same : received c a fs ks (selected m a ks (of c a).mailbox) ≡ d = cc in
       subst (Counts c) same (received_counts fs ks (selected m a ks (of c a).mailbox))
-  last_counts m (returns v) d e = let same : ended_so c a (returned v) ≡ d = cc in subst (Counts c) same (ends_fewer (returned v))
+  last_counts m (returns v) d e = let same : ended_so c a (returned v) ≡ d = cc in
+      subst (Counts c) same (ends_fewer (returned v))
 
   turn_counts : (m : Module) (n : ℕ) (s : ProcessState) (d : Deed) (k : ℕ) → Turn m a c n s d k → Counts c d
   turn_counts m _ _ _ _ (cut_running t) = state_kept (running t) refl
@@ -73,7 +80,8 @@ module _ (a : ℕ) (c : Core) (here : lives (of c a) ≡ true) where
   turn_counts m _ _ _ _ (act n t x d h e) = last_counts m x d e
 
 -- who has a turn lives
-turn_lives : (m : Module) (a : ℕ) (c : Core) (n : ℕ) (s : ProcessState) (d : Deed) (k : ℕ) → Turn m a c n s d k → is_alive s ≡ true
+turn_lives : (m : Module) (a : ℕ) (c : Core) (n : ℕ) (s : ProcessState) (d : Deed) (k : ℕ) → Turn m a c n s d k
+    → is_alive s ≡ true
 turn_lives m a c _ _ _ _ (cut_running t) = refl
 turn_lives m a c _ _ _ _ (cut_ending r) = refl
 turn_lives m a c _ _ _ _ (end n r) = refl
@@ -102,14 +110,19 @@ module _ (c : Core) (b : ℕ) (here : lives (of c b) ≡ true) where
 
   exit_counts : (a : ℕ) (by_link : Bool) (r : Value) → Counts c (exit_at c a b by_link r)
   exit_counts a by_link r =
-      by_test c (not by_link && same r kill) (ends_with c b (signal.exit by_link r) killed) _ (ends_fewer b c here (failed killed))
-      (by_test c (of c b).traps_exits (changes c b (with_message (of c b) (exit_message a r)) (signal.exit by_link r) as_message) _
+      by_test c (not by_link && same r kill) (ends_with c b (signal.exit by_link r) killed) _
+      (ends_fewer b c here (failed killed))
+      (by_test c (of c b).traps_exits (changes c b (with_message (of c b) (exit_message a r))
+      (signal.exit by_link r) as_message) _
       (changes_count (with_message (of c b) (exit_message a r)) (woken_lives (of c b).state here))
-      (by_test c (same r normal && not (a == b)) (drops c (signal.exit by_link r)) (ends_with c b (signal.exit by_link r) r) refl (ends_fewer b c here (failed r))))
+      (by_test c (same r normal && not (a == b)) (drops c (signal.exit by_link r))
+      (ends_with c b (signal.exit by_link r) r) refl (ends_fewer b c here (failed r))))
 
 -- a link is taken away first
-exit_by_link_counts : (c : Core) (b : ℕ) → lives (of c b) ≡ true → (a : ℕ) (r : Value) → Counts c (exit_by_link_at c a b r)
-exit_by_link_counts c b here a r = by_test c (has a (of c b).links) (exit_at (with_process c b without) a b true r) (drops c (signal.exit true r)) linked refl
+exit_by_link_counts : (c : Core) (b : ℕ) → lives (of c b) ≡ true → (a : ℕ) (r : Value)
+    → Counts c (exit_by_link_at c a b r)
+exit_by_link_counts c b here a r = by_test c (has a (of c b).links) (exit_at (with_process c b without) a b true r)
+    (drops c (signal.exit true r)) linked refl
   where
     without : Process
     without = record (of c b) { links = without_number a (of c b).links }
@@ -150,14 +163,17 @@ delivered_counts c a b s = by (is_alive (of c b).state) refl
 
 pass_counts : (m : Module) (n : ℕ) (c : Configuration) (x : Actor) (p : Passed) → Passes m n c x p
     → alive p.after.core + one (is_end p.label) ≡ alive c.core + one (is_begin p.label)
-pass_counts m n c _ _ (turn a k d t) = turn_counts a c.core (turn_lives m a c.core n (of c.core a).state d k t) m n (of c.core a).state d k t
+pass_counts m n c _ _ (turn a k d t) = turn_counts a c.core (turn_lives m a c.core n (of c.core a).state d k t) m n
+    (of c.core a).state d k t
 pass_counts m n c _ _ (delivery a b s cs e) = delivered_counts c.core a b s
 
 abbrev labels : List Transition → List Label
 labels ts = map (λ t. t.label) ts
 
-goes_count : {S : Type 0} (m : Module) (choose : Chooser S) (s : S) (n : ℕ) (c : Configuration) (ts : List Transition) (d : Configuration) (k : ℕ) (t : S)
-    → Goes m choose s n c ts d k t → alive d.core + count_by is_end (labels ts) ≡ alive c.core + count_by is_begin (labels ts)
+goes_count : {S : Type 0} (m : Module) (choose : Chooser S) (s : S) (n : ℕ) (c : Configuration) (ts : List Transition)
+    (d : Configuration) (k : ℕ) (t : S)
+    → Goes m choose s n c ts d k t → alive d.core + count_by is_end (labels ts) ≡ alive c.core
+    + count_by is_begin (labels ts)
 goes_count m choose _ _ _ _ _ _ _ (stays s n c) = refl
 goes_count m choose _ _ _ _ _ _ _ (more s n c x p ts d k t e pass rest) =
     let first = pass_counts m (suc n) c x p pass in
@@ -167,12 +183,14 @@ goes_count m choose _ _ _ _ _ _ _ (more s n c x p ts d k t e pass rest) =
     omega arith
 
 pub living_is_right : (S : Type 0) → LivingIsRight S
-living_is_right S m choose s n root edition ts d k t goes = let counts = goes_count m choose s n (start root edition) ts d k t goes in omega arith
+living_is_right S m choose s n root edition ts d k t goes = let counts = goes_count m choose s n (start root edition) ts
+    d k t goes in omega arith
 
 -- ---- the end
 
 -- a process that can't go lives exactly if it waits
-wait_step : (s : ProcessState) (n : ℕ) (ps : List Process) → (if can_go s then n ∷ pids_in_state can_go (suc n) ps else pids_in_state can_go (suc n) ps) ≡ []
+wait_step : (s : ProcessState) (n : ℕ) (ps : List Process)
+    → (if can_go s then n ∷ pids_in_state can_go (suc n) ps else pids_in_state can_go (suc n) ps) ≡ []
     → (pids_in_state can_go (suc n) ps ≡ []) × (one (is_alive s) ≡ one (is_waiting s))
 wait_step (running t) n ps h = absurd (cc)
 wait_step (ending r) n ps h = absurd (cc)
@@ -184,7 +202,8 @@ length_step true n ns = omega arith
 length_step false n ns = omega arith
 
 -- where nobody can go, those that live wait
-all_wait : (n : ℕ) (ps : List Process) → pids_in_state can_go n ps ≡ [] → count_by lives ps ≡ length (pids_in_state is_waiting n ps)
+all_wait : (n : ℕ) (ps : List Process) → pids_in_state can_go n ps ≡ []
+    → count_by lives ps ≡ length (pids_in_state is_waiting n ps)
 all_wait n [] h = refl
 all_wait n (p ∷ ps) h =
     let first = wait_step p.state n ps h in
@@ -204,7 +223,8 @@ empty_first (n ∷ ns) xs h = absurd (cc)
 
 -- where the root returned nobody can go
 none_goes : (c : Configuration) → is_finished (outcome_of c) ≡ true → ready c ≡ []
-none_goes c h = empty_first (ready c) (map (λ x. actors.Channel x.0 x.1) (heads c.channels)) (finished_none (enabled c) c.core h)
+none_goes c h = empty_first (ready c) (map (λ x. actors.Channel x.0 x.1) (heads c.channels))
+    (finished_none (enabled c) c.core h)
 
 pub waiting_is_right : (S : Type 0) → WaitingIsRight S
 waiting_is_right S choose s j r h = by (is_finished r.outcome) refl
@@ -216,10 +236,13 @@ waiting_is_right S choose s j r h = by (is_finished r.outcome) refl
     same = labels_of_run r.events h.transitions (ap (λ z. z.events) h.report)
 
     left : living ls ≡ alive h.last.core
-    left = let counts = living_is_right S j.code choose s j.limit j.root j.edition h.transitions h.last r.steps h.state h.run.goes in omega arith
+    left = let counts = living_is_right S j.code choose s j.limit j.root j.edition h.transitions h.last r.steps h.state
+        h.run.goes in omega arith
 
     by : (b : Bool) → is_finished r.outcome ≡ b
-        → (if b then living (labels_in r.events) else 0) ≡ (if b then length (pids_in_state is_waiting zero h.last.core.processes) else 0)
+        → (if b then living (labels_in r.events) else 0)
+        ≡ (if b then length (pids_in_state is_waiting zero h.last.core.processes) else 0)
     by true e =
-        ap living same ∙ left ∙ all_wait zero h.last.core.processes (none_goes h.last (ap (λ z. is_finished z.outcome) (sym h.report) ∙ e))
+        ap living same ∙ left ∙ all_wait zero h.last.core.processes
+        (none_goes h.last (ap (λ z. is_finished z.outcome) (sym h.report) ∙ e))
     by false e = refl

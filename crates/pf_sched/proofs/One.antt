@@ -1,11 +1,13 @@
 -- A job has one result and one number of events: a run since it means one report, a shrinking since one function says
 -- which schedules fail.
-use Rattle.std.proofs.Common.{◌≡◌, ◌⊎◌, inl, inr, ℕ, zero, suc, Bool, List, Option, Some, None, length, refl, sym, ap, ◌∙◌}
+use Rattle.std.proofs.Common.{◌≡◌, ◌⊎◌, inl, inr, ℕ, zero, suc, Bool, List, Option, Some, None, length, refl, sym, ap}
+use Rattle.std.proofs.Common.{◌∙◌}
 use Rattle.pf_choice.specs.Chosen.{IsProfile}
 use Rattle.pf_model.specs.Meaning as model
 use Rattle.pf_model.specs.Meaning.{Choices, Means, seed, schedule, weighted_seed, profile_of}
 use Rattle.pf_model.specs.Evaluation.{evaluated}
-use Rattle.pf_model.specs.Shrinking.{Found, Result, report, shrunk_to, nothing_fails, IsResult, plain, smaller, no_failure, by_schedule, shrunk}
+use Rattle.pf_model.specs.Shrinking.{Found, Result, report, shrunk_to, nothing_fails, IsResult, plain, smaller}
+use Rattle.pf_model.specs.Shrinking.{no_failure, by_schedule, shrunk}
 use Rattle.pf_model.proofs.Meanings.{one_meaning, only_evaluated}
 use Rattle.pf_shrink.specs.Tried.{tried}
 use Rattle.pf_sched.specs.Events.{RunsHave, HasEvents, of_run, of_shrinking}
@@ -33,12 +35,14 @@ comes_so j _ (plain r one_run means) =
     ap (λ (n : ℕ). comes_to j n j.choices) one_run ∙ ap report (sym (only_evaluated j r means))
 comes_so j _ (smaller k ns fails f r runs choices tells found means) =
     (λ i. comes_to j (runs i) (choices i))
-    ∙ ap (λ (g : List ℕ → Bool). shrunk_so j (shrunk g (suc k) ns)) (only_fails j (fails_in j) fails (tells_failures j) tells)
+    ∙ ap (λ (g : List ℕ → Bool). shrunk_so j (shrunk g (suc k) ns))
+    (only_fails j (fails_in j) fails (tells_failures j) tells)
     ∙ ap (shrunk_so j) found
     ∙ ap (shrunk_to f) (sym (only_evaluated (by_schedule j f.schedule) r means))
 comes_so j _ (no_failure k ns fails runs choices tells none) =
     (λ i. comes_to j (runs i) (choices i))
-    ∙ ap (λ (g : List ℕ → Bool). shrunk_so j (shrunk g (suc k) ns)) (only_fails j (fails_in j) fails (tells_failures j) tells)
+    ∙ ap (λ (g : List ℕ → Bool). shrunk_so j (shrunk g (suc k) ns))
+    (only_fails j (fails_in j) fails (tells_failures j) tells)
     ∙ ap (shrunk_so j) none
 
 pub one_result : OneResult
@@ -48,14 +52,19 @@ module _ (j : model.Job) where
   plainly : IsProfile (profile_of j.choices) → j.runs ≡ zero → (r : Result) × IsResult j r
   plainly weighs one_run = let m = one_meaning j weighs in (report m.0, plain m.0 one_run m.1)
 
-  shrinking : (k : ℕ) (ns : List ℕ) → j.runs ≡ suc k → j.choices ≡ schedule ns → (f : Option Found) → shrunk (fails_in j) (suc k) ns ≡ f
+  shrinking : (k : ℕ) (ns : List ℕ) → j.runs ≡ suc k → j.choices ≡ schedule ns → (f : Option Found)
+      → shrunk (fails_in j) (suc k) ns ≡ f
       → (r : Result) × IsResult j r
-  shrinking k ns runs choices None none = (nothing_fails, no_failure k ns (fails_in j) runs choices (tells_failures j) none)
+  shrinking k ns runs choices None none = (
+    nothing_fails,
+    no_failure k ns (fails_in j) runs choices (tells_failures j) none,
+  )
   shrinking k ns runs choices (Some f) found =
       let m = one_meaning (by_schedule j f.schedule) tt in
       (shrunk_to f m.0, smaller k ns (fails_in j) f m.0 runs choices (tells_failures j) found m.1)
 
-  some_of : IsProfile (profile_of j.choices) → (j.runs ≡ zero) ⊎ ((ns : List ℕ) × (j.choices ≡ schedule ns)) → (k : ℕ) → j.runs ≡ k
+  some_of : IsProfile (profile_of j.choices) → (j.runs ≡ zero) ⊎ ((ns : List ℕ) × (j.choices ≡ schedule ns))
+      → (k : ℕ) → j.runs ≡ k
       → (r : Result) × IsResult j r
   some_of weighs kept zero runs = plainly weighs runs
   some_of weighs (inl one_run) (suc k) runs = plainly weighs one_run
@@ -78,10 +87,12 @@ runs_count j nss n h = let m = so_many j nss in only_so_many j nss m.0 n m.1 h
 
 counts_so : (j : model.Job) (n : ℕ) → HasEvents j n → counts_to j j.runs j.choices ≡ n
 counts_so j _ (of_run r one_run means) =
-    ap (λ (k : ℕ). counts_to j k j.choices) one_run ∙ ap (λ (s : model.Report). length s.events) (sym (only_evaluated j r means))
+    ap (λ (k : ℕ). counts_to j k j.choices) one_run ∙ ap (λ (s : model.Report). length s.events)
+    (sym (only_evaluated j r means))
 counts_so j _ (of_shrinking k ns fails n runs choices tells have) =
     (λ i. counts_to j (runs i) (choices i))
-    ∙ ap (λ (g : List ℕ → Bool). (so_many j (tried g (suc k) ns)).0) (only_fails j (fails_in j) fails (tells_failures j) tells)
+    ∙ ap (λ (g : List ℕ → Bool). (so_many j (tried g (suc k) ns)).0)
+    (only_fails j (fails_in j) fails (tells_failures j) tells)
     ∙ runs_count j (tried fails (suc k) ns) n have
 
 pub one_count : OneCount

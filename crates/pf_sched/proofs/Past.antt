@@ -1,17 +1,20 @@
 -- A run that goes on has more transitions to come, and no run has more than its steps.
-use Rattle.std.proofs.Common.{◌≡◌, ◌⊎◌, inl, inr, ℕ, zero, suc, ◌+◌, ◌-◌, ◌<◌, ◌≤◌, List, [], ◌∷◌, ◌++◌, length, Some, refl, sym, ap, ◌∙◌, subst, arith}
+use Rattle.std.proofs.Common.{◌≡◌, ◌⊎◌, inl, inr, ℕ, zero, suc, ◌+◌, ◌-◌, ◌<◌, ◌≤◌, List, [], ◌∷◌, ◌++◌, length, Some}
+use Rattle.std.proofs.Common.{refl, sym, ap, ◌∙◌, subst, arith}
 use Rattle.std.specs.Prelude.{slice_get}
 use Rattle.std.proofs.Math.Nat.{sub-zero}
 use Rattle.pf_model.specs.Choosers.{Chooser}
 use Rattle.pf_model.specs.Module.{Module}
 use Rattle.pf_model.specs.Configuration.{Configuration}
 use Rattle.pf_model.specs.Evaluation.{pass_of}
-use Rattle.pf_model.specs.Runs.{Passed, Passes, Transition, transition, next_choice, next_state, Goes, stays, more, Stops, enabled}
+use Rattle.pf_model.specs.Runs.{Passed, Passes, Transition, transition, next_choice, next_state, Goes, stays, more}
+use Rattle.pf_model.specs.Runs.{Stops, enabled}
 use Rattle.pf_model.specs.declared.report.Actor.{Actor}
 use Rattle.pf_model.proofs.Turned.{pass_only, pass_uses}
 
 -- each transition takes a step at least
-pub within_steps : {S : Type 0} (m : Module) (choose : Chooser S) (s : S) (n : ℕ) (c : Configuration) (ts : List Transition) (d : Configuration) (k : ℕ) (t : S)
+pub within_steps : {S : Type 0} (m : Module) (choose : Chooser S) (s : S) (n : ℕ) (c : Configuration)
+    (ts : List Transition) (d : Configuration) (k : ℕ) (t : S)
     → Goes m choose s n c ts d k t → length ts ≤ n
 within_steps m choose _ _ _ _ _ _ _ (stays s n c) = omega arith
 within_steps m choose _ _ _ _ _ _ _ (more s n c x p ts d k t e pass rest) =
@@ -20,7 +23,8 @@ within_steps m choose _ _ _ _ _ _ _ (more s n c x p ts d k t e pass rest) =
     omega arith
 
 -- so there are no more transitions than steps
-pub as_many_steps : {S : Type 0} (m : Module) (choose : Chooser S) (s : S) (n : ℕ) (c : Configuration) (ts : List Transition) (d : Configuration) (k : ℕ) (t : S)
+pub as_many_steps : {S : Type 0} (m : Module) (choose : Chooser S) (s : S) (n : ℕ) (c : Configuration)
+    (ts : List Transition) (d : Configuration) (k : ℕ) (t : S)
     → Goes m choose s n c ts d k t → length ts ≤ k
 as_many_steps m choose _ _ _ _ _ _ _ (stays s n c) = omega arith
 as_many_steps m choose _ _ _ _ _ _ _ (more s n c x p ts d k t e pass rest) =
@@ -35,7 +39,8 @@ module _ {S : Type 0} (m : Module) (choose : Chooser S) where
     unused : k ≡ zero
 
   -- one was made, and then others
-  record First (s : S) (n : ℕ) (c : Configuration) (ts : List Transition) (d : Configuration) (k : ℕ) (t : S) : Type 0 where
+  record First (s : S) (n : ℕ) (c : Configuration) (ts : List Transition) (d : Configuration) (k : ℕ)
+      (t : S) : Type 0 where
     left : ℕ
     actor : Actor
     passed : Passed
@@ -48,7 +53,8 @@ module _ {S : Type 0} (m : Module) (choose : Chooser S) where
     passes : Passes m n c actor passed
     rest : Goes m choose (next_state choose s c) (n - passed.used) passed.after others d steps t
 
-  first_of : (s : S) (n : ℕ) (c : Configuration) (ts : List Transition) (d : Configuration) (k : ℕ) (t : S) → Goes m choose s n c ts d k t
+  first_of : (s : S) (n : ℕ) (c : Configuration) (ts : List Transition) (d : Configuration) (k : ℕ) (t : S)
+      → Goes m choose s n c ts d k t
       → None n c d k ⊎ First s n c ts d k t
   first_of _ _ _ _ _ _ _ (stays s n c) = inl (record { same = refl; unused = refl })
   first_of _ _ _ _ _ _ _ (more s n c x p ts d k t e pass rest) = inr (record {
@@ -73,22 +79,28 @@ module _ {S : Type 0} (m : Module) (choose : Chooser S) where
   nobody (y ∷ ys) k x e h = cc
 
   -- who goes first in a run goes first in each run from the same state that stops
-  goes_first : (s : S) (n : ℕ) (c : Configuration) (x : Actor) (p : Passed) → slice_get (enabled c) (next_choice choose s c) ≡ Some x → Passes m (suc n) c x p
-      → (us : List Transition) (e : Configuration) (l : ℕ) (u : S) → Goes m choose s (suc n) c us e l u → Stops (suc n - l) e
+  goes_first : (s : S) (n : ℕ) (c : Configuration) (x : Actor) (p : Passed)
+      → slice_get (enabled c) (next_choice choose s c) ≡ Some x → Passes m (suc n) c x p
+      → (us : List Transition) (e : Configuration) (l : ℕ) (u : S) → Goes m choose s (suc n) c us e l u
+      → Stops (suc n - l) e
       → (others : List Transition) × (steps : ℕ) × (us ≡ transition (next_choice choose s c) (enabled c) x p ∷ others)
-      × Goes m choose (next_state choose s c) (suc n - p.used) p.after others e steps u × Stops (suc n - p.used - steps) e
+      × Goes m choose (next_state choose s c) (suc n - p.used) p.after others e steps u
+      × Stops (suc n - p.used - steps) e
   goes_first s n c x p chosen pass us e l u whole stops = by (first_of s (suc n) c us e l u whole)
     where
       stands : None (suc n) c e l → Stops (suc n) c
-      stands none = subst (λ z. Stops z c) (sub-zero (suc n)) (subst (λ z. Stops (suc n - z) c) none.unused (subst (λ z. Stops (suc n - l) z) none.same stops))
+      stands none = subst (λ z. Stops z c) (sub-zero (suc n))
+          (subst (λ z. Stops (suc n - z) c) none.unused (subst (λ z. Stops (suc n - l) z) none.same stops))
 
       never : Stops (suc n) c → ⊥
       never (inl h) = nobody (enabled c) (next_choice choose s c) x chosen h
       never (inr h) = omega arith
 
       by : None (suc n) c e l ⊎ First s (suc n) c us e l u
-          → (others : List Transition) × (steps : ℕ) × (us ≡ transition (next_choice choose s c) (enabled c) x p ∷ others)
-          × Goes m choose (next_state choose s c) (suc n - p.used) p.after others e steps u × Stops (suc n - p.used - steps) e
+          → (others : List Transition) × (steps : ℕ)
+          × (us ≡ transition (next_choice choose s c) (enabled c) x p ∷ others)
+          × Goes m choose (next_state choose s c) (suc n - p.used) p.after others e steps u
+          × Stops (suc n - p.used - steps) e
       by (inl none) = absurd (never (stands none))
       by (inr first) =
           let actor = same_actor first.actor x (sym first.chosen ∙ chosen) in
@@ -100,32 +112,44 @@ module _ {S : Type 0} (m : Module) (choose : Chooser S) where
             first.steps,
             first.events ∙ ap (λ a. transition (next_choice choose s c) (enabled c) a first.passed ∷ first.others) actor
                 ∙ ap (λ z. transition (next_choice choose s c) (enabled c) x z ∷ first.others) same,
-            subst (λ z. Goes m choose (next_state choose s c) (suc n - z.used) z.after first.others e first.steps u) same first.rest,
+            subst (λ z. Goes m choose (next_state choose s c) (suc n - z.used) z.after first.others e first.steps u)
+                same first.rest,
             subst (λ z. Stops (suc n - z.used - first.steps) e) same (subst (λ z. Stops z e) left stops),
           )
 
   -- where a run does not stop, a run from the same state that stops has more transitions
-  pub longer : (s : S) (n : ℕ) (c : Configuration) (ts : List Transition) (d : Configuration) (k : ℕ) (t : S) → Goes m choose s n c ts d k t → (Stops (n - k) d → ⊥)
-      → (us : List Transition) (e : Configuration) (l : ℕ) (u : S) → Goes m choose s n c us e l u → Stops (n - l) e → length ts < length us
+  pub longer : (s : S) (n : ℕ) (c : Configuration) (ts : List Transition) (d : Configuration) (k : ℕ) (t : S)
+      → Goes m choose s n c ts d k t → (Stops (n - k) d → ⊥)
+      → (us : List Transition) (e : Configuration) (l : ℕ) (u : S) → Goes m choose s n c us e l u → Stops (n - l) e
+      → length ts < length us
   longer _ _ _ _ _ _ _ (stays s n c) goes us e l u whole stops = by (first_of s n c us e l u whole)
     where
       by : None n c e l ⊎ First s n c us e l u → 0 < length us
-      by (inl none) = absurd (goes (subst (λ z. Stops (n - z) c) none.unused (subst (λ z. Stops (n - l) z) none.same stops)))
+      by (inl none) = absurd (goes (subst (λ z. Stops (n - z) c) none.unused
+          (subst (λ z. Stops (n - l) z) none.same stops)))
       by (inr first) = let h = ap length first.events in omega arith
   longer _ _ _ _ _ _ _ (more s n c x p ts d k t chosen pass rest) goes us e l u whole stops =
       let first = goes_first s n c x p chosen pass us e l u whole stops in
-      let later = longer (next_state choose s c) (suc n - p.used) p.after ts d k t rest goes_later first.0 e first.1 u first.3 first.4 in
+      let later = longer (next_state choose s c) (suc n - p.used) p.after ts d k t rest goes_later first.0 e first.1 u
+      first.3 first.4 in
       let counts = ap length first.2 in
       omega arith
     where
       goes_later : Stops (suc n - p.used - k) d → ⊥
-      goes_later h = goes (let q : suc n - p.used - k ≡ suc n - (p.used + k) = omega arith in subst (λ z. Stops z d) q h)
+      goes_later h = goes (let q : suc n - p.used - k ≡ suc n - (p.used + k) = omega arith in
+          subst (λ z. Stops z d) q h)
 
   -- the transitions of a run are the first of those of each run from the same state that stops
-  pub first_transitions : (s : S) (n : ℕ) (c : Configuration) (ts : List Transition) (d : Configuration) (k : ℕ) (t : S) → Goes m choose s n c ts d k t
-      → (us : List Transition) (e : Configuration) (l : ℕ) (u : S) → Goes m choose s n c us e l u → Stops (n - l) e → (rest : List Transition) × (us ≡ ts ++ rest)
+  pub first_transitions : (s : S) (n : ℕ) (c : Configuration) (ts : List Transition) (d : Configuration) (k : ℕ) (t : S)
+      → Goes m choose s n c ts d k t
+      → (us : List Transition) (e : Configuration) (l : ℕ) (u : S) → Goes m choose s n c us e l u → Stops (n - l) e
+      → (rest : List Transition) × (us ≡ ts ++ rest)
   first_transitions _ _ _ _ _ _ _ (stays s n c) us e l u whole stops = (us, refl)
   first_transitions _ _ _ _ _ _ _ (more s n c x p ts d k t chosen pass rest) us e l u whole stops =
       let first = goes_first s n c x p chosen pass us e l u whole stops in
-      let later = first_transitions (next_state choose s c) (suc n - p.used) p.after ts d k t rest first.0 e first.1 u first.3 first.4 in
-      (later.0, first.2 ∙ ap (λ (vs : List Transition). transition (next_choice choose s c) (enabled c) x p ∷ vs) later.1)
+      let later = first_transitions (next_state choose s c) (suc n - p.used) p.after ts d k t rest first.0 e first.1 u
+      first.3 first.4 in (
+        later.0,
+        first.2 ∙ ap (λ (vs : List Transition). transition (next_choice choose s c) (enabled c) x p ∷ vs)
+            later.1,
+      )

@@ -21,7 +21,8 @@ pub one_stands : (o : Option Configuration) (c d : Configuration) → o ≡ Some
 one_stands o c d a b = cc
 
 -- the report with the events of a whole run and how it ended is what the job means by the chooser of the run
-pub means_by : {S : Type 0} {choose : Chooser S} {s : S} {j : Job} {es : List Event} {x : SystemView} {t : S} (g : Going choose s j es x t)
+pub means_by : {S : Type 0} {choose : Chooser S} {s : S} {j : Job} {es : List Event} {x : SystemView} {t : S}
+    (g : Going choose s j es x t)
     → Stops (j.asked.limit - x.steps) g.last → (r : Report) → ClosesRun j es x r → MeansBy choose s j.asked r
 means_by {choose = choose} {s = s} {j = j} {es = es} {x = x} {t = t} g over r told =
     record {
@@ -29,10 +30,12 @@ means_by {choose = choose} {s = s} {j = j} {es = es} {x = x} {t = t} g over r to
       last = g.last;
       state = t;
       run =
-          subst (λ k. Run j.asked.code choose s j.asked.limit (start j.asked.root j.asked.edition) g.transitions g.last k t) (sym told.steps)
+          subst (λ k. Run j.asked.code choose s j.asked.limit (start j.asked.root j.asked.edition) g.transitions g.last
+          k t) (sym told.steps)
           (record { goes = g.goes; stops = over });
       report = ap (λ xs. reported xs r.outcome r.verdict) (told.events ∙ g.events)
-          ∙ ap (λ o. reported events o r.verdict) (told.outcome g.last g.stands) ∙ ap (reported events (outcome_of g.last)) v;
+          ∙ ap (λ o. reported events o r.verdict) (told.outcome g.last g.stands)
+          ∙ ap (reported events (outcome_of g.last)) v;
     }
   where
     reported : List Event → Outcome → Option Bool → Report
@@ -47,16 +50,32 @@ means_by {choose = choose} {s = s} {j = j} {es = es} {x = x} {t = t} g over r to
         ∙ ap (verdict j.asked.property (map (λ u. u.label) g.transitions)) (told.outcome g.last g.stands)
 
 -- where these choices choose a job means what it means with them in place of its own
-pub with_choices : (j : model.Job) (cs : Choices) (r : Report) → MeansFor (choices cs) j r → Means (record j { choices = cs }) r
-with_choices j cs r h = record { transitions = h.transitions; last = h.last; state = h.state; run = h.run; report = h.report }
+pub with_choices : (j : model.Job) (cs : Choices) (r : Report) → MeansFor (choices cs) j r
+    → Means (record j { choices = cs }) r
+with_choices j cs r h = record {
+  transitions = h.transitions;
+  last = h.last;
+  state = h.state;
+  run = h.run;
+  report = h.report;
+}
 
-pub for_choices : (j : model.Job) (cs : Choices) (r : Report) → Means (record j { choices = cs }) r → MeansFor (choices cs) j r
-for_choices j cs r h = record { transitions = h.transitions; last = h.last; state = h.state; run = h.run; report = h.report }
+pub for_choices : (j : model.Job) (cs : Choices) (r : Report) → Means (record j { choices = cs }) r
+    → MeansFor (choices cs) j r
+for_choices j cs r h = record {
+  transitions = h.transitions;
+  last = h.last;
+  state = h.state;
+  run = h.run;
+  report = h.report;
+}
 
 -- and what a job means by what chooses in the run
-pub means : (j : Job) (w : Choosing) (es : List Event) (x : Execution) → Executes j w es x → IsRunOver j.asked.limit x → (r : Report) → ClosesRun j es x.system r
+pub means : (j : Job) (w : Choosing) (es : List Event) (x : Execution) → Executes j w es x → IsRunOver j.asked.limit x
+    → (r : Report) → ClosesRun j es x.system r
     → MeansFor w j.asked r
 means j w es x g over r told =
     let stops : Stops (j.asked.limit - x.system.steps) g.run.last =
-    subst (Stops (j.asked.limit - x.system.steps)) (one_stands x.system.standing over.0 g.run.last over.1 g.run.stands) over.2 in
+    subst (Stops (j.asked.limit - x.system.steps))
+    (one_stands x.system.standing over.0 g.run.last over.1 g.run.stands) over.2 in
     means_by g.run stops r told

@@ -47,7 +47,14 @@ shared_field_send : IsSend (Shared.the_field).row
 shared_field_send = search (ties_send, channels.channels_send, sendable) depth 30
 
 processes_field_send : IsSend (Processes.the_field).row
-processes_field_send = search (syntax.crosses, slot_send, shared_field_send, spare_field_send, heap.crosses, sendable) depth 30
+processes_field_send = search (
+  syntax.crosses,
+  slot_send,
+  shared_field_send,
+  spare_field_send,
+  heap.crosses,
+  sendable,
+) depth 30
 
 pub system_send : IsSend System.the_row
 system_send = search (syntax.crosses, processes_field_send, heap.crosses, sendable) depth 30

@@ -1,5 +1,6 @@
 -- A run by a chooser, transition by transition.
-use Rattle.std.proofs.Common.{◌≡◌, ℕ, zero, suc, ◌+◌, ◌-◌, ◌<◌, List, [], ◌∷◌, ◌++◌, length, map, Some, refl, sym, ap, ◌∙◌, subst, arith, add-zero}
+use Rattle.std.proofs.Common.{◌≡◌, ℕ, zero, suc, ◌+◌, ◌-◌, ◌<◌, List, [], ◌∷◌, ◌++◌, length, map, Some, refl, sym, ap}
+use Rattle.std.proofs.Common.{◌∙◌, subst, arith, add-zero}
 use Rattle.std.specs.Prelude.{slice_get}
 use Rattle.std.proofs.lemmas.Option.{same_Some}
 use Rattle.rand_pcg.specs.Pcg.{pcg32}
@@ -12,7 +13,8 @@ use Rattle.pf_model.specs.Choosers.{Chooser}
 use Rattle.pf_model.specs.Configuration.{Configuration}
 use Rattle.pf_model.specs.Meaning.{Event, event_of_transition, picks_of, words_of}
 use Rattle.pf_model.specs.Module.{Module, module_of}
-use Rattle.pf_model.specs.Runs.{enabled, next_choice, next_state, Goes, stays, Passes, ready, start, transition, Transition}
+use Rattle.pf_model.specs.Runs.{enabled, next_choice, next_state, Goes, stays, Passes, ready, start, transition}
+use Rattle.pf_model.specs.Runs.{Transition}
 use Rattle.pf_request.specs.Job.{Job}
 use Rattle.pf_strategy.specs.Priorities.{state_of}
 use Rattle.pf_strategy.specs.Runs.{choose_by_priorities}
@@ -46,7 +48,8 @@ module _ {S : Type 0} (choose : Chooser S) (first : S) (j : Job) where
   c = start j.asked.root j.asked.edition
 
   -- before the first
-  pub begins : (x : SystemView) → module_of x.checked ≡ m → x.standing ≡ Some c → x.steps ≡ 0 → Going choose first j [] x first
+  pub begins : (x : SystemView) → module_of x.checked ≡ m → x.standing ≡ Some c → x.steps ≡ 0
+      → Going choose first j [] x first
   begins x k e z =
       record {
         transitions = [];
@@ -59,7 +62,8 @@ module _ {S : Type 0} (choose : Chooser S) (first : S) (j : Job) where
       }
 
   -- one event more
-  pub next : (es : List Event) (x : SystemView) (s : S) (x' : SystemView) (t : S) (g : Going choose first j es x s) (e : Event) → x.steps < limit
+  pub next : (es : List Event) (x : SystemView) (s : S) (x' : SystemView) (t : S) (g : Going choose first j es x s)
+      (e : Event) → x.steps < limit
       → Went choose (limit - x.steps) g.last x s e x' t → Going choose first j (es ++ e ∷ []) x' t
   next es x s x' t g e h w =
       record {
@@ -68,10 +72,13 @@ module _ {S : Type 0} (choose : Chooser S) (first : S) (j : Job) where
         code = ap (λ z. module_of z.checked) p.becomes ∙ g.code;
         stands = ap (λ z. z.standing) p.becomes;
         goes =
-            subst (Goes m choose first limit c (g.transitions ++ u ∷ []) p.passed.after x'.steps) (ap (λ z. z.1) w.chooses)
-            (subst (λ n. Goes m choose first limit c (g.transitions ++ u ∷ []) p.passed.after n (next_state choose s g.last)) steps longer);
+            subst (Goes m choose first limit c (g.transitions ++ u ∷ []) p.passed.after x'.steps)
+            (ap (λ z. z.1) w.chooses)
+            (subst (λ n. Goes m choose first limit c (g.transitions ++ u ∷ []) p.passed.after n
+            (next_state choose s g.last)) steps longer);
         within = let u = p.within in let z = ap (λ y. y.steps) p.becomes in omega arith;
-        events = ap (λ l. l ++ e ∷ []) g.events ∙ ap (λ y. map event_of_transition g.transitions ++ y ∷ []) tells ∙ sym (map_more event_of_transition g.transitions u);
+        events = ap (λ l. l ++ e ∷ []) g.events ∙ ap (λ y. map event_of_transition g.transitions ++ y ∷ []) tells
+            ∙ sym (map_more event_of_transition g.transitions u);
       }
     where
       p : SimulatesTransition (limit - x.steps) x e.actor e.label w.used x'
@@ -98,7 +105,8 @@ module _ {S : Type 0} (choose : Chooser S) (first : S) (j : Job) where
           (subst (λ z. Passes (module_of x.checked) (suc (limit - x.steps - 1)) z e.actor p.passed) from_last
           (subst (λ n. Passes (module_of x.checked) n p.before e.actor p.passed) left p.passes))
 
-      longer : Goes m choose first limit c (g.transitions ++ u ∷ []) p.passed.after (x.steps + p.passed.used) (next_state choose s g.last)
+      longer : Goes m choose first limit c (g.transitions ++ u ∷ []) p.passed.after (x.steps + p.passed.used)
+          (next_state choose s g.last)
       longer =
           goes_on m choose first limit c g.transitions g.last x.steps s g.goes (limit - x.steps - 1) e.actor p.passed
           (ap (slice_get (enabled g.last)) (sym chosen_is) ∙ w.chosen) (omega arith) passes
@@ -115,42 +123,57 @@ module _ {S : Type 0} (choose : Chooser S) (first : S) (j : Job) where
 -- ---- of a run
 
 -- before the first event
-pub executes_first : (j : Job) (w : Choosing) (x : Execution) → Going (chooser_of w) (first_of w) j [] x.system (first_of w) → IsFirst w x.chooser → Executes j w [] x
+pub executes_first : (j : Job) (w : Choosing) (x : Execution)
+    → Going (chooser_of w) (first_of w) j [] x.system (first_of w) → IsFirst w x.chooser → Executes j w [] x
 executes_first j w x going is = record { state = first_of w; run = going; is_in = is }
 
 -- one event more
-pub executes_next : (j : Job) (w : Choosing) (es : List Event) (x x' : Execution) (g : Executes j w es x) (e : Event) → x.system.steps < j.asked.limit
+pub executes_next : (j : Job) (w : Choosing) (es : List Event) (x x' : Execution) (g : Executes j w es x) (e : Event)
+    → x.system.steps < j.asked.limit
     → WentOn (j.asked.limit - x.system.steps) g.run.last x e x' → Executes j w (es ++ e ∷ []) x'
 executes_next j w es x x' g e some went =
     let t = went w g.state g.is_in in
-    record { state = t.0; run = next (chooser_of w) (first_of w) j es x.system g.state x'.system t.0 g.run e some t.1; is_in = t.2 }
+    record {
+      state = t.0;
+      run = next (chooser_of w) (first_of w) j es x.system g.state x'.system t.0 g.run e some
+          t.1;
+      is_in = t.2;
+    }
 
 -- ---- what is chosen
 
 module _ (e : Enabled) (c : Configuration) (note : IsNoteOf e c) where
   -- a choice among those that are noted is one among those that may go
-  pub chooses_among : (q q' : Choices Lcg) (procs chans k : ℕ) → procs ≡ length e.ready.now → chans ≡ length (heads e.channels.now)
+  pub chooses_among : (q q' : Choices Lcg) (procs chans k : ℕ) → procs ≡ length e.ready.now
+      → chans ≡ length (heads e.channels.now)
       → Chooses pcg32 q procs chans k q' → Chooses pcg32 q (length (ready c)) (length (heads c.channels)) k q'
   chooses_among q q' procs chans k a b h =
       subst (λ n. Chooses pcg32 q n (length (heads c.channels)) k q') (a ∙ ap length note.processes)
       (subst (λ n. Chooses pcg32 q procs n k q') (b ∙ ap length note.channels) h)
 
 -- what choices choose, whichever they are
-pub chosen_by_choices : (c : Configuration) (q q' : Choices Lcg) (k : ℕ) → Chooses pcg32 q (length (ready c)) (length (heads c.channels)) k q'
+pub chosen_by_choices : (c : Configuration) (q q' : Choices Lcg) (k : ℕ)
+    → Chooses pcg32 q (length (ready c)) (length (heads c.channels)) k q'
     → ChoosesFor (code.Choices q) c k (code.Choices q')
 chosen_by_choices c q q' k h (choices cs) i makes =
     let next : i + 1 ≡ suc i = omega arith in
     let same : k ≡ picks_of cs i (length (ready c)) (length (heads c.channels)) =
-    h.choice_is (words_of cs) i makes.at ∙ ap (λ p. chosen p (words_of cs i) (length (ready c)) (length (heads c.channels))) makes.profile in (
+    h.choice_is (words_of cs) i makes.at ∙ ap
+    (λ p. chosen p (words_of cs i) (length (ready c)) (length (heads c.channels))) makes.profile in (
       suc i,
       ap (λ n. (n, suc i)) (sym same),
-      record { at = subst (λ n. IsAt pcg32 (words_of cs) n q') next (h.moves (words_of cs) i makes.at); profile = h.keeps ∙ makes.profile },
+      record {
+        at = subst (λ n. IsAt pcg32 (words_of cs) n q') next (h.moves (words_of cs) i makes.at);
+        profile =
+            h.keeps ∙ makes.profile;
+      },
     )
 chosen_by_choices c q q' k h (priorities seed) s is = absurd is
 
 -- and what priorities do
 pub chosen_by_priorities : (c : Configuration) (p p' : ActorPriorities) (k : ℕ)
-    → choose_by_priorities (state_of p.priorities) (ready c) (heads c.channels) ≡ (k, state_of p'.priorities) → ChoosesFor (code.Priorities p) c k (code.Priorities p')
+    → choose_by_priorities (state_of p.priorities) (ready c) (heads c.channels) ≡ (k, state_of p'.priorities)
+    → ChoosesFor (code.Priorities p) c k (code.Priorities p')
 chosen_by_priorities c p p' k h (choices cs) i is = absurd is
 chosen_by_priorities c p p' k h (priorities seed) s is = (
   state_of p'.priorities,

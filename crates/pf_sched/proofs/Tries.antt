@@ -1,5 +1,6 @@
 -- The runs of a job by schedules: how many events they have in all, and which of them fail.
-use Rattle.std.proofs.Common.{◌≡◌, ℕ, zero, ◌+◌, ◌*◌, ◌≤◌, Bool, List, [], ◌∷◌, ◌++◌, length, refl, sym, ap, ◌∙◌, subst, arith}
+use Rattle.std.proofs.Common.{◌≡◌, ℕ, zero, ◌+◌, ◌*◌, ◌≤◌, Bool, List, [], ◌∷◌, ◌++◌, length, refl, sym, ap, ◌∙◌, subst}
+use Rattle.std.proofs.Common.{arith}
 use Rattle.std.proofs.lemmas.List.{length-map}
 use Rattle.pf_model.specs.Choosers.{choose_by_picks}
 use Rattle.pf_model.specs.Meaning.{Job, Report, Means, event_of_transition, picks_of}
@@ -22,7 +23,8 @@ few_events j r h = omega (arith, all, within)
 
     within : length h.transitions ≤ j.limit
     within =
-        within_steps j.code (choose_by_picks (picks_of j.choices)) zero j.limit (start j.root j.edition) h.transitions h.last r.steps h.state h.run.goes
+        within_steps j.code (choose_by_picks (picks_of j.choices)) zero j.limit (start j.root j.edition) h.transitions
+        h.last r.steps h.state h.run.goes
 
 module _ (j : Job) where
   -- ---- which fail
@@ -85,7 +87,8 @@ module _ (j : Job) where
       omega arith
 
   -- with one run more after them
-  pub one_more : (nss : List (List ℕ)) (n : ℕ) (ns : List ℕ) (r : Report) → RunsHave j nss n → Means (by_schedule j ns) r
+  pub one_more : (nss : List (List ℕ)) (n : ℕ) (ns : List ℕ) (r : Report) → RunsHave j nss n
+      → Means (by_schedule j ns) r
       → RunsHave j (nss ++ ns ∷ []) (n + length r.events)
   one_more [] n ns r a h =
       let e = none n a in

@@ -13,7 +13,8 @@ whole_in w = view_of_came w.came.value
 
 -- the result is that of the job, and is written by the names of its module
 abbrev pub IsSoundCame : JobWithResult → Type 0
-IsSoundCame c = IsResult c.job.value.asked (result_of c.result) × IsWritten (name_of c.job.value.asked.code.atoms) c.result
+IsSoundCame c = IsResult c.job.value.asked (result_of c.result)
+    × IsWritten (name_of c.job.value.asked.code.atoms) c.result
 
 abbrev pub IsSound : whole.Inside → Type 0
 IsSound w = IsSoundCame w.came.value

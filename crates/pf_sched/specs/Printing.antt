@@ -30,26 +30,31 @@ PrintsRun p j told =
     × AreWrittenSoFar (name_of p.atoms.now) p.pieces.lines
 
 -- a run so far where this chooses, with these events; the lines of those that don't wait went out
-pub record IsPrinted (j : Job) (w : Choosing) (es : List Event) (x : Execution) (p : Printer) (written_old written_new : Option (List ℕ)) : Type 0 where
+pub record IsPrinted (j : Job) (w : Choosing) (es : List Event) (x : Execution) (p : Printer)
+    (written_old written_new : Option (List ℕ)) : Type 0 where
   pub run : Executes j w es x
   pub told : PrintsRun p j.asked es
   pub out : Appends written_old written_new (lines_text (atom_names_of j) (gone_from p.pieces))
 
 -- it went on by one event; or it is over
-abbrev pub PrintsOn : Job → Choosing → List Event → Execution → Printer → (written_old written_new : Option (List ℕ)) → (went : Bool) → Type 0
+abbrev pub PrintsOn : Job → Choosing → List Event → Execution → Printer → (written_old written_new : Option (List ℕ))
+    → (went : Bool) → Type 0
 PrintsOn j w es x p w0 w1 true = (e : Event) × IsPrinted j w (es ++ e ∷ []) x p w0 w1
 PrintsOn j w es x p w0 w1 false = IsPrinted j w es x p w0 w1 × IsRunOver j.asked.limit x
 
 -- the report that a job means where this chooses was cut short
-abbrev pub CutsShort : OrNoMemory StreamFault → Job → Choosing → (written_old written_new : Option (List ℕ)) → (failed_old failed_new : ℕ) → Type 0
+abbrev pub CutsShort : OrNoMemory StreamFault → Job → Choosing → (written_old written_new : Option (List ℕ))
+    → (failed_old failed_new : ℕ) → Type 0
 CutsShort e j w w0 w1 n0 n1 = (r : Report) → MeansFor w j.asked r → StopsShort e (atom_names_of j) r w0 w1 n0 n1
 
 -- the report that a job means where this chooses went out, and it is known what its verdict is and how many processes
 -- still wait though its root returned
 abbrev pub HasPrinted : Job → Choosing → PrintedRun → (written_old written_new : Option (List ℕ)) → Type 0
 HasPrinted j w p w0 w1 =
-    (r : Report) × MeansFor w j.asked r × (r.verdict ≡ p.verdict) × (p.waiting ≡ waiting_in r) × Appends w0 w1 (report_text (atom_names_of j) r)
+    (r : Report) × MeansFor w j.asked r × (r.verdict ≡ p.verdict) × (p.waiting ≡ waiting_in r)
+    × Appends w0 w1 (report_text (atom_names_of j) r)
 
 -- or it was cut short
-abbrev pub HasStopped : OrNoMemory StreamFault → Job → Choosing → (written_old written_new : Option (List ℕ)) → (failed_old failed_new : ℕ) → Type 0
+abbrev pub HasStopped : OrNoMemory StreamFault → Job → Choosing → (written_old written_new : Option (List ℕ))
+    → (failed_old failed_new : ℕ) → Type 0
 HasStopped e j w w0 w1 n0 n1 = (r : Report) × MeansFor w j.asked r × StopsShort e (atom_names_of j) r w0 w1 n0 n1

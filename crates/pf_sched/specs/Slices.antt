@@ -1,5 +1,6 @@
 -- What a slice makes of a parked job.
-use Rattle.std.specs.Prelude.{◌≡◌, ◌⊎◌, ◌+◌, ◌-◌, ◌<◌, ◌≤◌, ℕ, zero, suc, Bool, true, false, List, length, Option, Some, None}
+use Rattle.std.specs.Prelude.{◌≡◌, ◌⊎◌, ◌+◌, ◌-◌, ◌<◌, ◌≤◌, ℕ, zero, suc, Bool, true, false, List, length, Option, Some}
+use Rattle.std.specs.Prelude.{None}
 use Rattle.rand_pcg.specs.Lcg.{Lcg}
 use Rattle.pf_terms.specs.Atoms.{name_of}
 use Rattle.pf_choice.specs.declared.choices.Choices.{Choices}
@@ -52,20 +53,24 @@ abbrev pub IsRunOver : (limit : ℕ) → Execution → Type 0
 IsRunOver limit x = (c : Configuration) × (x.system.standing ≡ Some c) × Stops (limit - x.system.steps) c
 
 -- a run goes on, whichever job's it is and whatever chooses, and a trace receives all its events
-abbrev pub SimulatesEvents : {T : Type 0} (Told : T → meaning.Job → List Event → Type 0) (limit : ℕ) (old : Execution) (t : T) (new : Execution) (u : T) (turns : ℕ) (over : Bool) → Type 0
+abbrev pub SimulatesEvents : {T : Type 0} (Told : T → meaning.Job → List Event → Type 0) (limit : ℕ) (old : Execution)
+    (t : T) (new : Execution) (u : T) (turns : ℕ) (over : Bool) → Type 0
 SimulatesEvents Told limit old t new u turns over =
     (j : Job) (w : Choosing) (es : List Event) → j.asked.limit ≡ limit → Executes j w es old → Told t j.asked es
-    → (es' : List Event) × Executes j w es' new × Told u j.asked es' × Advances (length es) (length es') turns over (IsRunOver limit new)
+    → (es' : List Event) × Executes j w es' new × Told u j.asked es' × Advances (length es) (length es') turns over
+    (IsRunOver limit new)
 
 -- a run of a job where this chooses is over, and a trace received all its events
-abbrev pub IsComplete : {T : Type 0} (Told : T → meaning.Job → List Event → Type 0) → Job → Choosing → Execution → T → Type 0
+abbrev pub IsComplete : {T : Type 0} (Told : T → meaning.Job → List Event → Type 0) → Job → Choosing
+    → Execution → T → Type 0
 IsComplete Told j w x t = (es : List Event) × Executes j w es x × Told t j.asked es × IsRunOver j.asked.limit x
 
 -- a run of a job goes on with what is written of its events, whatever chooses
 abbrev pub RunAdvances : Job → (old new : Run) (turns : ℕ) (over : Bool) → Type 0
 RunAdvances j old new turns over =
     (w : Choosing) → IsRunBy j w old
-    → IsRunBy j w new × Advances (length (events_in old)) (length (events_in new)) turns over (IsRunOver j.asked.limit new.execution)
+    → IsRunBy j w new × Advances (length (events_in old)) (length (events_in new)) turns over
+    (IsRunOver j.asked.limit new.execution)
 
 -- a report is the one of a job's run where this chooses, written by the names of its module
 abbrev pub IsReportBy : Job → Choosing → WrittenReport → Type 0

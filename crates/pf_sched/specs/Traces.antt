@@ -1,5 +1,6 @@
 -- What a run made of its transitions so far, and which events its trace received.
-use Rattle.std.specs.Prelude.{◌≡◌, ◌≤◌, ℕ, zero, Bool, true, false, List, Option, Some, None, [], length, map, slice_get}
+use Rattle.std.specs.Prelude.{◌≡◌, ◌≤◌, ℕ, zero, Bool, true, false, List, Option, Some, None, [], length, map}
+use Rattle.std.specs.Prelude.{slice_get}
 use Rattle.rand_pcg.specs.Lcg.{Lcg}
 use Rattle.rand_pcg.specs.Pcg.{pcg32}
 use Rattle.pf_choice.specs.Choices as choice
@@ -28,7 +29,8 @@ use Rattle.pf_sched.specs.Told.{Hears, event}
 
 -- of the actors that may go the one that a chooser chooses in state s went, within n steps, as the event says; the
 -- chooser is in state t then
-pub record Went {S : Type 0} (choose : Chooser S) (left : ℕ) (c : Configuration) (x : SystemView) (s : S) (e : Event) (x' : SystemView) (t : S) : Type 0 where
+pub record Went {S : Type 0} (choose : Chooser S) (left : ℕ) (c : Configuration) (x : SystemView) (s : S) (e : Event)
+    (x' : SystemView) (t : S) : Type 0 where
   pub used : ℕ
   pub counts : e.count ≡ length (enabled c)
   pub chooses : choose s (ready c) (heads c.channels) ≡ (e.choice, t)
@@ -37,7 +39,8 @@ pub record Went {S : Type 0} (choose : Chooser S) (left : ℕ) (c : Configuratio
 
 -- a run of a job by a chooser from state s so far, which is in state t: it is at some configuration, and these events
 -- show its transitions
-pub record Going {S : Type 0} (choose : Chooser S) (s : S) (j : Job) (es : List Event) (x : SystemView) (t : S) : Type 0 where
+pub record Going {S : Type 0} (choose : Chooser S) (s : S) (j : Job) (es : List Event) (x : SystemView)
+    (t : S) : Type 0 where
   pub transitions : List Transition
   pub last : Configuration
   pub code : module_of x.checked ≡ j.asked.code
@@ -71,7 +74,8 @@ IsFirst w q = IsIn w (first_of w) q
 -- go, and it is in the state after that
 abbrev pub ChoosesFor : ActorChooser → Configuration → ℕ → ActorChooser → Type 0
 ChoosesFor q c k q' =
-    (w : Choosing) (s : StateOf w) → IsIn w s q → (t : StateOf w) × (chooser_of w s (ready c) (heads c.channels) ≡ (k, t)) × IsIn w t q'
+    (w : Choosing) (s : StateOf w) → IsIn w s q
+    → (t : StateOf w) × (chooser_of w s (ready c) (heads c.channels) ≡ (k, t)) × IsIn w t q'
 
 -- ---- of a run
 
@@ -87,6 +91,7 @@ MayHavePassed left c x (Some n) l x' = WentOn left c x (event n.index n.among (a
 MayHavePassed left c x None l x' = (enabled c ≡ []) × (x' ≡ x)
 
 -- the same, and a trace received it; or nobody may go and nothing was done
-abbrev pub MayHaveGone : {T : Type 0} (Told : T → meaning.Job → List Event → Type 0) → ℕ → Configuration → Execution → T → Bool → Execution → T → Type 0
+abbrev pub MayHaveGone : {T : Type 0} (Told : T → meaning.Job → List Event → Type 0) → ℕ → Configuration → Execution → T
+    → Bool → Execution → T → Type 0
 MayHaveGone Told left c x t true x' t' = (e : Event) × WentOn left c x e x' × Hears Told t e t'
 MayHaveGone Told left c x t false x' t' = (enabled c ≡ []) × (x' ≡ x) × (t' ≡ t)

@@ -53,7 +53,8 @@ abbrev pub view_of_finished : Job → shrinking.Result → FinishedView
 view_of_finished j r = record { job = j; result = r }
 
 abbrev pub coded_finished_view : Coded FinishedView
-coded_finished_view = code_by _ (coded× coded_job coded_result) (λ f. (f.job, f.result)) (λ p. view_of_finished p.0 p.1) (λ _. refl)
+coded_finished_view = code_by _ (coded× coded_job coded_result) (λ f. (f.job, f.result))
+    (λ p. view_of_finished p.0 p.1) (λ _. refl)
 
 abbrev pub without_memory : shrinking.Result
 without_memory = shrinking.report memory_report

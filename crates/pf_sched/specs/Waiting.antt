@@ -1,5 +1,6 @@
 -- How many processes still wait at the end of a run though its root returned.
-use Rattle.std.specs.Prelude.{◌≡◌, ℕ, zero, suc, ◌+◌, ◌-◌, Bool, true, false, if◌then◌else◌, List, map, length, count_by}
+use Rattle.std.specs.Prelude.{◌≡◌, ℕ, zero, suc, ◌+◌, ◌-◌, Bool, true, false, if◌then◌else◌, List, map, length}
+use Rattle.std.specs.Prelude.{count_by}
 use Rattle.pf_model.specs.Labels.{Label, spawns, spawns_watched, ends, delivers, ending_with}
 use Rattle.pf_model.specs.Configuration.{Configuration, is_alive}
 use Rattle.pf_model.specs.Choosers.{Chooser}
@@ -38,9 +39,11 @@ waiting_in r = waiting_at r.outcome (labels_in r.events)
 -- at any point of a run, and whatever chooses, as many processes live as what it showed leaves
 abbrev pub LivingIsRight : (S : Type 0) → Type 0
 LivingIsRight S =
-    (m : Module) (choose : Chooser S) (s : S) (n root edition : ℕ) (ts : List Transition) (d : Configuration) (k : ℕ) (t : S)
+    (m : Module) (choose : Chooser S) (s : S) (n root edition : ℕ) (ts : List Transition) (d : Configuration)
+    (k : ℕ) (t : S)
     → Goes m choose s n (start root edition) ts d k t
-    → count_by (λ p. is_alive p.state) d.core.processes + count_by is_end (map (λ u. u.label) ts) ≡ suc (count_by is_begin (map (λ u. u.label) ts))
+    → count_by (λ p. is_alive p.state) d.core.processes + count_by is_end (map (λ u. u.label) ts)
+    ≡ suc (count_by is_begin (map (λ u. u.label) ts))
 
 -- at the end of a run whose root returned as many processes wait as are reported
 abbrev pub WaitingIsRight : (S : Type 0) → Type 0

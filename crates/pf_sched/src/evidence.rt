@@ -54,7 +54,8 @@ impl ProcessCounts {
 
     /// Counts what one label more says.
     fn see(&mut self, label: &Label)
-        ensures { (ls : List labels.Label) → CountsProcesses self.old ls → CountsProcesses self.new (ls ++ label_of label.now ∷ []) }
+        ensures { (ls : List labels.Label) → CountsProcesses self.old ls
+            → CountsProcesses self.new (ls ++ label_of label.now ∷ []) }
     {
         self.begun = with_one(self.begun, is_begin(label));
         self.ended = with_one(self.ended, is_end(label));

@@ -8,7 +8,8 @@ ghost use Rattle.pf_shrink.specs.Hunts.{found_of, next_of, after_answer};
 ghost use Rattle.pf_request.specs.Job as request;
 ghost use Rattle.pf_sched.specs.Asked.{IsValid};
 ghost use Rattle.pf_sched.specs.Parts.{IsHuntOf, IsShrinkingOf, KeepsReport, events_so_far, stands_at};
-ghost use Rattle.pf_sched.specs.Slices.{NextRunFollows, ShrinkingGoesOn, IsRunOver, OpensNext, RunAdvances, TellsFound, runs_left};
+ghost use Rattle.pf_sched.specs.Slices.{NextRunFollows, ShrinkingGoesOn, IsRunOver, OpensNext, RunAdvances, TellsFound};
+ghost use Rattle.pf_sched.specs.Slices.{runs_left};
 ghost use Rattle.pf_sched.specs.Views.{IsWritten, result_of};
 
 use crate::chooser::ActorChooser;

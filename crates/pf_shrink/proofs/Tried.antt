@@ -1,5 +1,6 @@
 -- The schedules that a search gives, answered truly, are those that are tried, in their order.
-use Rattle.std.proofs.Common.{◌≡◌, ◌≤◌, ◌<◌, ◌-◌, ℕ, zero, suc, Bool, true, false, List, [], ◌∷◌, Some, None, length, refl, sym, ap, ◌∙◌, arith, if◌then◌else◌}
+use Rattle.std.proofs.Common.{◌≡◌, ◌≤◌, ◌<◌, ◌-◌, ℕ, zero, suc, Bool, true, false, List, [], ◌∷◌, Some, None, length}
+use Rattle.std.proofs.Common.{refl, sym, ap, ◌∙◌, arith, if◌then◌else◌}
 use Rattle.std.specs.Prelude.{◌↔◌}
 use Rattle.pf_model.specs.Shrinking.{candidates}
 use Rattle.pf_shrink.specs.Hunts.{Hunting, begins, searches, ended, searching, next_of, after_answer}
@@ -7,7 +8,8 @@ use Rattle.pf_shrink.specs.Tried.{tried, tried_of_search, tried_from, TriesInOrd
 
 module _ (fails : List ℕ → Bool) where
   -- a search, with these candidates left
-  tried_from_search : (k : ℕ) (ns : List ℕ) (cs : List (List ℕ)) → tried_from fails (searching k ns cs) ≡ tried_of_search fails k cs
+  tried_from_search : (k : ℕ) (ns : List ℕ) (cs : List (List ℕ))
+      → tried_from fails (searching k ns cs) ≡ tried_of_search fails k cs
   tried_from_search zero ns [] = refl
   tried_from_search (suc k) ns [] = refl
   tried_from_search zero ns (c ∷ cs) = refl
@@ -19,17 +21,21 @@ module _ (fails : List ℕ → Bool) where
   after_first false k ns = refl
 
   after_candidate : (b : Bool) (k : ℕ) (ns c : List ℕ) (cs : List (List ℕ))
-      → (if b then tried_of_search fails k (candidates c) else tried_of_search fails k cs) ≡ tried_from fails (after_answer b (searches k ns c cs))
+      → (if b then tried_of_search fails k (candidates c) else tried_of_search fails k cs) ≡ tried_from fails
+      (after_answer b (searches k ns c cs))
   after_candidate true k ns c cs = sym (tried_from_search k c (candidates c))
   after_candidate false k ns c cs = sym (tried_from_search k ns cs)
 
-  first_tried : (h : Hunting) (ns : List ℕ) → next_of h ≡ Some ns → tried_from fails h ≡ ns ∷ tried_from fails (after_answer (fails ns) h)
+  first_tried : (h : Hunting) (ns : List ℕ) → next_of h ≡ Some ns
+      → tried_from fails h ≡ ns ∷ tried_from fails (after_answer (fails ns) h)
   first_tried (begins k ns) ms e =
       let same : ns ≡ ms = cc in
-      ap (λ x. ns ∷ x) (after_first (fails ns) k ns) ∙ ap (λ x. x ∷ tried_from fails (after_answer (fails x) (begins k ns))) same
+      ap (λ x. ns ∷ x) (after_first (fails ns) k ns)
+      ∙ ap (λ x. x ∷ tried_from fails (after_answer (fails x) (begins k ns))) same
   first_tried (searches k ns c cs) ms e =
       let same : c ≡ ms = cc in
-      ap (λ x. c ∷ x) (after_candidate (fails c) k ns c cs) ∙ ap (λ x. x ∷ tried_from fails (after_answer (fails x) (searches k ns c cs))) same
+      ap (λ x. c ∷ x) (after_candidate (fails c) k ns c cs)
+      ∙ ap (λ x. x ∷ tried_from fails (after_answer (fails x) (searches k ns c cs))) same
   first_tried (ended f) ms e = absurd (cc)
 
   none_tried : (h : Hunting) → (next_of h ≡ None) ↔ (tried_from fails h ≡ [])
@@ -66,7 +72,8 @@ module _ (fails : List ℕ → Bool) where
 pub tried_within_runs : (fails : List ℕ → Bool) (runs : ℕ) (ns : List ℕ) → length (tried fails runs ns) ≤ runs
 tried_within_runs fails runs ns = few fails runs ns
 
-pub tried_from_begins : (fails : List ℕ → Bool) (runs : ℕ) (ns : List ℕ) → 0 < runs → tried_from fails (begins (runs - 1) ns) ≡ tried fails runs ns
+pub tried_from_begins : (fails : List ℕ → Bool) (runs : ℕ) (ns : List ℕ) → 0 < runs
+    → tried_from fails (begins (runs - 1) ns) ≡ tried fails runs ns
 tried_from_begins fails runs ns h = all_tried fails runs ns h
 
 -- whichever schedules fail

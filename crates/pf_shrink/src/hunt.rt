@@ -2,7 +2,8 @@
 
 ghost use Rattle.std.specs.Prelude.{◌≡◌, ◌<◌, ◌-◌, ℕ, suc, Bool, List, [], IsSome, IsNone, option_map};
 ghost use Rattle.pf_model.specs.Shrinking.{shrunk, found as found_at};
-ghost use Rattle.pf_shrink.specs.Hunts.{begins, next_of, after_answer, found_of, search_result, IsAnswerOf, NextIsSmaller};
+ghost use Rattle.pf_shrink.specs.Hunts.{begins, next_of, after_answer, found_of, search_result, IsAnswerOf};
+ghost use Rattle.pf_shrink.specs.Hunts.{NextIsSmaller};
 ghost use Rattle.pf_shrink.specs.Standing.{standing, IsRoundOf};
 
 use crate::round::Round;

@@ -2,7 +2,8 @@
 //! are made one from another, in the place of the schedule.
 
 ghost use Rattle.std.specs.Prelude.{◌≡◌, ◌<◌, ◌≤◌, [], length, drop, option_map};
-ghost use Rattle.pf_shrink.specs.Rounds.{round_begun, round_passed, round_taken, given_up, first_schedule, from_position};
+ghost use Rattle.pf_shrink.specs.Rounds.{round_begun, round_passed, round_taken, given_up, first_schedule};
+ghost use Rattle.pf_shrink.specs.Rounds.{from_position};
 ghost use Rattle.pf_shrink.specs.Kept.{schedule_in, candidates_left, IsPositionOf, round_kept};
 ghost use Rattle.pf_model.specs.Shrinking.{halved};
 

@@ -41,7 +41,8 @@ le_from a b e = grind (arith, nat_tests)
 module _ {T : Type 0} (key : T → ℕ) where
   -- ---- searching
 
-  key_from : (low : ℕ) (xs : List T) (i : ℕ) (d : T) → IsRising key low xs → i < length xs → low ≤ key (slice_index_or xs i d)
+  key_from : (low : ℕ) (xs : List T) (i : ℕ) (d : T) → IsRising key low xs → i < length xs
+      → low ≤ key (slice_index_or xs i d)
   key_from low [] i d h l = absurd (omega arith)
   key_from low (x ∷ xs) zero d h l = h.0
   key_from low (x ∷ xs) (suc i) d h l = omega (arith, key_from (suc (key x)) xs i d h.1 (omega arith), h.0)
@@ -55,22 +56,26 @@ module _ {T : Type 0} (key : T → ℕ) where
   keys_rise low (x ∷ xs) (suc i) (suc j) d h le l = keys_rise (suc (key x)) xs i j d h.1 (omega arith) (omega arith)
 
   -- an index within that has the key is the key's
-  pub there_from : (low b : ℕ) (xs : List T) (i : ℕ) (d : T) → IsRising key low xs → i < length xs → key (slice_index_or xs i d) ≡ b
+  pub there_from : (low b : ℕ) (xs : List T) (i : ℕ) (d : T) → IsRising key low xs → i < length xs
+      → key (slice_index_or xs i d) ≡ b
       → IsThere key b xs i
   there_from low b [] i d h l e = absurd (omega arith)
   there_from low b (x ∷ xs) zero d h l e = e
   there_from low b (x ∷ xs) (suc i) d h l e =
-      let q = key_from (suc (key x)) xs i d h.1 (omega arith) in (omega arith, there_from (suc (key x)) b xs i d h.1 (omega arith) e)
+      let q = key_from (suc (key x)) xs i d h.1 (omega arith) in
+      (omega arith, there_from (suc (key x)) b xs i d h.1 (omega arith) e)
 
   -- an index between smaller keys and greater ones is the key's gap
   gap_from : (b : ℕ) (xs : List T) (i : ℕ) → i ≤ length xs
-      → ((j : ℕ) (d : T) → j < i → key (slice_index_or xs j d) < b) → ((j : ℕ) (d : T) → i ≤ j → j < length xs → b < key (slice_index_or xs j d))
+      → ((j : ℕ) (d : T) → j < i → key (slice_index_or xs j d) < b)
+      → ((j : ℕ) (d : T) → i ≤ j → j < length xs → b < key (slice_index_or xs j d))
       → IsGap key b xs i
   gap_from b [] i l low high = omega arith
   gap_from b (x ∷ xs) zero l low high = high zero x (omega arith) (omega arith)
   gap_from b (x ∷ xs) (suc i) l low high = (
     low zero x (omega arith),
-    gap_from b xs i (omega arith) (λ j d m. low (suc j) d (omega arith)) (λ j d m n. high (suc j) d (omega arith) (omega arith)),
+    gap_from b xs i (omega arith) (λ j d m. low (suc j) d (omega arith))
+        (λ j d m n. high (suc j) d (omega arith) (omega arith)),
   )
 
   pub gap_within : (b : ℕ) (xs : List T) (i : ℕ) → IsGap key b xs i → i ≤ length xs
@@ -88,7 +93,8 @@ module _ {T : Type 0} (key : T → ℕ) where
         → MatchResult r (λ i. (i < length xs) × IsThere key b xs i) (λ i. (i ≤ length xs) × IsGap key b xs i)
     searched (Ok i) within equal = (within, by xs rises within equal)
       where
-        by : (xs : List T) → IsRising key 0 xs → i < length xs → IsBinarySearchResult (λ x. nat_cmp (key x) b) xs (Ok i) → IsThere key b xs i
+        by : (xs : List T) → IsRising key 0 xs → i < length xs → IsBinarySearchResult (λ x. nat_cmp (key x) b) xs (Ok i)
+            → IsThere key b xs i
         by [] rises within equal = absurd (omega arith)
         by (x ∷ xs) rises within equal = there_from 0 b (x ∷ xs) i x rises within (ranked _ b _ (sym (equal x)))
     searched (Err i) within parted = (
@@ -99,12 +105,14 @@ module _ {T : Type 0} (key : T → ℕ) where
 
   -- ---- changes leave the list rising
 
-  pub rises_insert : (low : ℕ) (xs : List T) (i : ℕ) (x : T) → low ≤ key x → IsRising key low xs → IsGap key (key x) xs i
+  pub rises_insert : (low : ℕ) (xs : List T) (i : ℕ) (x : T) → low ≤ key x → IsRising key low xs
+      → IsGap key (key x) xs i
       → IsRising key low (insert xs i x)
   rises_insert low [] zero x l h g = (l, tt)
   rises_insert low [] (suc i) x l h g = (l, tt)
   rises_insert low (y ∷ xs) zero x l h g = (l, (omega arith, h.1))
-  rises_insert low (y ∷ xs) (suc i) x l h g = let q = g.0 in (h.0, rises_insert (suc (key y)) xs i x (omega arith) h.1 g.1)
+  rises_insert low (y ∷ xs) (suc i) x l h g = let q = g.0 in
+      (h.0, rises_insert (suc (key y)) xs i x (omega arith) h.1 g.1)
 
   pub lower : (low less : ℕ) (xs : List T) → less ≤ low → IsRising key low xs → IsRising key less xs
   lower low less [] l h = tt

@@ -1,5 +1,6 @@
 -- What a change at an index makes of a set of numbers.
-use Rattle.std.proofs.Common.{◌≡◌, ℕ, zero, suc, ◌<◌, ◌≤◌, true, false, List, [], ◌∷◌, Result, Ok, Err, MatchResult, is_ok, refl, sym, ap, arith, length}
+use Rattle.std.proofs.Common.{◌≡◌, ℕ, zero, suc, ◌<◌, ◌≤◌, true, false, List, [], ◌∷◌, Result, Ok, Err, MatchResult}
+use Rattle.std.proofs.Common.{is_ok, refl, sym, ap, arith, length}
 use Rattle.std.specs.Prelude.{insert, remove}
 use Rattle.pf_sorted.specs.Maps.{has, with_number, without_number}
 use Rattle.pf_sorted.specs.Sorted.{IsRising, IsThere, IsGap}
@@ -12,12 +13,14 @@ Rises low xs = IsRising (λ x. x) low xs
 
 has_above : (b low : ℕ) (xs : List ℕ) → b < low → Rises low xs → has b xs ≡ false
 has_above b low [] l h = refl
-has_above b low (x ∷ xs) l h = let k = h.0 in let q = above_ne x b (omega arith) in rw q (has_above b (suc x) xs (omega arith) h.1)
+has_above b low (x ∷ xs) l h = let k = h.0 in let q = above_ne x b (omega arith) in
+    rw q (has_above b (suc x) xs (omega arith) h.1)
 
 pub without_above : (b low : ℕ) (xs : List ℕ) → b < low → Rises low xs → without_number b xs ≡ xs
 without_above b low [] l h = refl
 without_above b low (x ∷ xs) l h =
-    let k = h.0 in let q = above_ne x b (omega arith) in rw q (ap (λ r. x ∷ r) (without_above b (suc x) xs (omega arith) h.1))
+    let k = h.0 in let q = above_ne x b (omega arith) in
+    rw q (ap (λ r. x ∷ r) (without_above b (suc x) xs (omega arith) h.1))
 
 pub with_front : (b low : ℕ) (xs : List ℕ) → b < low → Rises low xs → with_number b xs ≡ b ∷ xs
 with_front b low [] l h = refl
@@ -37,7 +40,8 @@ with_there b (x ∷ xs) zero h = let q = eq_of x b h in rw q refl
 with_there b (x ∷ xs) (suc i) h =
     let q = below_ne x b h.0 in let p = below_not x b h.0 in rw (q, p) (ap (λ r. x ∷ r) (with_there b xs i h.1))
 
-pub without_there : (b low : ℕ) (xs : List ℕ) (i : ℕ) → Rises low xs → IsThere (λ x. x) b xs i → remove xs i ≡ without_number b xs
+pub without_there : (b low : ℕ) (xs : List ℕ) (i : ℕ) → Rises low xs → IsThere (λ x. x) b xs i
+    → remove xs i ≡ without_number b xs
 without_there b low [] i r h = absurd h
 without_there b low (x ∷ xs) zero r h =
     let q = eq_of x b h in let l : b < suc x = omega arith in rw q (sym (without_above b (suc x) xs l r.1))
@@ -68,7 +72,8 @@ without_gap b low (x ∷ xs) (suc i) r h =
 -- ---- what a search says
 
 pub told : (b : ℕ) (xs : List ℕ) (r : Result ℕ ℕ) → Rises 0 xs
-    → MatchResult r (λ at. (at < length xs) × IsThere (λ x. x) b xs at) (λ at. (at ≤ length xs) × IsGap (λ x. x) b xs at)
+    → MatchResult r (λ at. (at < length xs) × IsThere (λ x. x) b xs at)
+    (λ at. (at ≤ length xs) × IsGap (λ x. x) b xs at)
     → is_ok r ≡ has b xs
 told b xs (Ok at) h m = sym (has_there b xs at m.1)
 told b xs (Err at) h m = sym (has_gap b 0 xs at h m.1)

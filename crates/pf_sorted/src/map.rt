@@ -1,6 +1,7 @@
 //! A map from numbers, as a sorted list.
 
-ghost use Rattle.std.specs.Prelude.{◌≡◌, ◌≤◌, ◌<◌, length, [], Some, is_some, slice_get, option_copied, OnErr, OnOk, MatchResult};
+ghost use Rattle.std.specs.Prelude.{◌≡◌, ◌≤◌, ◌<◌, length, [], Some, is_some, slice_get, option_copied, OnErr, OnOk};
+ghost use Rattle.std.specs.Prelude.{MatchResult};
 ghost use Rattle.std.specs.Borrow.{sem};
 ghost use Rattle.pf_sorted.specs.Maps.{got, put, without};
 ghost use Rattle.pf_sorted.specs.Sorted.{IsRising, IsThere, IsGap};

@@ -1,5 +1,6 @@
 -- Functions that are listed one after another, and their faults.
-use Rattle.std.proofs.Common.{◌≡◌, ℕ, suc, ◌+◌, ◌≤◌, List, [], ◌∷◌, ◌++◌, length, take, Bool, true, false, cond, refl, sym, ap, ◌∙◌, subst, arith}
+use Rattle.std.proofs.Common.{◌≡◌, ℕ, suc, ◌+◌, ◌≤◌, List, [], ◌∷◌, ◌++◌, length, take, Bool, true, false, cond, refl}
+use Rattle.std.proofs.Common.{sym, ap, ◌∙◌, subst, arith}
 use Rattle.std.specs.Prelude.{◌==◌, ◌&&◌, ◌||◌, not, nat_lt, is_some, Some, None, position, flat_map}
 use Rattle.std.specs.List.{list_any, position_or_len}
 use Rattle.std.proofs.lemmas.Bool.Decides.{nat_tests}
@@ -32,13 +33,15 @@ first_or_later false a n = grind (arith, nat_tests)
 
 offset_any : {X : Type 0} (p : X → Bool) (xs : List X) → nat_lt (position_or_len p xs) (length xs) ≡ list_any p xs
 offset_any p [] = refl
-offset_any p (x ∷ xs) = first_or_later (p x) (position_or_len p xs) (length xs) ∙ ap (λ (v : Bool). p x || v) (offset_any p xs)
+offset_any p (x ∷ xs) = first_or_later (p x) (position_or_len p xs) (length xs) ∙ ap (λ (v : Bool). p x || v)
+    (offset_any p xs)
 
 pub some_position : {X : Type 0} (p : X → Bool) (xs : List X) → is_some (position p xs) ≡ list_any p xs
 some_position p xs = some_cond (nat_lt (position_or_len p xs) (length xs)) (position_or_len p xs) ∙ offset_any p xs
 
 -- one more function
-own_push : (fs : List (List Head)) (hs : List Head) (f arity : ℕ) → is_some (own_in (fs ++ hs ∷ []) f arity) ≡ (is_some (own_in fs f arity) || is_named_by_head f arity hs)
+own_push : (fs : List (List Head)) (hs : List Head) (f arity : ℕ)
+    → is_some (own_in (fs ++ hs ∷ []) f arity) ≡ (is_some (own_in fs f arity) || is_named_by_head f arity hs)
 own_push fs hs f arity =
     some_position (is_named_by_head f arity) (fs ++ hs ∷ []) ∙ list_any-append (is_named_by_head f arity) fs (hs ∷ [])
     ∙ ap (λ (v : Bool). list_any (is_named_by_head f arity) fs || v) (or_no (is_named_by_head f arity hs))
@@ -53,9 +56,12 @@ lists_nothing o h = record { same = h }
 
 -- ---- one function
 
-pub defines : (atoms : List (List ℕ)) (h : Head) (hs : List Head) (k : ℕ) (old new : Signatures) (before after : FirstFault)
+pub defines : (atoms : List (List ℕ)) (h : Head) (hs : List Head) (k : ℕ) (old new : Signatures)
+    (before after : FirstFault)
     → ((f a : ℕ) → lists new f a ≡ (lists old f a || ((h.name == f) && (k == a)))) → k ≡ parameters_of h.parameters
-    → earliest_kept after ≡ earliest (earliest_kept before) (fault_if (lists old h.name k || is_builtin atoms h.name k) DefinedTwice h.offset) → Defines atoms (h ∷ hs) old new before after
+    → earliest_kept after ≡ earliest (earliest_kept before)
+    (fault_if (lists old h.name k || is_builtin atoms h.name k) DefinedTwice h.offset)
+    → Defines atoms (h ∷ hs) old new before after
 defines atoms h hs k old new before after added e found =
     record {
       lists = λ fs l. record {
@@ -65,15 +71,20 @@ defines atoms h hs k old new before after added e found =
       };
       found = λ fs l.
           found
-          ∙ ap (λ (v : Bool). earliest (earliest_kept before) (fault_if (v || is_builtin atoms h.name k) DefinedTwice h.offset)) (l.same h.name k)
-          ∙ ap (λ (n : ℕ). earliest (earliest_kept before) (fault_if (is_some (own_in fs h.name n) || is_builtin atoms h.name n) DefinedTwice h.offset)) e;
+          ∙ ap (λ (v : Bool). earliest (earliest_kept before)
+          (fault_if (v || is_builtin atoms h.name k) DefinedTwice h.offset)) (l.same h.name k)
+          ∙ ap (λ (n : ℕ). earliest (earliest_kept before)
+          (fault_if (is_some (own_in fs h.name n) || is_builtin atoms h.name n) DefinedTwice h.offset)) e;
     }
 
-pub noted_fault : (b : Bool) (before after : FirstFault) (offset : ℕ) → b ≡ true → earliest_kept after ≡ earlier (earliest_kept before) (record { code = DefinedTwice; offset = offset }) → earliest_kept after ≡ earliest (earliest_kept before) (fault_if b DefinedTwice offset)
+pub noted_fault : (b : Bool) (before after : FirstFault) (offset : ℕ) → b ≡ true
+    → earliest_kept after ≡ earlier (earliest_kept before) (record { code = DefinedTwice; offset = offset })
+    → earliest_kept after ≡ earliest (earliest_kept before) (fault_if b DefinedTwice offset)
 noted_fault true before after offset e k = k
 noted_fault false before after offset e k = absurd (cc)
 
-pub noted_nothing : (b : Bool) (before : FirstFault) (offset : ℕ) → b ≡ false → earliest_kept before ≡ earliest (earliest_kept before) (fault_if b DefinedTwice offset)
+pub noted_nothing : (b : Bool) (before : FirstFault) (offset : ℕ) → b ≡ false
+    → earliest_kept before ≡ earliest (earliest_kept before) (fault_if b DefinedTwice offset)
 noted_nothing true before offset e = absurd (cc)
 noted_nothing false before offset e = refl
 
@@ -103,41 +114,51 @@ listed_nowhere fresh false b r e f g h = sym g ∙ h
 -- ---- functions one after another
 
 -- those that are listed, and the faults of those that are left
-pub record Defined (atoms : List (List ℕ)) (o : Signatures) (first now : FirstFault) (done left all : List (List Head)) : Type 0 where
+pub record Defined (atoms : List (List ℕ)) (o : Signatures) (first now : FirstFault)
+    (done left all : List (List Head)) : Type 0 where
   pub lists : ListsFunctions o done
-  pub found : earliest (earliest_kept now) (defined_faults atoms done left) ≡ earliest (earliest_kept first) (defined_faults atoms [] all)
+  pub found : earliest (earliest_kept now) (defined_faults atoms done left) ≡ earliest (earliest_kept first)
+      (defined_faults atoms [] all)
 
-defined_next : (atoms : List (List ℕ)) (done left : List (List Head)) (hs : List Head) → defined_faults atoms done (hs ∷ left) ≡ defined_fault atoms done hs ++ defined_faults atoms (done ++ hs ∷ []) left
+defined_next : (atoms : List (List ℕ)) (done left : List (List Head)) (hs : List Head)
+    → defined_faults atoms done (hs ∷ left) ≡ defined_fault atoms done hs ++ defined_faults atoms (done ++ hs ∷ []) left
 defined_next atoms done left [] = refl
 defined_next atoms done left (h ∷ hs) = refl
 
-pub defined_more : (atoms : List (List ℕ)) (o p : Signatures) (first now next : FirstFault) (done after rest left all : List (List Head)) (hs : List Head) → left ≡ hs ∷ rest → after ≡ done ++ hs ∷ []
-    → Defined atoms o first now done left all → Defines atoms hs o p now next → Defined atoms p first next after rest all
+pub defined_more : (atoms : List (List ℕ)) (o p : Signatures) (first now next : FirstFault)
+    (done after rest left all : List (List Head)) (hs : List Head) → left ≡ hs ∷ rest → after ≡ done ++ hs ∷ []
+    → Defined atoms o first now done left all → Defines atoms hs o p now next
+    → Defined atoms p first next after rest all
 defined_more atoms o p first now next done after rest left all hs e a d x =
     subst (λ (fs : List (List Head)). Defined atoms p first next fs rest all) (sym a) (record {
       lists = x.lists done d.lists;
       found =
           ap (λ k. earliest k (defined_faults atoms (done ++ hs ∷ []) rest)) (x.found done d.lists)
-          ∙ sym (fold-append earlier (earliest_kept now) (defined_fault atoms done hs) (defined_faults atoms (done ++ hs ∷ []) rest))
+          ∙ sym (fold-append earlier (earliest_kept now) (defined_fault atoms done hs)
+          (defined_faults atoms (done ++ hs ∷ []) rest))
           ∙ ap (earliest (earliest_kept now)) (sym (ap (defined_faults atoms done) e ∙ defined_next atoms done rest hs))
           ∙ d.found;
     })
 
 -- the front of a list of which nothing is left
 pub whole_front : {X : Type 0} (xs : List X) (i : ℕ) → length xs ≤ i → take i xs ≡ xs
-whole_front xs i h = sym (append-nil (take i xs)) ∙ ap (λ r. take i xs ++ r) (sym (at_drop_all (λ ys. ys) xs i h)) ∙ take-append-drop i xs
+whole_front xs i h = sym (append-nil (take i xs)) ∙ ap (λ r. take i xs ++ r) (sym (at_drop_all (λ ys. ys) xs i h))
+    ∙ take-append-drop i xs
 
 -- ---- parts that begin with no variable
 
 -- the faults of the parts that are left
 pub record Onward (old now : ClauseWalk) (left all : List SourceRefusal) : Type 0 where
   pub stands : KnowsScope old.variables no_scope → KnowsScope now.variables no_scope
-  pub found : KnowsScope old.variables no_scope → earliest (earliest_kept now.first) left ≡ earliest (earliest_kept old.first) all
+  pub found : KnowsScope old.variables no_scope
+      → earliest (earliest_kept now.first) left ≡ earliest (earliest_kept old.first) all
 
 pub onward_first : (w : ClauseWalk) (all : List SourceRefusal) → Onward w w all all
 onward_first w all = record { stands = λ st. st; found = λ st. refl }
 
-pub onward_more : {X : Type 0} (F : X → List SourceRefusal) (old now next : ClauseWalk) (left rest : List X) (x : X) (all : List SourceRefusal) → left ≡ x ∷ rest → Onward old now (flat_map F left) all → BeginsAnew now next (F x) → Onward old next (flat_map F rest) all
+pub onward_more : {X : Type 0} (F : X → List SourceRefusal) (old now next : ClauseWalk) (left rest : List X) (x : X)
+    (all : List SourceRefusal) → left ≡ x ∷ rest → Onward old now (flat_map F left) all → BeginsAnew now next (F x)
+    → Onward old next (flat_map F rest) all
 onward_more F old now next left rest x all e u b = record {
   stands = λ st. b.stands (u.stands st);
   found = λ st.
@@ -147,7 +168,8 @@ onward_more F old now next left rest x all e u b = record {
       ∙ u.found st;
 }
 
-pub onward_all : {X : Type 0} (F : X → List SourceRefusal) (old now : ClauseWalk) (left : List X) (all : List SourceRefusal) → left ≡ [] → Onward old now (flat_map F left) all → BeginsAnew old now all
+pub onward_all : {X : Type 0} (F : X → List SourceRefusal) (old now : ClauseWalk) (left : List X)
+    (all : List SourceRefusal) → left ≡ [] → Onward old now (flat_map F left) all → BeginsAnew old now all
 onward_all F old now left all e u = record {
   stands = u.stands;
   found = λ st. ap (λ xs. earliest (earliest_kept now.first) (flat_map F xs)) (sym e) ∙ u.found st;

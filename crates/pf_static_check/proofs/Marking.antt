@@ -23,7 +23,8 @@ moved_then false true a b c m n = (ap is_marked (sym m) ∙ n.0, n.1)
 moved_then false false a b c m n = n ∙ m
 
 -- a variable that is set to what marks it
-pub moved_one : (b : Bool) (a c s : Status) → (b ≡ true → is_marked a ≡ false) → is_marked s ≡ true → c ≡ (if b then s else a) → StatusMoved (b || false) a c
+pub moved_one : (b : Bool) (a c s : Status) → (b ≡ true → is_marked a ≡ false) → is_marked s ≡ true
+    → c ≡ (if b then s else a) → StatusMoved (b || false) a c
 moved_one true a c s f m e = (f refl, ap is_marked e ∙ m)
 moved_one false a c s f m e = e
 
@@ -48,27 +49,32 @@ moved_fresh true a b m e = m.0
 moved_fresh false a b m e = absurd (cc)
 
 -- names that were new become unsafe
-pub moved_unsafe : (h : Bool) (a c : Status) → (h ≡ true → is_marked a ≡ false) → c ≡ (if h then Unsafe else a) → StatusMoved h a c
+pub moved_unsafe : (h : Bool) (a c : Status) → (h ≡ true → is_marked a ≡ false) → c ≡ (if h then Unsafe else a)
+    → StatusMoved h a c
 moved_unsafe true a c f e = (f refl, ap is_marked e)
 moved_unsafe false a c f e = e
 
 -- one more variable is bound
-pub bound_one : (b h : Bool) (a c : Status) → h ≡ is_bound a → c ≡ (if b then Bound else a) → (h || (b || false)) ≡ is_bound c
+pub bound_one : (b h : Bool) (a c : Status) → h ≡ is_bound a → c ≡ (if b then Bound else a)
+    → (h || (b || false)) ≡ is_bound c
 bound_one true true a c p e = sym (ap is_bound e)
 bound_one true false a c p e = sym (ap is_bound e)
 bound_one false true a c p e = p ∙ sym (ap is_bound e)
 bound_one false false a c p e = p ∙ sym (ap is_bound e)
 
-pub unsafe_one : (b h : Bool) (a c : Status) → (b ≡ true → h ≡ false) → h ≡ is_marked_unsafe a → c ≡ (if b then Bound else a) → h ≡ is_marked_unsafe c
+pub unsafe_one : (b h : Bool) (a c : Status) → (b ≡ true → h ≡ false) → h ≡ is_marked_unsafe a
+    → c ≡ (if b then Bound else a) → h ≡ is_marked_unsafe c
 unsafe_one true h a c f p e = f refl ∙ sym (ap is_marked_unsafe e)
 unsafe_one false h a c f p e = p ∙ sym (ap is_marked_unsafe e)
 
 -- the names that clauses leave are unsafe, where they were new
-pub bound_left : (h : Bool) (a c : Status) → (h ≡ true → is_marked a ≡ false) → c ≡ (if h then Unsafe else a) → is_bound a ≡ is_bound c
+pub bound_left : (h : Bool) (a c : Status) → (h ≡ true → is_marked a ≡ false) → c ≡ (if h then Unsafe else a)
+    → is_bound a ≡ is_bound c
 bound_left true a c f e = ap is_bound (unmarked_new a (f refl)) ∙ sym (ap is_bound e)
 bound_left false a c f e = sym (ap is_bound e)
 
-pub unsafe_left : (h n : Bool) (a c : Status) → h ≡ (not (is_marked a) && n) → c ≡ (if h then Unsafe else a) → (is_marked_unsafe a || (not (is_bound a) && n)) ≡ is_marked_unsafe c
+pub unsafe_left : (h n : Bool) (a c : Status) → h ≡ (not (is_marked a) && n) → c ≡ (if h then Unsafe else a)
+    → (is_marked_unsafe a || (not (is_bound a) && n)) ≡ is_marked_unsafe c
 unsafe_left true true New c p e = sym (ap is_marked_unsafe e)
 unsafe_left false false New c p e = sym (ap is_marked_unsafe e)
 unsafe_left true false New c p e = absurd (cc)

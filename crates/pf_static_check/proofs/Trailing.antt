@@ -1,16 +1,19 @@
 -- What a step does to what is known and to the trail.
-use Rattle.std.proofs.Common.{◌≡◌, ℕ, zero, suc, ◌<◌, List, [], ◌∷◌, ◌++◌, length, take, drop, Bool, true, false, refl, sym, ap, ◌∙◌, subst, arith, append_assoc, eqb-true}
+use Rattle.std.proofs.Common.{◌≡◌, ℕ, zero, suc, ◌<◌, List, [], ◌∷◌, ◌++◌, length, take, drop, Bool, true, false, refl}
+use Rattle.std.proofs.Common.{sym, ap, ◌∙◌, subst, arith, append_assoc, eqb-true}
 use Rattle.std.specs.Prelude.{◌==◌, ◌||◌, ◌&&◌, not, if◌then◌else◌, map, filter, slice_index_or}
 use Rattle.std.proofs.lemmas.List.{append-nil, length-map}
 use Rattle.std.proofs.lemmas.List.Folds.{list_any-append}
 use Rattle.std.proofs.Math.Seq.{drop-append_seam, take-append_seam}
 use Rattle.pf_terms.specs.declared.atoms.AtomId.{AtomId}
 use Rattle.pf_syntax.specs.Scope.{Scope, has, is_new, scope_leaving, names_in_scope}
-use Rattle.pf_static_check.specs.Marks.{KnowsScope, Trails, Binds, StatusMoved, status_of, trail_of, is_bound, is_marked_unsafe, is_marked}
+use Rattle.pf_static_check.specs.Marks.{KnowsScope, Trails, Binds, StatusMoved, status_of, trail_of, is_bound}
+use Rattle.pf_static_check.specs.Marks.{is_marked_unsafe, is_marked}
 use Rattle.pf_static_check.specs.declared.variable_states.Status.{Status}
 use Rattle.pf_static_check.specs.declared.variable_states.Status.TheVariants.{New, Bound, Unsafe}
 use Rattle.pf_static_check.specs.declared.variable_states.VariableStates.{VariableStates}
-use Rattle.pf_static_check.proofs.Marking.{marked_is, moved_then, moved_one, moved_back, bound_one, unsafe_one, bound_left, unsafe_left}
+use Rattle.pf_static_check.proofs.Marking.{marked_is, moved_then, moved_one, moved_back, bound_one, unsafe_one}
+use Rattle.pf_static_check.proofs.Marking.{bound_left, unsafe_left}
 
 pub has_append : (xs ys : List ℕ) (x : ℕ) → has (xs ++ ys) x ≡ (has xs x || has ys x)
 has_append xs ys x = list_any-append (λ y. y == x) xs ys
@@ -23,11 +26,14 @@ step_since true false st a = refl
 step_since false true st a = refl
 step_since false false st a = refl
 
-pub one_set : (x n : ℕ) (names rest : List ℕ) (st a b c : Status) → names ≡ n ∷ rest → b ≡ (if n == x then st else a) → (if has names x then st else a) ≡ c → (if has rest x then st else b) ≡ c
+pub one_set : (x n : ℕ) (names rest : List ℕ) (st a b c : Status) → names ≡ n ∷ rest → b ≡ (if n == x then st else a)
+    → (if has names x then st else a) ≡ c → (if has rest x then st else b) ≡ c
 one_set x n names rest st a b c e f h =
-    ap (λ (v : Status). if has rest x then st else v) f ∙ step_since (has rest x) (n == x) st a ∙ ap (λ (ns : List ℕ). if has ns x then st else a) (sym e) ∙ h
+    ap (λ (v : Status). if has rest x then st else v) f ∙ step_since (has rest x) (n == x) st a
+    ∙ ap (λ (ns : List ℕ). if has ns x then st else a) (sym e) ∙ h
 
-pub dropped_item : (items : List AtomId) (i : ℕ) (a : AtomId) → i < length items → a ≡ slice_index_or items i a → drop i (map (λ b. b.0) items) ≡ a.0 ∷ drop (suc i) (map (λ b. b.0) items)
+pub dropped_item : (items : List AtomId) (i : ℕ) (a : AtomId) → i < length items → a ≡ slice_index_or items i a
+    → drop i (map (λ b. b.0) items) ≡ a.0 ∷ drop (suc i) (map (λ b. b.0) items)
 dropped_item [] i a h e = absurd (omega arith)
 dropped_item (b ∷ items) zero a h e = ap (λ (c : AtomId). c.0 ∷ map (λ b. b.0) items) (sym e)
 dropped_item (b ∷ items) (suc i) a h e = dropped_item items i a (omega arith) e
@@ -41,7 +47,9 @@ pub trails_then : (a b c : VariableStates) → Trails a b → Trails b c → Tra
 trails_then a b c s t = record {
   names = s.names ++ t.names;
   longer = t.longer ∙ ap (λ (l : List ℕ). l ++ t.names) s.longer ∙ append_assoc (trail_of a) s.names t.names;
-  moved = λ x. subst (λ (h : Bool). StatusMoved h (status_of a x) (status_of c x)) (sym (has_append s.names t.names x)) (moved_then (has s.names x) (has t.names x) (status_of a x) (status_of b x) (status_of c x) (s.moved x) (t.moved x));
+  moved = λ x. subst (λ (h : Bool). StatusMoved h (status_of a x) (status_of c x)) (sym (has_append s.names t.names x))
+      (moved_then (has s.names x) (has t.names x) (status_of a x) (status_of b x) (status_of c x)
+      (s.moved x) (t.moved x));
 }
 
 -- what is new by the rules is not marked
@@ -53,32 +61,44 @@ new_is s g st x =
     ap not (ap (λ (v : Bool). v || has g.unsafe x) b ∙ ap (λ (v : Bool). is_bound (status_of s x) || v) u ∙ m)
 
 -- a name of those that are seen is marked
-pub named_is : (s : VariableStates) (g : Scope) → KnowsScope s g → (x : ℕ) → has (names_in_scope g) x ≡ is_marked (status_of s x)
+pub named_is : (s : VariableStates) (g : Scope) → KnowsScope s g → (x : ℕ)
+    → has (names_in_scope g) x ≡ is_marked (status_of s x)
 named_is s g st x =
-    has_append g.bound g.unsafe x ∙ ap (λ (v : Bool). v || has g.unsafe x) (st.bound x) ∙ ap (λ (v : Bool). is_bound (status_of s x) || v) (st.unsafe x) ∙ marked_is (status_of s x)
+    has_append g.bound g.unsafe x ∙ ap (λ (v : Bool). v || has g.unsafe x) (st.bound x)
+    ∙ ap (λ (v : Bool). is_bound (status_of s x) || v) (st.unsafe x) ∙ marked_is (status_of s x)
 
 -- ---- a variable of a pattern
 
 pub bound_before : (s : VariableStates) (y : ℕ) → is_marked (status_of s y) ≡ true → Binds s s y
 bound_before s y m = record {
   trails = trails_nothing s;
-  stands = λ g st. subst (λ (v : Bool). KnowsScope s (if v then record { bound = g.bound ++ y ∷ []; unsafe = g.unsafe } else g)) (sym (new_is s g st y ∙ ap not m)) st;
+  stands = λ g st. subst (λ (v : Bool). KnowsScope s (if v then record { bound = g.bound ++ y ∷ []; unsafe = g.unsafe }
+      else g)) (sym (new_is s g st y ∙ ap not m)) st;
 }
 
-stands_push : (old new : VariableStates) (y : ℕ) (g : Scope) → status_of old y ≡ New → ((x : ℕ) → status_of new x ≡ (if y == x then Bound else status_of old x)) → KnowsScope old g → KnowsScope new (record { bound = g.bound ++ y ∷ []; unsafe = g.unsafe })
+stands_push : (old new : VariableStates) (y : ℕ) (g : Scope) → status_of old y ≡ New
+    → ((x : ℕ) → status_of new x ≡ (if y == x then Bound else status_of old x)) → KnowsScope old g
+    → KnowsScope new (record { bound = g.bound ++ y ∷ []; unsafe = g.unsafe })
 stands_push old new y g n set st = record {
-  bound = λ x. has_append g.bound (y ∷ []) x ∙ bound_one (y == x) (has g.bound x) (status_of old x) (status_of new x) (st.bound x) (set x);
-  unsafe = λ x. unsafe_one (y == x) (has g.unsafe x) (status_of old x) (status_of new x) (λ e. st.unsafe x ∙ ap is_marked_unsafe (ap (status_of old) (sym (eqb-true y x e)) ∙ n)) (st.unsafe x) (set x);
+  bound = λ x. has_append g.bound (y ∷ []) x ∙ bound_one (y == x) (has g.bound x) (status_of old x) (status_of new x)
+      (st.bound x) (set x);
+  unsafe = λ x. unsafe_one (y == x) (has g.unsafe x) (status_of old x) (status_of new x)
+      (λ e. st.unsafe x ∙ ap is_marked_unsafe (ap (status_of old) (sym (eqb-true y x e)) ∙ n)) (st.unsafe x) (set x);
 }
 
-pub bound_new : (old new : VariableStates) (y : ℕ) → status_of old y ≡ New → ((x : ℕ) → status_of new x ≡ (if y == x then Bound else status_of old x)) → trail_of new ≡ trail_of old ++ y ∷ [] → Binds old new y
+pub bound_new : (old new : VariableStates) (y : ℕ) → status_of old y ≡ New
+    → ((x : ℕ) → status_of new x ≡ (if y == x then Bound else status_of old x)) → trail_of new ≡ trail_of old ++ y ∷ []
+    → Binds old new y
 bound_new old new y n set longer = record {
   trails = record {
     names = y ∷ [];
     longer = longer;
-    moved = λ x. moved_one (y == x) (status_of old x) (status_of new x) Bound (λ e. ap is_marked (ap (status_of old) (sym (eqb-true y x e)) ∙ n)) refl (set x);
+    moved = λ x. moved_one (y == x) (status_of old x) (status_of new x) Bound
+        (λ e. ap is_marked (ap (status_of old) (sym (eqb-true y x e)) ∙ n)) refl (set x);
   };
-  stands = λ g st. subst (λ (v : Bool). KnowsScope new (if v then record { bound = g.bound ++ y ∷ []; unsafe = g.unsafe } else g)) (sym (new_is old g st y ∙ ap (λ (a : Status). not (is_marked a)) n)) (stands_push old new y g n set st);
+  stands = λ g st. subst (λ (v : Bool). KnowsScope new
+      (if v then record { bound = g.bound ++ y ∷ []; unsafe = g.unsafe } else g))
+      (sym (new_is old g st y ∙ ap (λ (a : Status). not (is_marked a)) n)) (stands_push old new y g n set st);
 }
 
 -- ---- back to what was seen
@@ -97,9 +117,12 @@ same_stands old new g s st = record {
 pub left_since : (a b : VariableStates) (t : Trails a b) → drop (length (trail_of a)) (trail_of b) ≡ t.names
 left_since a b t = ap (drop (length (trail_of a))) t.longer ∙ drop-append_seam (trail_of a) t.names
 
-pub back : (a b c : VariableStates) → Trails a b → ((x : ℕ) → status_of c x ≡ (if has (drop (length (trail_of a)) (trail_of b)) x then New else status_of b x)) → Same a c
+pub back : (a b c : VariableStates) → Trails a b
+    → ((x : ℕ) → status_of c x ≡ (if has (drop (length (trail_of a)) (trail_of b)) x then New else status_of b x))
+    → Same a c
 back a b c t set = record {
-  same = λ x. moved_back (has t.names x) (status_of a x) (status_of b x) (status_of c x) (t.moved x) (set x ∙ ap (λ (ns : List ℕ). if has ns x then New else status_of b x) (left_since a b t));
+  same = λ x. moved_back (has t.names x) (status_of a x) (status_of b x) (status_of c x) (t.moved x)
+      (set x ∙ ap (λ (ns : List ℕ). if has ns x then New else status_of b x) (left_since a b t));
 }
 
 pub trails_same : (a c : VariableStates) → Same a c → trail_of c ≡ trail_of a → Trails a c
@@ -128,11 +151,17 @@ has_filter p (n ∷ ns) x = one p n ns x (p n) refl (has_filter p ns x)
     left_one true h false f = refl
     left_one false h a f = refl
 
-    one : (p : ℕ → Bool) (n : ℕ) (ns : List ℕ) (x : ℕ) (v : Bool) → p n ≡ v → has (filter p ns) x ≡ (p x && has ns x) → has (if v then n ∷ filter p ns else filter p ns) x ≡ (p x && ((n == x) || has ns x))
-    one p n ns x true e ih = ap (λ (v : Bool). (n == x) || v) ih ∙ kept_one (n == x) (has ns x) (p x) (λ q. ap p (sym (eqb-true n x q)) ∙ e)
+    one : (p : ℕ → Bool) (n : ℕ) (ns : List ℕ) (x : ℕ) (v : Bool) → p n ≡ v → has (filter p ns) x ≡ (p x && has ns x)
+        → has (if v then n ∷ filter p ns else filter p ns) x ≡ (p x && ((n == x) || has ns x))
+    one p n ns x true e ih = ap (λ (v : Bool). (n == x) || v) ih ∙ kept_one (n == x) (has ns x) (p x)
+        (λ q. ap p (sym (eqb-true n x q)) ∙ e)
     one p n ns x false e ih = ih ∙ left_one (n == x) (has ns x) (p x) (λ q. ap p (sym (eqb-true n x q)) ∙ e)
 
-pub stands_leaving : (old new : VariableStates) (g : Scope) (names ends : List ℕ) → KnowsScope old g → ((x : ℕ) → has names x ≡ true → is_marked (status_of old x) ≡ false) → ((x : ℕ) → has names x ≡ (is_new g x && has ends x)) → ((x : ℕ) → status_of new x ≡ (if has names x then Unsafe else status_of old x)) → KnowsScope new (scope_leaving g ends)
+pub stands_leaving : (old new : VariableStates) (g : Scope) (names ends : List ℕ) → KnowsScope old g
+    → ((x : ℕ) → has names x ≡ true → is_marked (status_of old x) ≡ false)
+    → ((x : ℕ) → has names x ≡ (is_new g x && has ends x))
+    → ((x : ℕ) → status_of new x ≡ (if has names x then Unsafe else status_of old x))
+    → KnowsScope new (scope_leaving g ends)
 stands_leaving old new g names ends st fresh named set = record {
   bound = λ x. st.bound x ∙ bound_left (has names x) (status_of old x) (status_of new x) (fresh x) (set x);
   unsafe = λ x.
@@ -140,7 +169,8 @@ stands_leaving old new g names ends st fresh named set = record {
       ∙ ap (λ (v : Bool). has g.unsafe x || v) (has_filter (λ y. not (has g.bound y)) ends x)
       ∙ ap (λ (v : Bool). v || (not (has g.bound x) && has ends x)) (st.unsafe x)
       ∙ ap (λ (v : Bool). is_marked_unsafe (status_of old x) || (not v && has ends x)) (st.bound x)
-      ∙ unsafe_left (has names x) (has ends x) (status_of old x) (status_of new x) (named x ∙ ap (λ (v : Bool). v && has ends x) (new_is old g st x)) (set x);
+      ∙ unsafe_left (has names x) (has ends x) (status_of old x) (status_of new x)
+      (named x ∙ ap (λ (v : Bool). v && has ends x) (new_is old g st x)) (set x);
 }
 
 -- ---- lengths

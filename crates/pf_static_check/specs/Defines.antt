@@ -13,9 +13,12 @@ use Rattle.pf_static_check.specs.declared.first.FirstFault.{FirstFault}
 abbrev pub defined_fault : List (List ℕ) → List (List Head) → List Head → List SourceRefusal
 defined_fault atoms earlier [] = []
 defined_fault atoms earlier (h ∷ hs) =
-    fault_if (is_some (own_in earlier h.name (parameters_of h.parameters)) || is_builtin atoms h.name (parameters_of h.parameters)) DefinedTwice h.offset
+    fault_if (is_some (own_in earlier h.name (parameters_of h.parameters)) || is_builtin atoms h.name
+    (parameters_of h.parameters)) DefinedTwice h.offset
 
 -- a function is kept after those that were, and its fault is found
-pub record Defines (atoms : List (List ℕ)) (f : List Head) (old new : Signatures) (before after : FirstFault) : Type 0 where
+pub record Defines (atoms : List (List ℕ)) (f : List Head) (old new : Signatures)
+    (before after : FirstFault) : Type 0 where
   pub lists : (fs : List (List Head)) → ListsFunctions old fs → ListsFunctions new (fs ++ f ∷ [])
-  pub found : (fs : List (List Head)) → ListsFunctions old fs → earliest_kept after ≡ earliest (earliest_kept before) (defined_fault atoms fs f)
+  pub found : (fs : List (List Head)) → ListsFunctions old fs
+      → earliest_kept after ≡ earliest (earliest_kept before) (defined_fault atoms fs f)

@@ -49,7 +49,8 @@ fn own_functions(
     first: &mut FirstFault,
 ) -> Result<Signatures, NoMemory>
     ensures lists { IfOk result (λ own. ListsFunctions own syntax.now.functions) }
-    ensures found { OnOk result (earliest_kept first.new ≡ earliest (earliest_kept first.old) (defined_faults atoms.now [] syntax.now.functions)) }
+    ensures found { OnOk result (earliest_kept first.new ≡ earliest (earliest_kept first.old)
+        (defined_faults atoms.now [] syntax.now.functions)) }
 {
     let mut own = Signatures::new(alloc);
     for function in syntax.functions() {
@@ -64,7 +65,8 @@ fn define_function(
     function: &ExprFunction,
     first: &mut FirstFault,
 ) -> Result<(), NoMemory>
-    ensures { OnOk result ((b : NodeTable) → Defines atoms.now (heads_over b function.now) own.old own.new first.old first.new) }
+    ensures { OnOk result ((b : NodeTable) → Defines atoms.now (heads_over b function.now) own.old own.new
+        first.old first.new) }
 {
     match function.heads.as_slice() {
         [] => {}
@@ -80,7 +82,8 @@ fn define_head(
     head: &Head,
     first: &mut FirstFault,
 ) -> Result<(), NoMemory>
-    ensures { OnOk result ((b : NodeTable) (hs : List HeadTree) → Defines atoms.now (head_over b head.now ∷ hs) own.old own.new first.old first.new) }
+    ensures { OnOk result ((b : NodeTable) (hs : List HeadTree)
+        → Defines atoms.now (head_over b head.now ∷ hs) own.old own.new first.old first.new) }
 {
     let arity = head.parameters.len() as u64;
     let fresh = own.add(head.ident.name, arity)?;
@@ -93,7 +96,8 @@ fn define_head(
 /// Notes each export of no function.
 fn note_exports(syntax: &SyntaxTree, own: &Signatures, first: &mut FirstFault)
     requires { ListsFunctions own.now syntax.now.functions }
-    ensures { earliest_kept first.new ≡ earliest (earliest_kept first.old) (flat_map (export_fault syntax.now.functions) syntax.now.exports) }
+    ensures { earliest_kept first.new ≡ earliest (earliest_kept first.old)
+        (flat_map (export_fault syntax.now.functions) syntax.now.exports) }
 {
     for export in syntax.exports() {
         if !own.has(export.ident.name, export.arity) {

@@ -12,7 +12,8 @@ use pf_syntax::{Head, SyntaxTree};
 
 /// Notes each clause whose name or number of arguments isn't that of its function's first.
 pub(crate) fn note_unlike(syntax: &SyntaxTree, first: &mut FirstFault)
-    ensures { earliest_kept first.new ≡ earliest (earliest_kept first.old) (flat_map unlike_faults syntax.now.functions) }
+    ensures { earliest_kept first.new ≡ earliest (earliest_kept first.old)
+        (flat_map unlike_faults syntax.now.functions) }
 {
     for function in syntax.functions() {
         note_unlike_heads(&function.heads, first);
@@ -21,7 +22,8 @@ pub(crate) fn note_unlike(syntax: &SyntaxTree, first: &mut FirstFault)
 
 /// Notes those of one function.
 fn note_unlike_heads(heads: &[Head], first: &mut FirstFault)
-    ensures { (b : NodeTable) → earliest_kept first.new ≡ earliest (earliest_kept first.old) (unlike_faults (map (head_over b) heads.now)) }
+    ensures { (b : NodeTable) → earliest_kept first.new ≡ earliest (earliest_kept first.old)
+        (unlike_faults (map (head_over b) heads.now)) }
 {
     match heads {
         [] => {}

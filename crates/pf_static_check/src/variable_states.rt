@@ -55,7 +55,8 @@ impl VariableStates {
 
     /// Sets what is known of a variable.
     fn set(&mut self, name: AtomId, status: Status) -> Result<(), NoMemory>
-        ensures set { OnOk result ((x : ℕ) → status_of self.new x ≡ (if name.0 == x then status else status_of self.old x)) }
+        ensures set { OnOk result ((x : ℕ) → status_of self.new x
+            ≡ (if name.0 == x then status else status_of self.old x)) }
         ensures trail { trail_of self.new ≡ trail_of self.old }
     {
         let index = name.0 as usize;
@@ -79,7 +80,8 @@ impl VariableStates {
 
     /// Sets what is known of each name of the trail from an index on.
     pub(crate) fn set_since(&mut self, start: usize, status: Status) -> Result<(), NoMemory>
-        ensures set { OnOk result ((x : ℕ) → status_of self.new x ≡ (if has (drop start (trail_of self.old)) x then status else status_of self.old x)) }
+        ensures set { OnOk result ((x : ℕ) → status_of self.new x ≡ (if has (drop start (trail_of self.old)) x then
+            status else status_of self.old x)) }
         ensures trail { OnOk result (trail_of self.new ≡ trail_of self.old) }
     {
         for index in start..self.trail.len() {
@@ -91,7 +93,8 @@ impl VariableStates {
 
     /// The names of the trail from an index on become new again, and leave it.
     pub(crate) fn forget(&mut self, start: usize) -> Result<(), NoMemory>
-        ensures set { OnOk result ((x : ℕ) → status_of self.new x ≡ (if has (drop start (trail_of self.old)) x then Status.New else status_of self.old x)) }
+        ensures set { OnOk result ((x : ℕ) → status_of self.new x ≡ (if has (drop start (trail_of self.old)) x then
+            Status.New else status_of self.old x)) }
         ensures trail { OnOk result (trail_of self.new ≡ take start (trail_of self.old)) }
     {
         self.set_since(start, Status::New)?;

@@ -6,7 +6,9 @@ ghost use Rattle.pf_syntax.specs.SyntaxTree.{expr_at, expr_pattern_at};
 ghost use Rattle.pf_syntax.specs.SyntaxTreeOver.{branches_over, condition_over, expr_over, exprs_at};
 ghost use Rattle.pf_rules.specs.Static.{names_of_module};
 ghost use Rattle.pf_rules.specs.Listing.{ListsFunctions};
-ghost use Rattle.pf_static_check.specs.Walking.{branch_of, AnonymousWalked, BranchWalked, BranchesWalked, CallWalked, ConditionWalked, PairWalked, ExprWalked, ExprsWalked, TestsWalked, VariableWalked};
+ghost use Rattle.pf_static_check.specs.Walking.{branch_of, AnonymousWalked, BranchWalked, BranchesWalked, CallWalked};
+ghost use Rattle.pf_static_check.specs.Walking.{ConditionWalked, PairWalked, ExprWalked, ExprsWalked, TestsWalked};
+ghost use Rattle.pf_static_check.specs.Walking.{VariableWalked};
 
 mod heads;
 mod patterns;
@@ -37,7 +39,8 @@ impl ClauseWalk {
         id: ExprId,
     ) -> Result<(), NoMemory>
         requires { ListsFunctions own.now syntax.now.functions }
-        ensures { OnOk result (ExprWalked (names_of_module atoms.now syntax.now.functions) self.old self.new (expr_at syntax.now.node_table id.0)) }
+        ensures { OnOk result (ExprWalked (names_of_module atoms.now syntax.now.functions) self.old self.new
+            (expr_at syntax.now.node_table id.0)) }
     {
         match syntax.expr(id) {
             Some(node) => self.expr_node(syntax, atoms, own, node),
@@ -55,7 +58,8 @@ impl ClauseWalk {
         node: &ExprNode,
     ) -> Result<(), NoMemory>
         requires { ListsFunctions own.now syntax.now.functions }
-        ensures { OnOk result (ExprWalked (names_of_module atoms.now syntax.now.functions) self.old self.new (expr_over syntax.now.node_table node.now)) }
+        ensures { OnOk result (ExprWalked (names_of_module atoms.now syntax.now.functions) self.old self.new
+            (expr_over syntax.now.node_table node.now)) }
     {
         match node {
             ExprNode::Variable(ident) => self.variable(*ident),
@@ -105,7 +109,8 @@ impl ClauseWalk {
         right: ExprId,
     ) -> Result<(), NoMemory>
         requires { ListsFunctions own.now syntax.now.functions }
-        ensures { OnOk result (PairWalked (names_of_module atoms.now syntax.now.functions) self.old self.new (expr_at syntax.now.node_table left.0) (expr_at syntax.now.node_table right.0)) }
+        ensures { OnOk result (PairWalked (names_of_module atoms.now syntax.now.functions) self.old self.new
+            (expr_at syntax.now.node_table left.0) (expr_at syntax.now.node_table right.0)) }
     {
         self.expr(syntax, atoms, own, left)?;
         self.expr(syntax, atoms, own, right)
@@ -122,7 +127,9 @@ impl ClauseWalk {
         value: ExprId,
     ) -> Result<(), NoMemory>
         requires { ListsFunctions own.now syntax.now.functions }
-        ensures { OnOk result (ExprWalked (names_of_module atoms.now syntax.now.functions) self.old self.new (expr.match (expr_pattern_at syntax.now.node_table expr_pattern.0) (expr_at syntax.now.node_table value.0))) }
+        ensures { OnOk result (ExprWalked (names_of_module atoms.now syntax.now.functions) self.old self.new
+            (expr.match (expr_pattern_at syntax.now.node_table expr_pattern.0)
+            (expr_at syntax.now.node_table value.0))) }
     {
         self.expr(syntax, atoms, own, value)?;
         self.expr_pattern(syntax, expr_pattern)
@@ -139,7 +146,8 @@ impl ClauseWalk {
         branches: &[Branch],
     ) -> Result<(), NoMemory>
         requires { ListsFunctions own.now syntax.now.functions }
-        ensures { OnOk result (ExprWalked (names_of_module atoms.now syntax.now.functions) self.old self.new (expr.case (expr_at syntax.now.node_table part.0) (branches_over syntax.now.node_table branches.now))) }
+        ensures { OnOk result (ExprWalked (names_of_module atoms.now syntax.now.functions) self.old self.new
+            (expr.case (expr_at syntax.now.node_table part.0) (branches_over syntax.now.node_table branches.now))) }
     {
         self.expr(syntax, atoms, own, part)?;
         self.branches(syntax, atoms, own, branches)
@@ -155,7 +163,8 @@ impl ClauseWalk {
         parts: &[ExprId],
     ) -> Result<(), NoMemory>
         requires { ListsFunctions own.now syntax.now.functions }
-        ensures { OnOk result (ExprsWalked (names_of_module atoms.now syntax.now.functions) self.old self.new (exprs_at syntax.now.node_table parts.now)) }
+        ensures { OnOk result (ExprsWalked (names_of_module atoms.now syntax.now.functions) self.old self.new
+            (exprs_at syntax.now.node_table parts.now)) }
     {
         for part in parts {
             self.expr(syntax, atoms, own, *part)?;
@@ -173,7 +182,8 @@ impl ClauseWalk {
         condition: &Condition,
     ) -> Result<(), NoMemory>
         requires { ListsFunctions own.now syntax.now.functions }
-        ensures { OnOk result (ConditionWalked (names_of_module atoms.now syntax.now.functions) self.old self.new (condition_over syntax.now.node_table condition.now)) }
+        ensures { OnOk result (ConditionWalked (names_of_module atoms.now syntax.now.functions) self.old self.new
+            (condition_over syntax.now.node_table condition.now)) }
     {
         for alternative in &condition.alternatives {
             self.tests(syntax, atoms, own, &alternative.tests)?;
@@ -191,7 +201,8 @@ impl ClauseWalk {
         tests: &[ExprId],
     ) -> Result<(), NoMemory>
         requires { ListsFunctions own.now syntax.now.functions }
-        ensures { OnOk result (TestsWalked (names_of_module atoms.now syntax.now.functions) self.old self.new (exprs_at syntax.now.node_table tests.now)) }
+        ensures { OnOk result (TestsWalked (names_of_module atoms.now syntax.now.functions) self.old self.new
+            (exprs_at syntax.now.node_table tests.now)) }
     {
         let start = self.variables.trail_len();
         self.exprs(syntax, atoms, own, tests)?;
@@ -210,7 +221,8 @@ impl ClauseWalk {
         branches: &[Branch],
     ) -> Result<(), NoMemory>
         requires { ListsFunctions own.now syntax.now.functions }
-        ensures { OnOk result (BranchesWalked (names_of_module atoms.now syntax.now.functions) self.old self.new (branches_over syntax.now.node_table branches.now)) }
+        ensures { OnOk result (BranchesWalked (names_of_module atoms.now syntax.now.functions) self.old self.new
+            (branches_over syntax.now.node_table branches.now)) }
     {
         let start = self.variables.trail_len();
         for branch in branches {
@@ -230,7 +242,8 @@ impl ClauseWalk {
         branch: &Branch,
     ) -> Result<(), NoMemory>
         requires { ListsFunctions own.now syntax.now.functions }
-        ensures { OnOk result (BranchWalked (names_of_module atoms.now syntax.now.functions) self.old self.new (branch_of syntax.now.node_table branch.now)) }
+        ensures { OnOk result (BranchWalked (names_of_module atoms.now syntax.now.functions) self.old self.new
+            (branch_of syntax.now.node_table branch.now)) }
     {
         let start = self.variables.trail_len();
         self.expr_pattern(syntax, branch.expr_pattern)?;

@@ -57,43 +57,61 @@ module _ (m : Module) (own : ℕ) where
   not_awaiting p fs ks g e = absurd g
 
   -- from a `receive` no step leads to where it goes on
-  stays_at : (j : ℕ) (p q : Move) → Steps m own j p q → IsGoing q → (fs : List Frame) (ks : Clauses) → Contracts m own p (awaits fs ks) → q ≡ p
+  stays_at : (j : ℕ) (p q : Move) → Steps m own j p q → IsGoing q → (fs : List Frame) (ks : Clauses)
+      → Contracts m own p (awaits fs ks) → q ≡ p
   stays_at _ _ _ (no_step p) g fs ks h = refl
   stays_at _ _ _ (one_more k p q r s c) g fs ks h =
       let e = stays_at k p q s (contracts_going q r c) fs ks h in
       absurd (not_awaiting r fs ks g (one_next p r (awaits fs ks) (subst (λ z. Contracts m own z r) e c) h))
 
 module _ (m : Checked) (own : ℕ) (ready : Receive → Type 0) where
-  awaited_at : (x : ProcessState) (ks : Clauses) (t : IsAtReceive (machine_at m own x) ks) → Contracts (module_of m) own (goes_on x) (awaits t.frames ks)
-  awaited_at x ks t = subst (λ y. Contracts (module_of m) own (goes_on y) (awaits t.frames ks)) (sym (same_going x t.state t.stood)) t.next
+  awaited_at : (x : ProcessState) (ks : Clauses) (t : IsAtReceive (machine_at m own x) ks)
+      → Contracts (module_of m) own (goes_on x) (awaits t.frames ks)
+  awaited_at x ks t = subst (λ y. Contracts (module_of m) own (goes_on y) (awaits t.frames ks))
+      (sym (same_going x t.state t.stood)) t.next
 
-  stands_at : (x : ProcessState) (fs : List Frame) (ks : Clauses) → Contracts (module_of m) own (goes_on x) (awaits fs ks) → IsAtReceive (machine_at m own x) ks
+  stands_at : (x : ProcessState) (fs : List Frame) (ks : Clauses)
+      → Contracts (module_of m) own (goes_on x) (awaits fs ks) → IsAtReceive (machine_at m own x) ks
   stands_at x fs ks c = record { state = x; frames = fs; stood = refl; next = c }
 
   -- it stays ready on the way
-  pub ready_later : (j : ℕ) (x y : ProcessState) → Steps (module_of m) own j (goes_on x) (goes_on y) → IsReadyAhead ready (machine_at m own x) → IsReadyAhead ready (machine_at m own y)
+  pub ready_later : (j : ℕ) (x y : ProcessState) → Steps (module_of m) own j (goes_on x) (goes_on y)
+      → IsReadyAhead ready (machine_at m own x) → IsReadyAhead ready (machine_at m own y)
   ready_later j x y s h r c =
       h r (record {
         lives = not_spent x;
         only = λ ks t.
             let k = awaited_at x ks t in
             let e = stays_at (module_of m) own j (goes_on x) (goes_on y) s tt t.frames ks k in
-            c.only ks (stands_at y t.frames ks (subst (λ z. Contracts (module_of m) own z (awaits t.frames ks)) (sym e) k));
+            c.only ks (stands_at y t.frames ks
+            (subst (λ z. Contracts (module_of m) own z (awaits t.frames ks)) (sym e) k));
       })
 
   -- at a `receive` it is ready for this
-  pub ready_at : (x : ProcessState) (fs : List Frame) (ks : Clauses) → Contracts (module_of m) own (goes_on x) (awaits fs ks) → IsReadyAhead ready (machine_at m own x) → ready (receive_of (module_of m) own ks)
+  pub ready_at : (x : ProcessState) (fs : List Frame) (ks : Clauses)
+      → Contracts (module_of m) own (goes_on x) (awaits fs ks) → IsReadyAhead ready (machine_at m own x)
+      → ready (receive_of (module_of m) own ks)
   ready_at x fs ks k h =
       h (receive_of (module_of m) own ks) (record {
         lives = not_spent x;
-        only = λ ls t. ap (receive_of (module_of m) own) (same_awaited fs t.frames ks ls (one_next (module_of m) own (goes_on x) (awaits fs ks) (awaits t.frames ls) k (awaited_at x ls t)));
+        only = λ ls t. ap (receive_of (module_of m) own)
+            (same_awaited fs t.frames ks ls (one_next (module_of m) own (goes_on x) (awaits fs ks) (awaits t.frames ls)
+            k (awaited_at x ls t)));
       })
 
   -- elsewhere for whatever comes
-  pub ready_elsewhere : (x : ProcessState) → ((fs : List Frame) (ks : Clauses) → Contracts (module_of m) own (goes_on x) (awaits fs ks) → ⊥) → IsReadyAhead ready (machine_at m own x) → IsReadyForAll ready
-  ready_elsewhere x n h r = h r (record { lives = not_spent x; only = λ ks t. absurd (n t.frames ks (awaited_at x ks t)) })
+  pub ready_elsewhere : (x : ProcessState) → ((fs : List Frame) (ks : Clauses)
+      → Contracts (module_of m) own (goes_on x) (awaits fs ks) → ⊥) → IsReadyAhead ready (machine_at m own x)
+      → IsReadyForAll ready
+  ready_elsewhere x n h r = h r (record {
+    lives = not_spent x;
+    only = λ ks t.
+        absurd (n t.frames ks (awaited_at x ks t));
+  })
 
-  pub ready_waiting : (x : ProcessState) (fs : List Frame) (ks : Clauses) → Contracts (module_of m) own (goes_on x) (awaits fs ks) → ready (receive_of (module_of m) own ks) → IsReadyAhead ready (machine_at m own x)
+  pub ready_waiting : (x : ProcessState) (fs : List Frame) (ks : Clauses)
+      → Contracts (module_of m) own (goes_on x) (awaits fs ks) → ready (receive_of (module_of m) own ks)
+      → IsReadyAhead ready (machine_at m own x)
   ready_waiting x fs ks k h r c = subst ready (sym (c.only ks (stands_at x fs ks k))) h
 
 -- ready for whatever comes, so also ahead
@@ -105,7 +123,8 @@ pub ready_spent : (ready : Receive → Type 0) (s : MachineView) → s.standing 
 ready_spent ready s e r c = absurd (c.lives e)
 
 -- what was ready for more is ready ahead too
-pub ready_still : (ready ready' : Receive → Type 0) → ((r : Receive) → ready r → ready' r) → (s : MachineView) → IsReadyAhead ready s → IsReadyAhead ready' s
+pub ready_still : (ready ready' : Receive → Type 0) → ((r : Receive) → ready r → ready' r) → (s : MachineView)
+    → IsReadyAhead ready s → IsReadyAhead ready' s
 ready_still ready ready' f s h r c = f r (h r c)
 
 -- ---- the stack of a machine
@@ -127,7 +146,8 @@ module _ (ready : Receive → Type 0) (m : Checked) (own : ℕ) where
     ran_ready : (r : Advance) → RanFrom m own left (goes_on x) s r used → IsReadyToSettle ready m own s r
     ran_ready (a.Changed y) k =
         let q = process_goes m.tables s.env.items s.operands.items s.base s.frames.items y in
-        subst Before (sym q.1) (ready_later m own ready left x q.0 (subst (Steps (module_of m) own left (goes_on x)) q.1 k.1) h)
+        subst Before (sym q.1) (ready_later m own ready left x q.0
+        (subst (Steps (module_of m) own left (goes_on x)) q.1 k.1) h)
     ran_ready (a.Sends w) k = last (a.Sends w) k.0 k.1 k.4 k.5
     ran_ready (a.Asks act) k = last (a.Asks act) k.0 k.1 k.4 k.5
     ran_ready (a.Awaits n) k = last (a.Awaits n) k.0 k.1 k.4 k.5
@@ -135,23 +155,30 @@ module _ (ready : Receive → Type 0) (m : Checked) (own : ℕ) where
     ran_ready (a.Ended e) k = last (a.Ended e) k.0 k.1 k.4 k.5
 
   -- a machine whose stack ran is ready to settle
-  pub ready_to_settle : (left used : ℕ) (s s' : Stack) (x : Focus) (r : Advance) → IsReadyAfter ready m own s (stood.Goes x) → RanFrom m own left (stack_process m s x) s' r used
+  pub ready_to_settle : (left used : ℕ) (s s' : Stack) (x : Focus) (r : Advance)
+      → IsReadyAfter ready m own s (stood.Goes x) → RanFrom m own left (stack_process m s x) s' r used
       → IsReadyToSettle ready m own s' r
   ready_to_settle left used s s' x r h k =
       let q = process_goes m.tables s.env.items s.operands.items s.base s.frames.items x in
       ran_ready left used q.0 s' (subst Before q.1 h) r (subst (λ p. RanFrom m own left p s' r used) q.1 k)
 
   module _ (s : Stack) where
-    no_return : (v : Term) (x : ProcessState) → goes_on x ≡ goes_on (running (lit (value_of v))) → (fs : List Frame) (ks : Clauses) → Contracts (module_of m) own (goes_on x) (awaits fs ks) → ⊥
+    no_return : (v : Term) (x : ProcessState) → goes_on x ≡ goes_on (running (lit (value_of v)))
+        → (fs : List Frame) (ks : Clauses) → Contracts (module_of m) own (goes_on x) (awaits fs ks) → ⊥
     no_return v x e fs ks k =
-        let l : Contracts (module_of m) own (goes_on (running (lit (value_of v)))) (awaits fs ks) = subst (λ p. Contracts (module_of m) own p (awaits fs ks)) e k in
-        let d = one_move (module_of m) own (lit (value_of v)) (awaits fs ks) (returns (value_of v)) l (at_value (value_of v) refl refl) in absurd cc
+        let l : Contracts (module_of m) own (goes_on (running (lit (value_of v)))) (awaits fs ks) =
+        subst (λ p. Contracts (module_of m) own p (awaits fs ks)) e k in
+        let d = one_move (module_of m) own (lit (value_of v)) (awaits fs ks) (returns (value_of v)) l
+        (at_value (value_of v) refl refl) in absurd cc
 
-    no_end : (e : Term) (x : ProcessState) → goes_on x ≡ goes_on (ending (value_of e)) → (fs : List Frame) (ks : Clauses) → Contracts (module_of m) own (goes_on x) (awaits fs ks) → ⊥
+    no_end : (e : Term) (x : ProcessState) → goes_on x ≡ goes_on (ending (value_of e))
+        → (fs : List Frame) (ks : Clauses) → Contracts (module_of m) own (goes_on x) (awaits fs ks) → ⊥
     no_end e x q fs ks k = subst (λ p. Contracts (module_of m) own p (awaits fs ks)) q k
 
-    no_asking : (gs : List Frame) (act : Act) (x : ProcessState) → Contracts (module_of m) own (goes_on x) (asks gs act) → (fs : List Frame) (ks : Clauses) → Contracts (module_of m) own (goes_on x) (awaits fs ks) → ⊥
-    no_asking gs act x c fs ks k = let d = one_next (module_of m) own (goes_on x) (asks gs act) (awaits fs ks) c k in absurd cc
+    no_asking : (gs : List Frame) (act : Act) (x : ProcessState) → Contracts (module_of m) own (goes_on x) (asks gs act)
+        → (fs : List Frame) (ks : Clauses) → Contracts (module_of m) own (goes_on x) (awaits fs ks) → ⊥
+    no_asking gs act x c fs ks k = let d = one_next (module_of m) own (goes_on x) (asks gs act) (awaits fs ks) c k in
+        absurd cc
 
     pub ready_sending : (w : Term) → IsReadyToSettle ready m own s (a.Sends w) → IsReadyForAll ready
     ready_sending w h = ready_elsewhere m own ready h.0 (no_asking _ _ h.0 h.1.0) h.2
@@ -165,17 +192,22 @@ module _ (ready : Receive → Type 0) (m : Checked) (own : ℕ) where
     pub ready_ended : (e : Term) → IsReadyToSettle ready m own s (a.Ended e) → IsReadyForAll ready
     ready_ended e h = ready_elsewhere m own ready h.0 (no_end e h.0 h.1) h.2
 
-    pub ready_awaiting : (n : NodeId) (ks : Clauses) → ks ≡ clauses_in (tree_at m.tables n.0) → IsReadyToSettle ready m own s (a.Awaits n)
+    pub ready_awaiting : (n : NodeId) (ks : Clauses) → ks ≡ clauses_in (tree_at m.tables n.0)
+        → IsReadyToSettle ready m own s (a.Awaits n)
         → ready (receive_of (module_of m) own (sub_clauses (activation s.env.items s.base) ks))
     ready_awaiting n ks e h =
         subst (λ ls. ready (receive_of (module_of m) own (sub_clauses (activation s.env.items s.base) ls))) (sym e)
         (ready_at m own ready h.0 _ _ h.1.0 h.2)
 
     -- at a `receive` that found nothing, over the same slots
-    pub ready_after_wait : (env' : List Term) (ready' : Receive → Type 0) (n : NodeId) (ks : Clauses) → ks ≡ clauses_in (tree_at m.tables n.0) → IsReadyToSettle ready m own s (a.Awaits n)
+    pub ready_after_wait : (env' : List Term) (ready' : Receive → Type 0) (n : NodeId) (ks : Clauses)
+        → ks ≡ clauses_in (tree_at m.tables n.0) → IsReadyToSettle ready m own s (a.Awaits n)
         → env' ≡ s.env.items → ready' (receive_of (module_of m) own (sub_clauses (activation s.env.items s.base) ks))
-        → IsReadyAhead ready' (going m own (process_of m.tables env' s.operands.items s.base s.frames.items (f.Eval (part.Node n))))
+        → IsReadyAhead ready' (going m own (process_of m.tables env' s.operands.items s.base s.frames.items
+        (f.Eval (part.Node n))))
     ready_after_wait env' ready' n ks e h same r =
-        let k = subst (λ ls. ready' (receive_of (module_of m) own (sub_clauses (activation s.env.items s.base) ls))) e r in
-        subst (λ xs. IsReadyAhead ready' (going m own (process_of m.tables xs s.operands.items s.base s.frames.items (f.Eval (part.Node n))))) (sym same)
+        let k = subst (λ ls. ready' (receive_of (module_of m) own (sub_clauses (activation s.env.items s.base) ls))) e
+        r in
+        subst (λ xs. IsReadyAhead ready' (going m own (process_of m.tables xs s.operands.items s.base s.frames.items
+        (f.Eval (part.Node n))))) (sym same)
         (subst (λ p. IsReadyAhead ready' (going m own p)) (sym h.1.1) (ready_waiting m own ready' h.0 _ _ h.1.0 k))

@@ -7,7 +7,9 @@ use Rattle.pf_terms.specs.Encoding.{coded_value, coded_values}
 use Rattle.pf_syntax.specs.Tree.{Tree, lit, tuple, op, call, builtin, match, bind, case}
 use Rattle.pf_syntax.specs.Encoding.{coded_tree}
 use Rattle.pf_syntax.specs.Module.{coded_checked}
-use Rattle.pf_model.specs.Context.{Frame, element_of, first_of, tail_of, left_of, right_of, negation, and_also_of, or_else_of, argument_of, builtin_argument_of, match_of, bind_of, case_of, receiver_of, message_of, running, waiting, ending, ended, returned, failed}
+use Rattle.pf_model.specs.Context.{Frame, element_of, first_of, tail_of, left_of, right_of, negation, and_also_of}
+use Rattle.pf_model.specs.Context.{or_else_of, argument_of, builtin_argument_of, match_of, bind_of, case_of}
+use Rattle.pf_model.specs.Context.{receiver_of, message_of, running, waiting, ending, ended, returned, failed}
 use Rattle.pf_stepper.specs.MachineView.{MachineStatus, spent, goes, asking, over, MachineView}
 
 -- ---- frames, by a number, a tree with their parts, and their values
@@ -121,7 +123,8 @@ standing_again over = refl
 
 abbrev pub coded_standing : Coded MachineStatus
 coded_standing =
-    code_by _ (coded⊎ coded_tree (coded⊎ coded_tree (coded⊎ coded_value (coded⊎ coded_value (coded⊎ coded_value (coded⊎ (coded_list coded_frame) coded_ℕ))))))
+    code_by _ (coded⊎ coded_tree (coded⊎ coded_tree
+    (coded⊎ coded_value (coded⊎ coded_value (coded⊎ coded_value (coded⊎ (coded_list coded_frame) coded_ℕ))))))
     parts_of standing_from standing_again
 
 abbrev pub coded_machine_view : Coded MachineView

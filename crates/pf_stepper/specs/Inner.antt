@@ -24,7 +24,12 @@ standing_in m stack s.Over = over
 standing_in m stack s.Spent = spent
 
 abbrev pub view_of_machine : Inside → MachineView
-view_of_machine a = record { own = a.own; checked = a.module.value; standing = standing_in a.module.value a.stack a.standing }
+view_of_machine a = record {
+  own = a.own;
+  checked = a.module.value;
+  standing =
+      standing_in a.module.value a.stack a.standing;
+}
 
 abbrev pub SoundIn : Stack → MachineStatus → Type 0
 SoundIn stack (s.Goes x) = IsSound stack x

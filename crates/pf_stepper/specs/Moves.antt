@@ -14,21 +14,24 @@ use Rattle.pf_stepper.specs.declared.machine.Move.{Move}
 use Rattle.pf_stepper.specs.declared.machine.Move.TheVariants as v
 
 -- one step by itself, which leaves the mailbox as it is
-pub record Stepped (m : Module) (own : ℕ) (s : ProcessState) (mail : List Value) (after : MachineStatus) (mail' : List Value) : Type 0 where
+pub record Stepped (m : Module) (own : ℕ) (s : ProcessState) (mail : List Value) (after : MachineStatus)
+    (mail' : List Value) : Type 0 where
   pub next : ProcessState
   pub step : Contracts m own (goes_on s) (goes_on next)
   pub stands : after ≡ goes next
   pub kept : mail' ≡ mail
 
 -- an action that it asks for, and whose answer it waits for
-pub record AskedFor (m : Module) (own : ℕ) (s : ProcessState) (mail : List Value) (act : Act) (after : MachineStatus) (mail' : List Value) : Type 0 where
+pub record AskedFor (m : Module) (own : ℕ) (s : ProcessState) (mail : List Value) (act : Act) (after : MachineStatus)
+    (mail' : List Value) : Type 0 where
   pub frames : List Frame
   pub step : Contracts m own (goes_on s) (asks frames (act_of act))
   pub stands : after ≡ asking frames
   pub kept : mail' ≡ mail
 
 -- a message that a `receive` takes: the process goes on in the body of its clause, and the other messages stay
-pub record TookOne (m : Module) (own : ℕ) (s : ProcessState) (mail : List Value) (message : Value) (after : MachineStatus) (mail' : List Value) : Type 0 where
+pub record TookOne (m : Module) (own : ℕ) (s : ProcessState) (mail : List Value) (message : Value)
+    (after : MachineStatus) (mail' : List Value) : Type 0 where
   pub frames : List Frame
   pub clauses : Clauses
   pub body : Tree
@@ -37,7 +40,8 @@ pub record TookOne (m : Module) (own : ℕ) (s : ProcessState) (mail : List Valu
   pub stands : after ≡ goes (running (fill frames body))
 
 -- a `receive` that no message fits, at which it stays
-pub record WaitsOn (m : Module) (own : ℕ) (s : ProcessState) (mail : List Value) (after : MachineStatus) (mail' : List Value) : Type 0 where
+pub record WaitsOn (m : Module) (own : ℕ) (s : ProcessState) (mail : List Value) (after : MachineStatus)
+    (mail' : List Value) : Type 0 where
   pub frames : List Frame
   pub clauses : Clauses
   pub step : Contracts m own (goes_on s) (awaits frames clauses)
@@ -46,7 +50,8 @@ pub record WaitsOn (m : Module) (own : ℕ) (s : ProcessState) (mail : List Valu
   pub kept : mail' ≡ mail
 
 -- the end, which leaves the mailbox as it is: it returned a value, or was about to end with a reason
-pub record EndsMachine (s : ProcessState) (mail : List Value) (last : ProcessState) (after : MachineStatus) (mail' : List Value) : Type 0 where
+pub record EndsMachine (s : ProcessState) (mail : List Value) (last : ProcessState) (after : MachineStatus)
+    (mail' : List Value) : Type 0 where
   pub was : s ≡ last
   pub stands : after ≡ over
   pub kept : mail' ≡ mail

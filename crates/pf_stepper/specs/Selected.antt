@@ -13,7 +13,8 @@ use Rattle.pf_model.specs.Module.{module_of}
 use Rattle.pf_model.specs.Receive.{selected}
 
 -- slots were pushed, and over them the body is that of the oldest message that a clause picks; this message is taken
-pub record TakesMessage (m : Checked) (own base : ℕ) (before after' : List Term) (ks : Clauses) (mail mail' : List Value) (body : Operand) (message : Term) : Type 0 where
+pub record TakesMessage (m : Checked) (own base : ℕ) (before after' : List Term) (ks : Clauses)
+    (mail mail' : List Value) (body : Operand) (message : Term) : Type 0 where
   pub added : List Term
   pub grown : after' ≡ before ++ added
   pub taken : selected (module_of m) own (sub_clauses (activation before base) ks) mail ≡ Some (record {
@@ -23,7 +24,8 @@ pub record TakesMessage (m : Checked) (own base : ℕ) (before after' : List Ter
   })
 
 -- no message is picked, and all stays
-pub record TakesNothing (m : Checked) (own base : ℕ) (before after' : List Term) (ks : Clauses) (mail mail' : List Value) : Type 0 where
+pub record TakesNothing (m : Checked) (own base : ℕ) (before after' : List Term) (ks : Clauses)
+    (mail mail' : List Value) : Type 0 where
   pub nothing : selected (module_of m) own (sub_clauses (activation before base) ks) mail ≡ None
   pub mailbox : mail' ≡ mail
   pub slots : after' ≡ before

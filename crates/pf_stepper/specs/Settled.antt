@@ -41,7 +41,8 @@ IsReadyAfter ready m own s x = IsReadyAhead ready (record { own = own; checked =
 -- ready for what comes after the contractions; or for what led to the last move
 abbrev pub IsReadyToSettle : (Receive → Type 0) → Checked → ℕ → Stack → Advance → Type 0
 IsReadyToSettle ready m own s (a.Changed y) = IsReadyAhead ready (going m own (stack_process m s y))
-IsReadyToSettle ready m own s r = (x : ProcessState) × AdvancedFrom m own (goes_on x) s r × IsReadyAhead ready (going m own (goes_on x))
+IsReadyToSettle ready m own s r = (x : ProcessState) × AdvancedFrom m own (goes_on x) s r × IsReadyAhead ready
+    (going m own (goes_on x))
 
 -- ---- the machine
 
@@ -55,11 +56,14 @@ EndsTurn (v.End r) = Unit {0}
 
 -- contractions leave the machine where they led, and the mailbox; else it made another move
 abbrev pub TurnGoesOn : Checked → Stack → Advance → List Value → Stack → MachineStatus → Move → List Value → Type 0
-TurnGoesOn m s (a.Changed y) mail s' x did mail' = (did ≡ v.Pure) × (standing_in m s' x ≡ standing_by (stack_process m s y)) × (mail' ≡ mail)
+TurnGoesOn m s (a.Changed y) mail s' x did mail' =
+    (did ≡ v.Pure) × (standing_in m s' x ≡ standing_by (stack_process m s y)) × (mail' ≡ mail)
 TurnGoesOn m s r mail s' x did mail' = EndsTurn did
 
 -- whatever state led to what the stack did, from there the machine made this move, and has this status
-pub record Settled (m : Checked) (own : ℕ) (s : Stack) (r : Advance) (mail : List Value) (s' : Stack) (x : MachineStatus) (did : Move) (mail' : List Value) : Type 0 where
+pub record Settled (m : Checked) (own : ℕ) (s : Stack) (r : Advance) (mail : List Value) (s' : Stack)
+    (x : MachineStatus) (did : Move) (mail' : List Value) : Type 0 where
   pub sound : SoundIn s' x
-  pub moved : (y : ProcessState) → AdvancedFrom m own (goes_on y) s r → MachineMoved (module_of m) own y mail did (standing_in m s' x) mail'
+  pub moved : (y : ProcessState) → AdvancedFrom m own (goes_on y) s r
+      → MachineMoved (module_of m) own y mail did (standing_in m s' x) mail'
   pub turn : TurnGoesOn m s r mail s' x did mail'

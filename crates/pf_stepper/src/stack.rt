@@ -1,6 +1,7 @@
 //! One stack of slots for all activations, one of finished operands, and the frames over them.
 
-ghost use Rattle.std.specs.Prelude.{◌≡◌, ◌≤◌, ◌-◌, ◌∷◌, [], ◌++◌, ◌<◌, drop, length, take, vec_capacity, vec_len, IfOk, IfSome, OnOk, Some};
+ghost use Rattle.std.specs.Prelude.{◌≡◌, ◌≤◌, ◌-◌, ◌∷◌, [], ◌++◌, ◌<◌, drop, length, take, vec_capacity, vec_len, IfOk};
+ghost use Rattle.std.specs.Prelude.{IfSome, OnOk, Some};
 ghost use Rattle.pf_terms.specs.Term.{value_of};
 ghost use Rattle.pf_terms.specs.declared.term.Term.TheVariants as term;
 ghost use Rattle.pf_syntax.specs.Module.{Tables};

@@ -4,7 +4,8 @@ use Rattle.pf_check.specs.Reads.{ReadOutcome, accepted, refused, Reads, SameOutc
 use Rattle.pf_check.proofs.AnyOutcome.{any_outcome}
 use Rattle.pf_check.proofs.Same.{same_outcome}
 use Rattle.pf_model.specs.Meaning.{Job, Report}
-use Rattle.pf_model.specs.Shrinking.{Result, report, shrunk_to, IsResult, plain, smaller, no_failure, TellsFailures, by_schedule, shrunk}
+use Rattle.pf_model.specs.Shrinking.{Result, report, shrunk_to, IsResult, plain, smaller, no_failure, TellsFailures}
+use Rattle.pf_model.specs.Shrinking.{by_schedule, shrunk}
 use Rattle.pf_desks.specs.Desk.{readable, faulty}
 use Rattle.pf_model.specs.Evaluation.{evaluated}
 use Rattle.pf_model.proofs.Meanings.{evaluation_is_the_meaning, only_evaluated}
@@ -20,7 +21,8 @@ use Rattle.pf_pool.specs.Profile.{IsRight}
 use Rattle.pf_steps.specs.Profile.{profile, run_profile, fails_by, shrunk_so, job_result, events_by, event_count}
 
 same_reading : (o p : ReadOutcome) → SameOutcome o p → reading_from o ≡ reading_from p
-same_reading (accepted n a f) (accepted m b g) h = λ i. readable (record { name = h.0 i; atoms = h.1 i; functions = h.2 i })
+same_reading (accepted n a f) (accepted m b g) h =
+    λ i. readable (record { name = h.0 i; atoms = h.1 i; functions = h.2 i })
 same_reading (accepted n a f) (refused m y) h = absurd h
 same_reading (refused n x) (accepted m b g) h = absurd h
 same_reading (refused n x) (refused m y) h = ap faulty h.0
@@ -29,19 +31,22 @@ reading_is : (bytes : List ℕ) (o : ReadOutcome) → Reads bytes o → profile.
 unfolding profile
 reading_is bytes o h = let any = any_outcome bytes in same_reading any.0 o (same_outcome bytes any.0 o any.1 h)
 
-same_property : (names : List (List ℕ)) (bytes : List ℕ) (o p : Option Property) → IsPropertyOf names bytes o → IsPropertyOf names bytes p → o ≡ p
+same_property : (names : List (List ℕ)) (bytes : List ℕ) (o p : Option Property) → IsPropertyOf names bytes o
+    → IsPropertyOf names bytes p → o ≡ p
 same_property names bytes (Some q) (Some r) h k = ap Some (at_most_one names bytes q r h k)
 same_property names bytes (Some q) None h k = absurd (k q h)
 same_property names bytes None (Some r) h k = absurd (h r k)
 same_property names bytes None None h k = refl
 
-property_is : (names : List (List ℕ)) (bytes : List ℕ) (o : Option Property) → IsPropertyOf names bytes o → profile.property names bytes ≡ o
+property_is : (names : List (List ℕ)) (bytes : List ℕ) (o : Option Property) → IsPropertyOf names bytes o
+    → profile.property names bytes ≡ o
 unfolding profile
 property_is names bytes o h = let any = any_property names bytes in same_property names bytes any.0 o any.1 h
 
 -- a function that says which schedules fail says what the one report of each does
 same_failures : (j : Job) (fails : List ℕ → Bool) → TellsFailures j fails → fails_by j ≡ fails
-same_failures j fails tells = λ i ns. sym (tells ns (evaluated (by_schedule j ns)) (evaluation_is_the_meaning (by_schedule j ns) tt)) i
+same_failures j fails tells = λ i ns. sym (tells ns (evaluated (by_schedule j ns))
+    (evaluation_is_the_meaning (by_schedule j ns) tt)) i
 
 meaning_is : (j : Job) (r : Result) → IsResult j r → profile.meaning j ≡ r
 unfolding profile
@@ -70,7 +75,8 @@ runs_have j _ _ (and_run ns nss r n means rest) =
 
 job_has : (j : Job) (n : ℕ) → HasEvents j n → event_count j j.runs j.choices ≡ n
 job_has j _ (of_run r one_run means) =
-    ap (λ (k : ℕ). event_count j k j.choices) one_run ∙ ap (λ (s : Report). length s.events) (sym (only_evaluated j r means))
+    ap (λ (k : ℕ). event_count j k j.choices) one_run ∙ ap (λ (s : Report). length s.events)
+    (sym (only_evaluated j r means))
 job_has j _ (of_shrinking k ns fails n runs choices tells have) =
     (λ i. event_count j (runs i) (choices i))
     ∙ ap (λ (g : List ℕ → Bool). events_by j (tried g (suc k) ns)) (same_failures j fails tells)

@@ -1,5 +1,6 @@
 -- What a job means by a seed and a strategy: the laws of choosers at those of strategies.
-use Rattle.std.proofs.Common.{◌≡◌, ℕ, zero, suc, ◌+◌, ◌<◌, Bool, true, false, if◌then◌else◌, List, [], ◌∷◌, length, refl, ap, ◌∙◌, arith}
+use Rattle.std.proofs.Common.{◌≡◌, ℕ, zero, suc, ◌+◌, ◌<◌, Bool, true, false, if◌then◌else◌, List, [], ◌∷◌, length}
+use Rattle.std.proofs.Common.{refl, ap, ◌∙◌, arith}
 use Rattle.std.specs.Prelude.{nat_lt}
 use Rattle.rand_pcg.specs.Lcg.{Lcg}
 use Rattle.rand_pcg.specs.Pcg.{pcg32}
@@ -19,12 +20,15 @@ use Rattle.pf_strategy.proofs.Places.{count_of_keys}
 -- ---- priorities choose one of those who may go
 
 -- the highest from an index on is one of them, or the highest so far
-highest_below : (i best p : ℕ) (hs : List HeldPriority) → best < i + length hs → highest_from i best p hs < i + length hs
+highest_below : (i best p : ℕ) (hs : List HeldPriority) → best < i + length hs
+    → highest_from i best p hs < i + length hs
 highest_below i best p [] l = l
 highest_below i best p (h ∷ hs) l =
-    by (nat_lt p h.priority) (highest_below (suc i) i h.priority hs (omega arith)) (highest_below (suc i) best p hs (omega arith))
+    by (nat_lt p h.priority) (highest_below (suc i) i h.priority hs (omega arith))
+    (highest_below (suc i) best p hs (omega arith))
   where
-    by : (e : Bool) → highest_from (suc i) i h.priority hs < suc i + length hs → highest_from (suc i) best p hs < suc i + length hs
+    by : (e : Bool) → highest_from (suc i) i h.priority hs < suc i + length hs
+        → highest_from (suc i) best p hs < suc i + length hs
         → (if e then highest_from (suc i) i h.priority hs else highest_from (suc i) best p hs) < i + length (h ∷ hs)
     by true higher same = omega arith
     by false higher same = omega arith
@@ -45,7 +49,8 @@ priorities_choose_one s pids channels l =
 -- ---- the laws
 
 pub one_report : OneReport
-one_report Uniform j s r t h k = meanings.one_report ℕ (choose_by_picks (picks_of (reseeded j.choices s))) zero (asked_by_seed j s) r t h k
+one_report Uniform j s r t h k = meanings.one_report ℕ (choose_by_picks (picks_of (reseeded j.choices s))) zero
+    (asked_by_seed j s) r t h k
 one_report Priorities j s r t h k = meanings.one_report (PriorityState Lcg) choose_by_priorities (first s) j r t h k
 
 pub replay_of_priorities : ReplayOfPriorities
@@ -58,7 +63,8 @@ replay_of_seeds Uniform j s r h =
 replay_of_seeds Priorities j s r h = replay_of_priorities j s r h
 
 pub some_report_by_priorities : SomeReportByPriorities
-some_report_by_priorities j s = meanings.some_report (PriorityState Lcg) choose_by_priorities priorities_choose_one (first s) j
+some_report_by_priorities j s = meanings.some_report (PriorityState Lcg) choose_by_priorities
+    priorities_choose_one (first s) j
 
 -- the weights of choices stay beside another seed
 reseeded_profile : (cs : Choices) (s : ℕ) → IsProfile (profile_of cs) → IsProfile (profile_of (reseeded cs s))
@@ -67,5 +73,6 @@ reseeded_profile (schedule ns) s h = tt
 reseeded_profile (weighted_seed n process channel) s h = h
 
 pub some_report : SomeReport
-some_report Uniform j s h = let r = meanings.one_meaning (asked_by_seed j s) (reseeded_profile j.choices s h) in (r.0, r.1)
+some_report Uniform j s h = let r = meanings.one_meaning (asked_by_seed j s) (reseeded_profile j.choices s h) in
+    (r.0, r.1)
 some_report Priorities j s h = some_report_by_priorities j s

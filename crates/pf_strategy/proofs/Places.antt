@@ -1,5 +1,6 @@
 -- Those that are held, before an index and from it on: one key more is gone through.
-use Rattle.std.proofs.Common.{◌≡◌, ℕ, suc, ◌+◌, ◌<◌, ◌≤◌, Bool, true, false, List, [], ◌∷◌, ◌++◌, length, refl, sym, ap, ◌∙◌, arith, get_or, append_assoc}
+use Rattle.std.proofs.Common.{◌≡◌, ℕ, suc, ◌+◌, ◌<◌, ◌≤◌, Bool, true, false, List, [], ◌∷◌, ◌++◌, length, refl, sym, ap}
+use Rattle.std.proofs.Common.{◌∙◌, arith, get_or, append_assoc}
 use Rattle.std.specs.Prelude.{drop, take, map, nat_lt, if◌then◌else◌}
 use Rattle.std.specs.List.{remove}
 use Rattle.std.proofs.Math.Seq.{drop-append-add, drop-cons, take-append-add}
@@ -7,7 +8,8 @@ use Rattle.std.proofs.lemmas.Bool.Decides.{nat_tests}
 use Rattle.std.proofs.lemmas.List.{append-nil, drop_all, length-append, length-map, length-take-le}
 use Rattle.pf_strategy.specs.declared.priorities.HeldPriority.{HeldPriority}
 use Rattle.pf_strategy.specs.Keys.{channel_key, keys_among}
-use Rattle.pf_strategy.specs.Priorities.{PriorityState, Given, all_given, with_front, choice, given, held, highest, highest_from, without_highest}
+use Rattle.pf_strategy.specs.Priorities.{PriorityState, Given, all_given, with_front, choice, given, held, highest}
+use Rattle.pf_strategy.specs.Priorities.{highest_from, without_highest}
 
 is_below : (a b : ℕ) → a < b → nat_lt a b ≡ true
 is_below a b h = by (nat_lt a b) refl
@@ -28,7 +30,8 @@ abbrev pub behind : {G : Type 0} → List HeldPriority → PriorityState G → P
 behind xs s = record { generator = s.generator; held = xs ++ s.held }
 
 -- one more
-one_behind : {G : Type 0} (xs : List HeldPriority) (h : HeldPriority) (s : PriorityState G) → behind xs (with_front h s) ≡ behind (xs ++ h ∷ []) s
+one_behind : {G : Type 0} (xs : List HeldPriority) (h : HeldPriority) (s : PriorityState G)
+    → behind xs (with_front h s) ≡ behind (xs ++ h ∷ []) s
 one_behind xs h s = ap (λ l. record { generator = s.generator; held = l }) (sym (append_assoc xs (h ∷ []) s.held))
 
 module _ {G : Type 0} (step : G → ℕ × G) (keys : List ℕ) (g g' : G) (hs ns : List HeldPriority) (i k p : ℕ) where
@@ -75,7 +78,8 @@ module _ {G : Type 0} (step : G → ℕ × G) (keys : List ℕ) (g g' : G) (hs n
 
   pub one_given : Gave → behind (take i hs) (all_given step (drop i keys) g (drop i hs)) ≡ behind (take (i + 1) ns) rest
   one_given w =
-      ap (behind (take i hs)) (begins w) ∙ one_behind (take i hs) (held k p) rest ∙ ap (λ l. behind l rest) (sym (taken w))
+      ap (behind (take i hs)) (begins w) ∙ one_behind (take i hs) (held k p) rest ∙ ap (λ l. behind l rest)
+      (sym (taken w))
 
   -- the highest so far
   highest_is : Gave → (best most : ℕ) → (e : Bool) → nat_lt most p ≡ e
@@ -88,16 +92,19 @@ module _ {G : Type 0} (step : G → ℕ × G) (keys : List ℕ) (g g' : G) (hs n
       ∙ ap (λ t. if t then highest_from (i + 1) i p rest.held else highest_from (i + 1) best most rest.held) test
 
   pub higher : Gave → (best most best' most' : ℕ) → most < p → best' ≡ i → most' ≡ p
-      → highest_from i best most (all_given step (drop i keys) g (drop i hs)).held ≡ highest_from (i + 1) best' most' rest.held
+      → highest_from i best most (all_given step (drop i keys) g (drop i hs)).held ≡ highest_from (i + 1) best'
+      most' rest.held
   higher w best most best' most' more a b =
       highest_is w best most true (is_below most p more)
       ∙ ap (λ x. highest_from (i + 1) x p rest.held) (sym a) ∙ ap (λ x. highest_from (i + 1) best' x rest.held) (sym b)
 
   pub no_higher : Gave → (best most best' most' : ℕ) → p ≤ most → best' ≡ best → most' ≡ most
-      → highest_from i best most (all_given step (drop i keys) g (drop i hs)).held ≡ highest_from (i + 1) best' most' rest.held
+      → highest_from i best most (all_given step (drop i keys) g (drop i hs)).held ≡ highest_from (i + 1) best'
+      most' rest.held
   no_higher w best most best' most' few a b =
       highest_is w best most false (isnt_below most p few)
-      ∙ ap (λ x. highest_from (i + 1) x most rest.held) (sym a) ∙ ap (λ x. highest_from (i + 1) best' x rest.held) (sym b)
+      ∙ ap (λ x. highest_from (i + 1) x most rest.held) (sym a)
+      ∙ ap (λ x. highest_from (i + 1) best' x rest.held) (sym b)
 
   -- one more is before the index
   pub long : Gave → i + 1 ≤ length ns
@@ -114,7 +121,8 @@ module _ {G : Type 0} (step : G → ℕ × G) (keys : List ℕ) (g g' : G) (hs n
 -- ---- keys
 
 pub count_of_keys : (ps : List ℕ) (hs : List (ℕ × ℕ)) → length (keys_among ps hs) ≡ length ps + length hs
-count_of_keys ps hs = length-append ps (map (λ h. channel_key h.0 h.1) hs) ∙ ap (λ n. length ps + n) (length-map hs (λ h. channel_key h.0 h.1))
+count_of_keys ps hs = length-append ps (map (λ h. channel_key h.0 h.1) hs) ∙ ap (λ n. length ps + n)
+    (length-map hs (λ h. channel_key h.0 h.1))
 
 -- ---- all of them
 
@@ -132,7 +140,8 @@ module _ {G : Type 0} (step : G → ℕ × G) (keys : List ℕ) (g : G) (hs : Li
   none_other h = ap (λ l. all_given step l g (drop i hs)) (drop_all i keys h)
 
   -- once all were gone through, the highest goes
-  pub all_gone : (s : PriorityState G) (best most : ℕ) → length keys ≤ i → all_given step keys s.generator s.held ≡ behind (take i hs) others
+  pub all_gone : (s : PriorityState G) (best most : ℕ) → length keys ≤ i
+      → all_given step keys s.generator s.held ≡ behind (take i hs) others
       → highest_from 0 0 0 (take i hs ++ others.held) ≡ highest_from i best most others.held
       → choice step s keys ≡ (best, left (remove (take i hs) best))
   all_gone s best most h given top =
@@ -141,5 +150,6 @@ module _ {G : Type 0} (step : G → ℕ × G) (keys : List ℕ) (g : G) (hs : Li
       let nil : t ++ [] ≡ t = append-nil t in
       let all : all_given step keys s.generator s.held ≡ left t = given ∙ ap (behind t) e ∙ ap left nil in
       let is_best : highest t ≡ best =
-      ap highest (sym nil) ∙ ap (λ z. highest_from 0 0 0 (t ++ z.held)) (sym e) ∙ top ∙ ap (λ z. highest_from i best most z.held) e in
+      ap highest (sym nil) ∙ ap (λ z. highest_from 0 0 0 (t ++ z.held)) (sym e) ∙ top
+      ∙ ap (λ z. highest_from i best most z.held) e in
       ap (λ a. (highest a.held, without_highest a)) all ∙ ap (λ b. (b, left (remove t b))) is_best

@@ -39,7 +39,8 @@ with_front h s = record { generator = s.generator; held = h ∷ s.held }
 -- the index of the first of the highest priorities: from index i on, where the highest so far is at index `best`
 abbrev pub highest_from : (i best highest : ℕ) → List HeldPriority → ℕ
 highest_from i best p [] = best
-highest_from i best p (h ∷ hs) = if nat_lt p h.priority then highest_from (suc i) i h.priority hs else highest_from (suc i) best p hs
+highest_from i best p (h ∷ hs) = if nat_lt p h.priority then highest_from (suc i) i h.priority hs
+    else highest_from (suc i) best p hs
 
 abbrev pub highest : List HeldPriority → ℕ
 highest hs = highest_from 0 0 0 hs
@@ -52,7 +53,8 @@ module _ {G : Type 0} (step : G → ℕ × G) where
   -- the priority that it holds, if the first that is held is its own; else the next word
   abbrev pub given_from : (key : ℕ) → G → List HeldPriority → Given G
   given_from k g [] = drawn (step g) []
-  given_from k g (h ∷ hs) = if nat_eq h.key k then (record { priority = h.priority; generator = g; rest = hs }) else drawn (step g) (h ∷ hs)
+  given_from k g (h ∷ hs) = if nat_eq h.key k then (record { priority = h.priority; generator = g; rest = hs })
+      else drawn (step g) (h ∷ hs)
 
   abbrev pub given : (key : ℕ) → G → List HeldPriority → Given G
   given k g hs = given_from k g (from_key k hs)
@@ -60,7 +62,8 @@ module _ {G : Type 0} (step : G → ℕ × G) where
   -- all who may go with their priorities; what others held is gone
   abbrev pub all_given : (keys : List ℕ) → G → List HeldPriority → PriorityState G
   all_given [] g hs = record { generator = g; held = [] }
-  all_given (k ∷ ks) g hs = with_front (held k (given k g hs).priority) (all_given ks (given k g hs).generator (given k g hs).rest)
+  all_given (k ∷ ks) g hs = with_front (held k (given k g hs).priority)
+      (all_given ks (given k g hs).generator (given k g hs).rest)
 
   -- among those of these keys: the index of the one who goes, and what is known then
   abbrev pub choice : PriorityState G → List ℕ → ℕ × PriorityState G

@@ -1,6 +1,7 @@
 //! Laws of the definitions: functions with empty bodies, whose contracts are the laws.
 
-ghost use Rattle.pf_strategy.specs.Laws.{OneReport, ReplayOfPriorities, ReplayOfSeeds, SomeReport, SomeReportByPriorities};
+ghost use Rattle.pf_strategy.specs.Laws.{OneReport, ReplayOfPriorities, ReplayOfSeeds, SomeReport};
+ghost use Rattle.pf_strategy.specs.Laws.{SomeReportByPriorities};
 
 /// The choices of a report by priorities, given back as a schedule, mean that report.
 pub fn replay_of_priorities()

@@ -1,6 +1,7 @@
 //! [`Priorities`]: who waits with which priority, and the generator of the next.
 
-ghost use Rattle.std.specs.Prelude.{◌≡◌, ◌+◌, ◌<◌, ◌≤◌, ◌^◌, ◌++◌, ◌∷◌, IfOk, OnOk, Some, drop, length, slice_get, take};
+ghost use Rattle.std.specs.Prelude.{◌≡◌, ◌+◌, ◌<◌, ◌≤◌, ◌^◌, ◌++◌, ◌∷◌, IfOk, OnOk, Some, drop, length, slice_get};
+ghost use Rattle.std.specs.Prelude.{take};
 ghost use Rattle.rand_pcg.specs.Pcg.{pcg32};
 ghost use Rattle.pf_strategy.specs.Keys.{channel_key, keys_among};
 ghost use Rattle.pf_strategy.specs.Priorities.{choice, first, from_key, given, held, highest_from, state_of};

@@ -26,7 +26,8 @@ CountsReadOrNone NoMemory old new = new ≡ old
 CountsReadOrNone (Fault f) old new = CountsRead f old new
 
 -- memory ran out before anything was written; or a write failed and was counted, and a beginning of the text went out
-abbrev pub LeavesFront : OrNoMemory StreamFault → (text : List ℕ) → (written_old written_new : Option (List ℕ)) → (failed_old failed_new : ℕ) → Type 0
+abbrev pub LeavesFront : OrNoMemory StreamFault → (text : List ℕ) → (written_old written_new : Option (List ℕ))
+    → (failed_old failed_new : ℕ) → Type 0
 LeavesFront NoMemory text w0 w1 n0 n1 = (w1 ≡ w0) × (n1 ≡ n0)
 LeavesFront (Fault fault) text w0 w1 n0 n1 = AppendsFront w0 w1 text × CountsWrite fault n0 n1
 

@@ -75,7 +75,8 @@ impl<R: Read, L: Ledger> Counted<R, L> {
     ) -> Result<Vec<u8>, OrNoMemory<StreamFault>>
         ensures front { IfOk result (λ v. IfSome (R.remaining self.old.inner) (λ input. v.items ≡ take limit input)) }
         ensures len { IfOk result (λ v. length v.items ≤ limit) }
-        ensures taken { (bytes : List ℕ) × (length bytes ≤ limit) × Consumes (R.remaining self.old.inner) (R.remaining self.new.inner) bytes }
+        ensures taken { (bytes : List ℕ) × (length bytes ≤ limit) × Consumes (R.remaining self.old.inner)
+            (R.remaining self.new.inner) bytes }
         ensures kept { OnOk result (self.new.failures.total ≡ self.old.failures.total) }
         ensures counted { IfErr result (λ e. CountsReadOrNone e self.old.failures.total self.new.failures.total) }
     {

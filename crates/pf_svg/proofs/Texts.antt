@@ -1,5 +1,6 @@
 -- Escaped text stays text.
-use Rattle.std.proofs.Common.{◌≡◌, ℕ, zero, suc, ◌-◌, ◌<◌, ◌≤◌, ◌^◌, true, false, List, [], ◌∷◌, ◌++◌, take, length, refl, inl, inr, ◌∙◌, ap, arith, append_assoc, append-nil}
+use Rattle.std.proofs.Common.{◌≡◌, ℕ, zero, suc, ◌-◌, ◌<◌, ◌≤◌, ◌^◌, true, false, List, [], ◌∷◌, ◌++◌, take, length}
+use Rattle.std.proofs.Common.{refl, inl, inr, ◌∙◌, ap, arith, append_assoc, append-nil}
 use Rattle.std.specs.Prelude.{codes, nat_lt, ◌==◌, ◌||◌, if◌then◌else◌}
 use Rattle.std.specs.List.{list_all}
 use Rattle.std.specs.Fmt.{decimal}
@@ -7,7 +8,8 @@ use Rattle.std.specs.Str.{all_ascii_digits}
 use Rattle.std.proofs.lemmas.Fmt.{digits_decimal}
 use Rattle.std.proofs.lemmas.Str.Parse.{numerals_by_value, tells_all_ascii_digits}
 use Rattle.std.proofs.lemmas.Bool.Decides.{eqb_tells, nat_tests}
-use Rattle.pf_svg.specs.Escaped.{character_of, escaped, escaped_byte, is_byte, is_text, is_entity_byte, reference, short}
+use Rattle.pf_svg.specs.Escaped.{character_of, escaped, escaped_byte, is_byte, is_text, is_entity_byte, reference}
+use Rattle.pf_svg.specs.Escaped.{short}
 use Rattle.pf_errors.proofs.Bools.{both}
 
 within : (b : ℕ) (bs : List ℕ) → (b == 59) ≡ false → is_entity_byte b ≡ true → is_text true (b ∷ bs) ≡ is_text true bs
@@ -43,13 +45,16 @@ reference_stays b bs lt =
     end
 
 -- a byte that is no `&` and no `<`
-other_stays : (b : ℕ) (bs : List ℕ) → b < 256 → (b == 38) ≡ false → (b == 60) ≡ false → is_text false ((if nat_lt b 32 || nat_lt 126 b then reference b else b ∷ []) ++ bs) ≡ is_text false bs
+other_stays : (b : ℕ) (bs : List ℕ) → b < 256 → (b == 38) ≡ false → (b == 60) ≡ false
+    → is_text false ((if nat_lt b 32 || nat_lt 126 b then reference b else b ∷ []) ++ bs) ≡ is_text false bs
 other_stays b bs lt e n =
-    elim (nat_lt b 32 || nat_lt 126 b) as (λ v. is_text false ((if v then reference b else b ∷ []) ++ bs) ≡ is_text false bs)
+    elim (nat_lt b 32 || nat_lt 126 b) as (λ v. is_text false ((if v then reference b else b ∷ []) ++ bs)
+    ≡ is_text false bs)
     [ true ↦ reference_stays b bs lt | false ↦ outside b bs e n ]
 
 -- the last two of the bytes that have names
-named_stays : (b : ℕ) (bs : List ℕ) → b < 256 → (b == 38) ≡ false → (b == 60) ≡ false → is_text false (escaped_byte b ++ bs) ≡ is_text false bs
+named_stays : (b : ℕ) (bs : List ℕ) → b < 256 → (b == 38) ≡ false → (b == 60) ≡ false
+    → is_text false (escaped_byte b ++ bs) ≡ is_text false bs
 named_stays b bs lt e n =
     elim (eqb_tells b 62) [
       | inl p ↦ rw (e, n, p.0) refl
@@ -90,12 +95,15 @@ whole_stays xs h = rw (← append-nil (escaped xs)) (escaped_stays xs [] h)
 
 pub short_stays : (most : ℕ) (xs : List ℕ) → list_all is_byte xs ≡ true → is_text false (short most xs) ≡ true
 short_stays most xs h =
-    elim (nat_lt most (length xs - 3)) as (λ v. is_text false (if v then escaped (take most xs) ++ codes "..." else escaped xs) ≡ true)
+    elim (nat_lt most (length xs - 3)) as (λ v. is_text false (if v then escaped (take most xs) ++ codes "..."
+    else escaped xs) ≡ true)
     [ true ↦ escaped_stays (take most xs) (codes "...") (all_of_front most xs h) | false ↦ whole_stays xs h ]
 
 -- five texts one after another
-pub five : (o a b c d e : List ℕ) {x y z v w : List ℕ} → x ≡ o ++ a → y ≡ x ++ b → z ≡ y ++ c → v ≡ z ++ d → w ≡ v ++ e → w ≡ o ++ (a ++ (b ++ (c ++ (d ++ e))))
+pub five : (o a b c d e : List ℕ) {x y z v w : List ℕ} → x ≡ o ++ a → y ≡ x ++ b → z ≡ y ++ c → v ≡ z ++ d → w ≡ v ++ e
+    → w ≡ o ++ (a ++ (b ++ (c ++ (d ++ e))))
 five o a b c d e h i j k l =
-    l ∙ ap (λ (t : List ℕ). t ++ e) (k ∙ ap (λ (t : List ℕ). t ++ d) (j ∙ ap (λ (t : List ℕ). t ++ c) (i ∙ ap (λ (t : List ℕ). t ++ b) h)))
+    l ∙ ap (λ (t : List ℕ). t ++ e) (k ∙ ap (λ (t : List ℕ). t ++ d)
+    (j ∙ ap (λ (t : List ℕ). t ++ c) (i ∙ ap (λ (t : List ℕ). t ++ b) h)))
     ∙ append_assoc (((o ++ a) ++ b) ++ c) d e ∙ append_assoc ((o ++ a) ++ b) c (d ++ e)
     ∙ append_assoc (o ++ a) b (c ++ (d ++ e)) ∙ append_assoc o a (b ++ (c ++ (d ++ e)))

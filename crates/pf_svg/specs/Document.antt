@@ -6,7 +6,8 @@ use Rattle.pf_svg.specs.Escaped.{escaped, short}
 use Rattle.pf_svg.specs.Places.{DocumentPlace, behind_attribute, behind_label, behind_said, outside, read}
 use Rattle.pf_svg.specs.Words.{is_name, is_phrase, is_document_word}
 use Rattle.pf_svg.specs.declared.part.DocumentPart.{DocumentPart}
-use Rattle.pf_svg.specs.declared.part.DocumentPart.TheVariants.{Markup, Phrase, Number, Pid, Point, Attribute, Class, Moved, Label, Short}
+use Rattle.pf_svg.specs.declared.part.DocumentPart.TheVariants.{Markup, Phrase, Number, Pid, Point, Attribute, Class}
+use Rattle.pf_svg.specs.declared.part.DocumentPart.TheVariants.{Moved, Label, Short}
 
 -- ---- texts
 
@@ -40,7 +41,8 @@ part_text (Short l most) = short most l.now
 abbrev pub start_text : (width height : ℕ) → List ℕ
 start_text width height =
     texts_joined
-    (codes "<svg xmlns=\"http://www.w3.org/2000/svg\" role=\"img\"" ∷ attribute_text (codes "width") width ∷ attribute_text (codes "height") height
+    (codes "<svg xmlns=\"http://www.w3.org/2000/svg\" role=\"img\"" ∷ attribute_text (codes "width") width
+    ∷ attribute_text (codes "height") height
     ∷ codes " viewBox=\"0 0 " ∷ point_text width height ∷ codes "\">\n" ∷ [])
 
 abbrev pub document_end : List ℕ
@@ -55,7 +57,8 @@ straight_line_text class x1 y1 x2 y2 =
 
 -- a straight path from one point to another
 abbrev pub stroke_text : (from to : ℕ × ℕ) → List ℕ
-stroke_text from to = texts_joined (codes "<path d=\"M" ∷ point_text from.0 from.1 ∷ codes "L" ∷ point_text to.0 to.1 ∷ codes "\"/>" ∷ [])
+stroke_text from to = texts_joined (codes "<path d=\"M" ∷ point_text from.0 from.1 ∷ codes "L" ∷ point_text to.0 to.1
+    ∷ codes "\"/>" ∷ [])
 
 -- a curve, which two points between bend
 abbrev pub curve_text : (from bent bent_again to : ℕ × ℕ) → List ℕ
@@ -119,22 +122,30 @@ behind_all p (part ∷ parts) = behind_all (place_after_part p part) parts
 
 -- after what was there, which led to this place, come parts that have these labels in their order, each escaped, and
 -- words and numbers for the rest; they lead to that place
-pub data DrawsFrom (own : List (List ℕ)) (from : DocumentPlace) (labels : List (List ℕ)) (to : DocumentPlace) (before after : List ℕ) : Type 0 where
-  drawn : (parts : List DocumentPart) → after ≡ before ++ flat_map part_text parts → IsTrue (list_all (is_fixed own) parts)
+pub data DrawsFrom (own : List (List ℕ)) (from : DocumentPlace) (labels : List (List ℕ)) (to : DocumentPlace)
+    (before after : List ℕ) : Type 0 where
+  drawn : (parts : List DocumentPart) → after ≡ before ++ flat_map part_text parts
+      → IsTrue (list_all (is_fixed own) parts)
       → flat_map labels_of_part parts ≡ labels → behind_all from parts ≡ to → DrawsFrom own from labels to before after
 
 -- wherever it is outside tags, it is there again after what is drawn, in the same elements
 abbrev pub DrawsDocument : (own : List (List ℕ)) (labels : List (List ℕ)) (before after : List ℕ) → Type 0
-DrawsDocument own labels before after = (opened : List (List ℕ)) → DrawsFrom own (outside opened) labels (outside opened) before after
+DrawsDocument own labels before after = (opened : List (List ℕ))
+    → DrawsFrom own (outside opened) labels (outside opened) before after
 
 -- after it one element more is open, or the innermost, of this name, is closed
-abbrev pub OpensElement : (own : List (List ℕ)) (name : List ℕ) (labels : List (List ℕ)) (before after : List ℕ) → Type 0
-OpensElement own name labels before after = (opened : List (List ℕ)) → DrawsFrom own (outside opened) labels (outside (name ∷ opened)) before after
+abbrev pub OpensElement : (own : List (List ℕ)) (name : List ℕ) (labels : List (List ℕ)) (before after : List ℕ)
+    → Type 0
+OpensElement own name labels before after = (opened : List (List ℕ))
+    → DrawsFrom own (outside opened) labels (outside (name ∷ opened)) before after
 
-abbrev pub ClosesElement : (own : List (List ℕ)) (name : List ℕ) (labels : List (List ℕ)) (before after : List ℕ) → Type 0
-ClosesElement own name labels before after = (opened : List (List ℕ)) → DrawsFrom own (outside (name ∷ opened)) labels (outside opened) before after
+abbrev pub ClosesElement : (own : List (List ℕ)) (name : List ℕ) (labels : List (List ℕ)) (before after : List ℕ)
+    → Type 0
+ClosesElement own name labels before after = (opened : List (List ℕ))
+    → DrawsFrom own (outside (name ∷ opened)) labels (outside opened) before after
 
 -- after what was there comes a whole document: its beginning, what is drawn between them with these labels, and its end
 pub data IsDocument (own : List (List ℕ)) (labels : List (List ℕ)) (before after : List ℕ) : Type 0 where
-  document : (width height : ℕ) (middle : List ℕ) → DrawsDocument own labels (before ++ start_text width height) middle → after ≡ middle ++ document_end
+  document : (width height : ℕ) (middle : List ℕ) → DrawsDocument own labels (before ++ start_text width height) middle
+      → after ≡ middle ++ document_end
       → IsDocument own labels before after

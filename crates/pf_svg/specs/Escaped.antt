@@ -1,5 +1,6 @@
 -- Text that may be in a document.
-use Rattle.std.specs.Prelude.{ℕ, ◌-◌, Bool, true, false, ◌&&◌, ◌||◌, not, ◌==◌, nat_lt, if◌then◌else◌, List, [], ◌∷◌, ◌++◌, length, take, flat_map, codes}
+use Rattle.std.specs.Prelude.{ℕ, ◌-◌, Bool, true, false, ◌&&◌, ◌||◌, not, ◌==◌, nat_lt, if◌then◌else◌, List, [], ◌∷◌}
+use Rattle.std.specs.Prelude.{◌++◌, length, take, flat_map, codes}
 use Rattle.std.specs.Fmt.{decimal}
 
 -- the character that stands for a byte that can't be written as it is: a blank of lines or a byte of Latin-1 is itself

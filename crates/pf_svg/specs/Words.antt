@@ -8,7 +8,8 @@ use Rattle.pf_svg.specs.Places.{is_plain}
 abbrev pub tags : List (List ℕ)
 tags =
     codes "<svg xmlns=\"http://www.w3.org/2000/svg\" role=\"img\"" ∷ codes " viewBox=\"0 0 " ∷ codes "</svg>\n"
-    ∷ codes "<title>" ∷ codes "</title>" ∷ codes "<rect" ∷ codes "<line class=\"" ∷ codes "<path d=\"" ∷ codes "<path d=\"M"
+    ∷ codes "<title>" ∷ codes "</title>" ∷ codes "<rect" ∷ codes "<line class=\"" ∷ codes "<path d=\""
+    ∷ codes "<path d=\"M"
     ∷ codes "<text class=\"" ∷ codes "</text>" ∷ codes "<g>" ∷ codes "<g class=\"" ∷ codes "</g>\n"
     ∷ codes ">" ∷ codes "\"" ∷ codes "\"/>" ∷ codes "/>" ∷ codes "\">\n" ∷ codes "\n" ∷ []
 

@@ -9,8 +9,11 @@ use Rattle.pf_terms.specs.Value.{Value, list, none}
 use Rattle.pf_syntax.specs.Pattern.{Pattern, any, tuple_of}
 use Rattle.pf_syntax.specs.Tree.{lit, tuple, call, builtin}
 use Rattle.pf_syntax.specs.Module.{Tables, literal_at, pattern_at, tree_at}
-use Rattle.pf_syntax.specs.Over.{patterns_at, pattern_over, part_over, parts_over, alternatives_over, guard_from, guard_over, clauses_over, tree_over, function_clause_over, function_over, with_literal, with_pattern, with_tree}
-use Rattle.pf_syntax.specs.Within.{PatternRepresents, OperandRepresents, GuardRepresents, ClauseRepresents, PatternPartsStand, PartsStand, FunctionClauseRepresents, FunctionRepresents}
+use Rattle.pf_syntax.specs.Over.{patterns_at, pattern_over, part_over, parts_over, alternatives_over, guard_from}
+use Rattle.pf_syntax.specs.Over.{guard_over, clauses_over, tree_over, function_clause_over, function_over, with_literal}
+use Rattle.pf_syntax.specs.Over.{with_pattern, with_tree}
+use Rattle.pf_syntax.specs.Within.{PatternRepresents, OperandRepresents, GuardRepresents, ClauseRepresents}
+use Rattle.pf_syntax.specs.Within.{PatternPartsStand, PartsStand, FunctionClauseRepresents, FunctionRepresents}
 use Rattle.pf_syntax.specs.declared.node.PatternId.{PatternId}
 use Rattle.pf_syntax.specs.declared.node.Operand.{Operand}
 use Rattle.pf_syntax.specs.declared.node.Operand.TheVariants as part
@@ -125,14 +128,16 @@ module _ (t u : Tables) (e : Extends t u) where
       let y = parts_kept ps (All-tail (OperandRepresents t) p ps h) in
       cc
 
-  alternatives_kept : (gs : List Alternative) → All (λ a. All (OperandRepresents t) a.tests.items) gs → alternatives_over u gs ≡ alternatives_over t gs
+  alternatives_kept : (gs : List Alternative) → All (λ a. All (OperandRepresents t) a.tests.items) gs
+      → alternatives_over u gs ≡ alternatives_over t gs
   alternatives_kept [] h = refl
   alternatives_kept (a ∷ gs) h =
       let x = parts_kept a.tests.items (All-head (λ a. All (OperandRepresents t) a.tests.items) a gs h) in
       let y = alternatives_kept gs (All-tail (λ a. All (OperandRepresents t) a.tests.items) a gs h) in
       cc
 
-  guard_from_kept : (gs : List Alternative) → All (λ a. All (OperandRepresents t) a.tests.items) gs → guard_from u gs ≡ guard_from t gs
+  guard_from_kept : (gs : List Alternative) → All (λ a. All (OperandRepresents t) a.tests.items) gs
+      → guard_from u gs ≡ guard_from t gs
   guard_from_kept [] h = refl
   guard_from_kept (a ∷ gs) h = alternatives_kept (a ∷ gs) h
 
@@ -159,20 +164,23 @@ module _ (t u : Tables) (e : Extends t u) where
   tree_kept (does.Call f ps) h = ap (call f.0) (parts_kept ps.items h)
   tree_kept (does.Builtin f ps) h = ap (builtin f) (parts_kept ps.items h)
   tree_kept (does.Match ps a) h = let x = patterns_kept ps.items h.0 in let y = part_kept a h.1 in cc
-  tree_kept (does.Bind ps a r) h = let x = patterns_kept ps.items h.0 in let y = part_kept a h.1 in let z = part_kept r h.2 in cc
+  tree_kept (does.Bind ps a r) h = let x = patterns_kept ps.items h.0 in let y = part_kept a h.1 in
+      let z = part_kept r h.2 in cc
   tree_kept (does.Case a cs) h = let x = part_kept a h.0 in let y = clauses_kept cs.items h.1 in cc
   tree_kept (does.If cs) h = let y = clauses_kept cs.items h in cc
   tree_kept (does.Receive cs) h = let y = clauses_kept cs.items h in cc
   tree_kept (does.Send a b) h = let x = part_kept a h.0 in let y = part_kept b h.1 in cc
 
-  function_clause_kept : (c : FunctionClause) → FunctionClauseRepresents t c → function_clause_over u c ≡ function_clause_over t c
+  function_clause_kept : (c : FunctionClause) → FunctionClauseRepresents t c
+      → function_clause_over u c ≡ function_clause_over t c
   function_clause_kept c h =
       let p = patterns_kept c.parameters.items h.0 in
       let g = guard_kept c.guard h.1 in
       let b = part_kept c.body h.2 in
       cc
 
-  function_clauses_kept : (cs : List FunctionClause) → All (FunctionClauseRepresents t) cs → map (function_clause_over u) cs ≡ map (function_clause_over t) cs
+  function_clauses_kept : (cs : List FunctionClause) → All (FunctionClauseRepresents t) cs
+      → map (function_clause_over u) cs ≡ map (function_clause_over t) cs
   function_clauses_kept [] h = refl
   function_clauses_kept (c ∷ cs) h =
       let x = function_clause_kept c (All-head (FunctionClauseRepresents t) c cs h) in
@@ -182,7 +190,8 @@ module _ (t u : Tables) (e : Extends t u) where
   pub function_kept : (f : Function) → FunctionRepresents t f → function_over u f ≡ function_over t f
   function_kept f h = let x = function_clauses_kept f.clauses.items h in cc
 
-  pub functions_kept : (fs : List Function) → All (FunctionRepresents t) fs → map (function_over u) fs ≡ map (function_over t) fs
+  pub functions_kept : (fs : List Function) → All (FunctionRepresents t) fs
+      → map (function_over u) fs ≡ map (function_over t) fs
   functions_kept [] h = refl
   functions_kept (f ∷ fs) h =
       let x = function_kept f (All-head (FunctionRepresents t) f fs h) in
@@ -207,7 +216,8 @@ module _ (t u : Tables) (e : Extends t u) where
 
   pub guard_stands : (g : Guard) → GuardRepresents t g → GuardRepresents u g
   guard_stands g h =
-      All-weaker (λ a. All (OperandRepresents t) a.tests.items) (λ a. All (OperandRepresents u) a.tests.items) (λ a x. all_parts_stand a.tests.items x) g.alternatives.items h
+      All-weaker (λ a. All (OperandRepresents t) a.tests.items) (λ a. All (OperandRepresents u) a.tests.items)
+      (λ a x. all_parts_stand a.tests.items x) g.alternatives.items h
 
   pub clause_stands : (c : Clause) → ClauseRepresents t c → ClauseRepresents u c
   clause_stands c h = (pattern_stands c.pattern h.0, guard_stands c.guard h.1, part_stands c.body h.2)
@@ -238,10 +248,15 @@ module _ (t u : Tables) (e : Extends t u) where
   parts_stand (does.Send a b) h = (part_stands a h.0, part_stands b h.1)
 
   pub function_clause_stands : (c : FunctionClause) → FunctionClauseRepresents t c → FunctionClauseRepresents u c
-  function_clause_stands c h = (all_patterns_stand c.parameters.items h.0, guard_stands c.guard h.1, part_stands c.body h.2)
+  function_clause_stands c h = (
+    all_patterns_stand c.parameters.items h.0,
+    guard_stands c.guard h.1,
+    part_stands c.body h.2,
+  )
 
   function_stands : (f : Function) → FunctionRepresents t f → FunctionRepresents u f
-  function_stands f h = All-weaker (FunctionClauseRepresents t) (FunctionClauseRepresents u) function_clause_stands f.clauses.items h
+  function_stands f h = All-weaker (FunctionClauseRepresents t) (FunctionClauseRepresents u) function_clause_stands
+      f.clauses.items h
 
   pub functions_stand : (fs : List Function) → All (FunctionRepresents t) fs → All (FunctionRepresents u) fs
   functions_stand fs h = All-weaker (FunctionRepresents t) (FunctionRepresents u) function_stands fs h

@@ -2,14 +2,19 @@
 use Rattle.std.proofs.Common.{◌≡◌, ◌<◌, ◌≤◌, ◌+◌, ℕ, arith}
 use Rattle.std.specs.Prelude.{max}
 use Rattle.pf_syntax.specs.Measure.{capped, IsCappedMeasure, IsMeasure}
-use Rattle.pf_syntax.specs.ExprPattern.{ExprPattern, ExprPatterns, no_expr_patterns, expr_pattern, expr_pattern_size, expr_pattern_depth, expr_patterns_size, expr_patterns_depth}
+use Rattle.pf_syntax.specs.ExprPattern.{ExprPattern, ExprPatterns, no_expr_patterns, expr_pattern, expr_pattern_size}
+use Rattle.pf_syntax.specs.ExprPattern.{expr_pattern_depth, expr_patterns_size, expr_patterns_depth}
 use Rattle.pf_syntax.specs.ExprPattern as s
-use Rattle.pf_syntax.specs.Expr.{Expr, Exprs, Condition, Branches, no_exprs, expr, no_tests, tests, no_branches, branch, expr_size, expr_depth, exprs_size, exprs_depth, condition_size, condition_depth, branches_size, branches_depth}
+use Rattle.pf_syntax.specs.Expr.{Expr, Exprs, Condition, Branches, no_exprs, expr, no_tests, tests, no_branches, branch}
+use Rattle.pf_syntax.specs.Expr.{expr_size, expr_depth, exprs_size, exprs_depth, condition_size, condition_depth}
+use Rattle.pf_syntax.specs.Expr.{branches_size, branches_depth}
 use Rattle.pf_syntax.specs.Expr as p
 use Rattle.pf_syntax.specs.declared.measure.Measure.{Measure}
 
 -- nothing is left, so what was measured is the whole
-pub nothing_left : (total : Measure) (size depth s d : ℕ) → s ≡ 0 → d ≡ 0 → total.size ≤ 4294967295 → total.depth ≤ 4294967295 → capped (total.size + s) ≡ capped size → capped (max total.depth d) ≡ capped depth → IsCappedMeasure total size depth
+pub nothing_left : (total : Measure) (size depth s d : ℕ) → s ≡ 0 → d ≡ 0 → total.size ≤ 4294967295
+    → total.depth ≤ 4294967295 → capped (total.size + s) ≡ capped size → capped (max total.depth d) ≡ capped depth
+    → IsCappedMeasure total size depth
 nothing_left total size depth s d no_size no_depth small shallow size_is depth_is = (omega arith, omega arith)
 
 mutual
@@ -59,10 +64,17 @@ mutual
 
   branches_depth-size : (bs : Branches) → branches_depth bs ≤ branches_size bs
   branches_depth-size no_branches = omega arith
-  branches_depth-size (branch q g es bs) = omega (arith, expr_pattern_depth-size q, condition_depth-size g, exprs_depth-size es, branches_depth-size bs)
+  branches_depth-size (branch q g es bs) = omega (
+    arith,
+    expr_pattern_depth-size q,
+    condition_depth-size g,
+    exprs_depth-size es,
+    branches_depth-size bs,
+  )
 
 -- a measure of fewer nodes than it can count is exact
-pub exact_measure : (m : Measure) (size depth : ℕ) → IsCappedMeasure m size depth → depth ≤ size → m.size < 4294967295 → IsMeasure m size depth
+pub exact_measure : (m : Measure) (size depth : ℕ) → IsCappedMeasure m size depth → depth ≤ size → m.size < 4294967295
+    → IsMeasure m size depth
 exact_measure m size depth h le small =
     let x = h.0 in
     let y = h.1 in

@@ -10,7 +10,11 @@ use Rattle.pf_syntax.specs.ExprPattern as s
 use Rattle.pf_syntax.specs.Expr.{list, no_exprs}
 use Rattle.pf_syntax.specs.Expr as p
 use Rattle.pf_syntax.specs.SyntaxTree.{NodeTable, expr_pattern_at, expr_at}
-use Rattle.pf_syntax.specs.SyntaxTreeOver.{expr_patterns_at, expr_pattern_over, exprs_at, alternatives_at, condition_over, branches_over, expr_over, head_over, heads_over, with_expr_pattern, with_expr, ExprPatternRepresents, ExprRepresents, ConditionRepresents, BranchRepresents, ExprPatternPartsStand, ExprPartsStand, HeadRepresents, HeadsStand}
+use Rattle.pf_syntax.specs.SyntaxTreeOver.{expr_patterns_at, expr_pattern_over, exprs_at, alternatives_at}
+use Rattle.pf_syntax.specs.SyntaxTreeOver.{condition_over, branches_over, expr_over, head_over, heads_over}
+use Rattle.pf_syntax.specs.SyntaxTreeOver.{with_expr_pattern, with_expr, ExprPatternRepresents, ExprRepresents}
+use Rattle.pf_syntax.specs.SyntaxTreeOver.{ConditionRepresents, BranchRepresents, ExprPatternPartsStand, ExprPartsStand}
+use Rattle.pf_syntax.specs.SyntaxTreeOver.{HeadRepresents, HeadsStand}
 use Rattle.pf_syntax.specs.declared.expr.ExprPatternId.{ExprPatternId}
 use Rattle.pf_syntax.specs.declared.expr.ExprId.{ExprId}
 use Rattle.pf_syntax.specs.declared.expr.ExprPatternNode.{ExprPatternNode}
@@ -67,7 +71,8 @@ on_and_on b c d g h = record {
 }
 
 -- what was added last is at the end
-pub expr_pattern_last : (b : NodeTable) (n : ExprPatternNode) → expr_pattern_at (with_expr_pattern b n) (length b.expr_patterns) ≡ expr_pattern_over b n
+pub expr_pattern_last : (b : NodeTable) (n : ExprPatternNode)
+    → expr_pattern_at (with_expr_pattern b n) (length b.expr_patterns) ≡ expr_pattern_over b n
 expr_pattern_last b n = get_or-append_seam b.expr_patterns (expr_pattern_over b n) [] anything
 
 pub expr_last : (b : NodeTable) (n : ExprNode) → expr_at (with_expr b n) (length b.exprs) ≡ expr_over b n
@@ -76,17 +81,20 @@ expr_last b n = get_or-append_seam b.exprs (expr_over b n) [] (list no_exprs)
 module _ (b c : NodeTable) (on : GoesOn b c) where
   -- ---- the same meaning
 
-  pub expr_patterns_kept : (qs : List ExprPatternId) → All (ExprPatternRepresents b) qs → expr_patterns_at c qs ≡ expr_patterns_at b qs
+  pub expr_patterns_kept : (qs : List ExprPatternId) → All (ExprPatternRepresents b) qs
+      → expr_patterns_at c qs ≡ expr_patterns_at b qs
   expr_patterns_kept [] h = refl
   expr_patterns_kept (q ∷ qs) h =
       let x = on.expr_patterns q.0 (All-head (ExprPatternRepresents b) q qs h) in
       let y = expr_patterns_kept qs (All-tail (ExprPatternRepresents b) q qs h) in
       cc
 
-  pub expr_pattern_kept : (n : ExprPatternNode) → ExprPatternPartsStand b n → expr_pattern_over c n ≡ expr_pattern_over b n
+  pub expr_pattern_kept : (n : ExprPatternNode) → ExprPatternPartsStand b n
+      → expr_pattern_over c n ≡ expr_pattern_over b n
   expr_pattern_kept (asks.Tuple qs) h = ap s.tuple (expr_patterns_kept qs.items h)
   expr_pattern_kept (asks.List qs) h = ap s.list (expr_patterns_kept qs.items h)
-  expr_pattern_kept (asks.ListOn qs t) h = let x = expr_patterns_kept qs.items h.0 in let y = on.expr_patterns t.0 h.1 in cc
+  expr_pattern_kept (asks.ListOn qs t) h = let x = expr_patterns_kept qs.items h.0 in
+      let y = on.expr_patterns t.0 h.1 in cc
   expr_pattern_kept _ h = refl
 
   pub exprs_kept : (es : List ExprId) → All (ExprRepresents b) es → exprs_at c es ≡ exprs_at b es
@@ -96,7 +104,8 @@ module _ (b c : NodeTable) (on : GoesOn b c) where
       let y = exprs_kept es (All-tail (ExprRepresents b) e es h) in
       cc
 
-  alternatives_kept : (gs : List Tests) → All (λ g. All (ExprRepresents b) g.tests.items) gs → alternatives_at c gs ≡ alternatives_at b gs
+  alternatives_kept : (gs : List Tests) → All (λ g. All (ExprRepresents b) g.tests.items) gs
+      → alternatives_at c gs ≡ alternatives_at b gs
   alternatives_kept [] h = refl
   alternatives_kept (g ∷ gs) h =
       let x = exprs_kept g.tests.items (All-head (λ g. All (ExprRepresents b) g.tests.items) g gs h) in
@@ -162,7 +171,8 @@ module _ (b c : NodeTable) (on : GoesOn b c) where
   pub expr_stands : (e : ExprId) → ExprRepresents b e → ExprRepresents c e
   expr_stands e h = omega (arith, on.more_exprs)
 
-  pub all_expr_patterns_stand : (qs : List ExprPatternId) → All (ExprPatternRepresents b) qs → All (ExprPatternRepresents c) qs
+  pub all_expr_patterns_stand : (qs : List ExprPatternId) → All (ExprPatternRepresents b) qs
+      → All (ExprPatternRepresents c) qs
   all_expr_patterns_stand qs h = All-weaker (ExprPatternRepresents b) (ExprPatternRepresents c) expr_pattern_stands qs h
 
   pub all_exprs_stand : (es : List ExprId) → All (ExprRepresents b) es → All (ExprRepresents c) es
@@ -170,10 +180,15 @@ module _ (b c : NodeTable) (on : GoesOn b c) where
 
   pub condition_stands : (g : Condition) → ConditionRepresents b g → ConditionRepresents c g
   condition_stands g h =
-      All-weaker (λ a. All (ExprRepresents b) a.tests.items) (λ a. All (ExprRepresents c) a.tests.items) (λ a x. all_exprs_stand a.tests.items x) g.alternatives.items h
+      All-weaker (λ a. All (ExprRepresents b) a.tests.items) (λ a. All (ExprRepresents c) a.tests.items)
+      (λ a x. all_exprs_stand a.tests.items x) g.alternatives.items h
 
   pub branch_stands : (x : Branch) → BranchRepresents b x → BranchRepresents c x
-  branch_stands x h = (expr_pattern_stands x.expr_pattern h.0, condition_stands x.condition h.1, all_exprs_stand x.body.items h.2)
+  branch_stands x h = (
+    expr_pattern_stands x.expr_pattern h.0,
+    condition_stands x.condition h.1,
+    all_exprs_stand x.body.items h.2,
+  )
 
   pub branches_stand : (bs : List Branch) → All (BranchRepresents b) bs → All (BranchRepresents c) bs
   branches_stand bs h = All-weaker (BranchRepresents b) (BranchRepresents c) branch_stands bs h
@@ -202,7 +217,11 @@ module _ (b c : NodeTable) (on : GoesOn b c) where
   expr_parts_stand _ h = tt
 
   pub head_stands : (x : Head) → HeadRepresents b x → HeadRepresents c x
-  head_stands x h = (all_expr_patterns_stand x.parameters.items h.0, condition_stands x.condition h.1, all_exprs_stand x.body.items h.2)
+  head_stands x h = (
+    all_expr_patterns_stand x.parameters.items h.0,
+    condition_stands x.condition h.1,
+    all_exprs_stand x.body.items h.2,
+  )
 
   heads_stand : (f : ExprFunction) → HeadsStand b f → HeadsStand c f
   heads_stand f h = All-weaker (HeadRepresents b) (HeadRepresents c) head_stands f.heads.items h

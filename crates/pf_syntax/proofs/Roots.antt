@@ -1,5 +1,6 @@
 -- The function that a run begins in, where the names of the atoms are distinct.
-use Rattle.std.proofs.Common.{◌≡◌, ℕ, ◌<◌, ◌≤◌, List, [], ◌∷◌, length, get_or, Bool, true, false, Some, None, refl, sym, ap, ◌∙◌, arith}
+use Rattle.std.proofs.Common.{◌≡◌, ℕ, ◌<◌, ◌≤◌, List, [], ◌∷◌, length, get_or, Bool, true, false, Some, None, refl, sym}
+use Rattle.std.proofs.Common.{ap, ◌∙◌, arith}
 use Rattle.std.specs.Prelude.{position, slice_get}
 use Rattle.std.specs.List.{list_any, position_or_len}
 use Rattle.std.specs.Str.{bytes_eq}
@@ -20,13 +21,15 @@ none_any p [] h = refl
 none_any p (x ∷ xs) h = grind (arith, common_steps, none_any p xs)
 
 -- no atom has the name
-pub no_atom : (name : List ℕ) (atoms : List (List ℕ)) (functions : Program) → list_any (bytes_eq name) atoms ≡ false → root_of name atoms functions ≡ None
+pub no_atom : (name : List ℕ) (atoms : List (List ℕ)) (functions : Program) → list_any (bytes_eq name) atoms ≡ false
+    → root_of name atoms functions ≡ None
 no_atom name atoms functions h =
     let all = none_any (bytes_eq name) atoms h in
     let past : length atoms ≤ position_or_len (bytes_eq name) atoms = omega arith in
     rw (le-ltb (position_or_len (bytes_eq name) atoms) (length atoms) past) refl
 
-module _ (name : List ℕ) (atoms : List (List ℕ)) (functions : Program) (a : ℕ) (apart : TellsApart (name_of atoms) (length atoms)) (named : slice_get atoms a ≡ Some name) where
+module _ (name : List ℕ) (atoms : List (List ℕ)) (functions : Program) (a : ℕ)
+    (apart : TellsApart (name_of atoms) (length atoms)) (named : slice_get atoms a ≡ Some name) where
   within : a < length atoms
   within = slice_get_within atoms a name named
 
@@ -40,14 +43,16 @@ module _ (name : List ℕ) (atoms : List (List ℕ)) (functions : Program) (a : 
       by false h = refl
       by true h =
           let below = within in
-          let same : k ≡ a = apart k a (omega arith) below (sym ((bytes_eq-Decides name (get_or atoms k [])).0 h) ∙ sym this) in
+          let same : k ≡ a = apart k a (omega arith) below
+          (sym ((bytes_eq-Decides name (get_or atoms k [])).0 h) ∙ sym this) in
           absurd (omega arith)
 
   -- the atom is the one of this name
   slot : position_or_len (bytes_eq name) atoms ≡ a
   slot =
       let below = within in
-      position_or_len_is (bytes_eq name) atoms a [] (omega arith) other (λ _. (bytes_eq-Decides name (get_or atoms a [])).1 (sym this))
+      position_or_len_is (bytes_eq name) atoms a [] (omega arith) other
+      (λ _. (bytes_eq-Decides name (get_or atoms a [])).1 (sym this))
 
   first : position (bytes_eq name) atoms ≡ Some a
   first = rw (slot, lt-ltb a (length atoms) within) refl
@@ -59,14 +64,18 @@ module _ (name : List ℕ) (atoms : List (List ℕ)) (functions : Program) (a : 
   pub no_function : first_named a 0 functions ≡ None → root_of name atoms functions ≡ None
   no_function h = root_is ∙ ap (exported_at functions) h
 
-  pub function_is : (i : ℕ) → first_named a 0 functions ≡ Some i → root_of name atoms functions ≡ exported_of i (slice_get functions i)
+  pub function_is : (i : ℕ) → first_named a 0 functions ≡ Some i
+      → root_of name atoms functions ≡ exported_of i (slice_get functions i)
   function_is i h = root_is ∙ ap (exported_at functions) h
 
-  pub no_slot : (i : ℕ) → first_named a 0 functions ≡ Some i → slice_get functions i ≡ None → root_of name atoms functions ≡ None
+  pub no_slot : (i : ℕ) → first_named a 0 functions ≡ Some i → slice_get functions i ≡ None
+      → root_of name atoms functions ≡ None
   no_slot i h k = function_is i h ∙ ap (exported_of i) k
 
-  pub exported : (i : ℕ) (f : Function) → first_named a 0 functions ≡ Some i → slice_get functions i ≡ Some f → f.exported ≡ true → root_of name atoms functions ≡ Some i
+  pub exported : (i : ℕ) (f : Function) → first_named a 0 functions ≡ Some i → slice_get functions i ≡ Some f
+      → f.exported ≡ true → root_of name atoms functions ≡ Some i
   exported i f h k e = function_is i h ∙ ap (exported_of i) k ∙ rw e refl
 
-  pub not_exported : (i : ℕ) (f : Function) → first_named a 0 functions ≡ Some i → slice_get functions i ≡ Some f → f.exported ≡ false → root_of name atoms functions ≡ None
+  pub not_exported : (i : ℕ) (f : Function) → first_named a 0 functions ≡ Some i → slice_get functions i ≡ Some f
+      → f.exported ≡ false → root_of name atoms functions ≡ None
   not_exported i f h k e = function_is i h ∙ ap (exported_of i) k ∙ rw e refl

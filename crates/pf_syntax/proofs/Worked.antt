@@ -13,7 +13,9 @@ use Rattle.pf_syntax.specs.Expr as p
 use Rattle.pf_syntax.specs.Scope.{Scope, no_scope, after, after_expr_pattern}
 use Rattle.pf_syntax.specs.Naming as n
 use Rattle.pf_syntax.specs.Naming.{BodyIs, ElementIs, ExprIs, ExprPatternIs}
-use Rattle.pf_syntax.specs.Worked.{atoms_alone, x, x_expr_pattern, y_expr_pattern, one_expr, doubled, doubled_tree, chained, chained_tree, choosing, used_unsafe, matched_unsafe, unbound, NamesBecomeSlots}
+use Rattle.pf_syntax.specs.Worked.{atoms_alone, x, x_expr_pattern, y_expr_pattern, one_expr, doubled, doubled_tree}
+use Rattle.pf_syntax.specs.Worked.{chained, chained_tree, choosing, used_unsafe, matched_unsafe, unbound}
+use Rattle.pf_syntax.specs.Worked.{NamesBecomeSlots}
 
 -- with no variable bound, no variable has a slot
 no_slot : (g : Scope) (y k : ℕ) → g.bound ≡ [] → ¬ n.IsSlotOf g y k
@@ -38,11 +40,13 @@ x_is_no_pattern : (q : Pattern) → ¬ ExprPatternIs atoms_alone (after no_scope
 x_is_no_pattern _ (n.bound _ _ _ k h) = no_slot (after no_scope choosing) 0 k refl h
 x_is_no_pattern _ (n.fresh _ _ _ h) = cc
 
-match_is_no_element : (ps : Patterns) (t : Tree) → ¬ ElementIs atoms_alone (after no_scope choosing) (p.match x_expr_pattern one_expr) ps t
+match_is_no_element : (ps : Patterns) (t : Tree)
+    → ¬ ElementIs atoms_alone (after no_scope choosing) (p.match x_expr_pattern one_expr) ps t
 match_is_no_element _ _ (n.plain _ _ t h) = elim h [ ]
 match_is_no_element _ _ (n.match _ _ _ ps q t h k) = x_is_no_pattern q k
 
-match_is_no_body : (b : Tree) → ¬ BodyIs atoms_alone (after no_scope choosing) (expr (p.match x_expr_pattern one_expr) no_exprs) b
+match_is_no_body : (b : Tree) → ¬ BodyIs atoms_alone (after no_scope choosing)
+    (expr (p.match x_expr_pattern one_expr) no_exprs) b
 match_is_no_body _ (n.last _ _ ps t h) = match_is_no_element ps t h
 match_is_no_body _ (n.before _ _ _ ps _ rest _ h) = elim h [ ]
 
@@ -69,13 +73,19 @@ doubled_is : BodyIs atoms_alone no_scope doubled doubled_tree
 doubled_is =
     let twice = p.binary Plus x x in
     let sum = t.op Plus (var 0) (var 0) in
-    let rest = n.last x_seen twice no_patterns sum (n.plain x_seen twice sum (n.binary x_seen Plus x x (var 0) (var 0) x_is x_is)) in
-    n.before no_scope (p.match x_expr_pattern one_expr) (expr twice no_exprs) (pattern new no_patterns) a_one sum x_is_one rest
+    let rest = n.last x_seen twice no_patterns sum
+    (n.plain x_seen twice sum (n.binary x_seen Plus x x (var 0) (var 0) x_is x_is)) in
+    n.before no_scope (p.match x_expr_pattern one_expr) (expr twice no_exprs) (pattern new no_patterns) a_one
+    sum x_is_one rest
 
-both_are : n.ExprPatternsAre atoms_alone x_seen (expr_pattern x_expr_pattern (expr_pattern y_expr_pattern no_expr_patterns)) (pattern (slot 0) (pattern new no_patterns))
+both_are : n.ExprPatternsAre atoms_alone x_seen
+    (expr_pattern x_expr_pattern (expr_pattern y_expr_pattern no_expr_patterns))
+    (pattern (slot 0) (pattern new no_patterns))
 both_are =
-    let y_is = n.and_expr_patterns x_seen y_expr_pattern no_expr_patterns new no_patterns (n.fresh x_seen 1 0 refl) (n.no_more_expr_patterns (after_expr_pattern x_seen y_expr_pattern)) in
-    n.and_expr_patterns x_seen x_expr_pattern (expr_pattern y_expr_pattern no_expr_patterns) (slot 0) (pattern new no_patterns) (n.bound x_seen 0 0 0 refl) y_is
+    let y_is = n.and_expr_patterns x_seen y_expr_pattern no_expr_patterns new no_patterns (n.fresh x_seen 1 0 refl)
+    (n.no_more_expr_patterns (after_expr_pattern x_seen y_expr_pattern)) in
+    n.and_expr_patterns x_seen x_expr_pattern (expr_pattern y_expr_pattern no_expr_patterns) (slot 0)
+    (pattern new no_patterns) (n.bound x_seen 0 0 0 refl) y_is
 
 chained_is : BodyIs atoms_alone no_scope chained chained_tree
 chained_is =
@@ -83,9 +93,21 @@ chained_is =
     let pair = expr_pattern x_expr_pattern (expr_pattern y_expr_pattern no_expr_patterns) in
     let pair_pattern = pattern (slot 0) (pattern new no_patterns) in
     let inner = p.match x_expr_pattern one_expr in
-    let pair_is : ExprPatternIs atoms_alone x_seen (s.tuple pair) (tuple_of pair_pattern) = n.tuple x_seen pair pair_pattern both_are in
-    let whole : ElementIs atoms_alone no_scope (p.match (s.tuple pair) inner) (pattern new (pattern (tuple_of pair_pattern) no_patterns)) a_one = n.match no_scope (s.tuple pair) inner first (tuple_of pair_pattern) a_one x_is_one pair_is in
-    n.last no_scope (p.match (s.tuple pair) inner) (pattern new (pattern (tuple_of pair_pattern) no_patterns)) a_one whole
+    let pair_is : ExprPatternIs atoms_alone x_seen (s.tuple pair) (tuple_of pair_pattern) =
+    n.tuple x_seen pair pair_pattern both_are in
+    let whole : ElementIs atoms_alone no_scope (p.match (s.tuple pair) inner)
+    (pattern new (pattern (tuple_of pair_pattern) no_patterns)) a_one = n.match no_scope (s.tuple pair) inner first
+    (tuple_of pair_pattern) a_one x_is_one pair_is in
+    n.last no_scope (p.match (s.tuple pair) inner)
+    (pattern new (pattern (tuple_of pair_pattern) no_patterns)) a_one whole
 
 pub names_become_slots : NamesBecomeSlots
-names_become_slots = record { doubled_is = doubled_is; chained_is = chained_is; unsafe_is_not_used = used_unsafe_is_nothing; unsafe_is_not_matched = matched_unsafe_is_nothing; unbound_is_not_used = unbound_is_nothing no_scope refl }
+names_become_slots = record {
+  doubled_is = doubled_is;
+  chained_is = chained_is;
+  unsafe_is_not_used =
+      used_unsafe_is_nothing;
+  unsafe_is_not_matched = matched_unsafe_is_nothing;
+  unbound_is_not_used =
+      unbound_is_nothing no_scope refl;
+}

@@ -4,9 +4,13 @@ use Rattle.std.proofs.Common.{sym, ap, ◌∙◌}
 use base.Stored.{Gv, gnil, gnum, gcons, num, Coded}
 use Rattle.pf_terms.specs.Value.{Value}
 use Rattle.pf_terms.specs.Encoding.{code_value, decoded, decoded-code_value}
-use Rattle.pf_syntax.specs.Pattern.{Pattern, Patterns, any, new, slot, known, tuple_of, cons_of, never, no_patterns, pattern}
-use Rattle.pf_syntax.specs.Tree.{Tree, Trees, Clauses, Guard, lit, var, tuple, cons, op, neg, and_also, or_else, call, builtin, match, bind, case, if_expression, receive, send, no_trees, tree, no_clauses, clause, no_alternatives, alternative}
-use Rattle.pf_syntax.specs.Numbers.{number_of_operator, operator_of_number, operator_of_number-number_of_operator, number_of_builtin, builtin_of_number, builtin_of_number-number_of_builtin}
+use Rattle.pf_syntax.specs.Pattern.{Pattern, Patterns, any, new, slot, known, tuple_of, cons_of, never, no_patterns}
+use Rattle.pf_syntax.specs.Pattern.{pattern}
+use Rattle.pf_syntax.specs.Tree.{Tree, Trees, Clauses, Guard, lit, var, tuple, cons, op, neg, and_also, or_else, call}
+use Rattle.pf_syntax.specs.Tree.{builtin, match, bind, case, if_expression, receive, send, no_trees, tree, no_clauses}
+use Rattle.pf_syntax.specs.Tree.{clause, no_alternatives, alternative}
+use Rattle.pf_syntax.specs.Numbers.{number_of_operator, operator_of_number, operator_of_number-number_of_operator}
+use Rattle.pf_syntax.specs.Numbers.{number_of_builtin, builtin_of_number, builtin_of_number-number_of_builtin}
 
 abbrev mutual
   pub code_pattern : Pattern → Gv
@@ -38,7 +42,8 @@ abbrev mutual
   pattern_decoded (gnum n) = any
   pattern_decoded (gcons k gnil) = pattern_of_kind (num k) gnil no_patterns any any
   pattern_decoded (gcons k (gnum n)) = pattern_of_kind (num k) (gnum n) no_patterns any any
-  pattern_decoded (gcons k (gcons a b)) = pattern_of_kind (num k) (gcons a b) (pattern (pattern_decoded a) (patterns_decoded b)) (pattern_decoded a) (pattern_decoded b)
+  pattern_decoded (gcons k (gcons a b)) = pattern_of_kind (num k) (gcons a b)
+      (pattern (pattern_decoded a) (patterns_decoded b)) (pattern_decoded a) (pattern_decoded b)
 
   pub patterns_decoded : Gv → Patterns
   patterns_decoded gnil = no_patterns
@@ -59,12 +64,14 @@ mutual
   pattern_decoded-code (known v) = known_back (code_value v) v (decoded-code_value v)
   pattern_decoded-code (tuple_of no_patterns) = refl
   pattern_decoded-code (tuple_of (pattern p ps)) = ap tuple_of (patterns_decoded-code (pattern p ps))
-  pattern_decoded-code (cons_of p q) = ap (λ x. cons_of x (pattern_decoded (code_pattern q))) (pattern_decoded-code p) ∙ ap (cons_of p) (pattern_decoded-code q)
+  pattern_decoded-code (cons_of p q) = ap (λ x. cons_of x (pattern_decoded (code_pattern q))) (pattern_decoded-code p)
+      ∙ ap (cons_of p) (pattern_decoded-code q)
   pattern_decoded-code never = refl
 
   pub patterns_decoded-code : (ps : Patterns) → patterns_decoded (code_patterns ps) ≡ ps
   patterns_decoded-code no_patterns = refl
-  patterns_decoded-code (pattern p ps) = ap (λ x. pattern x (patterns_decoded (code_patterns ps))) (pattern_decoded-code p) ∙ ap (pattern p) (patterns_decoded-code ps)
+  patterns_decoded-code (pattern p ps) = ap (λ x. pattern x (patterns_decoded (code_patterns ps)))
+      (pattern_decoded-code p) ∙ ap (pattern p) (patterns_decoded-code ps)
 
 abbrev mutual
   pub code_tree : Tree → Gv
@@ -108,17 +115,23 @@ tree_of_kind (suc (suc (suc (suc (suc zero))))) h l r ts cs = neg l
 tree_of_kind (suc (suc (suc (suc (suc (suc zero)))))) h l r ts cs = and_also l r
 tree_of_kind (suc (suc (suc (suc (suc (suc (suc zero))))))) h l r ts cs = or_else l r
 tree_of_kind (suc (suc (suc (suc (suc (suc (suc (suc zero)))))))) h l r ts cs = call (num h) ts
-tree_of_kind (suc (suc (suc (suc (suc (suc (suc (suc (suc zero))))))))) h l r ts cs = builtin (builtin_of_number (num h)) ts
+tree_of_kind (suc (suc (suc (suc (suc (suc (suc (suc (suc zero))))))))) h l r ts cs =
+    builtin (builtin_of_number (num h)) ts
 tree_of_kind (suc (suc (suc (suc (suc (suc (suc (suc (suc (suc zero)))))))))) h l r ts cs = match (patterns_decoded h) l
-tree_of_kind (suc (suc (suc (suc (suc (suc (suc (suc (suc (suc (suc zero))))))))))) h l r ts cs = bind (patterns_decoded h) l r
+tree_of_kind (suc (suc (suc (suc (suc (suc (suc (suc (suc (suc (suc zero))))))))))) h l r ts cs =
+    bind (patterns_decoded h) l r
 tree_of_kind (suc (suc (suc (suc (suc (suc (suc (suc (suc (suc (suc (suc zero)))))))))))) h l r ts cs = case l cs
-tree_of_kind (suc (suc (suc (suc (suc (suc (suc (suc (suc (suc (suc (suc (suc zero))))))))))))) h l r ts cs = if_expression cs
-tree_of_kind (suc (suc (suc (suc (suc (suc (suc (suc (suc (suc (suc (suc (suc (suc zero)))))))))))))) h l r ts cs = receive cs
-tree_of_kind (suc (suc (suc (suc (suc (suc (suc (suc (suc (suc (suc (suc (suc (suc (suc n))))))))))))))) h l r ts cs = send l r
+tree_of_kind (suc (suc (suc (suc (suc (suc (suc (suc (suc (suc (suc (suc (suc zero))))))))))))) h l r ts cs =
+    if_expression cs
+tree_of_kind (suc (suc (suc (suc (suc (suc (suc (suc (suc (suc (suc (suc (suc (suc zero)))))))))))))) h l r ts
+    cs = receive cs
+tree_of_kind (suc (suc (suc (suc (suc (suc (suc (suc (suc (suc (suc (suc (suc (suc (suc n))))))))))))))) h l r ts cs =
+    send l r
 
 abbrev mutual
   pub tree_decoded : Gv → Tree
-  tree_decoded (gcons k (gcons h (gcons l r))) = tree_of_kind (num k) h (tree_decoded l) (tree_decoded r) (trees_decoded r) (clauses_decoded r)
+  tree_decoded (gcons k (gcons h (gcons l r))) = tree_of_kind (num k) h (tree_decoded l) (tree_decoded r)
+      (trees_decoded r) (clauses_decoded r)
   tree_decoded _ = var 0
 
   pub trees_decoded : Gv → Trees
@@ -126,7 +139,8 @@ abbrev mutual
   trees_decoded _ = no_trees
 
   pub clauses_decoded : Gv → Clauses
-  clauses_decoded (gcons (gcons p (gcons g b)) cs) = clause (pattern_decoded p) (guard_decoded g) (tree_decoded b) (clauses_decoded cs)
+  clauses_decoded (gcons (gcons p (gcons g b)) cs) = clause (pattern_decoded p) (guard_decoded g) (tree_decoded b)
+      (clauses_decoded cs)
   clauses_decoded _ = no_clauses
 
   pub guard_decoded : Gv → Guard
@@ -142,12 +156,15 @@ mutual
   tree_decoded-code (and_also a b) = let x = tree_decoded-code a in let y = tree_decoded-code b in cc
   tree_decoded-code (or_else a b) = let x = tree_decoded-code a in let y = tree_decoded-code b in cc
   tree_decoded-code (send a b) = let x = tree_decoded-code a in let y = tree_decoded-code b in cc
-  tree_decoded-code (op o a b) = let n = operator_of_number-number_of_operator o in let x = tree_decoded-code a in let y = tree_decoded-code b in cc
+  tree_decoded-code (op o a b) = let n = operator_of_number-number_of_operator o in let x = tree_decoded-code a in
+      let y = tree_decoded-code b in cc
   tree_decoded-code (neg a) = ap neg (tree_decoded-code a)
   tree_decoded-code (call f ts) = ap (call f) (trees_decoded-code ts)
-  tree_decoded-code (builtin f ts) = let n = builtin_of_number-number_of_builtin f in let x = trees_decoded-code ts in cc
+  tree_decoded-code (builtin f ts) = let n = builtin_of_number-number_of_builtin f in
+      let x = trees_decoded-code ts in cc
   tree_decoded-code (match ps a) = let n = patterns_decoded-code ps in let x = tree_decoded-code a in cc
-  tree_decoded-code (bind ps a r) = let n = patterns_decoded-code ps in let x = tree_decoded-code a in let y = tree_decoded-code r in cc
+  tree_decoded-code (bind ps a r) = let n = patterns_decoded-code ps in let x = tree_decoded-code a in
+      let y = tree_decoded-code r in cc
   tree_decoded-code (case a cs) = let x = tree_decoded-code a in let y = clauses_decoded-code cs in cc
   tree_decoded-code (if_expression cs) = ap if_expression (clauses_decoded-code cs)
   tree_decoded-code (receive cs) = ap receive (clauses_decoded-code cs)
@@ -158,7 +175,8 @@ mutual
 
   pub clauses_decoded-code : (cs : Clauses) → clauses_decoded (code_clauses cs) ≡ cs
   clauses_decoded-code no_clauses = refl
-  clauses_decoded-code (clause p g b cs) = let n = pattern_decoded-code p in let x = guard_decoded-code g in let y = tree_decoded-code b in let z = clauses_decoded-code cs in cc
+  clauses_decoded-code (clause p g b cs) = let n = pattern_decoded-code p in let x = guard_decoded-code g in
+      let y = tree_decoded-code b in let z = clauses_decoded-code cs in cc
 
   pub guard_decoded-code : (g : Guard) → guard_decoded (code_guard g) ≡ g
   guard_decoded-code no_alternatives = refl
@@ -166,11 +184,19 @@ mutual
 
 abbrev pub coded_pattern : Coded Pattern
 coded_pattern =
-    record { code = code_pattern; inj = λ x y e. sym (pattern_decoded-code x) ∙ ap pattern_decoded e ∙ pattern_decoded-code y }
+    record {
+      code = code_pattern;
+      inj = λ x y e. sym (pattern_decoded-code x) ∙ ap pattern_decoded e
+          ∙ pattern_decoded-code y;
+    }
 
 abbrev pub coded_patterns : Coded Patterns
 coded_patterns =
-    record { code = code_patterns; inj = λ x y e. sym (patterns_decoded-code x) ∙ ap patterns_decoded e ∙ patterns_decoded-code y }
+    record {
+      code = code_patterns;
+      inj = λ x y e. sym (patterns_decoded-code x) ∙ ap patterns_decoded e
+          ∙ patterns_decoded-code y;
+    }
 
 abbrev pub coded_tree : Coded Tree
 coded_tree =

@@ -112,4 +112,5 @@ abbrev mutual
 
   pub branches_depth : Branches → ℕ
   branches_depth no_branches = 0
-  branches_depth (branch p g es bs) = max (max (expr_pattern_depth p) (max (condition_depth g) (exprs_depth es))) (branches_depth bs)
+  branches_depth (branch p g es bs) = max (max (expr_pattern_depth p) (max (condition_depth g) (exprs_depth es)))
+      (branches_depth bs)

@@ -2,7 +2,12 @@
 use Rattle.std.specs.Prelude.{ℕ, Bool, true, false, ◌==◌, ◌&&◌, List, [], ◌∷◌, Option, Some, None, codes, if◌then◌else◌}
 use Rattle.std.specs.Str.{bytes_eq}
 use Rattle.pf_syntax.specs.declared.operator.Builtin.{Builtin}
-use Rattle.pf_syntax.specs.declared.operator.Builtin.TheVariants.{SelfPid, Hd, Tl, Length, Element, TupleSize, IsInteger, IsAtom, IsTuple, IsList, IsPid, IsReference, Exit, Spawn, SpawnLink, Link, Unlink, Monitor, Demonitor, ExitOther, ProcessFlag, Register, Unregister, Whereis, MakeRef, SpawnMonitor, DemonitorWith}
+use Rattle.pf_syntax.specs.declared.operator.Builtin.TheVariants.{SelfPid, Hd, Tl, Length, Element, TupleSize}
+use Rattle.pf_syntax.specs.declared.operator.Builtin.TheVariants.{IsInteger, IsAtom, IsTuple, IsList, IsPid}
+use Rattle.pf_syntax.specs.declared.operator.Builtin.TheVariants.{IsReference, Exit, Spawn, SpawnLink, Link, Unlink}
+use Rattle.pf_syntax.specs.declared.operator.Builtin.TheVariants.{Monitor, Demonitor, ExitOther, ProcessFlag, Register}
+use Rattle.pf_syntax.specs.declared.operator.Builtin.TheVariants.{Unregister, Whereis, MakeRef, SpawnMonitor}
+use Rattle.pf_syntax.specs.declared.operator.Builtin.TheVariants.{DemonitorWith}
 use Rattle.pf_syntax.specs.declared.forms.Form.{Form}
 use Rattle.pf_syntax.specs.declared.forms.Form.TheVariants.{Calling}
 
@@ -32,7 +37,8 @@ builtins =
 -- the first row of this name and number of arguments
 abbrev pub named_in : List ℕ → ℕ → List BuiltinRow → Option Builtin
 named_in name arity [] = None
-named_in name arity (r ∷ rows) = if bytes_eq r.name name && (r.arity == arity) then Some r.builtin else named_in name arity rows
+named_in name arity (r ∷ rows) = if bytes_eq r.name name && (r.arity == arity) then Some r.builtin
+    else named_in name arity rows
 
 -- the built-in function of this name and number of arguments
 abbrev pub builtin_named : List ℕ → ℕ → Option Builtin

@@ -22,7 +22,12 @@ pub record Checked : Type 0 where
 
 -- a module with nothing in it yet
 abbrev pub empty : ℕ → List (List ℕ) → Checked
-empty name atoms = record { name = name; atoms = atoms; tables = record { literals = []; patterns = []; trees = [] }; functions = [] }
+empty name atoms = record {
+  name = name;
+  atoms = atoms;
+  tables = record { literals = []; patterns = []; trees = [] };
+  functions = [];
+}
 
 -- the literal, the pattern and the tree of a number: `[]`, `_` and `[]` where there is none
 abbrev pub literal_at : Tables → ℕ → Value
@@ -58,10 +63,12 @@ coded_function =
 abbrev pub coded_tables : Coded Tables
 coded_tables =
     code_by _ (coded× (coded_list coded_value) (coded× (coded_list coded_pattern) (coded_list coded_tree)))
-    (λ t. (t.literals, (t.patterns, t.trees))) (λ p. record { literals = p.0; patterns = p.1.0; trees = p.1.1 }) (λ _. refl)
+    (λ t. (t.literals, (t.patterns, t.trees))) (λ p. record { literals = p.0; patterns = p.1.0; trees = p.1.1 })
+    (λ _. refl)
 
 abbrev pub coded_checked : Coded Checked
 coded_checked =
-    code_by _ (coded× (coded× coded_ℕ (coded_list (coded_list coded_ℕ))) (coded× coded_tables (coded_list coded_function)))
+    code_by _ (coded× (coded× coded_ℕ (coded_list (coded_list coded_ℕ)))
+    (coded× coded_tables (coded_list coded_function)))
     (λ m. ((m.name, m.atoms), (m.tables, m.functions)))
     (λ p. record { name = p.0.0; atoms = p.0.1; tables = p.1.0; functions = p.1.1 }) (λ _. refl)

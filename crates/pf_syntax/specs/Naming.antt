@@ -8,7 +8,8 @@ use Rattle.pf_syntax.specs.ExprPattern.{ExprPattern, ExprPatterns, no_expr_patte
 use Rattle.pf_syntax.specs.Expr as p
 use Rattle.pf_syntax.specs.Expr.{Expr, Exprs, Condition, Branches, no_exprs, expr, no_tests, tests, no_branches, branch}
 use Rattle.pf_syntax.specs.Tree as t
-use Rattle.pf_syntax.specs.Tree.{Tree, Trees, Clauses, Guard, lit, var, no_trees, tree, no_clauses, clause, no_alternatives, alternative, FunctionClause}
+use Rattle.pf_syntax.specs.Tree.{Tree, Trees, Clauses, Guard, lit, var, no_trees, tree, no_clauses, clause}
+use Rattle.pf_syntax.specs.Tree.{no_alternatives, alternative, FunctionClause}
 use Rattle.pf_syntax.specs.declared.operator.Builtin.{Builtin}
 use Rattle.pf_syntax.specs.declared.operator.Operator.{Operator}
 use Rattle.pf_syntax.specs.SyntaxTree.{Head}
@@ -68,14 +69,18 @@ mutual
     anything : (g : Scope) → ExprPatternIs n g s.anything any
     bound : (g : Scope) (x at k : ℕ) → IsSlotOf g x k → ExprPatternIs n g (s.variable x at) (slot k)
     fresh : (g : Scope) (x at : ℕ) → IsTrue (is_new g x) → ExprPatternIs n g (s.variable x at) new
-    tuple : (g : Scope) (qs : ExprPatterns) (ys : Patterns) → ExprPatternsAre n g qs ys → ExprPatternIs n g (s.tuple qs) (tuple_of ys)
-    list : (g : Scope) (qs : ExprPatterns) (ys : Patterns) → ExprPatternsAre n g qs ys → ExprPatternIs n g (s.list qs) (conses_of ys (known empty_list))
-    list_on : (g : Scope) (qs : ExprPatterns) (q : ExprPattern) (ys : Patterns) (y : Pattern) → ExprPatternsAre n g qs ys → ExprPatternIs n (after_expr_patterns g qs) q y
+    tuple : (g : Scope) (qs : ExprPatterns) (ys : Patterns) → ExprPatternsAre n g qs ys
+        → ExprPatternIs n g (s.tuple qs) (tuple_of ys)
+    list : (g : Scope) (qs : ExprPatterns) (ys : Patterns) → ExprPatternsAre n g qs ys
+        → ExprPatternIs n g (s.list qs) (conses_of ys (known empty_list))
+    list_on : (g : Scope) (qs : ExprPatterns) (q : ExprPattern) (ys : Patterns) (y : Pattern)
+        → ExprPatternsAre n g qs ys → ExprPatternIs n (after_expr_patterns g qs) q y
         → ExprPatternIs n g (s.list_on qs q) (conses_of ys y)
 
   pub data ExprPatternsAre (n : Names) : Scope → ExprPatterns → Patterns → Type 0 where
     no_more_expr_patterns : (g : Scope) → ExprPatternsAre n g no_expr_patterns no_patterns
-    and_expr_patterns : (g : Scope) (q : ExprPattern) (qs : ExprPatterns) (y : Pattern) (ys : Patterns) → ExprPatternIs n g q y → ExprPatternsAre n (after_expr_pattern g q) qs ys
+    and_expr_patterns : (g : Scope) (q : ExprPattern) (qs : ExprPatterns) (y : Pattern) (ys : Patterns)
+        → ExprPatternIs n g q y → ExprPatternsAre n (after_expr_pattern g q) qs ys
         → ExprPatternsAre n g (expr_pattern q qs) (pattern y ys)
 
 mutual
@@ -87,39 +92,52 @@ mutual
     variable : (g : Scope) (x at k : ℕ) → IsSlotOf g x k → ExprIs n g (p.variable x at) (var k)
     parentheses : (g : Scope) (a : Expr) (x : Tree) → ExprIs n g a x → ExprIs n g (p.parentheses a) x
     tuple : (g : Scope) (es : Exprs) (xs : Trees) → ExprsAre n g es xs → ExprIs n g (p.tuple es) (t.tuple xs)
-    list : (g : Scope) (es : Exprs) (xs : Trees) → ExprsAre n g es xs → ExprIs n g (p.list es) (conses xs (lit empty_list))
-    list_on : (g : Scope) (es : Exprs) (e : Expr) (xs : Trees) (x : Tree) → ExprsAre n g es xs → ExprIs n (after_all g es) e x
+    list : (g : Scope) (es : Exprs) (xs : Trees) → ExprsAre n g es xs
+        → ExprIs n g (p.list es) (conses xs (lit empty_list))
+    list_on : (g : Scope) (es : Exprs) (e : Expr) (xs : Trees) (x : Tree) → ExprsAre n g es xs
+        → ExprIs n (after_all g es) e x
         → ExprIs n g (p.list_on es e) (conses xs x)
     own : (g : Scope) (f at i : ℕ) (es : Exprs) (xs : Trees) → n.own_of f (arity_of es) ≡ Some i → ExprsAre n g es xs
         → ExprIs n g (p.call f at es) (t.call i xs)
-    builtin : (g : Scope) (f at : ℕ) (b : Builtin) (es : Exprs) (xs : Trees) → n.builtin_of f (arity_of es) ≡ Some b → ExprsAre n g es xs
+    builtin : (g : Scope) (f at : ℕ) (b : Builtin) (es : Exprs) (xs : Trees) → n.builtin_of f (arity_of es) ≡ Some b
+        → ExprsAre n g es xs
         → ExprIs n g (p.call f at es) (t.builtin b xs)
     binary : (g : Scope) (o : Operator) (a b : Expr) (x y : Tree) → ExprIs n g a x → ExprIs n (after g a) b y
         → ExprIs n g (p.binary o a b) (t.op o x y)
     negate : (g : Scope) (a : Expr) (x : Tree) → ExprIs n g a x → ExprIs n g (p.negate a) (t.neg x)
-    and_also : (g : Scope) (a b : Expr) (x y : Tree) → ExprIs n g a x → ExprIs n (after g a) b y → ExprIs n g (p.and_also a b) (t.and_also x y)
-    or_else : (g : Scope) (a b : Expr) (x y : Tree) → ExprIs n g a x → ExprIs n (after g a) b y → ExprIs n g (p.or_else a b) (t.or_else x y)
-    send : (g : Scope) (a b : Expr) (x y : Tree) → ExprIs n g a x → ExprIs n (after g a) b y → ExprIs n g (p.send a b) (t.send x y)
-    case : (g : Scope) (a : Expr) (bs : Branches) (x : Tree) (cs : Clauses) → ExprIs n g a x → BranchesAre n (after g a) bs cs
+    and_also : (g : Scope) (a b : Expr) (x y : Tree) → ExprIs n g a x → ExprIs n (after g a) b y
+        → ExprIs n g (p.and_also a b) (t.and_also x y)
+    or_else : (g : Scope) (a b : Expr) (x y : Tree) → ExprIs n g a x → ExprIs n (after g a) b y
+        → ExprIs n g (p.or_else a b) (t.or_else x y)
+    send : (g : Scope) (a b : Expr) (x y : Tree) → ExprIs n g a x → ExprIs n (after g a) b y
+        → ExprIs n g (p.send a b) (t.send x y)
+    case : (g : Scope) (a : Expr) (bs : Branches) (x : Tree) (cs : Clauses) → ExprIs n g a x
+        → BranchesAre n (after g a) bs cs
         → ExprIs n g (p.case a bs) (t.case x cs)
-    if_expression : (g : Scope) (bs : Branches) (cs : Clauses) → BranchesAre n g bs cs → ExprIs n g (p.if_expression bs) (t.if_expression cs)
-    receive : (g : Scope) (bs : Branches) (cs : Clauses) → BranchesAre n g bs cs → ExprIs n g (p.receive bs) (t.receive cs)
+    if_expression : (g : Scope) (bs : Branches) (cs : Clauses) → BranchesAre n g bs cs
+        → ExprIs n g (p.if_expression bs) (t.if_expression cs)
+    receive : (g : Scope) (bs : Branches) (cs : Clauses) → BranchesAre n g bs cs
+        → ExprIs n g (p.receive bs) (t.receive cs)
 
   pub data ExprsAre (n : Names) : Scope → Exprs → Trees → Type 0 where
     no_more : (g : Scope) → ExprsAre n g no_exprs no_trees
-    and_more : (g : Scope) (e : Expr) (es : Exprs) (x : Tree) (xs : Trees) → ExprIs n g e x → ExprsAre n (after g e) es xs
+    and_more : (g : Scope) (e : Expr) (es : Exprs) (x : Tree) (xs : Trees) → ExprIs n g e x
+        → ExprsAre n (after g e) es xs
         → ExprsAre n g (expr e es) (tree x xs)
 
   -- an element of a body: `P = Q = E` is the pattern Q, then P, and E
   pub data ElementIs (n : Names) : Scope → Expr → Patterns → Tree → Type 0 where
     plain : (g : Scope) (e : Expr) (x : Tree) → ExprIs n g e x → ElementIs n g e no_patterns x
-    match : (g : Scope) (q : ExprPattern) (e : Expr) (ys : Patterns) (y : Pattern) (x : Tree) → ElementIs n g e ys x → ExprPatternIs n (after g e) q y
+    match : (g : Scope) (q : ExprPattern) (e : Expr) (ys : Patterns) (y : Pattern) (x : Tree) → ElementIs n g e ys x
+        → ExprPatternIs n (after g e) q y
         → ElementIs n g (p.match q e) (with_pattern ys y) x
 
   -- a body: each element but the last is before the rest
   pub data BodyIs (n : Names) : Scope → Exprs → Tree → Type 0 where
-    last : (g : Scope) (e : Expr) (ys : Patterns) (x : Tree) → ElementIs n g e ys x → BodyIs n g (expr e no_exprs) (ending ys x)
-    before : (g : Scope) (e : Expr) (es : Exprs) (ys : Patterns) (x rest : Tree) → ElementIs n g e ys x → BodyIs n (after g e) es rest
+    last : (g : Scope) (e : Expr) (ys : Patterns) (x : Tree) → ElementIs n g e ys x
+        → BodyIs n g (expr e no_exprs) (ending ys x)
+    before : (g : Scope) (e : Expr) (es : Exprs) (ys : Patterns) (x rest : Tree) → ElementIs n g e ys x
+        → BodyIs n (after g e) es rest
         → BodyIs n g (expr e es) (t.bind ys x rest)
 
   pub data GuardIs (n : Names) : Scope → Condition → Guard → Type 0 where
@@ -130,8 +148,10 @@ mutual
   -- clauses, each of which begins with what is seen at its construct
   pub data BranchesAre (n : Names) : Scope → Branches → Clauses → Type 0 where
     no_more_branches : (g : Scope) → BranchesAre n g no_branches no_clauses
-    and_branches : (g : Scope) (q : ExprPattern) (c : Condition) (es : Exprs) (bs : Branches) (y : Pattern) (d : Guard) (x : Tree) (cs : Clauses)
-        → ExprPatternIs n g q y → GuardIs n (after_expr_pattern g q) c d → BodyIs n (after_expr_pattern g q) es x → BranchesAre n g bs cs
+    and_branches : (g : Scope) (q : ExprPattern) (c : Condition) (es : Exprs) (bs : Branches) (y : Pattern) (d : Guard)
+        (x : Tree) (cs : Clauses)
+        → ExprPatternIs n g q y → GuardIs n (after_expr_pattern g q) c d → BodyIs n (after_expr_pattern g q) es x
+        → BranchesAre n g bs cs
         → BranchesAre n g (branch q c es bs) (clause y d x cs)
 
 -- a clause of a function begins with no variable

@@ -1,8 +1,11 @@
 -- What the nodes of a module stand for, over its tables.
 use Rattle.std.specs.Prelude.{List, [], ◌∷◌, ◌++◌, map}
 use Rattle.pf_terms.specs.Value.{Value, int, atom, list, none}
-use Rattle.pf_syntax.specs.Pattern.{Pattern, Patterns, any, new, slot, known, tuple_of, cons_of, never, no_patterns, pattern}
-use Rattle.pf_syntax.specs.Tree.{Tree, Trees, Clauses, Guard, lit, var, tuple, cons, op, neg, and_also, or_else, call, builtin, match, bind, case, if_expression, receive, send, no_trees, tree, no_clauses, clause, no_alternatives, alternative, no_guard, Function, FunctionClause}
+use Rattle.pf_syntax.specs.Pattern.{Pattern, Patterns, any, new, slot, known, tuple_of, cons_of, never, no_patterns}
+use Rattle.pf_syntax.specs.Pattern.{pattern}
+use Rattle.pf_syntax.specs.Tree.{Tree, Trees, Clauses, Guard, lit, var, tuple, cons, op, neg, and_also, or_else, call}
+use Rattle.pf_syntax.specs.Tree.{builtin, match, bind, case, if_expression, receive, send, no_trees, tree, no_clauses}
+use Rattle.pf_syntax.specs.Tree.{clause, no_alternatives, alternative, no_guard, Function, FunctionClause}
 use Rattle.pf_syntax.specs.Module.{Tables, Checked, literal_at, pattern_at, tree_at}
 use Rattle.pf_syntax.specs.declared.node.PatternId.{PatternId}
 use Rattle.pf_syntax.specs.declared.node.Operand.{Operand}
@@ -70,7 +73,8 @@ guard_over t g = guard_from t g.alternatives.items
 -- clauses, each with its pattern, its guard and its body
 abbrev pub clauses_over : Tables → List Clause → Clauses
 clauses_over t [] = no_clauses
-clauses_over t (c ∷ cs) = clause (pattern_at t c.pattern.0) (guard_over t c.guard) (part_over t c.body) (clauses_over t cs)
+clauses_over t (c ∷ cs) = clause (pattern_at t c.pattern.0) (guard_over t c.guard) (part_over t c.body)
+    (clauses_over t cs)
 
 -- the tree of a node, over the trees of its parts
 abbrev pub tree_over : Tables → Node → Tree
@@ -93,11 +97,22 @@ tree_over t (does.Send a b) = send (part_over t a) (part_over t b)
 
 -- a clause of a function, over its parts
 abbrev pub function_clause_over : Tables → FunctionClauseNode → FunctionClause
-function_clause_over t c = record { parameters = patterns_at t c.parameters.items; guard = guard_over t c.guard; body = part_over t c.body }
+function_clause_over t c = record {
+  parameters = patterns_at t c.parameters.items;
+  guard = guard_over t c.guard;
+  body =
+      part_over t c.body;
+}
 
 -- a function, over the parts of its clauses
 abbrev pub function_over : Tables → FunctionNode → Function
-function_over t f = record { name = f.name.0; arity = f.arity; exported = f.exported; clauses = map (function_clause_over t) f.clauses.items }
+function_over t f = record {
+  name = f.name.0;
+  arity = f.arity;
+  exported = f.exported;
+  clauses =
+      map (function_clause_over t) f.clauses.items;
+}
 
 -- ---- one more
 
@@ -117,4 +132,10 @@ with_tables m t = record { name = m.name; atoms = m.atoms; tables = t; functions
 
 -- the module with one more function, which is last
 abbrev pub with_function : Checked → FunctionNode → Checked
-with_function m f = record { name = m.name; atoms = m.atoms; tables = m.tables; functions = m.functions ++ function_over m.tables f ∷ [] }
+with_function m f = record {
+  name = m.name;
+  atoms = m.atoms;
+  tables = m.tables;
+  functions =
+      m.functions ++ function_over m.tables f ∷ [];
+}

@@ -38,4 +38,9 @@ expr_at b i = slice_index_or b.exprs i (list no_exprs)
 
 -- a module with nothing in it yet
 abbrev pub empty_tree : ℕ → ExprArena
-empty_tree name = record { name = name; exports = []; node_table = record { expr_patterns = []; exprs = [] }; functions = [] }
+empty_tree name = record {
+  name = name;
+  exports = [];
+  node_table = record { expr_patterns = []; exprs = [] };
+  functions = [];
+}

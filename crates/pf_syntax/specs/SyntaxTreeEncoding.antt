@@ -80,7 +80,8 @@ expr_pattern_of_kind (suc (suc (suc (suc (suc (suc (suc n))))))) h q ps = s.list
 
 abbrev mutual
   pub expr_pattern_decoded : Gv → ExprPattern
-  expr_pattern_decoded (gcons k (gcons h (gcons l r))) = expr_pattern_of_kind (num k) h (expr_pattern_decoded l) (expr_patterns_decoded r)
+  expr_pattern_decoded (gcons k (gcons h (gcons l r))) = expr_pattern_of_kind (num k) h (expr_pattern_decoded l)
+      (expr_patterns_decoded r)
   expr_pattern_decoded _ = s.anything
 
   pub expr_patterns_decoded : Gv → ExprPatterns
@@ -96,11 +97,13 @@ mutual
   expr_pattern_decoded-code s.anything = refl
   expr_pattern_decoded-code (s.tuple ps) = ap s.tuple (expr_patterns_decoded-code ps)
   expr_pattern_decoded-code (s.list ps) = ap s.list (expr_patterns_decoded-code ps)
-  expr_pattern_decoded-code (s.list_on ps q) = let x = expr_patterns_decoded-code ps in let y = expr_pattern_decoded-code q in cc
+  expr_pattern_decoded-code (s.list_on ps q) = let x = expr_patterns_decoded-code ps in
+      let y = expr_pattern_decoded-code q in cc
 
   pub expr_patterns_decoded-code : (ps : ExprPatterns) → expr_patterns_decoded (code_expr_patterns ps) ≡ ps
   expr_patterns_decoded-code no_expr_patterns = refl
-  expr_patterns_decoded-code (expr_pattern q ps) = let x = expr_pattern_decoded-code q in let y = expr_patterns_decoded-code ps in cc
+  expr_patterns_decoded-code (expr_pattern q ps) = let x = expr_pattern_decoded-code q in
+      let y = expr_patterns_decoded-code ps in cc
 
 -- ---- expressions
 
@@ -136,7 +139,8 @@ abbrev mutual
 
   pub code_branches : Branches → Gv
   code_branches no_branches = gnil
-  code_branches (branch q g es bs) = gcons (gcons (code_expr_pattern q) (gcons (code_condition g) (code_exprs es))) (code_branches bs)
+  code_branches (branch q g es bs) = gcons (gcons (code_expr_pattern q) (gcons (code_condition g) (code_exprs es)))
+      (code_branches bs)
 
 -- the expression of kind number k, with these parts
 abbrev pub expr_of_kind : ℕ → Gv → Expr → Expr → Exprs → Branches → Expr
@@ -149,20 +153,30 @@ expr_of_kind (suc (suc (suc (suc (suc zero))))) h l r es bs = p.parentheses l
 expr_of_kind (suc (suc (suc (suc (suc (suc zero)))))) h l r es bs = p.tuple es
 expr_of_kind (suc (suc (suc (suc (suc (suc (suc zero))))))) h l r es bs = p.list es
 expr_of_kind (suc (suc (suc (suc (suc (suc (suc (suc zero)))))))) h l r es bs = p.list_on es l
-expr_of_kind (suc (suc (suc (suc (suc (suc (suc (suc (suc zero))))))))) h l r es bs = p.call (num (left h)) (num (right h)) es
-expr_of_kind (suc (suc (suc (suc (suc (suc (suc (suc (suc (suc zero)))))))))) h l r es bs = p.binary (operator_of_number (num h)) l r
+expr_of_kind (suc (suc (suc (suc (suc (suc (suc (suc (suc zero))))))))) h l r es bs =
+    p.call (num (left h)) (num (right h)) es
+expr_of_kind (suc (suc (suc (suc (suc (suc (suc (suc (suc (suc zero)))))))))) h l r es bs =
+    p.binary (operator_of_number (num h)) l r
 expr_of_kind (suc (suc (suc (suc (suc (suc (suc (suc (suc (suc (suc zero))))))))))) h l r es bs = p.negate l
 expr_of_kind (suc (suc (suc (suc (suc (suc (suc (suc (suc (suc (suc (suc zero)))))))))))) h l r es bs = p.and_also l r
-expr_of_kind (suc (suc (suc (suc (suc (suc (suc (suc (suc (suc (suc (suc (suc zero))))))))))))) h l r es bs = p.or_else l r
-expr_of_kind (suc (suc (suc (suc (suc (suc (suc (suc (suc (suc (suc (suc (suc (suc zero)))))))))))))) h l r es bs = p.send l r
-expr_of_kind (suc (suc (suc (suc (suc (suc (suc (suc (suc (suc (suc (suc (suc (suc (suc zero))))))))))))))) h l r es bs = p.match (expr_pattern_decoded h) l
-expr_of_kind (suc (suc (suc (suc (suc (suc (suc (suc (suc (suc (suc (suc (suc (suc (suc (suc zero)))))))))))))))) h l r es bs = p.case l bs
-expr_of_kind (suc (suc (suc (suc (suc (suc (suc (suc (suc (suc (suc (suc (suc (suc (suc (suc (suc zero))))))))))))))))) h l r es bs = p.if_expression bs
-expr_of_kind (suc (suc (suc (suc (suc (suc (suc (suc (suc (suc (suc (suc (suc (suc (suc (suc (suc (suc n)))))))))))))))))) h l r es bs = p.receive bs
+expr_of_kind (suc (suc (suc (suc (suc (suc (suc (suc (suc (suc (suc (suc (suc zero))))))))))))) h l r es
+    bs = p.or_else l r
+expr_of_kind (suc (suc (suc (suc (suc (suc (suc (suc (suc (suc (suc (suc (suc (suc zero)))))))))))))) h l r es
+    bs = p.send l r
+expr_of_kind (suc (suc (suc (suc (suc (suc (suc (suc (suc (suc (suc (suc (suc (suc (suc zero))))))))))))))) h l r es
+    bs = p.match (expr_pattern_decoded h) l
+expr_of_kind (suc (suc (suc (suc (suc (suc (suc (suc (suc (suc (suc (suc (suc (suc (suc (suc zero)))))))))))))))) h l r
+    es bs = p.case l bs
+expr_of_kind (suc (suc (suc (suc (suc (suc (suc (suc (suc (suc (suc (suc (suc (suc (suc (suc (suc zero)))))))))))))))))
+    h l r es bs = p.if_expression bs
+expr_of_kind
+    (suc (suc (suc (suc (suc (suc (suc (suc (suc (suc (suc (suc (suc (suc (suc (suc (suc (suc n)))))))))))))))))) h l r
+    es bs = p.receive bs
 
 abbrev mutual
   pub expr_decoded : Gv → Expr
-  expr_decoded (gcons k (gcons h (gcons l r))) = expr_of_kind (num k) h (expr_decoded l) (expr_decoded r) (exprs_decoded r) (branches_decoded r)
+  expr_decoded (gcons k (gcons h (gcons l r))) = expr_of_kind (num k) h (expr_decoded l) (expr_decoded r)
+      (exprs_decoded r) (branches_decoded r)
   expr_decoded _ = p.list no_exprs
 
   pub exprs_decoded : Gv → Exprs
@@ -174,7 +188,8 @@ abbrev mutual
   condition_decoded _ = no_tests
 
   pub branches_decoded : Gv → Branches
-  branches_decoded (gcons (gcons q (gcons g es)) bs) = branch (expr_pattern_decoded q) (condition_decoded g) (exprs_decoded es) (branches_decoded bs)
+  branches_decoded (gcons (gcons q (gcons g es)) bs) = branch (expr_pattern_decoded q) (condition_decoded g)
+      (exprs_decoded es) (branches_decoded bs)
   branches_decoded _ = no_branches
 
 mutual
@@ -189,7 +204,8 @@ mutual
   expr_decoded-code (p.list es) = ap p.list (exprs_decoded-code es)
   expr_decoded-code (p.list_on es t) = let x = expr_decoded-code t in let y = exprs_decoded-code es in cc
   expr_decoded-code (p.call f at es) = ap (p.call f at) (exprs_decoded-code es)
-  expr_decoded-code (p.binary o a b) = let x = operator_of_number-number_of_operator o in let y = expr_decoded-code a in let z = expr_decoded-code b in cc
+  expr_decoded-code (p.binary o a b) = let x = operator_of_number-number_of_operator o in let y = expr_decoded-code a in
+      let z = expr_decoded-code b in cc
   expr_decoded-code (p.negate a) = ap p.negate (expr_decoded-code a)
   expr_decoded-code (p.and_also a b) = let x = expr_decoded-code a in let y = expr_decoded-code b in cc
   expr_decoded-code (p.or_else a b) = let x = expr_decoded-code a in let y = expr_decoded-code b in cc
@@ -209,15 +225,24 @@ mutual
 
   pub branches_decoded-code : (bs : Branches) → branches_decoded (code_branches bs) ≡ bs
   branches_decoded-code no_branches = refl
-  branches_decoded-code (branch q g es bs) = let w = expr_pattern_decoded-code q in let x = condition_decoded-code g in let y = exprs_decoded-code es in let z = branches_decoded-code bs in cc
+  branches_decoded-code (branch q g es bs) = let w = expr_pattern_decoded-code q in let x = condition_decoded-code g in
+      let y = exprs_decoded-code es in let z = branches_decoded-code bs in cc
 
 abbrev pub coded_expr_pattern : Coded ExprPattern
 coded_expr_pattern =
-    record { code = code_expr_pattern; inj = λ x y e. sym (expr_pattern_decoded-code x) ∙ ap expr_pattern_decoded e ∙ expr_pattern_decoded-code y }
+    record {
+      code = code_expr_pattern;
+      inj = λ x y e. sym (expr_pattern_decoded-code x) ∙ ap expr_pattern_decoded e
+          ∙ expr_pattern_decoded-code y;
+    }
 
 abbrev pub coded_expr_patterns : Coded ExprPatterns
 coded_expr_patterns =
-    record { code = code_expr_patterns; inj = λ x y e. sym (expr_patterns_decoded-code x) ∙ ap expr_patterns_decoded e ∙ expr_patterns_decoded-code y }
+    record {
+      code = code_expr_patterns;
+      inj = λ x y e. sym (expr_patterns_decoded-code x) ∙ ap expr_patterns_decoded e
+          ∙ expr_patterns_decoded-code y;
+    }
 
 abbrev pub coded_expr : Coded Expr
 coded_expr =
@@ -229,13 +254,18 @@ coded_exprs =
 
 abbrev pub coded_condition : Coded Condition
 coded_condition =
-    record { code = code_condition; inj = λ x y e. sym (condition_decoded-code x) ∙ ap condition_decoded e ∙ condition_decoded-code y }
+    record {
+      code = code_condition;
+      inj = λ x y e. sym (condition_decoded-code x) ∙ ap condition_decoded e
+          ∙ condition_decoded-code y;
+    }
 
 -- ---- the module
 
 abbrev pub coded_export : Coded Export
 coded_export =
-    code_by _ (coded× coded_ℕ (coded× coded_ℕ coded_ℕ)) (λ e. (e.name, (e.arity, e.offset))) (λ q. record { name = q.0; arity = q.1.0; offset = q.1.1 }) (λ _. refl)
+    code_by _ (coded× coded_ℕ (coded× coded_ℕ coded_ℕ)) (λ e. (e.name, (e.arity, e.offset)))
+    (λ q. record { name = q.0; arity = q.1.0; offset = q.1.1 }) (λ _. refl)
 
 abbrev pub coded_head : Coded Head
 coded_head =
@@ -245,10 +275,12 @@ coded_head =
 
 abbrev pub coded_node_table : Coded NodeTable
 coded_node_table =
-    code_by _ (coded× (coded_list coded_expr_pattern) (coded_list coded_expr)) (λ b. (b.expr_patterns, b.exprs)) (λ q. record { expr_patterns = q.0; exprs = q.1 }) (λ _. refl)
+    code_by _ (coded× (coded_list coded_expr_pattern) (coded_list coded_expr)) (λ b. (b.expr_patterns, b.exprs))
+    (λ q. record { expr_patterns = q.0; exprs = q.1 }) (λ _. refl)
 
 abbrev pub coded_expr_arena : Coded ExprArena
 coded_expr_arena =
-    code_by _ (coded× (coded× coded_ℕ (coded_list coded_export)) (coded× coded_node_table (coded_list (coded_list coded_head))))
+    code_by _ (coded× (coded× coded_ℕ (coded_list coded_export))
+    (coded× coded_node_table (coded_list (coded_list coded_head))))
     (λ m. ((m.name, m.exports), (m.node_table, m.functions)))
     (λ q. record { name = q.0.0; exports = q.0.1; node_table = q.1.0; functions = q.1.1 }) (λ _. refl)

@@ -1,9 +1,11 @@
 -- What the nodes of a syntax tree stand for, over its table of nodes, and that their parts are in it.
 use Rattle.std.specs.Prelude.{ℕ, ◌+◌, ◌<◌, List, [], ◌∷◌, ◌++◌, length, map, max}
 use Rattle.std.specs.List.{All}
-use Rattle.pf_syntax.specs.ExprPattern.{ExprPattern, ExprPatterns, no_expr_patterns, expr_pattern, expr_pattern_size, expr_pattern_depth}
+use Rattle.pf_syntax.specs.ExprPattern.{ExprPattern, ExprPatterns, no_expr_patterns, expr_pattern, expr_pattern_size}
+use Rattle.pf_syntax.specs.ExprPattern.{expr_pattern_depth}
 use Rattle.pf_syntax.specs.ExprPattern as s
-use Rattle.pf_syntax.specs.Expr.{Expr, Exprs, Condition, Branches, no_exprs, expr, no_tests, tests, no_branches, branch, exprs_size, exprs_depth, condition_size, condition_depth}
+use Rattle.pf_syntax.specs.Expr.{Expr, Exprs, Condition, Branches, no_exprs, expr, no_tests, tests, no_branches, branch}
+use Rattle.pf_syntax.specs.Expr.{exprs_size, exprs_depth, condition_size, condition_depth}
 use Rattle.pf_syntax.specs.Expr as p
 use Rattle.pf_syntax.specs.SyntaxTree.{NodeTable, ExprArena, Export, Head, expr_pattern_at, expr_at}
 use Rattle.pf_syntax.specs.declared.expr.ExprPatternId.{ExprPatternId}
@@ -56,7 +58,8 @@ condition_over b g = alternatives_at b g.alternatives.items
 -- clauses, each with its pattern, its guard and its body
 abbrev pub branches_over : NodeTable → List Branch → Branches
 branches_over b [] = no_branches
-branches_over b (c ∷ cs) = branch (expr_pattern_at b c.expr_pattern.0) (condition_over b c.condition) (exprs_at b c.body.items) (branches_over b cs)
+branches_over b (c ∷ cs) = branch (expr_pattern_at b c.expr_pattern.0) (condition_over b c.condition)
+    (exprs_at b c.body.items) (branches_over b cs)
 
 -- the expression of a node, over those of its parts
 abbrev pub expr_over : NodeTable → ExprNode → Expr
@@ -85,7 +88,13 @@ expr_over b (says.Receive cs) = p.receive (branches_over b cs.items)
 -- a clause of a function, over its parts
 abbrev pub head_over : NodeTable → HeadNode → Head
 head_over b h =
-    record { name = h.ident.name.0; offset = h.ident.offset; parameters = expr_patterns_at b h.parameters.items; condition = condition_over b h.condition; body = exprs_at b h.body.items }
+    record {
+      name = h.ident.name.0;
+      offset = h.ident.offset;
+      parameters = expr_patterns_at b h.parameters.items;
+      condition = condition_over b h.condition;
+      body = exprs_at b h.body.items;
+    }
 
 -- a function, as its clauses
 abbrev pub heads_over : NodeTable → ExprFunction → List Head
@@ -110,10 +119,21 @@ with_node_table m b = record { name = m.name; exports = m.exports; node_table = 
 
 -- the module with one more export or function, which is last
 abbrev pub with_export : ExprArena → ExportNode → ExprArena
-with_export m e = record { name = m.name; exports = m.exports ++ export_of e ∷ []; node_table = m.node_table; functions = m.functions }
+with_export m e = record {
+  name = m.name;
+  exports = m.exports ++ export_of e ∷ [];
+  node_table = m.node_table;
+  functions = m.functions;
+}
 
 abbrev pub with_expr_function : ExprArena → ExprFunction → ExprArena
-with_expr_function m f = record { name = m.name; exports = m.exports; node_table = m.node_table; functions = m.functions ++ heads_over m.node_table f ∷ [] }
+with_expr_function m f = record {
+  name = m.name;
+  exports = m.exports;
+  node_table = m.node_table;
+  functions =
+      m.functions ++ heads_over m.node_table f ∷ [];
+}
 
 -- ---- parts are there
 
@@ -130,7 +150,8 @@ ConditionRepresents b g = All (λ a. All (ExprRepresents b) a.tests.items) g.alt
 
 -- the pattern, the tests and the body of a clause are in the table of nodes
 abbrev pub BranchRepresents : NodeTable → Branch → Type 0
-BranchRepresents b c = ExprPatternRepresents b c.expr_pattern × ConditionRepresents b c.condition × All (ExprRepresents b) c.body.items
+BranchRepresents b c = ExprPatternRepresents b c.expr_pattern × ConditionRepresents b c.condition
+    × All (ExprRepresents b) c.body.items
 
 -- the parts of a pattern are in the table of nodes
 abbrev pub ExprPatternPartsStand : NodeTable → ExprPatternNode → Type 0
@@ -159,7 +180,8 @@ ExprPartsStand b _ = Unit {0}
 
 -- the patterns, the tests and the body of a function's clause are in the table of nodes
 abbrev pub HeadRepresents : NodeTable → HeadNode → Type 0
-HeadRepresents b h = All (ExprPatternRepresents b) h.parameters.items × ConditionRepresents b h.condition × All (ExprRepresents b) h.body.items
+HeadRepresents b h = All (ExprPatternRepresents b) h.parameters.items × ConditionRepresents b h.condition
+    × All (ExprRepresents b) h.body.items
 
 -- the parts of a function are in the table of nodes
 abbrev pub HeadsStand : NodeTable → ExprFunction → Type 0
@@ -168,7 +190,9 @@ HeadsStand b f = All (HeadRepresents b) f.heads.items
 -- ---- the size and the depth of a clause's parts together
 
 abbrev pub branch_size : NodeTable → Branch → ℕ
-branch_size b c = expr_pattern_size (expr_pattern_at b c.expr_pattern.0) + (condition_size (condition_over b c.condition) + exprs_size (exprs_at b c.body.items))
+branch_size b c = expr_pattern_size (expr_pattern_at b c.expr_pattern.0)
+    + (condition_size (condition_over b c.condition) + exprs_size (exprs_at b c.body.items))
 
 abbrev pub branch_depth : NodeTable → Branch → ℕ
-branch_depth b c = max (expr_pattern_depth (expr_pattern_at b c.expr_pattern.0)) (max (condition_depth (condition_over b c.condition)) (exprs_depth (exprs_at b c.body.items)))
+branch_depth b c = max (expr_pattern_depth (expr_pattern_at b c.expr_pattern.0))
+    (max (condition_depth (condition_over b c.condition)) (exprs_depth (exprs_at b c.body.items)))

@@ -5,7 +5,8 @@ use Rattle.pf_syntax.specs.ExprPattern.{expr_pattern_size, expr_pattern_depth}
 use Rattle.pf_syntax.specs.Expr.{expr_size, expr_depth}
 use Rattle.pf_syntax.specs.Measure.{IsMeasure}
 use Rattle.pf_syntax.specs.SyntaxTree.{NodeTable, ExprArena}
-use Rattle.pf_syntax.specs.SyntaxTreeOver.{expr_pattern_over, expr_over, heads_over, export_of, with_expr_pattern, with_expr, ExprPatternPartsStand, ExprPartsStand, HeadsStand}
+use Rattle.pf_syntax.specs.SyntaxTreeOver.{expr_pattern_over, expr_over, heads_over, export_of, with_expr_pattern}
+use Rattle.pf_syntax.specs.SyntaxTreeOver.{with_expr, ExprPatternPartsStand, ExprPartsStand, HeadsStand}
 use Rattle.pf_syntax.specs.Within.{InTurn}
 use Rattle.pf_syntax.specs.declared.syntax_tree.ExprPatternEntry.{ExprPatternEntry}
 use Rattle.pf_syntax.specs.declared.syntax_tree.ExprEntry.{ExprEntry}
@@ -20,10 +21,12 @@ expr_entered b e = with_expr b e.node
 
 -- the parts of an entry come before it, and its measure is that of its tree
 abbrev pub ExprPatternIsSound : NodeTable → ExprPatternEntry → Type 0
-ExprPatternIsSound b e = ExprPatternPartsStand b e.node × IsMeasure e.measure (expr_pattern_size (expr_pattern_over b e.node)) (expr_pattern_depth (expr_pattern_over b e.node))
+ExprPatternIsSound b e = ExprPatternPartsStand b e.node × IsMeasure e.measure
+    (expr_pattern_size (expr_pattern_over b e.node)) (expr_pattern_depth (expr_pattern_over b e.node))
 
 abbrev pub ExprIsSound : NodeTable → ExprEntry → Type 0
-ExprIsSound b e = ExprPartsStand b e.node × IsMeasure e.measure (expr_size (expr_over b e.node)) (expr_depth (expr_over b e.node))
+ExprIsSound b e = ExprPartsStand b e.node × IsMeasure e.measure (expr_size (expr_over b e.node))
+    (expr_depth (expr_over b e.node))
 
 -- the table of nodes with nothing in it
 abbrev pub no_node_table : NodeTable
@@ -38,7 +41,12 @@ node_table_of a = fold expr_entered (expr_patterns_of a) a.exprs.items
 
 -- the module that the fields stand for
 abbrev pub written_of : Inside → ExprArena
-written_of a = record { name = a.name.0; exports = map export_of a.exports.items; node_table = node_table_of a; functions = map (heads_over (node_table_of a)) a.functions.items }
+written_of a = record {
+  name = a.name.0;
+  exports = map export_of a.exports.items;
+  node_table = node_table_of a;
+  functions = map (heads_over (node_table_of a)) a.functions.items;
+}
 
 -- parts come before what they are part of, and each measure is right
 pub record Sound (a : Inside) : Type 0 where

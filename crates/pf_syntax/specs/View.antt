@@ -19,7 +19,13 @@ tables_of a = fold with_tree (patterns_of a) a.nodes.items
 
 -- the module that the fields stand for
 abbrev pub checked_of : Inside → Checked
-checked_of a = record { name = a.name.0; atoms = a.atoms; tables = tables_of a; functions = map (function_over (tables_of a)) a.functions.items }
+checked_of a = record {
+  name = a.name.0;
+  atoms = a.atoms;
+  tables = tables_of a;
+  functions =
+      map (function_over (tables_of a)) a.functions.items;
+}
 
 -- parts come before what they are part of
 pub record Sound (a : Inside) : Type 0 where

@@ -58,7 +58,8 @@ PartsStand t (does.Send a b) = OperandRepresents t a × OperandRepresents t b
 
 -- the patterns, the tests and the body of a function's clause are in the tables
 abbrev pub FunctionClauseRepresents : Tables → FunctionClause → Type 0
-FunctionClauseRepresents t c = All (PatternRepresents t) c.parameters.items × GuardRepresents t c.guard × OperandRepresents t c.body
+FunctionClauseRepresents t c = All (PatternRepresents t) c.parameters.items × GuardRepresents t c.guard
+    × OperandRepresents t c.body
 
 -- the parts of a function are in the tables
 abbrev pub FunctionRepresents : Tables → Function → Type 0

@@ -38,11 +38,13 @@ doubled_tree = t.bind (pattern new no_patterns) (lit (int (pos 1))) (t.op Plus (
 
 -- {X, Y} = X = 1: X is before the outer pattern, in which it is bound
 abbrev pub chained : Exprs
-chained = expr (p.match (s.tuple (expr_pattern x_expr_pattern (expr_pattern y_expr_pattern no_expr_patterns))) (p.match x_expr_pattern one_expr)) no_exprs
+chained = expr (p.match (s.tuple (expr_pattern x_expr_pattern (expr_pattern y_expr_pattern no_expr_patterns)))
+    (p.match x_expr_pattern one_expr)) no_exprs
 
 abbrev pub chained_tree : Tree
 chained_tree =
-    t.match (pattern new (pattern (tuple_of (pattern (slot 0) (pattern new no_patterns))) no_patterns)) (lit (int (pos 1)))
+    t.match (pattern new (pattern (tuple_of (pattern (slot 0) (pattern new no_patterns))) no_patterns))
+    (lit (int (pos 1)))
 
 -- case 1 of X -> X end
 abbrev pub choosing : Expr

@@ -94,7 +94,8 @@ pub fn is_pure(builtin: Builtin) -> bool
 
 /// Whether a guard may call a function of this name with this number of arguments: a built-in one, and pure.
 pub fn guard_may_call(name: &[u8], arity: u64) -> bool
-    ensures { result ≡ option_map_or (λ b. forms.may_stand true (form.Calling b)) (forms.builtin_named name.now arity) false }
+    ensures { result ≡ option_map_or (λ b. forms.may_stand true (form.Calling b))
+        (forms.builtin_named name.now arity) false }
 {
     match builtin_named(name, arity) {
         Some(builtin) => may_stand(true, Form::Calling(builtin)),

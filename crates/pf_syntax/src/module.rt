@@ -1,13 +1,15 @@
 //! Checked modules: arenas in which each node comes after its parts, so that code is named by numbers.
 
-ghost use Rattle.std.specs.Prelude.{◌≡◌, ◌≤◌, length, IfNone, IfOk, MatchOption, None, OnErr, OnOk, option_map, position, slice_get, Some, ◌&&◌, ◌==◌};
+ghost use Rattle.std.specs.Prelude.{◌≡◌, ◌≤◌, length, IfNone, IfOk, MatchOption, None, OnErr, OnOk, option_map};
+ghost use Rattle.std.specs.Prelude.{position, slice_get, Some, ◌&&◌, ◌==◌};
 ghost use Rattle.pf_terms.specs.Value.{list, none};
 ghost use Rattle.pf_terms.specs.Term.{value_of};
 ghost use Rattle.pf_syntax.specs.Pattern.{any};
 ghost use Rattle.pf_syntax.specs.Tree.{lit};
 ghost use Rattle.pf_syntax.specs.Module.{empty, first_named, literal_at, pattern_at, tree_at};
 ghost use Rattle.pf_syntax.specs.Root.{root_of};
-ghost use Rattle.pf_syntax.specs.Over.{function_over, pattern_over, tree_over, with_function, with_literal, with_pattern, with_tables, with_tree};
+ghost use Rattle.pf_syntax.specs.Over.{function_over, pattern_over, tree_over, with_function, with_literal};
+ghost use Rattle.pf_syntax.specs.Over.{with_pattern, with_tables, with_tree};
 ghost use Rattle.pf_syntax.specs.Within.{FunctionRepresents, PartsStand, PatternPartsStand};
 
 use crate::node::{Function, FunctionId, LiteralId, Node, NodeId, PatternId, PatternNode};
@@ -71,7 +73,8 @@ impl Module {
     /// Adds a literal. It fails where memory runs out, or where there are 2^32 already; and so the calls below.
     pub fn add_literal(&mut self, literal: Term) -> Result<LiteralId, NoMemory>
         ensures id { IfOk result (λ l. l.0 ≡ length self.old.tables.literals) }
-        ensures added { OnOk result (self.new ≡ with_tables self.old (with_literal self.old.tables (value_of literal))) }
+        ensures added { OnOk result (self.new ≡ with_tables self.old
+            (with_literal self.old.tables (value_of literal))) }
         ensures err { OnErr result (self.new ≡ self.old) }
     {
         let id = next_id(self.literals.len())?;
@@ -142,7 +145,8 @@ impl Module {
 
     /// The literal of this number. Where there is none, the tables have `[]`.
     pub fn literal(&self, id: LiteralId) -> Option<&Term>
-        ensures found { MatchOption result (literal_at self.now.tables id.0 ≡ list none) (λ l. value_of l.now ≡ literal_at self.now.tables id.0) }
+        ensures found { MatchOption result (literal_at self.now.tables id.0 ≡ list none)
+            (λ l. value_of l.now ≡ literal_at self.now.tables id.0) }
         ensures absent { IfNone result (length self.now.tables.literals ≤ id.0) }
     {
         entry(&self.literals, id.0)
@@ -150,7 +154,8 @@ impl Module {
 
     /// The pattern of this number, over its parts. Where there is none, the tables have `_`.
     pub fn pattern(&self, id: PatternId) -> Option<&PatternNode>
-        ensures found { MatchOption result (pattern_at self.now.tables id.0 ≡ any) (λ p. pattern_over self.now.tables p.now ≡ pattern_at self.now.tables id.0) }
+        ensures found { MatchOption result (pattern_at self.now.tables id.0 ≡ any)
+            (λ p. pattern_over self.now.tables p.now ≡ pattern_at self.now.tables id.0) }
         ensures absent { IfNone result (length self.now.tables.patterns ≤ id.0) }
     {
         entry(&self.patterns, id.0)
@@ -158,7 +163,8 @@ impl Module {
 
     /// The node of this number, over its parts. Where there is none, the tables have the literal `[]`.
     pub fn node(&self, id: NodeId) -> Option<&Node>
-        ensures found { MatchOption result (tree_at self.now.tables id.0 ≡ lit (list none)) (λ n. tree_over self.now.tables n.now ≡ tree_at self.now.tables id.0) }
+        ensures found { MatchOption result (tree_at self.now.tables id.0 ≡ lit (list none))
+            (λ n. tree_over self.now.tables n.now ≡ tree_at self.now.tables id.0) }
         ensures absent { IfNone result (length self.now.tables.trees ≤ id.0) }
     {
         entry(&self.nodes, id.0)
@@ -166,14 +172,16 @@ impl Module {
 
     /// The function of this number.
     pub fn function(&self, id: FunctionId) -> Option<&Function>
-        ensures { MatchOption result (slice_get self.now.functions id.0 ≡ None) (λ f. slice_get self.now.functions id.0 ≡ Some (function_over self.now.tables f.now)) }
+        ensures { MatchOption result (slice_get self.now.functions id.0 ≡ None)
+            (λ f. slice_get self.now.functions id.0 ≡ Some (function_over self.now.tables f.now)) }
     {
         entry(&self.functions, id.0)
     }
 
     /// The first function of this name that takes this number of arguments.
     pub fn find(&self, name: AtomId, arity: u32) -> Option<FunctionId>
-        ensures { MatchOption result (first_named name.0 arity self.now.functions ≡ None) (λ f. first_named name.0 arity self.now.functions ≡ Some f.0) }
+        ensures { MatchOption result (first_named name.0 arity self.now.functions ≡ None)
+            (λ f. first_named name.0 arity self.now.functions ≡ Some f.0) }
     {
         let index = index_of(&self.functions, name, arity)?;
         Some(FunctionId(index as u32))

@@ -5,7 +5,9 @@ ghost use Rattle.pf_syntax.specs.ExprPattern.{anything, expr_pattern_depth, expr
 ghost use Rattle.pf_syntax.specs.Expr.{list, no_exprs, expr_depth, expr_size};
 ghost use Rattle.pf_syntax.specs.Measure.{IsMeasure};
 ghost use Rattle.pf_syntax.specs.SyntaxTree.{empty_tree, expr_at, expr_pattern_at};
-ghost use Rattle.pf_syntax.specs.SyntaxTreeOver.{export_of, heads_over, expr_over, expr_pattern_over, with_node_table, with_export, with_expr, with_expr_pattern, with_expr_function, HeadsStand, ExprPartsStand, ExprPatternPartsStand};
+ghost use Rattle.pf_syntax.specs.SyntaxTreeOver.{export_of, heads_over, expr_over, expr_pattern_over, with_node_table};
+ghost use Rattle.pf_syntax.specs.SyntaxTreeOver.{with_export, with_expr, with_expr_pattern, with_expr_function};
+ghost use Rattle.pf_syntax.specs.SyntaxTreeOver.{HeadsStand, ExprPartsStand, ExprPatternPartsStand};
 
 use crate::expr::{Export, ExprFunction, ExprId, ExprNode, ExprPatternId, ExprPatternNode};
 use crate::measure::Measure;
@@ -137,7 +139,8 @@ impl SyntaxTree {
 
     /// The pattern of this number, over its parts. Where there is none, the table of nodes has `_`.
     pub fn expr_pattern(&self, id: ExprPatternId) -> Option<&ExprPatternNode>
-        ensures found { MatchOption result (expr_pattern_at self.now.node_table id.0 ≡ anything) (λ q. expr_pattern_over self.now.node_table q.now ≡ expr_pattern_at self.now.node_table id.0) }
+        ensures found { MatchOption result (expr_pattern_at self.now.node_table id.0 ≡ anything)
+            (λ q. expr_pattern_over self.now.node_table q.now ≡ expr_pattern_at self.now.node_table id.0) }
         ensures absent { IfNone result (length self.now.node_table.expr_patterns ≤ id.0) }
     {
         match entry(&self.expr_patterns, id.0) {
@@ -148,7 +151,8 @@ impl SyntaxTree {
 
     /// The expression of this number, over its parts. Where there is none, the table of nodes has `[]`.
     pub fn expr(&self, id: ExprId) -> Option<&ExprNode>
-        ensures found { MatchOption result (expr_at self.now.node_table id.0 ≡ list no_exprs) (λ e. expr_over self.now.node_table e.now ≡ expr_at self.now.node_table id.0) }
+        ensures found { MatchOption result (expr_at self.now.node_table id.0 ≡ list no_exprs)
+            (λ e. expr_over self.now.node_table e.now ≡ expr_at self.now.node_table id.0) }
         ensures absent { IfNone result (length self.now.node_table.exprs ≤ id.0) }
     {
         match entry(&self.exprs, id.0) {
@@ -159,7 +163,8 @@ impl SyntaxTree {
 
     /// The measure of the pattern of this number.
     pub(crate) fn expr_pattern_measure(&self, id: ExprPatternId) -> Measure
-        ensures { IsMeasure result (expr_pattern_size (expr_pattern_at self.now.node_table id.0)) (expr_pattern_depth (expr_pattern_at self.now.node_table id.0)) }
+        ensures { IsMeasure result (expr_pattern_size (expr_pattern_at self.now.node_table id.0))
+            (expr_pattern_depth (expr_pattern_at self.now.node_table id.0)) }
     {
         match entry(&self.expr_patterns, id.0) {
             Some(expr_pattern) => expr_pattern.measure,
@@ -169,7 +174,8 @@ impl SyntaxTree {
 
     /// The measure of the expression of this number.
     pub(crate) fn expr_measure(&self, id: ExprId) -> Measure
-        ensures { IsMeasure result (expr_size (expr_at self.now.node_table id.0)) (expr_depth (expr_at self.now.node_table id.0)) }
+        ensures { IsMeasure result (expr_size (expr_at self.now.node_table id.0))
+            (expr_depth (expr_at self.now.node_table id.0)) }
     {
         match entry(&self.exprs, id.0) {
             Some(expr) => expr.measure,

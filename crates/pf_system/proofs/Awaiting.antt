@@ -9,11 +9,14 @@ use Rattle.pf_ops.specs.Reasons.{no_match, no_case}
 use Rattle.pf_patterns.specs.Fit.{ValueScope, fit}
 use Rattle.pf_patterns.specs.Substitution.{sub, sub_patterns}
 use Rattle.pf_syntax.specs.Pattern.{Patterns, no_patterns, pattern}
-use Rattle.pf_syntax.specs.Tree.{Tree, Clauses, Function, lit, var, tuple, cons, op, neg, and_also, or_else, call, builtin, match, bind, case, if_expression, receive, send}
+use Rattle.pf_syntax.specs.Tree.{Tree, Clauses, Function, lit, var, tuple, cons, op, neg, and_also, or_else, call}
+use Rattle.pf_syntax.specs.Tree.{builtin, match, bind, case, if_expression, receive, send}
 use Rattle.pf_syntax.specs.declared.operator.Builtin.{Builtin}
 use Rattle.pf_syntax.specs.declared.operator.Builtin.TheVariants as builtins
 use Rattle.pf_model.specs.Module.{Module}
-use Rattle.pf_model.specs.Contraction.{Change, Becomes, Raises, Exits, Asks, Awaits, worked_out, picked, picked_by_all, body_or_raise, entered, fits_or, matches_left, matched, bound, decided, computed_or_undefined, called, as_value, as_values, with_both, contract}
+use Rattle.pf_model.specs.Contraction.{Change, Becomes, Raises, Exits, Asks, Awaits, worked_out, picked, picked_by_all}
+use Rattle.pf_model.specs.Contraction.{body_or_raise, entered, fits_or, matches_left, matched, bound, decided}
+use Rattle.pf_model.specs.Contraction.{computed_or_undefined, called, as_value, as_values, with_both, contract}
 use Rattle.pf_model.specs.Context.{Frame, IsRedexIn, fill, moved, awaits, Moves, at_value, at_index}
 
 abbrev NoWait : Change → Type 0
@@ -44,7 +47,8 @@ body_goes : (o : Option Tree) (e : Value) → NoWait (body_or_raise o e)
 body_goes None e = tt
 body_goes (Some t) e = tt
 
-fits_goes : (o : Option ValueScope) (f : ValueScope → Tree) (e : Value) → NoWait (fits_or o (λ s. Becomes (f s)) (Raises e))
+fits_goes : (o : Option ValueScope) (f : ValueScope → Tree) (e : Value)
+    → NoWait (fits_or o (λ s. Becomes (f s)) (Raises e))
 fits_goes None f e = tt
 fits_goes (Some s) f e = tt
 
@@ -54,7 +58,8 @@ matched_goes (pattern p ps) v = fits_goes (fit p v []) (λ e. matches_left (sub_
 
 bound_goes : (ps : Patterns) (v : Value) (rest : Tree) → NoWait (bound ps v rest)
 bound_goes no_patterns v rest = tt
-bound_goes (pattern p ps) v rest = fits_goes (fit p v []) (λ e. bind (sub_patterns e ps) (lit v) (sub e rest)) (no_match v)
+bound_goes (pattern p ps) v rest = fits_goes (fit p v [])
+    (λ e. bind (sub_patterns e ps) (lit v) (sub e rest)) (no_match v)
 
 decided_goes : (d : Bool) (v : Value) (right : Tree) (o : Option Bool) → NoWait (decided d v right o)
 decided_goes d v right None = tt
@@ -105,7 +110,8 @@ module _ (m : Module) (own : ℕ) where
   waits_at (neg a) = by_change (neg a) (mapped _ (as_value a) (λ v. worked_out_goes _))
   waits_at (and_also a t) = by_change (and_also a t) (mapped _ (as_value a) (λ v. decided_goes false v t (truth_of v)))
   waits_at (or_else a t) = by_change (or_else a t) (mapped _ (as_value a) (λ v. decided_goes true v t (truth_of v)))
-  waits_at (call f ts) = by_change (call f ts) (mapped _ (as_values ts) (λ vs. entered_goes (slice_get m.functions f) vs))
+  waits_at (call f ts) = by_change (call f ts)
+      (mapped _ (as_values ts) (λ vs. entered_goes (slice_get m.functions f) vs))
   waits_at (builtin f ts) = by_change (builtin f ts) (mapped _ (as_values ts) (λ vs. called_goes own f vs))
   waits_at (match ps a) = by_change (match ps a) (mapped _ (as_value a) (λ v. matched_goes ps v))
   waits_at (bind ps a rest) = by_change (bind ps a rest) (mapped _ (as_value a) (λ v. bound_goes ps v rest))
@@ -115,7 +121,8 @@ module _ (m : Module) (own : ℕ) where
   waits_at (send a t) = by_change (send a t) (both _ (as_value a) (as_value t) (λ v w. tt))
 
   module _ (t : Tree) (fs : List Frame) (ks : Clauses) where
-    by_index : (gs : List Frame) (r : Tree) (x : Change) → IsRedexIn m own t gs r x → awaits fs ks ≡ moved gs x → fill fs (receive ks) ≡ t
+    by_index : (gs : List Frame) (r : Tree) (x : Change) → IsRedexIn m own t gs r x → awaits fs ks ≡ moved gs x
+        → fill fs (receive ks) ≡ t
     by_index gs r (Becomes u) p e = absurd (cc)
     by_index gs r (Raises u) p e = absurd (cc)
     by_index gs r (Exits u) p e = absurd (cc)
@@ -123,7 +130,8 @@ module _ (m : Module) (own : ℕ) where
     by_index gs r (Awaits ls) p e =
         let f : fs ≡ gs = cc in
         let k : ks ≡ ls = cc in
-        ap (λ g. fill g (receive ks)) f ∙ ap (λ l. fill gs (receive l)) k ∙ ap (fill gs) (sym (waits_at r ls p.redex)) ∙ p.filled
+        ap (λ g. fill g (receive ks)) f ∙ ap (λ l. fill gs (receive l)) k
+        ∙ ap (fill gs) (sym (waits_at r ls p.redex)) ∙ p.filled
 
     -- a process that waits is at its `receive`
     pub stays_at : Moves m own t (awaits fs ks) → fill fs (receive ks) ≡ t

@@ -19,12 +19,15 @@ use Rattle.pf_system.specs.Slots.{state_in}
 use Rattle.pf_system.specs.declared.slot.Life.TheVariants as life
 
 -- by the function that is found
-pub start_at : (m : Module) (home name : ℕ) (vs : Values) (n : ℕ) (o : Option ℕ) → n ≡ count vs → o ≡ home_function m home name n
+pub start_at : (m : Module) (home name : ℕ) (vs : Values) (n : ℕ) (o : Option ℕ) → n ≡ count vs
+    → o ≡ home_function m home name n
     → start_of m home name vs ≡ actions.begun o vs
-start_at m home name vs n o e h = ap (λ k. actions.begun (home_function m home name k) vs) (sym e) ∙ ap (λ z. actions.begun z vs) (sym h)
+start_at m home name vs n o e h = ap (λ k. actions.begun (home_function m home name k) vs) (sym e)
+    ∙ ap (λ z. actions.begun z vs) (sym h)
 
 -- at the call of a function
-pub begins_running : (m : Checked) (own f : ℕ) (vs : Values) (s : ProcessState) (k : MachineView) → k ≡ at_call own m f vs → s ≡ running (call f (literals vs))
+pub begins_running : (m : Checked) (own f : ℕ) (vs : Values) (s : ProcessState) (k : MachineView)
+    → k ≡ at_call own m f vs → s ≡ running (call f (literals vs))
     → LifeBegins m own s (life.Lives k false)
 begins_running m own f vs s k e q =
     record {
@@ -35,7 +38,8 @@ begins_running m own f vs s k e q =
     }
 
 -- about to end
-pub begins_ending : (m : Checked) (own : ℕ) (t : Term) (s : ProcessState) → s ≡ ending (ending_reason undef) → value_of t ≡ ending_reason undef
+pub begins_ending : (m : Checked) (own : ℕ) (t : Term) (s : ProcessState) → s ≡ ending (ending_reason undef)
+    → value_of t ≡ ending_reason undef
     → LifeBegins m own s (life.Ends t)
 begins_ending m own t s q e =
     record {

@@ -1,5 +1,6 @@
 -- The bodies of a core, and the core that bodies and ties make.
-use Rattle.std.proofs.Common.{◌≡◌, ℕ, zero, suc, ◌<◌, List, [], ◌∷◌, ◌++◌, refl, sym, ap, ◌∙◌, arith, length, map, slice_set}
+use Rattle.std.proofs.Common.{◌≡◌, ℕ, zero, suc, ◌<◌, List, [], ◌∷◌, ◌++◌, refl, sym, ap, ◌∙◌, arith, length, map}
+use Rattle.std.proofs.Common.{slice_set}
 use Rattle.pf_model.specs.Configuration.{Process, Core, of, with_process, process_at}
 use Rattle.pf_ties.specs.Ties.{AllTies}
 use Rattle.pf_ties.specs.Laws.{process_ties, ties_of}
@@ -8,7 +9,8 @@ use Rattle.std.proofs.lemmas.List.{length-map}
 
 -- ---- lists
 
-pub set_map : {A B : Type 0} (f : A → B) (a : ℕ) (xs : List A) (x : A) → map f (slice_set xs a x) ≡ slice_set (map f xs) a (f x)
+pub set_map : {A B : Type 0} (f : A → B) (a : ℕ) (xs : List A) (x : A)
+    → map f (slice_set xs a x) ≡ slice_set (map f xs) a (f x)
 set_map f a [] x = refl
 set_map f zero (y ∷ xs) x = refl
 set_map f (suc a) (y ∷ xs) x = ap (λ z. f y ∷ z) (set_map f a xs x)
@@ -31,7 +33,8 @@ pub more_length : {A : Type 0} (xs : List A) (x : A) → length (xs ++ x ∷ [])
 more_length [] x = refl
 more_length (y ∷ xs) x = ap suc (more_length xs x)
 
-pub set_front : {A : Type 0} (a : ℕ) (xs ys : List A) (x : A) → a < length xs → slice_set (xs ++ ys) a x ≡ slice_set xs a x ++ ys
+pub set_front : {A : Type 0} (a : ℕ) (xs ys : List A) (x : A) → a < length xs
+    → slice_set (xs ++ ys) a x ≡ slice_set xs a x ++ ys
 set_front a [] ys x l = absurd (omega arith)
 set_front zero (y ∷ xs) ys x l = refl
 set_front (suc a) (y ∷ xs) ys x l = ap (λ k. y ∷ k) (set_front a xs ys x (omega arith))
@@ -45,22 +48,27 @@ joined_again (p ∷ ps) = ap (λ z. p ∷ z) (joined_again ps)
 abbrev with_list : Core → List Process → Core
 with_list c ps = record { processes = ps; names = c.names; next_reference = c.next_reference; most = c.most }
 
-pub core_again : (c : Core) (bs : List Body) (t : AllTies) (n : ℕ) → bodies_of c ≡ bs → ties_of c ≡ t → c.most ≡ n → core_with bs t n ≡ c
+pub core_again : (c : Core) (bs : List Body) (t : AllTies) (n : ℕ) → bodies_of c ≡ bs → ties_of c ≡ t → c.most ≡ n
+    → core_with bs t n ≡ c
 core_again c bs t n e f g =
-    ap (λ b. core_with b t n) (sym e) ∙ ap (λ z. core_with (bodies_of c) z n) (sym f) ∙ ap (core_with (bodies_of c) (ties_of c)) (sym g)
+    ap (λ b. core_with b t n) (sym e) ∙ ap (λ z. core_with (bodies_of c) z n) (sym f)
+    ∙ ap (core_with (bodies_of c) (ties_of c)) (sym g)
     ∙ ap (with_list c) (joined_again c.processes)
 
 -- ---- one process
 
-set_same : {A : Type 0} (f : Process → A) (a : ℕ) (ps : List Process) (x : A) → x ≡ f (process_at a ps) → slice_set (map f ps) a x ≡ map f ps
+set_same : {A : Type 0} (f : Process → A) (a : ℕ) (ps : List Process) (x : A) → x ≡ f (process_at a ps)
+    → slice_set (map f ps) a x ≡ map f ps
 set_same f a [] x e = refl
 set_same f zero (p ∷ ps) x e = ap (λ z. z ∷ map f ps) e
 set_same f (suc a) (p ∷ ps) x e = ap (λ z. f p ∷ z) (set_same f a ps x e)
 
-pub bodies_changed : (c : Core) (a : ℕ) (p : Process) → bodies_of (with_process c a p) ≡ slice_set (bodies_of c) a (process_body p)
+pub bodies_changed : (c : Core) (a : ℕ) (p : Process)
+    → bodies_of (with_process c a p) ≡ slice_set (bodies_of c) a (process_body p)
 bodies_changed c a p = set_map process_body a c.processes p
 
-pub bodies_same : (c : Core) (a : ℕ) (p : Process) → process_body p ≡ process_body (of c a) → bodies_of (with_process c a p) ≡ bodies_of c
+pub bodies_same : (c : Core) (a : ℕ) (p : Process) → process_body p ≡ process_body (of c a)
+    → bodies_of (with_process c a p) ≡ bodies_of c
 bodies_same c a p e = bodies_changed c a p ∙ set_same process_body a c.processes (process_body p) e
 
 pub length_of : (c : Core) → length c.processes ≡ length (bodies_of c)

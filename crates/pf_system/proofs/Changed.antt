@@ -1,5 +1,6 @@
 -- Processes of which the slot of one is changed.
-use Rattle.std.proofs.Common.{◌≡◌, ℕ, zero, suc, ◌+◌, ◌<◌, ◌≤◌, true, false, List, [], ◌∷◌, Option, Some, refl, sym, ap, ◌∙◌, subst, arith, length, map, slice_set}
+use Rattle.std.proofs.Common.{◌≡◌, ℕ, zero, suc, ◌+◌, ◌<◌, ◌≤◌, true, false, List, [], ◌∷◌, Option, Some, refl, sym, ap}
+use Rattle.std.proofs.Common.{◌∙◌, subst, arith, length, map, slice_set}
 use Rattle.std.specs.Prelude.{slice_get}
 use Rattle.pf_sorted.specs.Maps.{with_number, without_number}
 use Rattle.pf_model.specs.Configuration.{Process, Core, of, with_process, process_at}
@@ -33,7 +34,8 @@ get_set a [] x l = absurd (omega arith)
 get_set zero (y ∷ xs) x l = refl
 get_set (suc a) (y ∷ xs) x l = get_set a xs x (omega arith)
 
-body_get : (a : ℕ) (ps : List Process) (ss : List Slot) (s : Slot) → map process_body ps ≡ map slot_body ss → slice_get ss a ≡ Some s
+body_get : (a : ℕ) (ps : List Process) (ss : List Slot) (s : Slot) → map process_body ps ≡ map slot_body ss
+    → slice_get ss a ≡ Some s
     → process_body (process_at a ps) ≡ slot_body s
 body_get a ps [] s e h = absurd (cc)
 body_get a [] (x ∷ ss) s e h = absurd (cc)
@@ -42,18 +44,21 @@ body_get zero (p ∷ ps) (x ∷ ss) s e h =
 body_get (suc a) (p ∷ ps) (x ∷ ss) s e h =
     let k : map process_body ps ≡ map slot_body ss = cc in body_get a ps ss s k h
 
-pub sound_at : (m : Checked) (n a : ℕ) (ss : List Slot) (s : Slot) → SlotsAreSound m n ss → slice_get ss a ≡ Some s → SlotIsSound m (n + a) s
+pub sound_at : (m : Checked) (n a : ℕ) (ss : List Slot) (s : Slot) → SlotsAreSound m n ss → slice_get ss a ≡ Some s
+    → SlotIsSound m (n + a) s
 sound_at m n a [] s h e = absurd (cc)
 sound_at m n zero (x ∷ ss) s h e =
     let k : n ≡ n + zero = omega arith in subst (λ j. SlotIsSound m j s) k (subst (SlotIsSound m n) (some_is x s e) h.0)
 sound_at m n (suc a) (x ∷ ss) s h e =
     let k : suc n + a ≡ n + suc a = omega arith in subst (λ j. SlotIsSound m j s) k (sound_at m (suc n) a ss s h.1 e)
 
-pub sound_set : (m : Checked) (n a : ℕ) (ss : List Slot) (s : Slot) → SlotsAreSound m n ss → SlotIsSound m (n + a) s → SlotsAreSound m n (slice_set ss a s)
+pub sound_set : (m : Checked) (n a : ℕ) (ss : List Slot) (s : Slot) → SlotsAreSound m n ss → SlotIsSound m (n + a) s
+    → SlotsAreSound m n (slice_set ss a s)
 sound_set m n a [] s h k = tt
 sound_set m n zero (x ∷ ss) s h k = let e : n + zero ≡ n = omega arith in (subst (λ j. SlotIsSound m j s) e k, h.1)
 sound_set m n (suc a) (x ∷ ss) s h k =
-    let e : n + suc a ≡ suc n + a = omega arith in (h.0, sound_set m (suc n) a ss s h.1 (subst (λ j. SlotIsSound m j s) e k))
+    let e : n + suc a ≡ suc n + a = omega arith in
+    (h.0, sound_set m (suc n) a ss s h.1 (subst (λ j. SlotIsSound m j s) e k))
 
 -- ---- all processes
 
@@ -61,7 +66,8 @@ pub again : (w : Processes) (c : Core) → Represents w c → core_of w ≡ c
 again w c h = core_again c (bodies_in w) w.shared.ties w.basis.most h.bodies h.ties h.room.most
 
 -- a process whose slot is there has its body
-pub body_at : (w : Processes) (c : Core) (a : ℕ) (s : Slot) → Represents w c → slice_get w.slots.items a ≡ Some s → process_body (of c a) ≡ slot_body s
+pub body_at : (w : Processes) (c : Core) (a : ℕ) (s : Slot) → Represents w c → slice_get w.slots.items a ≡ Some s
+    → process_body (of c a) ≡ slot_body s
 body_at w c a s h e = body_get a c.processes w.slots.items s h.bodies e
 
 pub slots_length : (w : Processes) (c : Core) → Represents w c → length w.slots.items ≡ length c.processes
@@ -72,21 +78,26 @@ ties_length_in w c h = ap (λ t. length t.processes) (sym h.ties) ∙ ties_lengt
 
 -- one slot is changed, and all else stays
 module _ (w w' : Processes) (c : Core) (a : ℕ) (s' : Slot) where
-  pub ran_but : Represents w c → a < length w.slots.items → w'.slots.items ≡ slice_set w.slots.items a s' → w'.shared ≡ w.shared → w'.ready ≡ w.ready
+  pub ran_but : Represents w c → a < length w.slots.items → w'.slots.items ≡ slice_set w.slots.items a s'
+      → w'.shared ≡ w.shared → w'.ready ≡ w.ready
       → w'.basis ≡ w.basis → RepresentsBut w' c a
   ran_but h l e b r m =
       record {
         there = let k = ap length e ∙ set_length a w.slots.items s' in omega arith;
         bodies = λ x. ap (λ bs. slice_set bs a x) h.bodies
-            ∙ sym (ap (λ ss. slice_set (map slot_body ss) a x) e ∙ ap (λ bs. slice_set bs a x) (set_map slot_body a w.slots.items s') ∙ set_twice a (bodies_in w) (slot_body s') x);
+            ∙ sym (ap (λ ss. slice_set (map slot_body ss) a x) e ∙ ap (λ bs. slice_set bs a x)
+            (set_map slot_body a w.slots.items s') ∙ set_twice a (bodies_in w) (slot_body s') x);
         ties = h.ties ∙ ap (λ k. k.ties) (sym b);
         ready = r ∙ h.ready;
         slots = λ x k.
             let j : a ≡ zero + a = omega arith in
-            let g : SlotIsSound (checked_in w) (zero + a) x = subst (λ z. SlotIsSound (checked_in w) z x) j (subst (λ z. SlotIsSound z.module.value a x) m k) in
-            let d : slice_set w'.slots.items a x ≡ slice_set w.slots.items a x = ap (λ ss. slice_set ss a x) e ∙ set_twice a w.slots.items s' x in
+            let g : SlotIsSound (checked_in w) (zero + a) x = subst (λ z. SlotIsSound (checked_in w) z x) j
+            (subst (λ z. SlotIsSound z.module.value a x) m k) in
+            let d : slice_set w'.slots.items a x ≡ slice_set w.slots.items a x = ap (λ ss. slice_set ss a x) e
+            ∙ set_twice a w.slots.items s' x in
             subst (λ ss. SlotsAreSound (checked_in w') zero ss) (sym d)
-            (subst (λ z. SlotsAreSound z.module.value zero (slice_set w.slots.items a x)) (sym m) (sound_set (checked_in w) zero a w.slots.items x h.slots g));
+            (subst (λ z. SlotsAreSound z.module.value zero (slice_set w.slots.items a x)) (sym m)
+            (sound_set (checked_in w) zero a w.slots.items x h.slots g));
         room = record {
           rows = subst (λ k. length c.processes ≤ length k.channels) (sym b) h.room.rows;
           few = h.room.few;
@@ -95,12 +106,18 @@ module _ (w w' : Processes) (c : Core) (a : ℕ) (s' : Slot) where
         };
       }
 
-  pub left_at : (x : MachineStatus) → SlotIsLeft (checked_in w) a x s' → a < length w.slots.items → w'.slots.items ≡ slice_set w.slots.items a s' → w'.basis ≡ w.basis → IsLeftAt w' a x s'
+  pub left_at : (x : MachineStatus) → SlotIsLeft (checked_in w) a x s' → a < length w.slots.items
+      → w'.slots.items ≡ slice_set w.slots.items a s' → w'.basis ≡ w.basis → IsLeftAt w' a x s'
   left_at x h l e m =
-      record { at = ap (λ ss. slice_get ss a) e ∙ get_set a w.slots.items s' l; leaves = subst (λ z. SlotIsLeft z.module.value a x s') (sym m) h }
+      record {
+        at = ap (λ ss. slice_get ss a) e ∙ get_set a w.slots.items s' l;
+        leaves =
+            subst (λ z. SlotIsLeft z.module.value a x s') (sym m) h;
+      }
 
   -- the process has its slot again
-  pub put_back : (p : Process) → RepresentsBut w c a → process_body p ≡ slot_body s' → process_ties p ≡ process_ties (of c a) → SlotIsSound (checked_in w) a s'
+  pub put_back : (p : Process) → RepresentsBut w c a → process_body p ≡ slot_body s'
+      → process_ties p ≡ process_ties (of c a) → SlotIsSound (checked_in w) a s'
       → w'.slots.items ≡ slice_set w.slots.items a s' → w'.shared ≡ w.shared → w'.basis ≡ w.basis
       → w'.ready ≡ pids_in_state can_go zero (with_process c a p).processes → Represents w' (with_process c a p)
   put_back p h y t k e b m r =
@@ -123,20 +140,25 @@ module _ (w w' : Processes) (c : Core) (a : ℕ) (s' : Slot) where
 -- ---- who can go
 
 module _ (c : Core) (a : ℕ) (p : Process) (l : a < length c.processes) where
-  by_changed : pids_in_state can_go zero (with_process c a p).processes ≡ numbers_in can_go zero (slice_set (bodies_of c) a (process_body p))
+  by_changed : pids_in_state can_go zero (with_process c a p).processes ≡ numbers_in can_go zero
+      (slice_set (bodies_of c) a (process_body p))
   by_changed = by_bodies can_go zero (with_process c a p).processes ∙ ap (numbers_in can_go zero) (bodies_changed c a p)
 
   in_range : a < length (bodies_of c)
   in_range = let k = length_of c in omega arith
 
-  pub goes_no_more : can_go p.state ≡ false → pids_in_state can_go zero (with_process c a p).processes ≡ without_number a (pids_in_state can_go zero c.processes)
+  pub goes_no_more : can_go p.state ≡ false → pids_in_state can_go zero (with_process c a p).processes
+      ≡ without_number a (pids_in_state can_go zero c.processes)
   goes_no_more e =
       let z : zero + a ≡ a = omega arith in
-      by_changed ∙ gone_in can_go zero (bodies_of c) a (process_body p) in_range e ∙ ap (λ k. without_number k (numbers_in can_go zero (bodies_of c))) z
+      by_changed ∙ gone_in can_go zero (bodies_of c) a (process_body p) in_range e
+      ∙ ap (λ k. without_number k (numbers_in can_go zero (bodies_of c))) z
       ∙ ap (without_number a) (sym (by_bodies can_go zero c.processes))
 
-  pub goes_now : can_go p.state ≡ true → pids_in_state can_go zero (with_process c a p).processes ≡ with_number a (pids_in_state can_go zero c.processes)
+  pub goes_now : can_go p.state ≡ true → pids_in_state can_go zero (with_process c a p).processes ≡ with_number a
+      (pids_in_state can_go zero c.processes)
   goes_now e =
       let z : zero + a ≡ a = omega arith in
-      by_changed ∙ woken_in can_go zero (bodies_of c) a (process_body p) in_range e ∙ ap (λ k. with_number k (numbers_in can_go zero (bodies_of c))) z
+      by_changed ∙ woken_in can_go zero (bodies_of c) a (process_body p) in_range e
+      ∙ ap (λ k. with_number k (numbers_in can_go zero (bodies_of c))) z
       ∙ ap (with_number a) (sym (by_bodies can_go zero c.processes))

@@ -1,5 +1,6 @@
 -- Deliveries, row by row.
-use Rattle.std.proofs.Common.{◌≡◌, ℕ, zero, suc, ◌<◌, ◌≤◌, Bool, true, false, ◌&&◌, if◌then◌else◌, List, [], ◌∷◌, Option, Some, None, is_some, refl, sym, ap, ◌∙◌, subst, arith, length, slice_set}
+use Rattle.std.proofs.Common.{◌≡◌, ℕ, zero, suc, ◌<◌, ◌≤◌, Bool, true, false, ◌&&◌, if◌then◌else◌, List, [], ◌∷◌}
+use Rattle.std.proofs.Common.{Option, Some, None, is_some, refl, sym, ap, ◌∙◌, subst, arith, length, slice_set}
 use Rattle.pf_terms.specs.Value.{Value}
 use Rattle.pf_sorted.specs.Maps.{got, has, without, without_number}
 use Rattle.pf_model.specs.Channels as signal
@@ -56,13 +57,16 @@ shaped w c b h e =
 
 -- ---- a signal at a process that ended
 
-pub dropped_there : (w : Processes) (c : Core) (b : ℕ) (s : Signal) (l : Label) → Represents w c → label_of l ≡ delivers s label.dropped
+pub dropped_there : (w : Processes) (c : Core) (b : ℕ) (s : Signal) (l : Label) → Represents w c
+    → label_of l ≡ delivers s label.dropped
     → Shown b (drops c s) w.shared.channels w l w
 dropped_there w c b s l h e = record { done = done_so w w b (leaving c []) h h.room.rows refl refl; label = e }
 
 -- one signal goes back
-pub replied : (w w' : Processes) (c : Core) (b to : ℕ) (s : Signal) → Represents w c → w'.slots.items ≡ w.slots.items → w'.ready ≡ w.ready → w'.basis ≡ w.basis
-    → w'.shared.ties ≡ w.shared.ties → w'.shared.channels ≡ sent b to s w.shared.channels → Done b (leaving c ((to, s) ∷ [])) w.shared.channels w w'
+pub replied : (w w' : Processes) (c : Core) (b to : ℕ) (s : Signal) → Represents w c → w'.slots.items ≡ w.slots.items
+    → w'.ready ≡ w.ready → w'.basis ≡ w.basis
+    → w'.shared.ties ≡ w.shared.ties → w'.shared.channels ≡ sent b to s w.shared.channels
+    → Done b (leaving c ((to, s) ∷ [])) w.shared.channels w w'
 replied w w' c b to s h e r m t k =
     let n = sent_length b to s w.shared.channels in
     let q = ap length k in
@@ -71,17 +75,21 @@ replied w w' c b to s h e r m t k =
 -- ---- a signal at a process that lives
 
 -- a message, after its ties were changed
-pub with_mail : (w w1 w' : Processes) (c : Core) (b : ℕ) (v : Value) → PlacesMessage c b v w1 w' → length c.processes ≤ length w.shared.channels
+pub with_mail : (w w1 w' : Processes) (c : Core) (b : ℕ) (v : Value) → PlacesMessage c b v w1 w'
+    → length c.processes ≤ length w.shared.channels
     → w1.shared.channels ≡ w.shared.channels → w1.basis ≡ w.basis
     → Done b (leaving (with_process c b (with_message (of c b) v)) []) w.shared.channels w w'
 with_mail w w1 w' c b v h n e m =
     let k = set_length b c.processes (with_message (of c b) v) in
-    done_so w w' b (leaving (with_process c b (with_message (of c b) v)) []) h.stands (omega arith) (ap (λ z. z.channels) h.shared ∙ e) (h.basis ∙ m)
+    done_so w w' b (leaving (with_process c b (with_message (of c b) v)) []) h.stands (omega arith)
+    (ap (λ z. z.channels) h.shared ∙ e) (h.basis ∙ m)
 
 -- ties alone
-pub tied_so : (w w' : Processes) (c : Core) (b : ℕ) (p : Process) → Represents w c → process_body p ≡ process_body (of c b)
+pub tied_so : (w w' : Processes) (c : Core) (b : ℕ) (p : Process) → Represents w c
+    → process_body p ≡ process_body (of c b)
     → w'.slots.items ≡ w.slots.items → w'.ready ≡ w.ready → w'.basis ≡ w.basis
-    → ties_of (with_process c b p) ≡ w'.shared.ties → w'.shared.channels ≡ w.shared.channels → Done b (leaving (with_process c b p) []) w.shared.channels w w'
+    → ties_of (with_process c b p) ≡ w'.shared.ties → w'.shared.channels ≡ w.shared.channels
+    → Done b (leaving (with_process c b p) []) w.shared.channels w w'
 tied_so w w' c b p h y e r m t k =
     let n = set_length b c.processes p in
     let q = h.room.rows in
@@ -98,7 +106,8 @@ forgets c b r = with_process c b (record (of c b) { active = without r (of c b).
 
 module _ (w w1 w' : Processes) (c : Core) (a b r : ℕ) (v : Value) (x : Suffix) (h : Represents w c)
     (slots : w1.slots.items ≡ w.slots.items) (ready : w1.ready ≡ w.ready) (basis : w1.basis ≡ w.basis)
-    (changed : w1.shared.ties ≡ ties.demonitored w.shared.ties b r) (rows : w1.shared.channels ≡ w.shared.channels) where
+    (changed : w1.shared.ties ≡ ties.demonitored w.shared.ties b r)
+    (rows : w1.shared.channels ≡ w.shared.channels) where
   active_here : (t : Bool) → t ≡ is_some (got r (ties.of w.shared.ties b).active) → is_some (got r (of c b).active) ≡ t
   active_here t e = sym (e ∙ ap (λ z. is_some (got r z.active)) (ties_here w c b h))
 
@@ -108,11 +117,13 @@ module _ (w w1 w' : Processes) (c : Core) (a b r : ℕ) (v : Value) (x : Suffix)
       let o = none_so (got r (of c b).active) (active_here false e) in
       let d : at_living c a b (signal.down r v) ≡ drops c (signal.down r v) = ap (deliveries.down_at c a b r v) o in
       let t : ties_of c ≡ w1.shared.ties =
-      ap (λ z. ties_of z.left.core) (sym d) ∙ follow_deliveries.down c a b r v ∙ ap (λ z. ties.demonitored z b r) h.ties ∙ sym changed in
+      ap (λ z. ties_of z.left.core) (sym d) ∙ follow_deliveries.down c a b r v ∙ ap (λ z. ties.demonitored z b r) h.ties
+      ∙ sym changed in
       let n = ap length rows in
       subst (λ z. SuffixShown b (signal.down r v) z w x w1) (sym d)
       (record {
-        done = done_so w w1 b (leaving c []) (rows_more w w1 c slots ready basis h t (omega arith)) h.room.rows rows basis;
+        done = done_so w w1 b (leaving c []) (rows_more w w1 c slots ready basis h t (omega arith))
+            h.room.rows rows basis;
         label = ap (delivers (signal.down r v)) q;
       })
 
@@ -123,7 +134,8 @@ module _ (w w1 w' : Processes) (c : Core) (a b r : ℕ) (v : Value) (x : Suffix)
       ∙ ap (λ z. ties.demonitored z b r) h.ties ∙ sym changed in
       tied w w1 c slots ready basis b (record (of c b) { active = without r (of c b).active }) h refl t rows
 
-  down_by : (o : Option ℕ) → got r (of c b).active ≡ o → is_some o ≡ true → b < length c.processes → is_alive (of c b).state ≡ true
+  down_by : (o : Option ℕ) → got r (of c b).active ≡ o → is_some o ≡ true → b < length c.processes
+      → is_alive (of c b).state ≡ true
       → suffix_of x ≡ label.took_effect → PlacesOf b (deliveries.down_message r a v) w1 w'
       → SuffixShown b (signal.down r v) (deliveries.down_at c a b r v o) w x w'
   down_by None e k l alive q indices = absurd (cc)
@@ -132,17 +144,20 @@ module _ (w w1 w' : Processes) (c : Core) (a b r : ℕ) (v : Value) (x : Suffix)
       let m : Value = deliveries.down_message r a v in
       let here : of (forgets c b r) b ≡ y = at_set b c.processes y l in
       let put = indices (forgets c b r) (forgets_stands p e) (ap (λ z. is_alive z.state) here ∙ alive) in
-      let same : with_process (forgets c b r) b (with_message (of (forgets c b r) b) m) ≡ with_process c b (with_message y m) =
+      let same : with_process (forgets c b r) b (with_message (of (forgets c b r) b) m) ≡ with_process c b
+      (with_message y m) =
       ap (λ z. with_process (forgets c b r) b (with_message z m)) here
       ∙ ap {A = List Process} (λ ps. record c { processes = ps }) (set_twice b c.processes y (with_message y m)) in
       let n = set_length b c.processes y in
       let size = h.room.rows in
       record {
-        done = subst (λ z. Done b (leaving z []) w.shared.channels w w') same (with_mail w w1 w' (forgets c b r) b m put (omega arith) rows basis);
+        done = subst (λ z. Done b (leaving z []) w.shared.channels w w') same
+            (with_mail w w1 w' (forgets c b r) b m put (omega arith) rows basis);
         label = ap (delivers (signal.down r v)) q;
       }
 
-  pub down_placed : suffix_of x ≡ label.took_effect → true ≡ is_some (got r (ties.of w.shared.ties b).active) → b < length w.slots.items
+  pub down_placed : suffix_of x ≡ label.took_effect → true ≡ is_some (got r (ties.of w.shared.ties b).active)
+      → b < length w.slots.items
       → is_alive (of c b).state ≡ true → PlacesOf b (deliveries.down_message r a v) w1 w'
       → SuffixShown b (signal.down r v) (at_living c a b (signal.down r v)) w x w'
   down_placed q e l alive indices =
@@ -151,23 +166,28 @@ module _ (w w1 w' : Processes) (c : Core) (a b r : ℕ) (v : Value) (x : Suffix)
 
 -- ---- exit signals
 
-module _ (w w1 w' : Processes) (c : Core) (a b : ℕ) (by_link : Bool) (r : Value) (x : Suffix) (h : Represents w c) (l : b < length w.slots.items)
+module _ (w w1 w' : Processes) (c : Core) (a b : ℕ) (by_link : Bool) (r : Value) (x : Suffix) (h : Represents w c)
+    (l : b < length w.slots.items)
     (slots : w1.slots.items ≡ w.slots.items) (ready : w1.ready ≡ w.ready) (basis : w1.basis ≡ w.basis)
-    (changed : w1.shared.ties ≡ ties.exit_placed w.shared.ties a b by_link) (rows : w1.shared.channels ≡ w.shared.channels) where
+    (changed : w1.shared.ties ≡ ties.exit_placed w.shared.ties a b by_link)
+    (rows : w1.shared.channels ≡ w.shared.channels) where
   abbrev given : Bool → Core
   given t = if t then with_process c b (record (of c b) { links = without_number a (of c b).links }) else c
 
   given_stands : (t : Bool) → ties_of (given t) ≡ w1.shared.ties → Represents w1 (given t)
-  given_stands true e = tied w w1 c slots ready basis b (record (of c b) { links = without_number a (of c b).links }) h refl e rows
+  given_stands true e = tied w w1 c slots ready basis b
+      (record (of c b) { links = without_number a (of c b).links }) h refl e rows
   given_stands false e = let n = ap length rows in rows_more w w1 c slots ready basis h e (omega arith)
 
   pub unlinked_stands : Represents w1 (without_link c a b by_link)
   unlinked_stands =
-      given_stands (by_link && has a (of c b).links) (follow_deliveries.exit_placed c a b by_link ∙ ap (λ z. ties.exit_placed z a b by_link) h.ties ∙ sym changed)
+      given_stands (by_link && has a (of c b).links) (follow_deliveries.exit_placed c a b by_link
+      ∙ ap (λ z. ties.exit_placed z a b by_link) h.ties ∙ sym changed)
 
   given_state : (t : Bool) → (of (given t) b).state ≡ (of c b).state
   given_state true =
-      let n = slots_length w c h in ap (λ z. z.state) (at_set b c.processes (record (of c b) { links = without_number a (of c b).links }) (omega arith))
+      let n = slots_length w c h in ap (λ z. z.state)
+      (at_set b c.processes (record (of c b) { links = without_number a (of c b).links }) (omega arith))
   given_state false = refl
 
   given_length : (t : Bool) → length (given t).processes ≡ length c.processes
@@ -191,7 +211,8 @@ module _ (w w1 w' : Processes) (c : Core) (a b : ℕ) (by_link : Bool) (r : Valu
       ∙ ap (done_by (without_link c a b by_link) a b by_link r) (sym e) in
       subst (λ z. SuffixShown b (signal.exit by_link r) z w x w') (sym q) k
 
-  pub exit_dropped : w' ≡ w1 → suffix_of x ≡ label.dropped → fates.drops ≡ fate_at (ties.of w.shared.ties b) a b by_link r
+  pub exit_dropped : w' ≡ w1 → suffix_of x ≡ label.dropped
+      → fates.drops ≡ fate_at (ties.of w.shared.ties b) a b by_link r
       → SuffixShown b (signal.exit by_link r) (at_living c a b (signal.exit by_link r)) w x w'
   exit_dropped same q e =
       by_fate fates.drops e
@@ -201,7 +222,8 @@ module _ (w w1 w' : Processes) (c : Core) (a b : ℕ) (by_link : Bool) (r : Valu
         label = ap (delivers (signal.exit by_link r)) q;
       })
 
-  pub exit_placed : is_alive (of c b).state ≡ true → suffix_of x ≡ label.as_message → fates.becomes_message ≡ fate_at (ties.of w.shared.ties b) a b by_link r
+  pub exit_placed : is_alive (of c b).state ≡ true → suffix_of x ≡ label.as_message
+      → fates.becomes_message ≡ fate_at (ties.of w.shared.ties b) a b by_link r
       → PlacesOf b (deliveries.exit_message a r) w1 w'
       → SuffixShown b (signal.exit by_link r) (at_living c a b (signal.exit by_link r)) w x w'
   exit_placed alive q e indices =
@@ -212,7 +234,8 @@ module _ (w w1 w' : Processes) (c : Core) (a b : ℕ) (by_link : Bool) (r : Valu
         label = ap (delivers (signal.exit by_link r)) q;
       })
 
-  pub exit_ends : (e : Value) → suffix_of x ≡ label.ending_with e → fates.ends_with e ≡ fate_at (ties.of w.shared.ties b) a b by_link r
+  pub exit_ends : (e : Value) → suffix_of x ≡ label.ending_with e
+      → fates.ends_with e ≡ fate_at (ties.of w.shared.ties b) a b by_link r
       → Done b (ended_by (without_link c a b by_link) b (failed e)) w1.shared.channels w1 w'
       → SuffixShown b (signal.exit by_link r) (at_living c a b (signal.exit by_link r)) w x w'
   exit_ends v q e k =
@@ -220,7 +243,8 @@ module _ (w w1 w' : Processes) (c : Core) (a b : ℕ) (by_link : Bool) (r : Valu
       (record {
         done = record {
           stands = k.stands;
-          channels = k.channels ∙ ap (λ cs. posted b (ended_by (without_link c a b by_link) b (failed v)).sent (with_senders (length (ended_by (without_link c a b by_link) b (failed v)).core.processes) cs)) rows;
+          channels = k.channels ∙ ap (λ cs. posted b (ended_by (without_link c a b by_link) b (failed v)).sent
+              (with_senders (length (ended_by (without_link c a b by_link) b (failed v)).core.processes) cs)) rows;
           basis = k.basis ∙ basis;
         };
         label = ap (delivers (signal.exit by_link r)) q;
@@ -228,15 +252,20 @@ module _ (w w1 w' : Processes) (c : Core) (a b : ℕ) (by_link : Bool) (r : Valu
 
 -- ---- a signal that was taken from its channel
 
-pub delivered_so : (w w1 w' : Processes) (c : Core) (from to : ℕ) (s : Signal) (l : Label) → taken from to w.shared.channels ≡ Some (s, w1.shared.channels)
+pub delivered_so : (w w1 w' : Processes) (c : Core) (from to : ℕ) (s : Signal) (l : Label)
+    → taken from to w.shared.channels ≡ Some (s, w1.shared.channels)
     → w1.basis ≡ w.basis → Shown to (delivered c from to s) w1.shared.channels w1 l w' → Delivered c from to w l w'
 delivered_so w w1 w' c from to s l e m h =
     record {
       signal = s;
       others = w1.shared.channels;
       is_taken = e;
-      shown = record { done = record { stands = h.done.stands; channels = h.done.channels; basis = h.done.basis ∙ m }; label = h.label };
+      shown = record {
+        done = record { stands = h.done.stands; channels = h.done.channels; basis = h.done.basis ∙ m };
+        label = h.label;
+      };
     }
 
-pub by_life : (c : Core) (a b : ℕ) (s : Signal) (t : Bool) → t ≡ is_alive (of c b).state → delivered c a b s ≡ (if t then at_living c a b s else at_ended c a s)
+pub by_life : (c : Core) (a b : ℕ) (s : Signal) (t : Bool) → t ≡ is_alive (of c b).state
+    → delivered c a b s ≡ (if t then at_living c a b s else at_ended c a s)
 by_life c a b s t e = ap (λ z. if z then at_living c a b s else at_ended c a s) (sym e)

@@ -1,5 +1,6 @@
 -- A delivery, as a transition.
-use Rattle.std.proofs.Common.{◌≡◌, ℕ, zero, ◌+◌, ◌≤◌, Bool, true, false, Option, Some, None, refl, sym, ap, ◌∙◌, subst, arith, length}
+use Rattle.std.proofs.Common.{◌≡◌, ℕ, zero, ◌+◌, ◌≤◌, Bool, true, false, Option, Some, None, refl, sym, ap, ◌∙◌, subst}
+use Rattle.std.proofs.Common.{arith, length}
 use Rattle.pf_syntax.specs.Module.{Checked}
 use Rattle.pf_model.specs.Channels.{Channels}
 use Rattle.pf_model.specs.Configuration.{Core, Configuration}
@@ -21,11 +22,13 @@ abbrev pub both : Core → Channels → Configuration
 both c cs = record { core = c; channels = cs }
 
 -- what is seen of a system that isn't spent
-pub unspent : (s : SystemView) (m : Checked) (k : ℕ) (t : Bool) (d : Configuration) → view_of_system m k (unless_spent t d) ≡ s → t ≡ false → s ≡ view_of_system m k (Some d)
+pub unspent : (s : SystemView) (m : Checked) (k : ℕ) (t : Bool) (d : Configuration)
+    → view_of_system m k (unless_spent t d) ≡ s → t ≡ false → s ≡ view_of_system m k (Some d)
 unspent s m k t d e f = sym e ∙ ap (λ z. view_of_system m k (unless_spent z d)) f
 
 -- no more processes can go than there may be
-pub ready_few : (s : Inside) (v : SystemView) (c : Configuration) → view_of_inside s ≡ v → IsValid s → v.standing ≡ Some c
+pub ready_few : (s : Inside) (v : SystemView) (c : Configuration) → view_of_inside s ≡ v → IsValid s
+    → v.standing ≡ Some c
     → length s.processes.ready ≤ MOST_PROCESSES
 ready_few s v c e valid stands = by s.spent refl
   where
@@ -34,7 +37,8 @@ ready_few s v c e valid stands = by s.spent refl
 
     by : (t : Bool) → s.spent ≡ t → length s.processes.ready ≤ MOST_PROCESSES
     by true q =
-        let gone : ◌≡◌ {A = Option Configuration} None (Some c) = ap (λ t. unless_spent t (configuration_of s.processes)) (sym q) ∙ stood in absurd (cc)
+        let gone : ◌≡◌ {A = Option Configuration} None (Some c) =
+        ap (λ t. unless_spent t (configuration_of s.processes)) (sym q) ∙ stood in absurd (cc)
     by false q =
         let w = (valid q).stands in
         let few : length (pids_in_state can_go zero (core_of s.processes).processes) ≤ MOST_PROCESSES =
@@ -46,20 +50,25 @@ pub stands_itself : (w : Processes) (c : Core) → Represents w c → Represents
 stands_itself w c h = subst (Represents w) (sym (again w c h)) h
 
 -- what a system needs is true after a change that leaves module and limit as they were
-pub kept_after : (m : Checked) (w w' : Processes) (c : Core) → RunsModule m w → Represents w' c → w'.basis ≡ w.basis → RunsModule m w'
+pub kept_after : (m : Checked) (w w' : Processes) (c : Core) → RunsModule m w → Represents w' c → w'.basis ≡ w.basis
+    → RunsModule m w'
 kept_after m w w' c h s e = record { stands = stands_itself w' c s; code = ap (λ z. z.module.value) e ∙ h.code }
 
-pub still_kept : (m : Checked) (w w' : Processes) (from to : ℕ) (l : Label) → RunsModule m w → Delivered (core_of w) from to w l w' → RunsModule m w'
-still_kept m w w' from to l k h = kept_after m w w' (delivered (core_of w) from to h.signal).left.core k h.shown.done.stands h.shown.done.basis
+pub still_kept : (m : Checked) (w w' : Processes) (from to : ℕ) (l : Label) → RunsModule m w
+    → Delivered (core_of w) from to w l w' → RunsModule m w'
+still_kept m w w' from to l k h = kept_after m w w' (delivered (core_of w) from to h.signal).left.core k
+    h.shown.done.stands h.shown.done.basis
 
-pub delivery_passes : (m : Checked) (w w' : Processes) (k from to : ℕ) (l : Label) → Delivered (core_of w) from to w l w'
+pub delivery_passes : (m : Checked) (w w' : Processes) (k from to : ℕ) (l : Label)
+    → Delivered (core_of w) from to w l w'
     → SimulatesTransition 1 (view_of_system m k (Some (configuration_of w))) (Channel from to) (label_of l) 1
     (view_of_system m (k + 1) (Some (configuration_of w')))
 delivery_passes m w w' k from to l h =
     let d = delivered (core_of w) from to h.signal in
     let p : Passed = passed to d h.others (Some h.signal) 1 in
     let e : configuration_of w' ≡ p.after =
-    ap (λ c. both c w'.shared.channels) (again w' d.left.core h.shown.done.stands) ∙ ap (both d.left.core) h.shown.done.channels in
+    ap (λ c. both c w'.shared.channels) (again w' d.left.core h.shown.done.stands)
+    ∙ ap (both d.left.core) h.shown.done.channels in
     record {
       before = configuration_of w;
       passed = p;

@@ -1,5 +1,6 @@
 -- A message that arrives at a process.
-use Rattle.std.proofs.Common.{◌≡◌, ℕ, zero, ◌+◌, ◌<◌, Bool, true, false, Some, if◌then◌else◌, refl, sym, ap, ◌∙◌, subst, arith, length, slice_set, slice_get}
+use Rattle.std.proofs.Common.{◌≡◌, ℕ, zero, ◌+◌, ◌<◌, Bool, true, false, Some, if◌then◌else◌, refl, sym, ap, ◌∙◌, subst}
+use Rattle.std.proofs.Common.{arith, length, slice_set, slice_get}
 use Rattle.pf_terms.specs.Value.{Value}
 use Rattle.pf_syntax.specs.Module.{Checked}
 use Rattle.pf_model.specs.Context.{ProcessState, running, waiting, ending, ended}
@@ -24,7 +25,8 @@ stands_but w c a h l =
       bodies = λ x. ap (λ bs. slice_set bs a x) h.bodies;
       ties = h.ties;
       ready = h.ready;
-      slots = λ s k. let e : a ≡ zero + a = omega arith in sound_set (checked_in w) zero a w.slots.items s h.slots (subst (λ j. SlotIsSound (checked_in w) j s) e k);
+      slots = λ s k. let e : a ≡ zero + a = omega arith in sound_set (checked_in w) zero a w.slots.items s h.slots
+          (subst (λ j. SlotIsSound (checked_in w) j s) e k);
       room = h.room;
     }
 
@@ -50,12 +52,14 @@ pub message_ties : (p : Process) (v : Value) → process_ties (with_message p v)
 message_ties p v = ap (λ b. record (process_ties p) { lives = b }) (woken_alive p.state)
 
 module _ (w w' : Processes) (b : ℕ) (v : Value) (s s' : Slot) where
-  ready_so : (c : Core) (t : Bool) → Represents w c → b < length c.processes → t ≡ is_waiting (of c b).state → w'.ready ≡ (if t then with_number b w.ready else w.ready)
+  ready_so : (c : Core) (t : Bool) → Represents w c → b < length c.processes → t ≡ is_waiting (of c b).state
+      → w'.ready ≡ (if t then with_number b w.ready else w.ready)
       → w'.ready ≡ pids_in_state can_go zero (with_process c b (with_message (of c b) v)).processes
   ready_so c true h l e r =
       r ∙ ap (with_number b) h.ready ∙ sym (goes_now c b (with_message (of c b) v) l (wakes (of c b).state (sym e)))
   ready_so c false h l e r =
-      r ∙ h.ready ∙ sym (numbers_kept can_go zero c.processes b (with_message (of c b) v) (stays (of c b).state (sym e)))
+      r ∙ h.ready ∙ sym (numbers_kept can_go zero c.processes b (with_message (of c b) v)
+      (stays (of c b).state (sym e)))
 
   pub placed : (t : Bool) → slice_get w.slots.items b ≡ Some s
       → ((m : Checked) (own : ℕ) → SlotIsSound m own s → PutsIn m own (with_one_message v (slot_body s)) s')
@@ -66,12 +70,14 @@ module _ (w w' : Processes) (b : ℕ) (v : Value) (s s' : Slot) where
       let l = get_within b w.slots.items s at in
       let y = body_at w c b s h at in
       let pid : zero + b ≡ b = omega arith in
-      let sound = subst (λ j. SlotIsSound (checked_in w) j s) pid (sound_at (checked_in w) zero b w.slots.items s h.slots at) in
+      let sound = subst (λ j. SlotIsSound (checked_in w) j s) pid
+      (sound_at (checked_in w) zero b w.slots.items s h.slots at) in
       let put = puts (checked_in w) b sound in
       let n : b < length c.processes = omega (arith, slots_length w c h) in
       let q : t ≡ is_waiting (of c b).state = waits (checked_in w) b sound ∙ ap (λ z. is_waiting z.state) (sym y) in
       record {
-        stands = put_back w w' c b s' (with_message (of c b) v) (stands_but w c b h l) (ap (with_one_message v) y ∙ sym put.is) (message_ties (of c b) v) put.sound
+        stands = put_back w w' c b s' (with_message (of c b) v) (stands_but w c b h l)
+            (ap (with_one_message v) y ∙ sym put.is) (message_ties (of c b) v) put.sound
             e k m (ready_so c t h n q r);
         shared = k;
         basis = m;

@@ -1,5 +1,6 @@
 -- The processes that can go, as their bodies change.
-use Rattle.std.proofs.Common.{◌≡◌, ℕ, zero, suc, ◌+◌, ◌<◌, ◌≤◌, ◌==◌, Bool, true, false, List, [], ◌∷◌, ◌++◌, if◌then◌else◌, refl, sym, ap, ◌∙◌, arith, nat_lt, length, map, slice_set}
+use Rattle.std.proofs.Common.{◌≡◌, ℕ, zero, suc, ◌+◌, ◌<◌, ◌≤◌, ◌==◌, Bool, true, false, List, [], ◌∷◌, ◌++◌}
+use Rattle.std.proofs.Common.{if◌then◌else◌, refl, sym, ap, ◌∙◌, arith, nat_lt, length, map, slice_set}
 use Rattle.pf_model.specs.Context.{ProcessState}
 use Rattle.pf_sorted.specs.Maps.{with_number, without_number}
 use Rattle.pf_model.specs.Configuration.{Process, Core, process_at}
@@ -12,11 +13,13 @@ abbrev pub numbers_in : (ProcessState → Bool) → ℕ → List Body → List �
 numbers_in so n [] = []
 numbers_in so n (b ∷ bs) = if so b.state then n ∷ numbers_in so (suc n) bs else numbers_in so (suc n) bs
 
-pub by_bodies : (so : ProcessState → Bool) (n : ℕ) (ps : List Process) → pids_in_state so n ps ≡ numbers_in so n (map process_body ps)
+pub by_bodies : (so : ProcessState → Bool) (n : ℕ) (ps : List Process)
+    → pids_in_state so n ps ≡ numbers_in so n (map process_body ps)
 by_bodies so n [] = refl
 by_bodies so n (p ∷ ps) = by (by_bodies so (suc n) ps) (so p.state)
   where
-    by : pids_in_state so (suc n) ps ≡ numbers_in so (suc n) (map process_body ps) → (t : Bool) → (if t then n ∷ pids_in_state so (suc n) ps else pids_in_state so (suc n) ps)
+    by : pids_in_state so (suc n) ps ≡ numbers_in so (suc n) (map process_body ps) → (t : Bool)
+        → (if t then n ∷ pids_in_state so (suc n) ps else pids_in_state so (suc n) ps)
         ≡ (if t then n ∷ numbers_in so (suc n) (map process_body ps) else numbers_in so (suc n) (map process_body ps))
     by h true = ap (λ z. n ∷ z) h
     by h false = h
@@ -32,7 +35,8 @@ numbers_few so n (p ∷ ps) = by (so p.state) (numbers_few so (suc n) ps)
     by false h = omega arith
 
 -- the same bodies, the same numbers
-pub numbers_alike : (so : ProcessState → Bool) (n : ℕ) (c d : Core) → bodies_of c ≡ bodies_of d → pids_in_state so n c.processes ≡ pids_in_state so n d.processes
+pub numbers_alike : (so : ProcessState → Bool) (n : ℕ) (c d : Core) → bodies_of c ≡ bodies_of d
+    → pids_in_state so n c.processes ≡ pids_in_state so n d.processes
 numbers_alike so n c d e = by_bodies so n c.processes ∙ ap (numbers_in so n) e ∙ sym (by_bodies so n d.processes)
 
 -- ---- numbers that rise
@@ -42,7 +46,8 @@ module _ (so : ProcessState → Bool) where
   rise n [] = tt
   rise n (b ∷ bs) = by (so b.state) (rise (suc n) bs)
     where
-      by : (e : Bool) → Rises (suc n) (numbers_in so (suc n) bs) → Rises n (if e then n ∷ numbers_in so (suc n) bs else numbers_in so (suc n) bs)
+      by : (e : Bool) → Rises (suc n) (numbers_in so (suc n) bs)
+          → Rises n (if e then n ∷ numbers_in so (suc n) bs else numbers_in so (suc n) bs)
       by true h = (omega arith, h)
       by false h = lower (λ x. x) (suc n) n (numbers_in so (suc n) bs) (omega arith) h
 
@@ -63,9 +68,11 @@ module _ (so : ProcessState → Bool) where
       same_key = eq_of n n refl
 
       drops : without_number n (n ∷ numbers_in so (suc n) bs) ≡ without_number n (numbers_in so (suc n) bs)
-      drops = ap (λ t. if t then without_number n (numbers_in so (suc n) bs) else n ∷ without_number n (numbers_in so (suc n) bs)) same_key
+      drops = ap (λ t. if t then without_number n (numbers_in so (suc n) bs)
+          else n ∷ without_number n (numbers_in so (suc n) bs)) same_key
 
-      by : (t : Bool) → numbers_in so (suc n) bs ≡ without_number (n + zero) (if t then n ∷ numbers_in so (suc n) bs else numbers_in so (suc n) bs)
+      by : (t : Bool) → numbers_in so (suc n) bs ≡ without_number (n + zero) (if t then n ∷ numbers_in so (suc n) bs
+          else numbers_in so (suc n) bs)
       by true = sym (ap (λ k. without_number k (n ∷ numbers_in so (suc n) bs)) zero_more ∙ drops ∙ h)
       by false = sym (ap (λ k. without_number k (numbers_in so (suc n) bs)) zero_more ∙ h)
   gone_in n (x ∷ bs) (suc a) b l e =
@@ -74,9 +81,11 @@ module _ (so : ProcessState → Bool) where
       same : suc n + a ≡ n + suc a
       same = omega arith
 
-      by : (t : Bool) → (if t then n ∷ without_number (suc n + a) (numbers_in so (suc n) bs) else without_number (suc n + a) (numbers_in so (suc n) bs))
+      by : (t : Bool) → (if t then n ∷ without_number (suc n + a) (numbers_in so (suc n) bs)
+          else without_number (suc n + a) (numbers_in so (suc n) bs))
           ≡ without_number (n + suc a) (if t then n ∷ numbers_in so (suc n) bs else numbers_in so (suc n) bs)
-      by true = let d = ne_of n (n + suc a) (λ z. omega arith) in rw d (ap (λ k. n ∷ without_number k (numbers_in so (suc n) bs)) same)
+      by true = let d = ne_of n (n + suc a) (λ z. omega arith) in
+          rw d (ap (λ k. n ∷ without_number k (numbers_in so (suc n) bs)) same)
       by false = ap (λ k. without_number k (numbers_in so (suc n) bs)) same
 
   -- a body that can go from now on, or still
@@ -96,9 +105,12 @@ module _ (so : ProcessState → Bool) where
       same_key = eq_of n n refl
 
       keeps : with_number n (n ∷ numbers_in so (suc n) bs) ≡ n ∷ numbers_in so (suc n) bs
-      keeps = ap (λ t. if t then n ∷ numbers_in so (suc n) bs else (if nat_lt n n then n ∷ n ∷ numbers_in so (suc n) bs else n ∷ with_number n (numbers_in so (suc n) bs))) same_key
+      keeps = ap (λ t. if t then n ∷ numbers_in so (suc n) bs
+          else (if nat_lt n n then n ∷ n ∷ numbers_in so (suc n) bs else n ∷ with_number n (numbers_in so (suc n) bs)))
+          same_key
 
-      by : (t : Bool) → n ∷ numbers_in so (suc n) bs ≡ with_number (n + zero) (if t then n ∷ numbers_in so (suc n) bs else numbers_in so (suc n) bs)
+      by : (t : Bool) → n ∷ numbers_in so (suc n) bs ≡ with_number (n + zero) (if t then n ∷ numbers_in so (suc n) bs
+          else numbers_in so (suc n) bs)
       by true = sym (ap (λ k. with_number k (n ∷ numbers_in so (suc n) bs)) zero_more ∙ keeps)
       by false = sym (ap (λ k. with_number k (numbers_in so (suc n) bs)) zero_more ∙ h)
   woken_in n (x ∷ bs) (suc a) b l e =
@@ -107,7 +119,8 @@ module _ (so : ProcessState → Bool) where
       same : suc n + a ≡ n + suc a
       same = omega arith
 
-      by : (t : Bool) → (if t then n ∷ with_number (suc n + a) (numbers_in so (suc n) bs) else with_number (suc n + a) (numbers_in so (suc n) bs))
+      by : (t : Bool) → (if t then n ∷ with_number (suc n + a) (numbers_in so (suc n) bs)
+          else with_number (suc n + a) (numbers_in so (suc n) bs))
           ≡ with_number (n + suc a) (if t then n ∷ numbers_in so (suc n) bs else numbers_in so (suc n) bs)
       by true =
           let d = ne_of n (n + suc a) (λ z. omega arith) in let b = below_not n (n + suc a) (omega arith) in
@@ -127,7 +140,8 @@ module _ (so : ProcessState → Bool) where
       same : suc n + k ≡ n + suc k
       same = omega arith
 
-      by : (t : Bool) → (if t then n ∷ with_number (suc n + k) (numbers_in so (suc n) bs) else with_number (suc n + k) (numbers_in so (suc n) bs))
+      by : (t : Bool) → (if t then n ∷ with_number (suc n + k) (numbers_in so (suc n) bs)
+          else with_number (suc n + k) (numbers_in so (suc n) bs))
           ≡ with_number (n + suc k) (if t then n ∷ numbers_in so (suc n) bs else numbers_in so (suc n) bs)
       by true =
           let d = ne_of n (n + suc k) (λ z. omega arith) in let b = below_not n (n + suc k) (omega arith) in
@@ -135,8 +149,10 @@ module _ (so : ProcessState → Bool) where
       by false = ap (λ j. with_number j (numbers_in so (suc n) bs)) same
 
 -- a process that can go where it could, or can't where it couldn't
-pub numbers_kept : (so : ProcessState → Bool) (n : ℕ) (ps : List Process) (a : ℕ) (q : Process) → so q.state ≡ so (process_at a ps).state
+pub numbers_kept : (so : ProcessState → Bool) (n : ℕ) (ps : List Process) (a : ℕ) (q : Process)
+    → so q.state ≡ so (process_at a ps).state
     → pids_in_state so n (slice_set ps a q) ≡ pids_in_state so n ps
 numbers_kept so n [] a q e = refl
-numbers_kept so n (p ∷ ps) zero q e = ap (λ t. if t then n ∷ pids_in_state so (suc n) ps else pids_in_state so (suc n) ps) e
+numbers_kept so n (p ∷ ps) zero q e = ap (λ t. if t then n ∷ pids_in_state so (suc n) ps
+    else pids_in_state so (suc n) ps) e
 numbers_kept so n (p ∷ ps) (suc a) q e = ap (λ r. if so p.state then n ∷ r else r) (numbers_kept so (suc n) ps a q e)

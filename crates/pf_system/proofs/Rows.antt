@@ -11,16 +11,20 @@ enough_senders zero cs l = refl
 enough_senders (suc n) [] l = absurd (omega arith)
 enough_senders (suc n) (r ∷ rs) l = ap (λ z. r ∷ z) (enough_senders n rs (omega arith))
 
-pub senders_length : (n : ℕ) (cs : Channels) → (length cs ≤ length (with_senders n cs)) × (n ≤ length (with_senders n cs))
+pub senders_length : (n : ℕ) (cs : Channels) → (length cs ≤ length (with_senders n cs))
+    × (n ≤ length (with_senders n cs))
 senders_length zero cs = (omega arith, omega arith)
 senders_length (suc n) [] = let h = senders_length n [] in let k = h.1 in (omega arith, omega arith)
-senders_length (suc n) (r ∷ rs) = let h = senders_length n rs in let j = h.0 in let k = h.1 in (omega arith, omega arith)
+senders_length (suc n) (r ∷ rs) = let h = senders_length n rs in let j = h.0 in let k = h.1 in
+    (omega arith, omega arith)
 
 -- one sender more, and then up to another
-pub one_more : (n : ℕ) (cs : Channels) → length cs ≤ n → with_senders (n + 1) (with_senders (length cs + 1) cs) ≡ with_senders (n + 1) cs
+pub one_more : (n : ℕ) (cs : Channels) → length cs ≤ n
+    → with_senders (n + 1) (with_senders (length cs + 1) cs) ≡ with_senders (n + 1) cs
 one_more n cs l = simp add-one (by n cs l)
   where
-    by : (n : ℕ) (cs : Channels) → length cs ≤ n → with_senders (suc n) (with_senders (suc (length cs)) cs) ≡ with_senders (suc n) cs
+    by : (n : ℕ) (cs : Channels) → length cs ≤ n
+        → with_senders (suc n) (with_senders (suc (length cs)) cs) ≡ with_senders (suc n) cs
     by n [] l = refl
     by zero (r ∷ rs) l = absurd (omega arith)
     by (suc n) (r ∷ rs) l = ap (λ z. r ∷ z) (by n rs (omega arith))
@@ -60,6 +64,7 @@ posted_length a [] cs = omega arith
 posted_length a (x ∷ ss) cs = omega (arith, sent_length a x.0 x.1 cs, posted_length a ss (sent a x.0 x.1 cs))
 
 -- one signal more is posted last
-pub posted_more : (a : ℕ) (ss : List (ℕ × Signal)) (x : ℕ × Signal) (cs : Channels) → posted a (ss ++ x ∷ []) cs ≡ sent a x.0 x.1 (posted a ss cs)
+pub posted_more : (a : ℕ) (ss : List (ℕ × Signal)) (x : ℕ × Signal) (cs : Channels)
+    → posted a (ss ++ x ∷ []) cs ≡ sent a x.0 x.1 (posted a ss cs)
 posted_more a [] x cs = refl
 posted_more a (y ∷ ss) x cs = posted_more a ss x (sent a y.0 y.1 cs)

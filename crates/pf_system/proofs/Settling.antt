@@ -1,5 +1,6 @@
 -- The last step of a turn, among all processes.
-use Rattle.std.proofs.Common.{◌≡◌, ℕ, zero, suc, ◌<◌, ◌≤◌, ◌==◌, ◌||◌, Bool, true, false, List, [], ◌∷◌, Option, Some, None, if◌then◌else◌, refl, sym, ap, ◌∙◌, subst, arith, length, map, slice_set}
+use Rattle.std.proofs.Common.{◌≡◌, ℕ, zero, suc, ◌<◌, ◌≤◌, ◌==◌, ◌||◌, Bool, true, false, List, [], ◌∷◌, Option, Some}
+use Rattle.std.proofs.Common.{None, if◌then◌else◌, refl, sym, ap, ◌∙◌, subst, arith, length, map, slice_set}
 use Rattle.std.specs.Prelude.{Result, Ok, Err, slice_get}
 use Rattle.pf_terms.specs.Value.{Value, same}
 use Rattle.pf_terms.specs.Fixed.{undefined, process, trap_exit}
@@ -12,7 +13,9 @@ use Rattle.pf_model.specs.Contraction as asked
 use Rattle.pf_model.specs.Contraction.{Act}
 use Rattle.pf_model.specs.Channels.{Signal, Channels, with_senders}
 use Rattle.pf_model.specs.Configuration.{Process, Core, of, with_process, with_state, process_at, posted, is_alive}
-use Rattle.pf_model.specs.Actions.{Acted, acted, raising, given, only_if, as_pid, as_atom, receiver, linked_to, unlinked_from, monitored, demonitored, flag_set, may_register, registered, unregistered}
+use Rattle.pf_model.specs.Actions.{Acted, acted, raising, given, only_if, as_pid, as_atom, receiver, linked_to}
+use Rattle.pf_model.specs.Actions.{unlinked_from, monitored, demonitored, flag_set, may_register, registered}
+use Rattle.pf_model.specs.Actions.{unregistered}
 use Rattle.pf_model.specs.Context.{ProcessState, running, waiting, ending, ended, failed}
 use Rattle.pf_model.specs.Runs.{can_go}
 use Rattle.pf_model.specs.Turns.{with_answer}
@@ -26,7 +29,8 @@ use Rattle.pf_stepper.specs.declared.act.Act.TheVariants as a
 use Rattle.pf_system.specs.Bodies.{Body, body_of, process_body, bodies_of}
 use Rattle.pf_system.specs.Slots.{slot_body, SlotIsSound, SlotsAreSound, AnswersIn, PutsIn, LifeIsLeft, SlotIsLeft}
 use Rattle.pf_system.specs.Processes.{Represents, RepresentsBut, checked_in, module_in, bodies_in}
-use Rattle.pf_system.specs.Acts.{ActAnswer, AnswersAct, CarriesOut, ActsAs, ActedIn, ActsIn, IsBetween, KeepsLife, KeepsSlot, ShowsAct}
+use Rattle.pf_system.specs.Acts.{ActAnswer, AnswersAct, CarriesOut, ActsAs, ActedIn, ActsIn, IsBetween, KeepsLife}
+use Rattle.pf_system.specs.Acts.{KeepsSlot, ShowsAct}
 use Rattle.pf_system.specs.Settled.{WaitsIn}
 use Rattle.pf_system.specs.declared.slot.Life.{Life}
 use Rattle.pf_system.specs.declared.slot.Life.TheVariants as life
@@ -45,7 +49,8 @@ use Rattle.pf_syntax.specs.Module.{Checked}
 abbrev pub Keeps : Core → Core → Type 0
 Keeps c d = (bodies_of d ≡ bodies_of c) × (d.most ≡ c.most)
 
-given_keeps : {T : Type 0} (c : Core) (o : Option T) (go : T → Acted) → ((x : T) → Keeps c (go x).left.core) → Keeps c (given c o go).left.core
+given_keeps : {T : Type 0} (c : Core) (o : Option T) (go : T → Acted) → ((x : T) → Keeps c (go x).left.core)
+    → Keeps c (given c o go).left.core
 given_keeps c None go h = (refl, refl)
 given_keeps c (Some x) go h = h x
 
@@ -53,7 +58,8 @@ only_keeps : (c : Core) (t : Bool) (x : Acted) → Keeps c x.left.core → Keeps
 only_keeps c true x h = h
 only_keeps c false x h = (refl, refl)
 
-either_keeps : (c : Core) (t : Bool) (x y : Acted) → Keeps c x.left.core → Keeps c y.left.core → Keeps c (if t then x else y).left.core
+either_keeps : (c : Core) (t : Bool) (x y : Acted) → Keeps c x.left.core → Keeps c y.left.core
+    → Keeps c (if t then x else y).left.core
 either_keeps c true x y h k = h
 either_keeps c false x y h k = k
 
@@ -65,7 +71,8 @@ module _ (m : Module) (c : Core) (n : ℕ) where
   active_bodies rs = bodies_same c n (record (of c n) { active = rs }) refl
 
   link_keeps : (p : ℕ) → Keeps c (linked_to c n p).left.core
-  link_keeps p = either_keeps c ((p == n) || has p (of c n).links) _ _ (refl, refl) (links_keep (with_number p (of c n).links))
+  link_keeps p = either_keeps c ((p == n) || has p (of c n).links) _ _ (refl, refl)
+      (links_keep (with_number p (of c n).links))
 
   unlink_keeps : (p : ℕ) → Keeps c (unlinked_from c n p).left.core
   unlink_keeps p = either_keeps c (has p (of c n).links) _ _ (links_keep (without_number p (of c n).links)) (refl, refl)
@@ -87,14 +94,18 @@ module _ (m : Module) (c : Core) (n : ℕ) where
   acted_keeps (a.Unlink p) h = given_keeps c (as_pid (value_of p)) (unlinked_from c n) unlink_keeps
   acted_keeps (a.Monitor k p) h =
       given_keeps c (as_pid (value_of p)) _
-      (λ b. only_keeps c (same (value_of k) process) (monitored c n b) (active_bodies (put c.next_reference b (of c n).active), refl))
+      (λ b. only_keeps c (same (value_of k) process) (monitored c n b)
+      (active_bodies (put c.next_reference b (of c n).active), refl))
   acted_keeps (a.Demonitor r o) h = absurd h
   acted_keeps (a.ExitOther p r) h = given_keeps c (as_pid (value_of p)) _ (λ b. (refl, refl))
-  acted_keeps (a.SetFlag k v) h = given_keeps c (truth_of (value_of v)) _ (λ b. only_keeps c (same (value_of k) trap_exit) (flag_set c n b) (flag_keeps b))
+  acted_keeps (a.SetFlag k v) h = given_keeps c (truth_of (value_of v)) _
+      (λ b. only_keeps c (same (value_of k) trap_exit) (flag_set c n b) (flag_keeps b))
   acted_keeps (a.Register x p) h =
       given_keeps c (as_atom (value_of x)) _
-      (λ k. given_keeps c (as_pid (value_of p)) (registered c k) (λ q. only_keeps c (may_register c k q) _ (refl, refl)))
-  acted_keeps (a.Unregister x) h = given_keeps c (as_atom (value_of x)) (unregistered c) (λ k. only_keeps c _ _ (refl, refl))
+      (λ k. given_keeps c (as_pid (value_of p)) (registered c k)
+      (λ q. only_keeps c (may_register c k q) _ (refl, refl)))
+  acted_keeps (a.Unregister x) h = given_keeps c (as_atom (value_of x)) (unregistered c)
+      (λ k. only_keeps c _ _ (refl, refl))
   acted_keeps (a.Whereis x) h = given_keeps c (as_atom (value_of x)) _ (λ k. (refl, refl))
   acted_keeps a.MakeRef h = (refl, refl)
 
@@ -122,19 +133,22 @@ pub keeps_slot : (n : ℕ) (w w' : Processes) → slice_get w'.slots.items n ≡
 keeps_slot n w w' e s h = (s, e ∙ h, record { life = refl; ahead = λ k z. z })
 
 -- nothing but ties and channels is changed
-pub between : (n : ℕ) (c d : Core) (w w' : Processes) → Keeps c d → ties_of d ≡ w'.shared.ties → length w.shared.channels ≤ length w'.shared.channels
+pub between : (n : ℕ) (c d : Core) (w w' : Processes) → Keeps c d → ties_of d ≡ w'.shared.ties
+    → length w.shared.channels ≤ length w'.shared.channels
     → w'.slots ≡ w.slots → w'.ready ≡ w.ready → w'.basis ≡ w.basis → RepresentsBut w c n → RepresentsBut w' d n
 between n c d w w' e t y s q f k =
     let i : length d.processes ≡ length c.processes = length_of d ∙ ap length e.0 ∙ sym (length_of c) in
     let j = k.room.rows in
     record {
       there = subst (λ z. n < length z.items) (sym s) k.there;
-      bodies = λ z. ap (λ bs. slice_set bs n z) e.0 ∙ k.bodies z ∙ ap (λ ss. slice_set (map slot_body ss.items) n z) (sym s);
+      bodies = λ z. ap (λ bs. slice_set bs n z) e.0 ∙ k.bodies z
+          ∙ ap (λ ss. slice_set (map slot_body ss.items) n z) (sym s);
       ties = t;
       ready = q ∙ k.ready ∙ numbers_alike can_go zero c d (sym e.0);
       slots = λ t z.
           subst (λ v. SlotsAreSound (checked_in w') zero (slice_set v.items n t)) (sym s)
-          (subst (λ v. SlotsAreSound v.module.value zero (slice_set w.slots.items n t)) (sym f) (k.slots t (subst (λ v. SlotIsSound v.module.value n t) f z)));
+          (subst (λ v. SlotsAreSound v.module.value zero (slice_set w.slots.items n t)) (sym f)
+          (k.slots t (subst (λ v. SlotIsSound v.module.value n t) f z)));
       room = record {
         rows = omega arith;
         few = let v = k.room.few in omega arith;
@@ -144,14 +158,16 @@ between n c d w w' e t y s q f k =
     }
 
 -- there are rows for all of a core
-pub posted_rows : (n : ℕ) (d : Core) (ss : List (ℕ × Signal)) (cs cs' : Channels) → length d.processes ≤ length cs → cs' ≡ posted n ss cs
+pub posted_rows : (n : ℕ) (d : Core) (ss : List (ℕ × Signal)) (cs cs' : Channels) → length d.processes ≤ length cs
+    → cs' ≡ posted n ss cs
     → cs' ≡ posted n ss (with_senders (length d.processes) cs)
 posted_rows n d ss cs cs' l e = e ∙ ap (posted n ss) (sym (enough_senders (length d.processes) cs l))
 
 pub same_size : (c d : Core) → Keeps c d → length d.processes ≡ length c.processes
 same_size c d e = length_of d ∙ ap length e.0 ∙ sym (length_of c)
 
-pub acted_in : (n : ℕ) (c : Core) (x : Acted) (w w' : Processes) (r : ActAnswer) → Keeps c x.left.core → CarriesOut x n w.shared r w'.shared
+pub acted_in : (n : ℕ) (c : Core) (x : Acted) (w w' : Processes) (r : ActAnswer) → Keeps c x.left.core
+    → CarriesOut x n w.shared r w'.shared
     → w'.slots ≡ w.slots → w'.ready ≡ w.ready → w'.basis ≡ w.basis → RepresentsBut w c n → ActedIn c x n w r w'
 acted_in n c x w w' r e g s q f k =
     let d : Core = x.left.core in
@@ -163,24 +179,29 @@ acted_in n c x w w' r e g s q f k =
     record {
       stands = between n c d w w' e g.ties (omega arith) s q f k;
       state = ap (λ z. z.state) y;
-      mail = λ t t' h h' m. ap (λ z. z.mailbox.messages) (slot_is t' t (sym h' ∙ ap (λ z. slice_get z.items n) s ∙ h)) ∙ m ∙ ap (λ z. z.mailbox) (sym y);
+      mail = λ t t' h h' m. ap (λ z. z.mailbox.messages) (slot_is t' t (sym h' ∙ ap (λ z. slice_get z.items n) s ∙ h))
+          ∙ m ∙ ap (λ z. z.mailbox) (sym y);
       channels = posted_rows n d x.left.sent w.shared.channels w'.shared.channels (omega arith) g.channels;
       answers = g.answers;
       basis = f;
     }
 
-pub acts_between : (n : ℕ) (x : Asked) (w w' : Processes) (r : ActAnswer) → IsBetween x → ActsAs n (act_of x) w.shared r w'.shared
+pub acts_between : (n : ℕ) (x : Asked) (w w' : Processes) (r : ActAnswer) → IsBetween x
+    → ActsAs n (act_of x) w.shared r w'.shared
     → w'.slots ≡ w.slots → w'.ready ≡ w.ready → w'.basis ≡ w.basis → ActsIn n (act_of x) w r w'
 acts_between n x w w' r b h s q f c k =
-    acted_in n c (acted (module_in w) c n (act_of x)) w w' r (acted_keeps (module_in w) c n x b) (h (module_in w) c k.ties) s q f k
+    acted_in n c (acted (module_in w) c n (act_of x)) w w' r (acted_keeps (module_in w) c n x b)
+    (h (module_in w) c k.ties) s q f k
 
 pub sends_in : (n : ℕ) (v u : Value) (w w' : Processes) (r : ActAnswer) → ActsAs n (asked.send v u) w.shared r w'.shared
     → w'.slots ≡ w.slots → w'.ready ≡ w.ready → w'.basis ≡ w.basis → ActsIn n (asked.send v u) w r w'
 sends_in n v u w w' r h s q f c k =
-    acted_in n c (acted (module_in w) c n (asked.send v u)) w w' r (send_keeps (module_in w) c n v u) (h (module_in w) c k.ties) s q f k
+    acted_in n c (acted (module_in w) c n (asked.send v u)) w w' r (send_keeps (module_in w) c n v u)
+    (h (module_in w) c k.ties) s q f k
 
 -- what raises leaves all as it was
-pub raised_in : (n : ℕ) (w : Processes) (r : ActAnswer) (c : Core) (e : Value) → AnswersAct r (raising c e) → RepresentsBut w c n → ActedIn c (raising c e) n w r w
+pub raised_in : (n : ℕ) (w : Processes) (r : ActAnswer) (c : Core) (e : Value) → AnswersAct r (raising c e)
+    → RepresentsBut w c n → ActedIn c (raising c e) n w r w
 raised_in n w r c e k but =
     let j = but.room.rows in
     record {
@@ -202,7 +223,13 @@ alive_going (ended x) e = absurd (cc)
 
 ties_alive : (p : Process) (s : ProcessState) (vs : List Value) → is_alive s ≡ is_alive p.state
     → process_ties (record p { state = s; mailbox = vs }) ≡ process_ties p
-ties_alive p s vs e = ap (λ b. record { lives = b; traps_exits = p.traps_exits; links = p.links; active = p.active; watchers = p.watchers }) e
+ties_alive p s vs e = ap (λ b. record {
+  lives = b;
+  traps_exits = p.traps_exits;
+  links = p.links;
+  active = p.active;
+  watchers = p.watchers;
+}) e
 
 -- with this state and these messages
 abbrev pub in_state : Core → ℕ → ProcessState → List Value → Core
@@ -213,22 +240,28 @@ module _ (w w' : Processes) (c : Core) (n : ℕ) (s' : Slot) (state : ProcessSta
   Changes = (w'.slots.items ≡ slice_set w.slots.items n s') × (w'.shared ≡ w.shared) × (w'.basis ≡ w.basis)
 
   -- a process that could go still can
-  pub goes_again : RepresentsBut w c n → can_go (of c n).state ≡ true → can_go state ≡ true → PutsIn (checked_in w) n (body_of state mail) s' → Changes → w'.ready ≡ w.ready
+  pub goes_again : RepresentsBut w c n → can_go (of c n).state ≡ true → can_go state ≡ true
+      → PutsIn (checked_in w) n (body_of state mail) s' → Changes → w'.ready ≡ w.ready
       → Represents w' (in_state c n state mail)
   goes_again h can g p e r =
       put_back w w' c n s' (record (of c n) { state = state; mailbox = mail }) h (sym p.is)
       (ties_alive (of c n) state mail (alive_going state g ∙ sym (alive_going (of c n).state can))) p.sound e.0 e.1 e.2
-      (r ∙ h.ready ∙ sym (numbers_kept can_go zero c.processes n (record (of c n) { state = state; mailbox = mail }) (g ∙ sym can)))
+      (r ∙ h.ready ∙ sym (numbers_kept can_go zero c.processes n (record (of c n) { state = state; mailbox = mail })
+      (g ∙ sym can)))
 
   -- it can no longer go, but lives
-  pub waits_now : RepresentsBut w c n → n < length c.processes → is_alive state ≡ is_alive (of c n).state → can_go state ≡ false → PutsIn (checked_in w) n (body_of state mail) s'
+  pub waits_now : RepresentsBut w c n → n < length c.processes → is_alive state ≡ is_alive (of c n).state
+      → can_go state ≡ false → PutsIn (checked_in w) n (body_of state mail) s'
       → Changes → w'.ready ≡ without_number n w.ready → Represents w' (in_state c n state mail)
   waits_now h l lives g p e r =
-      put_back w w' c n s' (record (of c n) { state = state; mailbox = mail }) h (sym p.is) (ties_alive (of c n) state mail lives) p.sound e.0 e.1 e.2
-      (r ∙ ap (without_number n) h.ready ∙ sym (goes_no_more c n (record (of c n) { state = state; mailbox = mail }) l g))
+      put_back w w' c n s' (record (of c n) { state = state; mailbox = mail }) h (sym p.is)
+      (ties_alive (of c n) state mail lives) p.sound e.0 e.1 e.2
+      (r ∙ ap (without_number n) h.ready ∙ sym
+      (goes_no_more c n (record (of c n) { state = state; mailbox = mail }) l g))
 
 -- what is left of signals where none was sent
-pub none_sent : (w w' : Processes) (c d : Core) (n : ℕ) → length d.processes ≡ length c.processes → RepresentsBut w c n → w'.shared ≡ w.shared
+pub none_sent : (w w' : Processes) (c d : Core) (n : ℕ) → length d.processes ≡ length c.processes → RepresentsBut w c n
+    → w'.shared ≡ w.shared
     → w'.shared.channels ≡ posted n [] (with_senders (length d.processes) w.shared.channels)
 none_sent w w' c d n e h b =
     let k = h.room.rows in
@@ -238,7 +271,8 @@ none_sent w w' c d n e h b =
 -- ---- an action and its answer
 
 -- the machine has the status that it had
-left_still : (m : Checked) (own : ℕ) (x : MachineStatus) (s s' : Slot) → KeepsLife s s' → SlotIsLeft m own x s → SlotIsLeft m own x s'
+left_still : (m : Checked) (own : ℕ) (x : MachineStatus) (s s' : Slot) → KeepsLife s s' → SlotIsLeft m own x s
+    → SlotIsLeft m own x s'
 left_still m own x s s' k h = subst (λ l. LifeIsLeft m own x l s'.mailbox) (sym k.life) (by s.life h)
   where
     by : (l : Life) → LifeIsLeft m own x l s.mailbox → LifeIsLeft m own x l s'.mailbox
@@ -246,9 +280,12 @@ left_still m own x s s' k h = subst (λ l. LifeIsLeft m own x l s'.mailbox) (sym
     by (life.Ends r) h = h
     by (life.Ended e) h = h
 
-pub shows_act : (n : ℕ) (x : Act) (w w1 w' : Processes) (r : ActAnswer) (s1 s' : Slot) → ActsIn n x w r w1 → KeepsSlot n w w1 → slice_get w1.slots.items n ≡ Some s1
-    → ((m : Checked) (own : ℕ) (fs : _) → SlotIsLeft m own (asking fs) s1 → AnswersIn m own fs (answer_value r.value) s1 s')
-    → w'.slots.items ≡ slice_set w1.slots.items n s' → w'.shared ≡ w1.shared → w'.ready ≡ w1.ready → w'.basis ≡ w1.basis → ShowsAct n x w r.label w'
+pub shows_act : (n : ℕ) (x : Act) (w w1 w' : Processes) (r : ActAnswer) (s1 s' : Slot) → ActsIn n x w r w1
+    → KeepsSlot n w w1 → slice_get w1.slots.items n ≡ Some s1
+    → ((m : Checked) (own : ℕ) (fs : _) → SlotIsLeft m own (asking fs) s1
+    → AnswersIn m own fs (answer_value r.value) s1 s')
+    → w'.slots.items ≡ slice_set w1.slots.items n s' → w'.shared ≡ w1.shared → w'.ready ≡ w1.ready → w'.basis ≡ w1.basis
+    → ShowsAct n x w r.label w'
 shows_act n x w w1 w' r s1 s' h keeps at ans e b q f c fs s but can left mail =
     let g = h c but in
     let v = acted (module_in w) c n x in
@@ -259,16 +296,22 @@ shows_act n x w w1 w' r s1 s' h keeps at ans e b q f c fs s but can left mail =
     let own_mail : s1.mailbox.messages ≡ (of d n).mailbox = g.mail s s1 left.at at mail in
     let there : SlotIsLeft (checked_in w1) n (asking fs) s1 =
     subst (λ z. SlotIsLeft z.module.value n (asking fs) s1) (sym g.basis)
-    (subst (SlotIsLeft (checked_in w) n (asking fs)) same (left_still (checked_in w) n (asking fs) s k.0 k.2 left.leaves)) in
+    (subst (SlotIsLeft (checked_in w) n (asking fs)) same
+    (left_still (checked_in w) n (asking fs) s k.0 k.2 left.leaves)) in
     let puts0 = ans (checked_in w1) n fs there in
     let puts : PutsIn (checked_in w1) n (body_of state (of d n).mailbox) s' =
-    record { sound = puts0.sound; is = puts0.is ∙ ap (λ z. body_of (with_answer fs z) s1.mailbox.messages) g.answers.value ∙ ap (body_of state) own_mail } in
+    record {
+      sound = puts0.sound;
+      is = puts0.is ∙ ap (λ z. body_of (with_answer fs z) s1.mailbox.messages)
+          g.answers.value ∙ ap (body_of state) own_mail;
+    } in
     let can' : can_go (of d n).state ≡ true = ap can_go g.state ∙ can in
     let i : length (with_state d n state).processes ≡ length d.processes = set_length n d.processes _ in
     record {
       done = record {
         stands = goes_again w1 w' d n s' state (of d n).mailbox g.stands can' (answers_go fs v.answer) puts (e, b, f) q;
-        channels = ap (λ z. z.channels) b ∙ g.channels ∙ ap (λ z. posted n v.left.sent (with_senders z w.shared.channels)) (sym i);
+        channels = ap (λ z. z.channels) b ∙ g.channels
+            ∙ ap (λ z. posted n v.left.sent (with_senders z w.shared.channels)) (sym i);
         basis = f ∙ g.basis;
       };
       label = g.answers.label;
@@ -284,20 +327,26 @@ pub but_there : (w : Processes) (c : Core) (n : ℕ) → RepresentsBut w c n →
 but_there w c n h =
     let b = body_of (ended (failed undefined)) [] in
     let e : length c.processes ≡ length w.slots.items =
-    length_of c ∙ sym (set_length n (bodies_of c) b) ∙ ap length (h.bodies b) ∙ set_length n (bodies_in w) b ∙ length-map w.slots.items slot_body in
+    length_of c ∙ sym (set_length n (bodies_of c) b) ∙ ap length (h.bodies b) ∙ set_length n (bodies_in w) b
+    ∙ length-map w.slots.items slot_body in
     let l = h.there in omega arith
 
 pub waits_in : (n : ℕ) (w w' : Processes) (s1 s' : Slot) → slice_get w.slots.items n ≡ Some s1
-    → ((m : Checked) (own : ℕ) (t : Tree) → SlotIsLeft m own (goes (running t)) s1 → PutsIn m own (body_of (waiting t) s1.mailbox.messages) s')
-    → w'.slots.items ≡ slice_set w.slots.items n s' → w'.shared ≡ w.shared → w'.basis ≡ w.basis → w'.ready ≡ without_number n w.ready → WaitsIn n w w'
+    → ((m : Checked) (own : ℕ) (t : Tree) → SlotIsLeft m own (goes (running t)) s1
+    → PutsIn m own (body_of (waiting t) s1.mailbox.messages) s')
+    → w'.slots.items ≡ slice_set w.slots.items n s' → w'.shared ≡ w.shared → w'.basis ≡ w.basis
+    → w'.ready ≡ without_number n w.ready → WaitsIn n w w'
 waits_in n w w' s1 s' at ans e b f q c t s but can left mail =
     let same : s1 ≡ s = slot_is s1 s (sym at ∙ left.at) in
-    let puts0 = ans (checked_in w) n t (subst (SlotIsLeft (checked_in w) n (goes (running t))) (sym same) left.leaves) in
+    let puts0 = ans (checked_in w) n t (subst (SlotIsLeft (checked_in w) n (goes (running t)))
+    (sym same) left.leaves) in
     let own_mail : s1.mailbox.messages ≡ (of c n).mailbox = ap (λ z. z.mailbox.messages) same ∙ mail in
-    let puts : PutsIn (checked_in w) n (body_of (waiting t) (of c n).mailbox) s' = record { sound = puts0.sound; is = puts0.is ∙ ap (body_of (waiting t)) own_mail } in
+    let puts : PutsIn (checked_in w) n (body_of (waiting t) (of c n).mailbox) s' =
+    record { sound = puts0.sound; is = puts0.is ∙ ap (body_of (waiting t)) own_mail } in
     let i : length (with_state c n (waiting t)).processes ≡ length c.processes = set_length n c.processes _ in
     record {
-      stands = waits_now w w' c n s' (waiting t) (of c n).mailbox but (but_there w c n but) (sym (alive_going (of c n).state can)) refl puts (e, b, f) q;
+      stands = waits_now w w' c n s' (waiting t) (of c n).mailbox but (but_there w c n but)
+          (sym (alive_going (of c n).state can)) refl puts (e, b, f) q;
       channels = none_sent w w' c (with_state c n (waiting t)) n i but b;
       basis = f;
     }

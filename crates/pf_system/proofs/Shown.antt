@@ -1,5 +1,6 @@
 -- What is left of the processes after a delivery or an end.
-use Rattle.std.proofs.Common.{◌≡◌, ℕ, zero, ◌<◌, ◌≤◌, List, [], refl, sym, ap, ◌∙◌, subst, arith, length, map, slice_set}
+use Rattle.std.proofs.Common.{◌≡◌, ℕ, zero, ◌<◌, ◌≤◌, List, [], refl, sym, ap, ◌∙◌, subst, arith, length, map}
+use Rattle.std.proofs.Common.{slice_set}
 use Rattle.std.specs.Prelude.{Result}
 use Rattle.pf_terms.specs.declared.term.Term.{Term}
 use Rattle.pf_sorted.specs.Maps.{without_number}
@@ -23,19 +24,27 @@ use Rattle.pf_system.proofs.Rows.{enough_senders, posted_length}
 use Rattle.pf_system.proofs.Changed.{goes_no_more}
 
 -- there are rows enough for what is sent
-pub done_so : (w w' : Processes) (a : ℕ) (d : Left) → Represents w' d.core → length d.core.processes ≤ length w.shared.channels
+pub done_so : (w w' : Processes) (a : ℕ) (d : Left) → Represents w' d.core
+    → length d.core.processes ≤ length w.shared.channels
     → w'.shared.channels ≡ posted a d.sent w.shared.channels → w'.basis ≡ w.basis → Done a d w.shared.channels w w'
 done_so w w' a d h n e m =
-    record { stands = h; channels = e ∙ ap (posted a d.sent) (sym (enough_senders (length d.core.processes) w.shared.channels n)); basis = m }
+    record {
+      stands = h;
+      channels = e ∙ ap (posted a d.sent)
+          (sym (enough_senders (length d.core.processes) w.shared.channels n));
+      basis = m;
+    }
 
 -- processes of which nothing but ties and channels is changed
-module _ (w w' : Processes) (c : Core) (slots : w'.slots.items ≡ w.slots.items) (ready : w'.ready ≡ w.ready) (basis : w'.basis ≡ w.basis) where
+module _ (w w' : Processes) (c : Core) (slots : w'.slots.items ≡ w.slots.items) (ready : w'.ready ≡ w.ready)
+    (basis : w'.basis ≡ w.basis) where
   kept_slots : Represents w c → SlotsAreSound (checked_in w') zero w'.slots.items
   kept_slots h =
       subst (λ ss. SlotsAreSound (checked_in w') zero ss) (sym slots)
       (subst (λ z. SlotsAreSound z.module.value zero w.slots.items) (sym basis) h.slots)
 
-  pub rows_more : Represents w c → ties_of c ≡ w'.shared.ties → length w.shared.channels ≤ length w'.shared.channels → Represents w' c
+  pub rows_more : Represents w c → ties_of c ≡ w'.shared.ties → length w.shared.channels ≤ length w'.shared.channels
+      → Represents w' c
   rows_more h t n =
       record {
         bodies = h.bodies ∙ sym (ap (map slot_body) slots);
@@ -50,7 +59,8 @@ module _ (w w' : Processes) (c : Core) (slots : w'.slots.items ≡ w.slots.items
         };
       }
 
-  pub tied : (b : ℕ) (p : Process) → Represents w c → process_body p ≡ process_body (of c b) → ties_of (with_process c b p) ≡ w'.shared.ties
+  pub tied : (b : ℕ) (p : Process) → Represents w c → process_body p ≡ process_body (of c b)
+      → ties_of (with_process c b p) ≡ w'.shared.ties
       → w'.shared.channels ≡ w.shared.channels → Represents w' (with_process c b p)
   tied b p h y t r =
       let n : length (with_process c b p).processes ≡ length c.processes = set_length b c.processes p in
@@ -70,9 +80,11 @@ module _ (w w' : Processes) (c : Core) (slots : w'.slots.items ≡ w.slots.items
 -- ---- the end of a process
 
 module _ (w w' : Processes) (a : ℕ) (e : Result Term Term) (s' : Slot) (ss : List (ℕ × Signal)) where
-  pub ends_so : slot_body s' ≡ body_of (ended (end_of e)) [] → ((m : _) → SlotIsSound m a s') → w'.slots.items ≡ slice_set w.slots.items a s'
+  pub ends_so : slot_body s' ≡ body_of (ended (end_of e)) [] → ((m : _) → SlotIsSound m a s')
+      → w'.slots.items ≡ slice_set w.slots.items a s'
       → w'.shared.ties ≡ ties.ended w.shared.ties a → w'.ready ≡ without_number a w.ready → w'.basis ≡ w.basis
-      → ss ≡ ties.last_signals_of (ties.of w.shared.ties a) (reason_of (end_of e)) → w'.shared.channels ≡ posted a ss w.shared.channels
+      → ss ≡ ties.last_signals_of (ties.of w.shared.ties a) (reason_of (end_of e))
+      → w'.shared.channels ≡ posted a ss w.shared.channels
       → length w.slots.items ≡ length w.shared.ties.processes
       → (c : Core) → RepresentsBut w c a → EndsProcess c a e w w'
   ends_so y sound slots t r m last sent even c h =
@@ -94,7 +106,8 @@ module _ (w w' : Processes) (a : ℕ) (e : Result Term Term) (s' : Slot) (ss : L
         ties = follow_ends.ended c a x ∙ ap (λ z. ties.ended z a) h.ties ∙ sym t;
         ready = r ∙ ap (without_number a) h.ready ∙ sym (goes_no_more c a p size refl);
         slots = subst (λ z. SlotsAreSound (checked_in w') zero z) (sym slots)
-            (subst (λ z. SlotsAreSound z.module.value zero (slice_set w.slots.items a s')) (sym m) (h.slots s' (sound (checked_in w))));
+            (subst (λ z. SlotsAreSound z.module.value zero (slice_set w.slots.items a s')) (sym m)
+            (h.slots s' (sound (checked_in w))));
         room = record {
           rows = omega arith;
           few = omega arith;

@@ -29,27 +29,32 @@ slot_with l mail = record { life = l; mailbox = mail }
 -- ---- a machine that runs
 
 pub never_waits : (w : Bool) (x : MachineStatus) → StandsAs w x → can_go (waiting_if w (state_in x)) ≡ true → w ≡ false
-never_waits true x s e = let k : false ≡ true = sym (ap (λ z. can_go (waiting_if true (state_in z))) s.1) ∙ e in absurd cc
+never_waits true x s e = let k : false ≡ true = sym (ap (λ z. can_go (waiting_if true (state_in z))) s.1)
+    ∙ e in absurd cc
 never_waits false x s e = refl
 
 pub can_move : (w : Bool) (x : MachineStatus) → StandsAs w x → CanMove x
 can_move true x s = subst CanMove (sym s.1) tt
 can_move false x s = subst CanMove (sym s.1) tt
 
-pub ran_machine : (m : Checked) (own left : ℕ) (k k' : MachineView) (w : Bool) (mail mail' : MailView) (move : Move) (used : ℕ)
+pub ran_machine : (m : Checked) (own left : ℕ) (k k' : MachineView) (w : Bool) (mail mail' : MailView)
+    (move : Move) (used : ℕ)
     → can_go (waiting_if w (state_in k.standing)) ≡ true → SlotIsSound m own (slot_with (life.Lives k w) mail)
     → SimulatesTurn left k mail.messages move k' used mail'.messages → IsAheadOf k' mail'
     → RanInSlot m own left (slot_with (life.Lives k w) mail) move used (slot_with (life.Lives k' w) mail')
 ran_machine m own left k k' w mail mail' move used can h r ahead =
     let f = never_waits w k.standing h.ready.0 can in
-    let e : waiting_if w (state_in k.standing) ≡ r.state = ap (λ z. waiting_if z (state_in k.standing)) f ∙ ap state_in r.stood in
+    let e : waiting_if w (state_in k.standing) ≡ r.state = ap (λ z. waiting_if z (state_in k.standing)) f
+    ∙ ap state_in r.stood in
     let own_is : k'.own ≡ own = ap (λ z. z.own) r.rest ∙ h.is_of.0 in
     let module_is : k'.checked ≡ m = ap (λ z. z.checked) r.rest ∙ h.is_of.1 in
     record {
       standing = k'.standing;
       ran = subst (λ z. MachineRan (module_of m) own left z mail.messages move k'.standing used mail'.messages) (sym e)
-          (subst (λ z. MachineRan (module_of z) own left r.state mail.messages move k'.standing used mail'.messages) h.is_of.1
-          (subst (λ z. MachineRan (module_of k.checked) z left r.state mail.messages move k'.standing used mail'.messages) h.is_of.0 r.ran));
+          (subst (λ z. MachineRan (module_of z) own left r.state mail.messages move k'.standing used mail'.messages)
+          h.is_of.1
+          (subst (λ z. MachineRan (module_of k.checked) z left r.state mail.messages move k'.standing used
+          mail'.messages) h.is_of.0 r.ran));
       leaves = (refl, (own_is, module_is), f, ahead);
     }
 
@@ -84,7 +89,8 @@ goes_not_over : (s : ProcessState) → goes s ≡ over → ⊥
 goes_not_over s e = absurd cc
 
 -- while an answer is waited for, the mailbox is ready for whatever comes
-ahead_anyhow : (k k' : MachineView) (fs : List Frame) (mail : MailView) → k.standing ≡ asking fs → IsAheadOf k mail → IsAheadOf k' mail
+ahead_anyhow : (k k' : MachineView) (fs : List Frame) (mail : MailView) → k.standing ≡ asking fs → IsAheadOf k mail
+    → IsAheadOf k' mail
 ahead_anyhow k k' fs mail e h r c =
     h r (record { lives = not_spent k fs e; only = λ ks t. absurd (not_goes k fs t.state e t.stood) })
 
@@ -92,18 +98,22 @@ can_go_on : (fs : List Frame) (r : Result Value Value) → can_go (with_answer f
 can_go_on fs (Ok x) = refl
 can_go_on fs (Err x) = refl
 
-answered_machine : (m : Checked) (own : ℕ) (fs : List Frame) (k k' : MachineView) (w : Bool) (mail : MailView) (r : Result Term Term)
+answered_machine : (m : Checked) (own : ℕ) (fs : List Frame) (k k' : MachineView) (w : Bool) (mail : MailView)
+    (r : Result Term Term)
     → SlotIsLeft m own (asking fs) (slot_with (life.Lives k w) mail) → AnsweredMachine k r k'
     → AnswersIn m own fs (answer_value r) (slot_with (life.Lives k w) mail) (slot_with (life.Lives k' w) mail)
 answered_machine m own fs k k' w mail r h e =
-    let x : k'.standing ≡ goes (with_answer fs (answer_value r)) = ap (λ z. z.standing) e ∙ ap (λ z. answered_in z (answer_value r)) h.0 in
-    let stands : StandsAs w k'.standing = subst (λ z. StandsAs z k'.standing) (sym h.2) (with_answer fs (answer_value r), x, can_go_on fs (answer_value r)) in
+    let x : k'.standing ≡ goes (with_answer fs (answer_value r)) =
+    ap (λ z. z.standing) e ∙ ap (λ z. answered_in z (answer_value r)) h.0 in
+    let stands : StandsAs w k'.standing = subst (λ z. StandsAs z k'.standing) (sym h.2)
+    (with_answer fs (answer_value r), x, can_go_on fs (answer_value r)) in
     record {
       sound = record {
         ready = (stands, ahead_anyhow k k' fs mail h.0 h.3);
         is_of = (ap (λ z. z.own) e ∙ h.1.0, ap (λ z. z.checked) e ∙ h.1.1);
       };
-      is = ap (λ z. body_of (waiting_if z (state_in k'.standing)) mail.messages) h.2 ∙ ap (λ z. body_of (state_in z) mail.messages) x;
+      is = ap (λ z. body_of (waiting_if z (state_in k'.standing)) mail.messages) h.2
+          ∙ ap (λ z. body_of (state_in z) mail.messages) x;
     }
 
 pub answered_slot : (k k' : MachineView) (w : Bool) (mail : MailView) (r : Result Term Term) → AnsweredMachine k r k'
@@ -112,7 +122,8 @@ pub answered_slot : (k k' : MachineView) (w : Bool) (mail : MailView) (r : Resul
 answered_slot k k' w mail r e m own fs h = answered_machine m own fs k k' w mail r h e
 
 pub waiting_slot : (k : MachineView) (w : Bool) (mail : MailView) (m : Checked) (own : ℕ) (t : Tree)
-    → SlotIsLeft m own (goes (running t)) (slot_with (life.Lives k w) mail) → PutsIn m own (body_of (waiting t) mail.messages) (slot_with (life.Lives k true) mail)
+    → SlotIsLeft m own (goes (running t)) (slot_with (life.Lives k w) mail)
+    → PutsIn m own (body_of (waiting t) mail.messages) (slot_with (life.Lives k true) mail)
 waiting_slot k w mail m own t h =
     record {
       sound = record { ready = ((t, h.0), h.3); is_of = h.1 };
@@ -120,13 +131,15 @@ waiting_slot k w mail m own t h =
     }
 
 -- a process without a machine asks for nothing, and doesn't wait
-pub asks_none : (l : Life) (mail : MailView) → ((k : MachineView) (w : Bool) → l ≡ life.Lives k w → ⊥) → (m : Checked) (own : ℕ) (fs : List Frame)
+pub asks_none : (l : Life) (mail : MailView) → ((k : MachineView) (w : Bool) → l ≡ life.Lives k w → ⊥)
+    → (m : Checked) (own : ℕ) (fs : List Frame)
     → SlotIsLeft m own (asking fs) (slot_with l mail) → ⊥
 asks_none (life.Lives k w) mail n m own fs h = n k w refl
 asks_none (life.Ends r) mail n m own fs h = asking_not_over fs h
 asks_none (life.Ended e) mail n m own fs h = asking_not_over fs h
 
-pub waits_none : (l : Life) (mail : MailView) → ((k : MachineView) (w : Bool) → l ≡ life.Lives k w → ⊥) → (m : Checked) (own : ℕ) (s : ProcessState)
+pub waits_none : (l : Life) (mail : MailView) → ((k : MachineView) (w : Bool) → l ≡ life.Lives k w → ⊥)
+    → (m : Checked) (own : ℕ) (s : ProcessState)
     → SlotIsLeft m own (goes s) (slot_with l mail) → ⊥
 waits_none (life.Lives k w) mail n m own s h = n k w refl
 waits_none (life.Ends r) mail n m own s h = goes_not_over s h

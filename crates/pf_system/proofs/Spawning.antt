@@ -1,5 +1,6 @@
 -- A new process among the others.
-use Rattle.std.proofs.Common.{◌≡◌, ℕ, zero, suc, ◌+◌, ◌<◌, ◌≤◌, nat_lt, Bool, true, false, List, [], ◌∷◌, ◌++◌, Some, None, if◌then◌else◌, refl, sym, ap, ◌∙◌, subst, arith, length, map, slice_set}
+use Rattle.std.proofs.Common.{◌≡◌, ℕ, zero, suc, ◌+◌, ◌<◌, ◌≤◌, nat_lt, Bool, true, false, List, [], ◌∷◌, ◌++◌, Some}
+use Rattle.std.proofs.Common.{None, if◌then◌else◌, refl, sym, ap, ◌∙◌, subst, arith, length, map, slice_set}
 use Rattle.std.specs.Prelude.{Ok, slice_get}
 use Rattle.std.proofs.lemmas.Bool.Decides.{nat_tests}
 use Rattle.pf_terms.specs.Value.{Value, Values, atom, list, pid}
@@ -10,7 +11,8 @@ use Rattle.pf_model.specs.declared.bond.Bond.{Bond}
 use Rattle.pf_model.specs.declared.bond.Bond.TheVariants.{Unbound, Linking, Watching}
 use Rattle.pf_model.specs.Channels.{with_senders}
 use Rattle.pf_model.specs.Configuration.{Process, Core, fresh, of, process_at, is_alive}
-use Rattle.pf_model.specs.Actions.{gives, raising, given, given_for, shown_for, as_atom, as_elements, linked_with, watching_with, after_spawn, spawned, start_of}
+use Rattle.pf_model.specs.Actions.{gives, raising, given, given_for, shown_for, as_atom, as_elements, linked_with}
+use Rattle.pf_model.specs.Actions.{watching_with, after_spawn, spawned, start_of}
 use Rattle.pf_model.specs.Labels as label
 use Rattle.pf_model.specs.Context.{ProcessState, ended, failed}
 use Rattle.pf_model.specs.Runs.{can_go}
@@ -23,7 +25,8 @@ use Rattle.pf_stepper.specs.Turns.{answer_value}
 use Rattle.pf_system.specs.Bodies.{Body, body_of, process_body, bodies_of}
 use Rattle.pf_system.specs.Slots.{slot_body, SlotIsSound, SlotsAreSound}
 use Rattle.pf_system.specs.Processes.{RepresentsBut, checked_in, module_in, bodies_in}
-use Rattle.pf_system.specs.Acts.{ActAnswer, AnswersAct, ActedIn, ActsIn, KeepsSlot, LifeBegins, OpensWithTies, OpensProcess, ReportsSpawn, opened_by}
+use Rattle.pf_system.specs.Acts.{ActAnswer, AnswersAct, ActedIn, ActsIn, KeepsSlot, LifeBegins, OpensWithTies}
+use Rattle.pf_system.specs.Acts.{OpensProcess, ReportsSpawn, opened_by}
 use Rattle.pf_system.specs.declared.slot.Life.{Life}
 use Rattle.pf_system.specs.declared.slot.Slot.{Slot}
 use Rattle.pf_system.specs.declared.spare.Spare.{Spare}
@@ -41,11 +44,13 @@ get_front n [] ys l = absurd (omega arith)
 get_front zero (x ∷ xs) ys l = refl
 get_front (suc n) (x ∷ xs) ys l = get_front n xs ys (omega arith)
 
-sound_more : (m : Checked) (n : ℕ) (ss : List Slot) (s : Slot) → SlotsAreSound m n ss → SlotIsSound m (n + length ss) s → SlotsAreSound m n (ss ++ s ∷ [])
+sound_more : (m : Checked) (n : ℕ) (ss : List Slot) (s : Slot) → SlotsAreSound m n ss → SlotIsSound m (n + length ss) s
+    → SlotsAreSound m n (ss ++ s ∷ [])
 sound_more m n [] s h k = let e : n + zero ≡ n = omega arith in (subst (λ z. SlotIsSound m z s) e k, tt)
 sound_more m n (x ∷ ss) s h k =
     let j : ℕ = length ss in
-    let e : n + suc j ≡ suc n + j = omega arith in (h.0, sound_more m (suc n) ss s h.1 (subst (λ z. SlotIsSound m z s) e k))
+    let e : n + suc j ≡ suc n + j = omega arith in
+    (h.0, sound_more m (suc n) ss s h.1 (subst (λ z. SlotIsSound m z s) e k))
 
 process_front : (n : ℕ) (ps qs : List Process) → n < length ps → process_at n (ps ++ qs) ≡ process_at n ps
 process_front n [] qs l = absurd (omega arith)
@@ -62,7 +67,8 @@ module _ (c : Core) (a : ℕ) (s : ProcessState) where
   spawn_bodies Watching =
       let d = watching_with c a (length c.processes) in
       map_more process_body d.processes (record (fresh s []) { watchers = (c.next_reference, a) ∷ [] })
-      ∙ ap (λ z. z ++ body_of s [] ∷ []) (bodies_same c a (record (of c a) { active = put c.next_reference (length c.processes) (of c a).active }) refl)
+      ∙ ap (λ z. z ++ body_of s [] ∷ []) (bodies_same c a
+      (record (of c a) { active = put c.next_reference (length c.processes) (of c a).active }) refl)
 
   spawn_ties : (b : Bond) → is_alive s ≡ true → ties_of (after_spawn c a b s) ≡ opened_by b a (ties_of c)
   spawn_ties Unbound e = follow_actions.spawn c a s e
@@ -74,17 +80,20 @@ module _ (c : Core) (a : ℕ) (s : ProcessState) where
   spawn_most Linking = refl
   spawn_most Watching = refl
 
-body_front : (n : ℕ) (c d : Core) (b : Body) → n < length c.processes → bodies_of d ≡ bodies_of c ++ b ∷ [] → process_body (of d n) ≡ process_body (of c n)
+body_front : (n : ℕ) (c d : Core) (b : Body) → n < length c.processes → bodies_of d ≡ bodies_of c ++ b ∷ []
+    → process_body (of d n) ≡ process_body (of c n)
 body_front n c d b l e = by n c.processes d.processes l e
   where
-    by : (n : ℕ) (ps qs : List Process) → n < length ps → map process_body qs ≡ map process_body ps ++ b ∷ [] → process_body (process_at n qs) ≡ process_body (process_at n ps)
+    by : (n : ℕ) (ps qs : List Process) → n < length ps → map process_body qs ≡ map process_body ps ++ b ∷ []
+        → process_body (process_at n qs) ≡ process_body (process_at n ps)
     by n [] qs l e = absurd (omega arith)
     by n (p ∷ ps) [] l e = absurd (cc)
     by zero (p ∷ ps) (q ∷ qs) l e = cc
     by (suc n) (p ∷ ps) (q ∷ qs) l e = by n ps qs (omega arith) (cc)
 
 module _ (a : ℕ) (bond : Bond) (w w' : Processes) (l : Life) (r : ActAnswer) (c : Core) (s : ProcessState)
-    (but : RepresentsBut w c a) (few : length w.slots.items < w.basis.most) (h : LifeBegins (checked_in w) (length w.slots.items) s l)
+    (but : RepresentsBut w c a) (few : length w.slots.items < w.basis.most)
+    (h : LifeBegins (checked_in w) (length w.slots.items) s l)
     (o : OpensWithTies (opened_by bond a w.shared.ties) w l w') where
   abbrev after : Core
   after = after_spawn c a bond s
@@ -95,16 +104,19 @@ module _ (a : ℕ) (bond : Bond) (w w' : Processes) (l : Life) (r : ActAnswer) (
   same_length : length c.processes ≡ length w.slots.items
   same_length =
       let b = body_of (ended (failed undefined)) [] in
-      length_of c ∙ sym (set_length a (bodies_of c) b) ∙ ap length (but.bodies b) ∙ set_length a (bodies_in w) b ∙ length-map w.slots.items slot_body
+      length_of c ∙ sym (set_length a (bodies_of c) b) ∙ ap length (but.bodies b) ∙ set_length a (bodies_in w) b
+      ∙ length-map w.slots.items slot_body
 
   new_body : slot_body new_slot ≡ body_of s []
   new_body = ap (λ z. body_of z o.slots.0.messages) h.state ∙ ap (body_of s) o.slots.1
 
   after_length : length after.processes ≡ suc (length c.processes)
-  after_length = length_of after ∙ ap length (spawn_bodies c a s bond) ∙ more_length (bodies_of c) (body_of s []) ∙ ap suc (sym (length_of c))
+  after_length = length_of after ∙ ap length (spawn_bodies c a s bond) ∙ more_length (bodies_of c) (body_of s [])
+      ∙ ap suc (sym (length_of c))
 
   new_bodies : bodies_in w' ≡ bodies_in w ++ body_of s [] ∷ []
-  new_bodies = ap (map slot_body) o.slots.3 ∙ map_more slot_body w.slots.items new_slot ∙ ap (λ z. bodies_in w ++ z ∷ []) new_body
+  new_bodies = ap (map slot_body) o.slots.3 ∙ map_more slot_body w.slots.items new_slot
+      ∙ ap (λ z. bodies_in w ++ z ∷ []) new_body
 
   there_in : a < length (bodies_in w)
   there_in = let k = length-map w.slots.items slot_body in let j = but.there in omega arith
@@ -120,25 +132,33 @@ module _ (a : ℕ) (bond : Bond) (w w' : Processes) (l : Life) (r : ActAnswer) (
       record {
         there = let k = ap length o.slots.3 ∙ more_length w.slots.items new_slot in let j = but.there in omega arith;
         bodies = λ b.
-            ap (λ z. slice_set z a b) (spawn_bodies c a s bond) ∙ set_front a (bodies_of c) (body_of s [] ∷ []) b there_of
-            ∙ ap (λ z. z ++ body_of s [] ∷ []) (but.bodies b) ∙ sym (set_front a (bodies_in w) (body_of s [] ∷ []) b there_in) ∙ ap (λ z. slice_set z a b) (sym new_bodies);
+            ap (λ z. slice_set z a b) (spawn_bodies c a s bond) ∙ set_front a (bodies_of c)
+            (body_of s [] ∷ []) b there_of
+            ∙ ap (λ z. z ++ body_of s [] ∷ []) (but.bodies b)
+            ∙ sym (set_front a (bodies_in w) (body_of s [] ∷ []) b there_in) ∙ ap (λ z. slice_set z a b)
+            (sym new_bodies);
         ties = spawn_ties c a s bond (alive_going s h.goes) ∙ ap (opened_by bond a) but.ties ∙ sym o.tied;
         ready =
             let z : zero + length (bodies_of c) ≡ length w.slots.items = omega (arith, length_of c) in
-            o.ready ∙ ap (with_number n) (but.ready ∙ by_bodies can_go zero c.processes) ∙ ap (λ k. with_number k (numbers_in can_go zero (bodies_of c))) (sym z)
-            ∙ sym (by_bodies can_go zero after.processes ∙ ap (numbers_in can_go zero) (spawn_bodies c a s bond) ∙ more_in can_go zero (bodies_of c) (body_of s []) h.goes);
+            o.ready ∙ ap (with_number n) (but.ready ∙ by_bodies can_go zero c.processes)
+            ∙ ap (λ k. with_number k (numbers_in can_go zero (bodies_of c))) (sym z)
+            ∙ sym (by_bodies can_go zero after.processes ∙ ap (numbers_in can_go zero) (spawn_bodies c a s bond)
+            ∙ more_in can_go zero (bodies_of c) (body_of s []) h.goes);
         slots = λ t k.
             let i : SlotIsSound (checked_in w) a t = subst (λ z. SlotIsSound z.module.value a t) o.basis k in
             let y : zero + length (slice_set w.slots.items a t) ≡ n = omega (arith, set_length a w.slots.items t) in
             let x : SlotIsSound (checked_in w) (zero + length (slice_set w.slots.items a t)) new_slot =
-            subst (λ z. SlotIsSound (checked_in w) z new_slot) (sym y) (record { ready = h.sound o.slots.0 o.slots.2; is_of = h.is_of }) in
+            subst (λ z. SlotIsSound (checked_in w) z new_slot) (sym y)
+            (record { ready = h.sound o.slots.0 o.slots.2; is_of = h.is_of }) in
             let v = sound_more (checked_in w) zero (slice_set w.slots.items a t) new_slot (but.slots t i) x in
             let q : slice_set w'.slots.items a t ≡ slice_set w.slots.items a t ++ new_slot ∷ [] =
             ap (λ z. slice_set z a t) o.slots.3 ∙ set_front a w.slots.items (new_slot ∷ []) t but.there in
-            subst (λ z. SlotsAreSound z.module.value zero (slice_set w'.slots.items a t)) (sym o.basis) (subst (SlotsAreSound (checked_in w) zero) (sym q) v);
+            subst (λ z. SlotsAreSound z.module.value zero (slice_set w'.slots.items a t)) (sym o.basis)
+            (subst (SlotsAreSound (checked_in w) zero) (sym q) v);
         room = record {
           rows =
-              let j = senders_length (n + 1) w.shared.channels in let k = j.1 in let i = ap length o.channels in omega arith;
+              let j = senders_length (n + 1) w.shared.channels in let k = j.1 in
+              let i = ap length o.channels in omega arith;
           few = let m = but.room.within in omega arith;
           most = spawn_most c a s bond ∙ but.room.most ∙ ap (λ z. z.most) (sym o.basis);
           within = subst (λ z. z.most ≤ MOST_PROCESSES) (sym o.basis) but.room.within;
@@ -146,14 +166,16 @@ module _ (a : ℕ) (bond : Bond) (w w' : Processes) (l : Life) (r : ActAnswer) (
       }
 
   -- the slot of the one that asks holds what it held
-  mail_after : (t t' : Slot) → slice_get w.slots.items a ≡ Some t → slice_get w'.slots.items a ≡ Some t' → t.mailbox.messages ≡ (of c a).mailbox
+  mail_after : (t t' : Slot) → slice_get w.slots.items a ≡ Some t → slice_get w'.slots.items a ≡ Some t'
+      → t.mailbox.messages ≡ (of c a).mailbox
       → t'.mailbox.messages ≡ (of after a).mailbox
   mail_after t t' e e' m =
       let q = sym e' ∙ ap (λ z. slice_get z a) o.slots.3 ∙ get_front a w.slots.items (new_slot ∷ []) but.there ∙ e in
       ap (λ z. z.mailbox.messages) (slot_is t' t q) ∙ m
       ∙ ap (λ z. z.mailbox) (sym (body_front a c after (body_of s []) (but_there w c a but) (spawn_bodies c a s bond)))
 
-  pub spawned_in : ReportsSpawn bond (length w.slots.items) w.shared.ties.next_reference r → ActedIn c (spawned c a bond s) a w r w'
+  pub spawned_in : ReportsSpawn bond (length w.slots.items) w.shared.ties.next_reference r
+      → ActedIn c (spawned c a bond s) a w r w'
   spawned_in y =
       let e = same_length in
       let f = after_length in
@@ -161,39 +183,59 @@ module _ (a : ℕ) (bond : Bond) (w w' : Processes) (l : Life) (r : ActAnswer) (
       let k : c.next_reference ≡ w.shared.ties.next_reference = ap (λ z. z.next_reference) but.ties in
       let lt : nat_lt (length c.processes) c.most ≡ true = grind (arith, nat_tests) in
       let z : length w.slots.items + 1 ≡ length after.processes = omega arith in
-      subst (λ t. ActedIn c (if t then gives after [] (given_for bond (length c.processes) c.next_reference) (shown_for bond (length c.processes) c.next_reference) else raising c system_limit) a w r w') (sym lt)
+      subst (λ t. ActedIn c (if t then gives after [] (given_for bond (length c.processes) c.next_reference)
+      (shown_for bond (length c.processes) c.next_reference) else raising c system_limit) a w r w') (sym lt)
       (record {
         stands = stands_after;
         state = ap (λ p. p.state) (body_front a c after (body_of s []) (but_there w c a but) (spawn_bodies c a s bond));
         mail = mail_after;
         channels = o.channels ∙ ap (λ t. with_senders t w.shared.channels) z;
         answers = record {
-          value = y.value ∙ ap (λ t. Ok (given_for bond t w.shared.ties.next_reference)) (sym e) ∙ ap (λ t. Ok (given_for bond (length c.processes) t)) (sym k);
-          label = y.label ∙ ap (λ t. shown_for bond t w.shared.ties.next_reference) (sym e) ∙ ap (shown_for bond (length c.processes)) (sym k);
+          value = y.value ∙ ap (λ t. Ok (given_for bond t w.shared.ties.next_reference)) (sym e)
+              ∙ ap (λ t. Ok (given_for bond (length c.processes) t)) (sym k);
+          label = y.label ∙ ap (λ t. shown_for bond t w.shared.ties.next_reference) (sym e)
+              ∙ ap (shown_for bond (length c.processes)) (sym k);
         };
         basis = o.basis;
       })
 
-pub tells_it : (linked : Bool) (p k : ℕ) (r : ActAnswer) → answer_value r.value ≡ Ok (pid p) → label_of r.label ≡ label.spawns linked p
+pub tells_it : (linked : Bool) (p k : ℕ) (r : ActAnswer) → answer_value r.value ≡ Ok (pid p)
+    → label_of r.label ≡ label.spawns linked p
     → ReportsSpawn (if linked then Linking else Unbound) p k r
 tells_it true p k r x y = record { value = x; label = y }
 tells_it false p k r x y = record { value = x; label = y }
 
 -- where the ties are changed first
-pub opens_tied : (w w' : Processes) (l : Life) (t u : AllTies) → u ≡ t → OpensWithTies u (record w { shared = record w.shared { ties = u } }) l w' → OpensWithTies t w l w'
-opens_tied w w' l t u e o = record { tied = o.tied ∙ e; channels = o.channels; slots = o.slots; ready = o.ready; basis = o.basis }
+pub opens_tied : (w w' : Processes) (l : Life) (t u : AllTies) → u ≡ t
+    → OpensWithTies u (record w { shared = record w.shared { ties = u } }) l w' → OpensWithTies t w l w'
+opens_tied w w' l t u e o = record {
+  tied = o.tied ∙ e;
+  channels = o.channels;
+  slots = o.slots;
+  ready = o.ready;
+  basis = o.basis;
+}
 
 -- what is spare is no part of it
-pub opens_alike : (b : Bond) (n : ℕ) (w w' : Processes) (s : Spare) (l : Life) (r : ActAnswer) → OpensProcess b n (record w { spare = s }) l r w' → OpensProcess b n w l r w'
+pub opens_alike : (b : Bond) (n : ℕ) (w w' : Processes) (s : Spare) (l : Life) (r : ActAnswer)
+    → OpensProcess b n (record w { spare = s }) l r w' → OpensProcess b n w l r w'
 opens_alike b n w w' s l r o =
     record {
-      opens = record { tied = o.opens.tied; channels = o.opens.channels; slots = o.opens.slots; ready = o.opens.ready; basis = o.opens.basis };
+      opens = record {
+        tied = o.opens.tied;
+        channels = o.opens.channels;
+        slots = o.opens.slots;
+        ready = o.opens.ready;
+        basis = o.opens.basis;
+      };
       tells = o.tells;
     }
 
 -- the slots of the others stay
-pub keeps_opened : (n : ℕ) (b : Bond) (w w' : Processes) (l : Life) (r : ActAnswer) → n < length w.slots.items → OpensProcess b n w l r w' → KeepsSlot n w w'
-keeps_opened n b w w' l r k o = keeps_slot n w w' (ap (λ z. slice_get z n) o.opens.slots.3 ∙ get_front n w.slots.items _ k)
+pub keeps_opened : (n : ℕ) (b : Bond) (w w' : Processes) (l : Life) (r : ActAnswer) → n < length w.slots.items
+    → OpensProcess b n w l r w' → KeepsSlot n w w'
+keeps_opened n b w w' l r k o = keeps_slot n w w'
+    (ap (λ z. slice_get z n) o.opens.slots.3 ∙ get_front n w.slots.items _ k)
 
 -- ---- the action
 
@@ -204,44 +246,68 @@ module _ (a : ℕ) (bond : Bond) (w : Processes) (r : ActAnswer) (home function 
   pub home_refused : as_atom home ≡ None → ((c : Core) → AnswersAct r (raising c badarg)) → Spawns w
   home_refused e k c but =
       subst (λ z. ActedIn c z a w r w)
-      (sym (given_none c (as_atom home) (λ h. given c (as_atom function) (λ n. given c (as_elements arguments) (λ vs. spawned c a bond (start_of (module_in w) h n vs)))) e))
+      (sym (given_none c (as_atom home) (λ h.
+      given c (as_atom function) (λ n. given c (as_elements arguments)
+      (λ vs. spawned c a bond (start_of (module_in w) h n vs)))) e))
       (raised_in a w r c badarg (k c) but)
 
-  pub function_refused : (h : ℕ) → home ≡ atom h → as_atom function ≡ None → ((c : Core) → AnswersAct r (raising c badarg)) → Spawns w
+  pub function_refused : (h : ℕ) → home ≡ atom h → as_atom function ≡ None
+      → ((c : Core) → AnswersAct r (raising c badarg)) → Spawns w
   function_refused h q e k c but =
-      subst (λ z. ActedIn c (given c (as_atom z) (λ h. given c (as_atom function) (λ n. given c (as_elements arguments) (λ vs. spawned c a bond (start_of (module_in w) h n vs))))) a w r w) (sym q)
+      subst (λ z. ActedIn c (given c (as_atom z)
+      (λ h. given c (as_atom function) (λ n.
+      given c (as_elements arguments) (λ vs. spawned c a bond (start_of (module_in w) h n vs))))) a w r w) (sym q)
       (subst (λ z. ActedIn c z a w r w)
-      (sym (given_none c (as_atom function) (λ n. given c (as_elements arguments) (λ vs. spawned c a bond (start_of (module_in w) h n vs))) e))
+      (sym (given_none c (as_atom function) (λ n.
+      given c (as_elements arguments) (λ vs. spawned c a bond (start_of (module_in w) h n vs))) e))
       (raised_in a w r c badarg (k c) but))
 
-  pub arguments_refused : (h n : ℕ) → home ≡ atom h → function ≡ atom n → as_elements arguments ≡ None → ((c : Core) → AnswersAct r (raising c badarg)) → Spawns w
+  pub arguments_refused : (h n : ℕ) → home ≡ atom h → function ≡ atom n → as_elements arguments ≡ None
+      → ((c : Core) → AnswersAct r (raising c badarg)) → Spawns w
   arguments_refused h n q p e k c but =
-      subst (λ z. ActedIn c (given c (as_atom z) (λ h. given c (as_atom function) (λ n. given c (as_elements arguments) (λ vs. spawned c a bond (start_of (module_in w) h n vs))))) a w r w) (sym q)
-      (subst (λ z. ActedIn c (given c (as_atom z) (λ n. given c (as_elements arguments) (λ vs. spawned c a bond (start_of (module_in w) h n vs)))) a w r w) (sym p)
-      (subst (λ z. ActedIn c z a w r w) (sym (given_none c (as_elements arguments) (λ vs. spawned c a bond (start_of (module_in w) h n vs)) e))
+      subst (λ z. ActedIn c (given c (as_atom z)
+      (λ h. given c (as_atom function) (λ n.
+      given c (as_elements arguments) (λ vs. spawned c a bond (start_of (module_in w) h n vs))))) a w r w) (sym q)
+      (subst (λ z. ActedIn c (given c (as_atom z)
+      (λ n. given c (as_elements arguments) (λ vs. spawned c a bond (start_of (module_in w) h n vs)))) a w r w)
+      (sym p)
+      (subst (λ z. ActedIn c z a w r w) (sym (given_none c (as_elements arguments)
+      (λ vs. spawned c a bond (start_of (module_in w) h n vs)) e))
       (raised_in a w r c badarg (k c) but)))
 
   module _ (h n : ℕ) (vs : Values) (q : home ≡ atom h) (p : function ≡ atom n) (y : arguments ≡ list vs) where
-    reaches : (w' : Processes) → ((c : Core) → RepresentsBut w c a → ActedIn c (spawned c a bond (start_of (module_in w) h n vs)) a w r w') → Spawns w'
+    reaches : (w' : Processes) → ((c : Core) → RepresentsBut w c a
+        → ActedIn c (spawned c a bond (start_of (module_in w) h n vs)) a w r w') → Spawns w'
     reaches w' k c but =
-        subst (λ z. ActedIn c (given c (as_atom z) (λ h. given c (as_atom function) (λ n. given c (as_elements arguments) (λ vs. spawned c a bond (start_of (module_in w) h n vs))))) a w r w') (sym q)
-        (subst (λ z. ActedIn c (given c (as_atom z) (λ n. given c (as_elements arguments) (λ vs. spawned c a bond (start_of (module_in w) h n vs)))) a w r w') (sym p)
-        (subst (λ z. ActedIn c (given c (as_elements z) (λ vs. spawned c a bond (start_of (module_in w) h n vs))) a w r w') (sym y) (k c but)))
+        subst (λ z. ActedIn c (given c (as_atom z)
+        (λ h. given c (as_atom function) (λ n.
+        given c (as_elements arguments) (λ vs. spawned c a bond (start_of (module_in w) h n vs))))) a w r w')
+        (sym q)
+        (subst (λ z. ActedIn c (given c (as_atom z)
+        (λ n. given c (as_elements arguments) (λ vs. spawned c a bond (start_of (module_in w) h n vs)))) a w r w')
+        (sym p)
+        (subst (λ z. ActedIn c (given c (as_elements z) (λ vs. spawned c a bond (start_of (module_in w) h n vs))) a w r
+        w') (sym y) (k c but)))
 
-    pub limit_refused : w.basis.most ≤ length w.slots.items → ((c : Core) → AnswersAct r (raising c system_limit)) → Spawns w
+    pub limit_refused : w.basis.most ≤ length w.slots.items
+        → ((c : Core) → AnswersAct r (raising c system_limit)) → Spawns w
     limit_refused l k =
         reaches w (λ c but.
         let b = body_of (ended (failed undefined)) [] in
         let e : length c.processes ≡ length w.slots.items =
-        length_of c ∙ sym (set_length a (bodies_of c) b) ∙ ap length (but.bodies b) ∙ set_length a (bodies_in w) b ∙ length-map w.slots.items slot_body in
+        length_of c ∙ sym (set_length a (bodies_of c) b) ∙ ap length (but.bodies b) ∙ set_length a (bodies_in w) b
+        ∙ length-map w.slots.items slot_body in
         let s = start_of (module_in w) h n vs in
         let j = length c.processes in
         let m = but.room.most in
         let lt : nat_lt j c.most ≡ false = grind (arith, nat_tests) in
-        subst (λ t. ActedIn c (if t then gives (after_spawn c a bond s) [] (given_for bond j c.next_reference) (shown_for bond j c.next_reference) else raising c system_limit) a w r w) (sym lt)
+        subst (λ t. ActedIn c (if t then gives (after_spawn c a bond s) [] (given_for bond j c.next_reference)
+        (shown_for bond j c.next_reference) else raising c system_limit) a w r w) (sym lt)
         (raised_in a w r c system_limit (k c) but))
 
-    pub spawns_so : (w' : Processes) (l : Life) → length w.slots.items < w.basis.most → LifeBegins (checked_in w) (length w.slots.items) (start_of (module_in w) h n vs) l
+    pub spawns_so : (w' : Processes) (l : Life) → length w.slots.items < w.basis.most
+        → LifeBegins (checked_in w) (length w.slots.items) (start_of (module_in w) h n vs) l
         → OpensProcess bond a w l r w' → Spawns w'
     spawns_so w' l few begins o =
-        reaches w' (λ c but. spawned_in a bond w w' l r c (start_of (module_in w) h n vs) but few begins o.opens o.tells)
+        reaches w' (λ c but. spawned_in a bond w w' l r c (start_of (module_in w) h n vs) but few begins
+        o.opens o.tells)

@@ -1,5 +1,6 @@
 -- A system that begins, and the turn of one of its processes, as a transition.
-use Rattle.std.proofs.Common.{◌≡◌, ◌⊎◌, inl, inr, ℕ, zero, suc, ◌+◌, ◌==◌, ◌≤◌, Bool, true, false, List, [], ◌∷◌, ◌++◌, Some, None, if◌then◌else◌, refl, sym, ap, ◌∙◌, subst, arith, length, map}
+use Rattle.std.proofs.Common.{◌≡◌, ◌⊎◌, inl, inr, ℕ, zero, suc, ◌+◌, ◌==◌, ◌≤◌, Bool, true, false, List, [], ◌∷◌, ◌++◌}
+use Rattle.std.proofs.Common.{Some, None, if◌then◌else◌, refl, sym, ap, ◌∙◌, subst, arith, length, map}
 use Rattle.pf_terms.specs.Value.{none}
 use Rattle.pf_syntax.specs.Tree.{call, no_trees}
 use Rattle.pf_syntax.specs.Module.{Checked}
@@ -40,26 +41,32 @@ by_process a [] h = h
 by_process a (p ∷ ps) (inl e) = let k : a ≡ p = cc in inl k
 by_process a (p ∷ ps) (inr h) = inr (by_process a ps h)
 
-in_numbers : (n a : ℕ) (ps : List Process) → IsIn a (pids_in_state can_go n ps) → (i : ℕ) × (a ≡ n + i) × (can_go (process_at i ps).state ≡ true)
+in_numbers : (n a : ℕ) (ps : List Process) → IsIn a (pids_in_state can_go n ps)
+    → (i : ℕ) × (a ≡ n + i) × (can_go (process_at i ps).state ≡ true)
 in_numbers n a [] h = absurd h
 in_numbers n a (p ∷ ps) h = by (in_numbers (suc n) a ps) (can_go p.state) refl h
   where
-    later : (i : ℕ) × (a ≡ suc n + i) × (can_go (process_at i ps).state ≡ true) → (i : ℕ) × (a ≡ n + i) × (can_go (process_at i (p ∷ ps)).state ≡ true)
+    later : (i : ℕ) × (a ≡ suc n + i) × (can_go (process_at i ps).state ≡ true)
+        → (i : ℕ) × (a ≡ n + i) × (can_go (process_at i (p ∷ ps)).state ≡ true)
     later q = let e = q.1 in (suc q.0, omega arith, q.2)
 
-    first : (t : Bool) → can_go p.state ≡ t → (IsIn a (pids_in_state can_go (suc n) ps) → (i : ℕ) × (a ≡ suc n + i) × (can_go (process_at i ps).state ≡ true))
-        → IsIn a (n ∷ pids_in_state can_go (suc n) ps) → t ≡ true → (i : ℕ) × (a ≡ n + i) × (can_go (process_at i (p ∷ ps)).state ≡ true)
+    first : (t : Bool) → can_go p.state ≡ t → (IsIn a (pids_in_state can_go (suc n) ps)
+        → (i : ℕ) × (a ≡ suc n + i) × (can_go (process_at i ps).state ≡ true))
+        → IsIn a (n ∷ pids_in_state can_go (suc n) ps) → t ≡ true
+        → (i : ℕ) × (a ≡ n + i) × (can_go (process_at i (p ∷ ps)).state ≡ true)
     first t e f (inl k) y = (zero, omega arith, e ∙ y)
     first t e f (inr k) y = later (f k)
 
-    by : (IsIn a (pids_in_state can_go (suc n) ps) → (i : ℕ) × (a ≡ suc n + i) × (can_go (process_at i ps).state ≡ true)) → (t : Bool) → can_go p.state ≡ t
+    by : (IsIn a (pids_in_state can_go (suc n) ps)
+        → (i : ℕ) × (a ≡ suc n + i) × (can_go (process_at i ps).state ≡ true)) → (t : Bool) → can_go p.state ≡ t
         → IsIn a (if t then n ∷ pids_in_state can_go (suc n) ps else pids_in_state can_go (suc n) ps)
         → (i : ℕ) × (a ≡ n + i) × (can_go (process_at i (p ∷ ps)).state ≡ true)
     by f true e k = first true e f k refl
     by f false e k = later (f k)
 
 pub can_go_of : (a : ℕ) (c : Configuration) → IsAmong (actors.Process a) (enabled c) → can_go (of c.core a).state ≡ true
-can_go_of a c h = by (in_either (actors.Process a) (map actors.Process ps) (map (λ h. actors.Channel h.0 h.1) (heads c.channels)) there)
+can_go_of a c h = by (in_either (actors.Process a) (map actors.Process ps)
+    (map (λ h. actors.Channel h.0 h.1) (heads c.channels)) there)
   where
     ps : List ℕ
     ps = pids_in_state can_go zero c.core.processes
@@ -67,7 +74,8 @@ can_go_of a c h = by (in_either (actors.Process a) (map actors.Process ps) (map 
     there : IsIn (actors.Process a) (enabled c)
     there = subst (IsIn (actors.Process a)) (sym h.2) (split_in (actors.Process a) h.0 h.1)
 
-    by : IsIn (actors.Process a) (map actors.Process ps) ⊎ IsIn (actors.Process a) (map (λ h. actors.Channel h.0 h.1) (heads c.channels)) → can_go (of c.core a).state ≡ true
+    by : IsIn (actors.Process a) (map actors.Process ps) ⊎ IsIn (actors.Process a)
+        (map (λ h. actors.Channel h.0 h.1) (heads c.channels)) → can_go (of c.core a).state ≡ true
     by (inl k) =
         let q = in_numbers zero a c.core.processes (by_process a ps k) in
         let x = q.1 in
@@ -77,21 +85,26 @@ can_go_of a c h = by (in_either (actors.Process a) (map actors.Process ps) (map 
 
 -- ---- a turn
 
-pub turn_kept : (m : Checked) (w w' : Processes) (c : Core) (a left used : ℕ) (l : Label) → RunsModule m w → ProcessTurned c a left w l used w' → RunsModule m w'
+pub turn_kept : (m : Checked) (w w' : Processes) (c : Core) (a left used : ℕ) (l : Label) → RunsModule m w
+    → ProcessTurned c a left w l used w' → RunsModule m w'
 turn_kept m w w' c a left used l k h = kept_after m w w' h.deed.left.core k h.shown.done.stands h.shown.done.basis
 
-pub turn_passes : (m : Checked) (w w' : Processes) (k a left used : ℕ) (l : Label) → RunsModule m w → ProcessTurned (core_of w) a left w l used w'
-    → SimulatesTransition left (view_of_system m k (Some (configuration_of w))) (actors.Process a) (label_of l) used (view_of_system m (k + used) (Some (configuration_of w')))
+pub turn_passes : (m : Checked) (w w' : Processes) (k a left used : ℕ) (l : Label) → RunsModule m w
+    → ProcessTurned (core_of w) a left w l used w'
+    → SimulatesTransition left (view_of_system m k (Some (configuration_of w))) (actors.Process a) (label_of l) used
+    (view_of_system m (k + used) (Some (configuration_of w')))
 turn_passes m w w' k a left used l i h =
     let d = h.deed in
     let p : Passed = passed a d w.shared.channels None used in
     let e : configuration_of w' ≡ p.after =
-    ap (λ c. both c w'.shared.channels) (again w' d.left.core h.shown.done.stands) ∙ ap (both d.left.core) h.shown.done.channels in
+    ap (λ c. both c w'.shared.channels) (again w' d.left.core h.shown.done.stands)
+    ∙ ap (both d.left.core) h.shown.done.channels in
     record {
       before = configuration_of w;
       passed = p;
       was = refl;
-      passes = subst (λ z. Passes (module_of z) left (configuration_of w) (actors.Process a) p) i.code (turn a used d h.turn);
+      passes = subst (λ z. Passes (module_of z) left (configuration_of w) (actors.Process a) p) i.code
+          (turn a used d h.turn);
       becomes = ap (λ c. view_of_system m (k + used) (Some c)) e;
       label = h.shown.label;
       counts = refl;
@@ -115,8 +128,10 @@ pub record IsEmpty (w : Processes) : Type 0 where
   pub channels : w.shared.channels ≡ []
   pub ready : w.ready ≡ []
 
-module _ (w w' : Processes) (k : MachineView) (root : ℕ) (none' : IsEmpty w) (at : k ≡ at_call 0 (checked_in w) root none)
-    (o : OpensWithTies (ties_opened w.shared.ties None) w (life.Lives k false) w') (edition : ℕ) (most : w.basis.most ≡ most_processes edition) where
+module _ (w w' : Processes) (k : MachineView) (root : ℕ) (none' : IsEmpty w)
+    (at : k ≡ at_call 0 (checked_in w) root none)
+    (o : OpensWithTies (ties_opened w.shared.ties None) w (life.Lives k false) w') (edition : ℕ)
+    (most : w.basis.most ≡ most_processes edition) where
   abbrev first : Slot
   first = record { life = life.Lives k false; mailbox = o.slots.0 }
 
@@ -124,7 +139,8 @@ module _ (w w' : Processes) (k : MachineView) (root : ℕ) (none' : IsEmpty w) (
   one_slot = o.slots.3 ∙ ap (λ z. z ++ first ∷ []) none'.slots
 
   one_row : w'.shared.channels ≡ [] ∷ []
-  one_row = o.channels ∙ ap (λ z. with_senders (length z + 1) w.shared.channels) none'.slots ∙ ap (with_senders 1) none'.channels
+  one_row = o.channels ∙ ap (λ z. with_senders (length z + 1) w.shared.channels) none'.slots
+      ∙ ap (with_senders 1) none'.channels
 
   stood : k.standing ≡ goes (running (call root no_trees))
   stood = ap (λ z. z.standing) at
@@ -139,7 +155,8 @@ module _ (w w' : Processes) (k : MachineView) (root : ℕ) (none' : IsEmpty w) (
   pub begins : Represents w' (start root edition).core
   begins =
       record {
-        bodies = sym (ap (map slot_body) one_slot ∙ ap (λ z. record { state = z; mailbox = o.slots.0.messages } ∷ []) (ap state_in stood)
+        bodies = sym (ap (map slot_body) one_slot ∙ ap (λ z. record { state = z; mailbox = o.slots.0.messages } ∷ [])
+            (ap state_in stood)
             ∙ ap (λ z. record { state = running (call root no_trees); mailbox = z } ∷ []) o.slots.1);
         ties = sym (o.tied ∙ ap (λ z. ties_opened z None) none'.ties);
         ready = o.ready ∙ ap (λ z. with_number (length z) w.ready) none'.slots ∙ ap (with_number 0) none'.ready;
@@ -148,14 +165,20 @@ module _ (w w' : Processes) (k : MachineView) (root : ℕ) (none' : IsEmpty w) (
           rows = let e = ap length one_row in omega arith;
           few = omega arith;
           most = sym most ∙ ap (λ z. z.most) (sym o.basis);
-          within = subst (λ z. z.most ≤ MOST_PROCESSES) (sym o.basis) (subst (λ z. z ≤ MOST_PROCESSES) (sym most) (most_within edition));
+          within = subst (λ z. z.most ≤ MOST_PROCESSES) (sym o.basis)
+              (subst (λ z. z ≤ MOST_PROCESSES) (sym most) (most_within edition));
         };
       }
 
   pub begins_kept : (m : Checked) → checked_in w ≡ m → RunsModule m w'
-  begins_kept m e = record { stands = stands_itself w' (start root edition).core begins; code = ap (λ z. z.module.value) o.basis ∙ e }
+  begins_kept m e = record {
+    stands = stands_itself w' (start root edition).core begins;
+    code =
+        ap (λ z. z.module.value) o.basis ∙ e;
+  }
 
-  pub begins_so : (m : Checked) → view_of_system m 0 (Some (configuration_of w')) ≡ view_of_system m 0 (Some (start root edition))
+  pub begins_so : (m : Checked) → view_of_system m 0 (Some (configuration_of w')) ≡ view_of_system m 0
+      (Some (start root edition))
   begins_so m =
       ap (λ c. view_of_system m 0 (Some (both c w'.shared.channels))) (again w' (start root edition).core begins)
       ∙ ap (λ cs. view_of_system m 0 (Some (both (start root edition).core cs))) one_row

@@ -1,12 +1,14 @@
 -- A turn, from what a machine ran and what its last step did.
-use Rattle.std.proofs.Common.{◌≡◌, ℕ, zero, suc, ◌+◌, ◌<◌, ◌≤◌, true, List, [], ◌∷◌, Some, sym, ap, ◌∙◌, subst, arith, length, slice_set}
+use Rattle.std.proofs.Common.{◌≡◌, ℕ, zero, suc, ◌+◌, ◌<◌, ◌≤◌, true, List, [], ◌∷◌, Some, sym, ap, ◌∙◌, subst, arith}
+use Rattle.std.proofs.Common.{length, slice_set}
 use Rattle.std.specs.Prelude.{slice_get}
 use Rattle.pf_terms.specs.Value.{Value}
 use Rattle.pf_syntax.specs.Tree.{Tree}
 use Rattle.pf_syntax.specs.Module.{Checked}
 use Rattle.pf_model.specs.Module.{Module, module_of}
 use Rattle.pf_model.specs.Context as index
-use Rattle.pf_model.specs.Context.{Frame, ProcessState, running, waiting, ending, ended, goes_on, asks, awaits, moved, Moves, at_value, at_index}
+use Rattle.pf_model.specs.Context.{Frame, ProcessState, running, waiting, ending, ended, goes_on, asks, awaits, moved}
+use Rattle.pf_model.specs.Context.{Moves, at_value, at_index}
 use Rattle.pf_model.specs.Channels.{with_senders}
 use Rattle.pf_model.specs.Configuration.{Process, Core, of, process_at, posted}
 use Rattle.pf_model.specs.Deliveries.{Deed}
@@ -64,13 +66,15 @@ module _ (m : Module) (a : ℕ) where
   cut_at c (waiting t) h = absurd (cc)
   cut_at c (ended e) h = absurd (cc)
 
-  cut_turn : (c : Core) (left used : ℕ) (s t : ProcessState) → can_go t ≡ true → used ≡ left → Steps m a left (goes_on s) (goes_on t)
+  cut_turn : (c : Core) (left used : ℕ) (s t : ProcessState) → can_go t ≡ true → used ≡ left
+      → Steps m a left (goes_on s) (goes_on t)
       → Turn m a c left s (cut_in c a t) used
   cut_turn c left used s t k e h =
       let x : left + zero ≡ left = omega arith in
       let y : left + zero ≡ used = omega (arith, e) in
       subst (λ z. Turn m a c z s (cut_in c a t) used) x
-      (subst (Turn m a c (left + zero) s (cut_in c a t)) y (steps_before m a c zero zero (cut_in c a t) left (goes_on s) (goes_on t) h (cut_at c t k)))
+      (subst (Turn m a c (left + zero) s (cut_in c a t)) y
+      (steps_before m a c zero zero (cut_in c a t) left (goes_on s) (goes_on t) h (cut_at c t k)))
 
 -- ---- what the calls of a turn ask for
 
@@ -80,20 +84,24 @@ in_range zero (p ∷ ps) e = omega arith
 in_range (suc a) (p ∷ ps) e = let k = in_range a ps e in omega arith
 
 -- a process that can go has a slot
-pub slot_there : (w : Processes) (c : Core) (a : ℕ) → Represents w c → can_go (of c a).state ≡ true → a < length w.slots.items
+pub slot_there : (w : Processes) (c : Core) (a : ℕ) → Represents w c → can_go (of c a).state ≡ true
+    → a < length w.slots.items
 slot_there w c a h e = let k = in_range a c.processes e in let l = slots_length w c h in omega arith
 
-module _ (w : Processes) (c : Core) (a : ℕ) (s : Slot) (h : Represents w c) (at : slice_get w.slots.items a ≡ Some s) where
+module _ (w : Processes) (c : Core) (a : ℕ) (s : Slot) (h : Represents w c)
+    (at : slice_get w.slots.items a ≡ Some s) where
   pub slot_ready : LifeIsReady s.life s.mailbox
   slot_ready = (sound_at (checked_in w) zero a w.slots.items s h.slots at).ready
 
   pub slot_sound : SlotIsSound (checked_in w) a s
-  slot_sound = let e : zero + a ≡ a = omega arith in subst (λ z. SlotIsSound (checked_in w) z s) e (sound_at (checked_in w) zero a w.slots.items s h.slots at)
+  slot_sound = let e : zero + a ≡ a = omega arith in subst (λ z. SlotIsSound (checked_in w) z s) e
+      (sound_at (checked_in w) zero a w.slots.items s h.slots at)
 
   pub slot_can : can_go (of c a).state ≡ true → can_go (state_of s.life) ≡ true
   slot_can e = ap (λ z. can_go z.state) (sym (body_at w c a s h at)) ∙ e
 
-  pub still_shaped : (w1 : Processes) (s1 : Slot) → w1.slots.items ≡ slice_set w.slots.items a s1 → w1.shared ≡ w.shared → w1.basis ≡ w.basis → IsShaped a w1
+  pub still_shaped : (w1 : Processes) (s1 : Slot) → w1.slots.items ≡ slice_set w.slots.items a s1 → w1.shared ≡ w.shared
+      → w1.basis ≡ w.basis → IsShaped a w1
   still_shaped w1 s1 e b m =
       let n : length w1.slots.items ≡ length w.slots.items = ap length e ∙ set_length a w.slots.items s1 in
       let l = get_within a w.slots.items s at in
@@ -111,14 +119,17 @@ module _ (w : Processes) (c : Core) (a : ℕ) (s : Slot) (h : Represents w c) (a
         within = subst (λ z. z.most ≤ MOST_PROCESSES) (sym m) h.room.within;
       }
 
-asks_in : (m : Checked) (own : ℕ) (x : MachineStatus) (l : Life) (mail : MailView) (fs : List Frame) → LifeIsLeft m own x l mail → x ≡ asking fs → LifeAsks l
+asks_in : (m : Checked) (own : ℕ) (x : MachineStatus) (l : Life) (mail : MailView) (fs : List Frame)
+    → LifeIsLeft m own x l mail → x ≡ asking fs → LifeAsks l
 asks_in m own x (life.Lives k w) mail fs h e = subst CanAnswer (sym (h.0 ∙ e)) tt
 asks_in m own x (life.Ends r) mail fs h e = tt
 asks_in m own x (life.Ended r) mail fs h e = tt
 
 -- a machine that asked for an action waits for the answer
-pub asks_for : (m : Checked) (own left used : ℕ) (s s1 : Slot) (move : Move) → RanInSlot m own left s move used s1 → SlotAsksFor move s1
-asks_for m own left used s s1 (v.Action act) r = asks_in m own r.standing s1.life s1.mailbox r.ran.last.frames r.leaves r.ran.last.stands
+pub asks_for : (m : Checked) (own left used : ℕ) (s s1 : Slot) (move : Move) → RanInSlot m own left s move used s1
+    → SlotAsksFor move s1
+asks_for m own left used s s1 (v.Action act) r = asks_in m own r.standing s1.life s1.mailbox r.ran.last.frames r.leaves
+    r.ran.last.stands
 asks_for m own left used s s1 v.Pure r = tt
 asks_for m own left used s s1 (v.Take t) r = tt
 asks_for m own left used s s1 v.Wait r = tt
@@ -126,20 +137,24 @@ asks_for m own left used s s1 (v.End e) r = tt
 
 -- ---- the turn, among all processes
 
-shown_from : (w w1 w' : Processes) (a : ℕ) (l : Label) (d : Deed) → w1.shared ≡ w.shared → w1.basis ≡ w.basis → Shown a d w1.shared.channels w1 l w' → Shown a d w.shared.channels w l w'
+shown_from : (w w1 w' : Processes) (a : ℕ) (l : Label) (d : Deed) → w1.shared ≡ w.shared → w1.basis ≡ w.basis
+    → Shown a d w1.shared.channels w1 l w' → Shown a d w.shared.channels w l w'
 shown_from w w1 w' a l d e f h =
     record {
       done = record {
         stands = h.done.stands;
-        channels = h.done.channels ∙ ap (λ b. posted a d.left.sent (with_senders (length d.left.core.processes) b.channels)) e;
+        channels = h.done.channels ∙ ap (λ b.
+            posted a d.left.sent (with_senders (length d.left.core.processes) b.channels)) e;
         basis = h.done.basis ∙ f;
       };
       label = h.label;
     }
 
-module _ (w w1 w' : Processes) (c : Core) (a left used : ℕ) (l : Label) (e : w1.shared ≡ w.shared) (f : w1.basis ≡ w.basis) (can : can_go (of c a).state ≡ true)
+module _ (w w1 w' : Processes) (c : Core) (a left used : ℕ) (l : Label) (e : w1.shared ≡ w.shared)
+    (f : w1.basis ≡ w.basis) (can : can_go (of c a).state ≡ true)
     (x : MachineStatus) (mail : List Value) where
-  cut_so : MachineRan (module_in w) a left (of c a).state (of c a).mailbox v.Pure x used mail → SettlesMove c a v.Pure x mail w1 l w' → ProcessTurned c a left w l used w'
+  cut_so : MachineRan (module_in w) a left (of c a).state (of c a).mailbox v.Pure x used mail
+      → SettlesMove c a v.Pure x mail w1 l w' → ProcessTurned c a left w l used w'
   cut_so r k =
       let g = steps_go_on (module_in w) a left (goes_on (of c a).state) (goes_on r.next) r.steps can in
       record {
@@ -150,33 +165,40 @@ module _ (w w1 w' : Processes) (c : Core) (a left used : ℕ) (l : Label) (e : w
       }
 
   -- the last step of a turn after those that went before it
-  last_so : (move : Move) (r : StepsAndMove (module_in w) a left (of c a).state (of c a).mailbox move x used mail) → LastStep r.middle c a w1 l w' → ProcessTurned c a left w l used w'
+  last_so : (move : Move) (r : StepsAndMove (module_in w) a left (of c a).state (of c a).mailbox move x used mail)
+      → LastStep r.middle c a w1 l w' → ProcessTurned c a left w l used w'
   last_so move r k =
       record {
         deed = k.deed;
-        turn = turn_behind (module_in w) a c left used r.before (of c a).state r.middle k.deed r.counted r.within r.steps
+        turn = turn_behind (module_in w) a c left used r.before (of c a).state r.middle k.deed r.counted
+            r.within r.steps
             (λ n. subst (λ z. Turn (module_of z.module.value) a c (suc n) r.middle k.deed 1) f (k.last n));
         within = r.within;
         shown = shown_from w w1 w' a l k.deed e f k.shown;
       }
 
-  moved_from : (y : ProcessState) (move : Move) → MachineMoved (module_in w) a y (of c a).mailbox move x mail → MachineMoved (module_in w1) a y (of c a).mailbox move x mail
+  moved_from : (y : ProcessState) (move : Move) → MachineMoved (module_in w) a y (of c a).mailbox move x mail
+      → MachineMoved (module_in w1) a y (of c a).mailbox move x mail
   moved_from y move h = subst (λ z. MachineMoved (module_of z.module.value) a y (of c a).mailbox move x mail) (sym f) h
 
-  turned_by : (move : Move) → MachineRan (module_in w) a left (of c a).state (of c a).mailbox move x used mail → SettlesMove c a move x mail w1 l w' → ProcessTurned c a left w l used w'
+  turned_by : (move : Move) → MachineRan (module_in w) a left (of c a).state (of c a).mailbox move x used mail
+      → SettlesMove c a move x mail w1 l w' → ProcessTurned c a left w l used w'
   turned_by v.Pure r k = cut_so r k
   turned_by (v.Action act) r k = last_so (v.Action act) r (k r.middle (moved_from r.middle (v.Action act) r.last))
   turned_by (v.Take t) r k = last_so (v.Take t) r (k r.middle (moved_from r.middle (v.Take t) r.last))
   turned_by v.Wait r k = last_so v.Wait r (k r.middle (moved_from r.middle v.Wait r.last))
   turned_by (v.End z) r k = last_so (v.End z) r (k r.middle (moved_from r.middle (v.End z) r.last))
 
-pub turned : (w w1 w' : Processes) (c : Core) (a left used : ℕ) (s s1 : Slot) (move : Move) (l : Label) → Represents w c → can_go (of c a).state ≡ true
-    → slice_get w.slots.items a ≡ Some s → RanInSlot (checked_in w) a left s move used s1 → w1.slots.items ≡ slice_set w.slots.items a s1 → w1.shared ≡ w.shared
+pub turned : (w w1 w' : Processes) (c : Core) (a left used : ℕ) (s s1 : Slot) (move : Move) (l : Label) → Represents w c
+    → can_go (of c a).state ≡ true
+    → slice_get w.slots.items a ≡ Some s → RanInSlot (checked_in w) a left s move used s1
+    → w1.slots.items ≡ slice_set w.slots.items a s1 → w1.shared ≡ w.shared
     → w1.ready ≡ w.ready → w1.basis ≡ w.basis → SettlesAs a move w1 l w' → ProcessTurned c a left w l used w'
 turned w w1 w' c a left used s s1 move l h can at r e b q f k =
     let n = get_within a w.slots.items s at in
     let y = body_at w c a s h at in
     let r' : MachineRan (module_in w) a left (of c a).state (of c a).mailbox move r.standing used s1.mailbox.messages =
-    subst (λ z. MachineRan (module_in w) a left z.state z.mailbox move r.standing used s1.mailbox.messages) (sym y) r.ran in
+    subst (λ z. MachineRan (module_in w) a left z.state z.mailbox move r.standing used s1.mailbox.messages)
+    (sym y) r.ran in
     turned_by w w1 w' c a left used l b f can r.standing s1.mailbox.messages move r'
     (k c r.standing s1 (ran_but w w1 c a s1 h n e b q f) can (left_at w w1 c a s1 r.standing r.leaves n e f))

@@ -1,5 +1,6 @@
 -- Who may go: what a caller knows of those that are noted.
-use Rattle.std.proofs.Common.{◌≡◌, zero, suc, ℕ, ◌+◌, ◌<◌, List, [], ◌∷◌, ◌++◌, length, map, Option, Some, None, refl, sym, ap, ◌∙◌, arith}
+use Rattle.std.proofs.Common.{◌≡◌, zero, suc, ℕ, ◌+◌, ◌<◌, List, [], ◌∷◌, ◌++◌, length, map, Option, Some, None, refl}
+use Rattle.std.proofs.Common.{sym, ap, ◌∙◌, arith}
 use Rattle.std.specs.Prelude.{slice_get}
 use Rattle.std.proofs.lemmas.List.{length-append, length-map}
 use Rattle.std.proofs.lemmas.Option.{same_Some}
@@ -21,7 +22,8 @@ among (y ∷ xs) zero x e = ([], xs, ap (λ z. z ∷ xs) (same_Some y x e))
 among (y ∷ xs) (suc k) x e = let r = among xs k x e in (y ∷ r.0, r.1, ap (λ z. y ∷ z) r.2)
 
 -- a delivery is one step, however many are left
-pub delivers_within : (left a b : ℕ) (s s' : SystemView) (l : Label) → 0 < left → SimulatesTransition 1 s (Channel a b) l 1 s' → SimulatesTransition left s (Channel a b) l 1 s'
+pub delivers_within : (left a b : ℕ) (s s' : SystemView) (l : Label) → 0 < left
+    → SimulatesTransition 1 s (Channel a b) l 1 s' → SimulatesTransition left s (Channel a b) l 1 s'
 delivers_within left a b s s' l h p =
     record {
       before = p.before;
@@ -34,11 +36,13 @@ delivers_within left a b s s' l h p =
       within = omega arith;
     }
   where
-    further : (q : Passed) → Passes (module_of s.checked) 1 p.before (Channel a b) q → Passes (module_of s.checked) left p.before (Channel a b) q
+    further : (q : Passed) → Passes (module_of s.checked) 1 p.before (Channel a b) q
+        → Passes (module_of s.checked) left p.before (Channel a b) q
     further _ (delivery _ _ x cs e) = delivery a b x cs e
 
 -- what is among those that are noted may go
-pub may_go : (o : Option Configuration) (xs : List Actor) → ((c : Configuration) → o ≡ Some c → xs ≡ enabled c) → (k : ℕ) (x : Actor) → slice_get xs k ≡ Some x → MayGo x o
+pub may_go : (o : Option Configuration) (xs : List Actor) → ((c : Configuration) → o ≡ Some c → xs ≡ enabled c)
+    → (k : ℕ) (x : Actor) → slice_get xs k ≡ Some x → MayGo x o
 may_go None xs h k x e = tt
 may_go (Some c) xs h k x e = among (enabled c) k x (ap (λ l. slice_get l k) (sym (h c refl)) ∙ e)
 

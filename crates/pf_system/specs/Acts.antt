@@ -1,5 +1,6 @@
 -- What the actions of a process do.
-use Rattle.std.specs.Prelude.{◌≡◌, ◌<◌, ◌≤◌, ℕ, ◌+◌, true, List, [], ◌∷◌, ◌++◌, Option, Some, None, Result, Ok, length, slice_get, if◌then◌else◌, ◌==◌}
+use Rattle.std.specs.Prelude.{◌≡◌, ◌<◌, ◌≤◌, ℕ, ◌+◌, true, List, [], ◌∷◌, ◌++◌, Option, Some, None, Result, Ok, length}
+use Rattle.std.specs.Prelude.{slice_get, if◌then◌else◌, ◌==◌}
 use Rattle.pf_terms.specs.declared.term.Term.{Term}
 use Rattle.pf_syntax.specs.Module.{Checked}
 use Rattle.pf_sorted.specs.Maps.{with_number}
@@ -80,9 +81,11 @@ pub record ActedIn (c : Core) (x : Acted) (a : ℕ) (w : Processes) (r : ActAnsw
   pub stands : RepresentsBut w' x.left.core a
   pub state : (of x.left.core a).state ≡ (of c a).state
   -- a slot that holds the messages of the process holds them still
-  pub mail : (s s' : Slot) → slice_get w.slots.items a ≡ Some s → slice_get w'.slots.items a ≡ Some s' → s.mailbox.messages ≡ (of c a).mailbox
+  pub mail : (s s' : Slot) → slice_get w.slots.items a ≡ Some s → slice_get w'.slots.items a ≡ Some s'
+      → s.mailbox.messages ≡ (of c a).mailbox
       → s'.mailbox.messages ≡ (of x.left.core a).mailbox
-  pub channels : w'.shared.channels ≡ posted a x.left.sent (with_senders (length x.left.core.processes) w.shared.channels)
+  pub channels : w'.shared.channels ≡ posted a x.left.sent
+      (with_senders (length x.left.core.processes) w.shared.channels)
   pub answers : AnswersAct r x
   pub basis : w'.basis ≡ w.basis
 
@@ -97,7 +100,8 @@ pub record KeepsLife (s s' : Slot) : Type 0 where
 -- so does the slot of a process
 abbrev pub KeepsSlot : ℕ → Processes → Processes → Type 0
 KeepsSlot a w w' =
-    (s : Slot) → slice_get w.slots.items a ≡ Some s → (s' : Slot) × (slice_get w'.slots.items a ≡ Some s') × KeepsLife s s'
+    (s : Slot) → slice_get w.slots.items a ≡ Some s
+    → (s' : Slot) × (slice_get w'.slots.items a ≡ Some s') × KeepsLife s s'
 
 -- the slot of a process that may be answered
 pub record IsAsking (a : ℕ) (w : Processes) : Type 0 where
@@ -108,7 +112,8 @@ pub record IsAsking (a : ℕ) (w : Processes) : Type 0 where
 -- the action that process a asked for in these frames
 abbrev pub ShowsAct : ℕ → Act → Processes → Label → Processes → Type 0
 ShowsAct a act w l w' =
-    (c : Core) (fs : List Frame) (s : Slot) → RepresentsBut w c a → can_go (of c a).state ≡ true → IsLeftAt w a (asking fs) s
+    (c : Core) (fs : List Frame) (s : Slot) → RepresentsBut w c a → can_go (of c a).state ≡ true
+    → IsLeftAt w a (asking fs) s
     → s.mailbox.messages ≡ (of c a).mailbox
     → Shown a (after_act a fs (acted (module_in w) c a act)) w.shared.channels w l w'
 
@@ -136,7 +141,8 @@ pub record LifeBegins (m : Checked) (own : ℕ) (s : ProcessState) (l : Life) : 
 pub record OpensWithTies (ties : AllTies) (w : Processes) (l : Life) (w' : Processes) : Type 0 where
   pub tied : w'.shared.ties ≡ ties
   pub channels : w'.shared.channels ≡ with_senders (length w.slots.items + 1) w.shared.channels
-  pub slots : (mail : MailView) × (mail.messages ≡ []) × ((k : MachineView) → IsAheadOf k mail) × (w'.slots.items ≡ w.slots.items ++ record { life = l; mailbox = mail } ∷ [])
+  pub slots : (mail : MailView) × (mail.messages ≡ []) × ((k : MachineView) → IsAheadOf k mail)
+      × (w'.slots.items ≡ w.slots.items ++ record { life = l; mailbox = mail } ∷ [])
   pub ready : w'.ready ≡ with_number (length w.slots.items) w.ready
   pub basis : w'.basis ≡ w.basis
 
@@ -152,6 +158,7 @@ pub record ReportsSpawn (b : Bond) (own reference : ℕ) (r : ActAnswer) : Type 
   pub label : label_of r.label ≡ shown_for b own reference
 
 -- one process more by its bond to another, and what is given and shown
-pub record OpensProcess (b : Bond) (other : ℕ) (w : Processes) (l : Life) (r : ActAnswer) (w' : Processes) : Type 0 where
+pub record OpensProcess (b : Bond) (other : ℕ) (w : Processes) (l : Life) (r : ActAnswer)
+    (w' : Processes) : Type 0 where
   pub opens : OpensWithTies (opened_by b other w.shared.ties) w l w'
   pub tells : ReportsSpawn b (length w.slots.items) w.shared.ties.next_reference r

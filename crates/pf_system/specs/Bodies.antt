@@ -27,7 +27,14 @@ bodies_of c = map process_body c.processes
 
 abbrev pub process_with : Body → ProcessTies → Process
 process_with b t =
-    record { state = b.state; mailbox = b.mailbox; traps_exits = t.traps_exits; links = t.links; active = t.active; watchers = t.watchers }
+    record {
+      state = b.state;
+      mailbox = b.mailbox;
+      traps_exits = t.traps_exits;
+      links = t.links;
+      active = t.active;
+      watchers = t.watchers;
+    }
 
 abbrev pub processes_joined : List Body → List ProcessTies → List Process
 processes_joined [] ts = []
@@ -36,4 +43,10 @@ processes_joined (b ∷ bs) (t ∷ ts) = process_with b t ∷ processes_joined b
 
 -- the core of these bodies and ties, with n processes at most
 abbrev pub core_with : List Body → AllTies → (most : ℕ) → Core
-core_with bs t n = record { processes = processes_joined bs t.processes; names = t.names; next_reference = t.next_reference; most = n }
+core_with bs t n = record {
+  processes = processes_joined bs t.processes;
+  names = t.names;
+  next_reference =
+      t.next_reference;
+  most = n;
+}

@@ -39,26 +39,37 @@ state_again (ended (failed r)) = refl
 
 abbrev pub coded_state : Coded ProcessState
 coded_state =
-    code_by _ (coded⊎ coded_tree (coded⊎ coded_tree (coded⊎ coded_value (coded⊎ coded_value coded_value)))) parts_of state_from state_again
+    code_by _ (coded⊎ coded_tree (coded⊎ coded_tree (coded⊎ coded_value (coded⊎ coded_value coded_value)))) parts_of
+    state_from state_again
 
 abbrev pub coded_process : Coded Process
 coded_process =
     code_by _
     (coded× (coded× coded_state (coded_list coded_value))
-    (coded× (coded× coded_bool (coded_list coded_ℕ)) (coded× (coded_list (coded× coded_ℕ coded_ℕ)) (coded_list (coded× coded_ℕ coded_ℕ)))))
+    (coded× (coded× coded_bool (coded_list coded_ℕ))
+    (coded× (coded_list (coded× coded_ℕ coded_ℕ)) (coded_list (coded× coded_ℕ coded_ℕ)))))
     (λ p. ((p.state, p.mailbox), ((p.traps_exits, p.links), (p.active, p.watchers))))
-    (λ q. record { state = q.0.0; mailbox = q.0.1; traps_exits = q.1.0.0; links = q.1.0.1; active = q.1.1.0; watchers = q.1.1.1 })
+    (λ q. record {
+      state = q.0.0;
+      mailbox = q.0.1;
+      traps_exits = q.1.0.0;
+      links = q.1.0.1;
+      active = q.1.1.0;
+      watchers = q.1.1.1;
+    })
     (λ _. refl)
 
 abbrev pub coded_core : Coded Core
 coded_core =
-    code_by _ (coded× (coded× (coded_list coded_process) (coded_list (coded× coded_ℕ coded_ℕ))) (coded× coded_ℕ coded_ℕ))
+    code_by _ (coded× (coded× (coded_list coded_process) (coded_list (coded× coded_ℕ coded_ℕ)))
+    (coded× coded_ℕ coded_ℕ))
     (λ c. ((c.processes, c.names), (c.next_reference, c.most)))
     (λ p. record { processes = p.0.0; names = p.0.1; next_reference = p.1.0; most = p.1.1 }) (λ _. refl)
 
 abbrev pub coded_configuration : Coded Configuration
 coded_configuration =
-    code_by _ (coded× coded_core coded_channels) (λ c. (c.core, c.channels)) (λ p. record { core = p.0; channels = p.1 }) (λ _. refl)
+    code_by _ (coded× coded_core coded_channels) (λ c. (c.core, c.channels))
+    (λ p. record { core = p.0; channels = p.1 }) (λ _. refl)
 
 abbrev pub coded_system_view : Coded SystemView
 coded_system_view =

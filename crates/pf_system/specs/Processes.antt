@@ -1,5 +1,6 @@
 -- What the processes of a run stand for.
-use Rattle.std.specs.Prelude.{◌≡◌, ◌<◌, ◌≤◌, ℕ, zero, List, Option, Some, None, Result, map, length, slice_get, slice_set}
+use Rattle.std.specs.Prelude.{◌≡◌, ◌<◌, ◌≤◌, ℕ, zero, List, Option, Some, None, Result, map, length, slice_get}
+use Rattle.std.specs.Prelude.{slice_set}
 use Rattle.pf_terms.specs.declared.term.Term.{Term}
 use Rattle.pf_syntax.specs.Module.{Checked}
 use Rattle.pf_model.specs.Module.{Module, module_of}
@@ -56,7 +57,8 @@ pub record RepresentsBut (w : Processes) (c : Core) (a : ℕ) : Type 0 where
   pub bodies : (b : Body) → slice_set (bodies_of c) a b ≡ slice_set (bodies_in w) a b
   pub ties : ties_of c ≡ w.shared.ties
   pub ready : w.ready ≡ pids_in_state can_go zero c.processes
-  pub slots : (s : Slot) → SlotIsSound (checked_in w) a s → SlotsAreSound (checked_in w) zero (slice_set w.slots.items a s)
+  pub slots : (s : Slot) → SlotIsSound (checked_in w) a s
+      → SlotsAreSound (checked_in w) zero (slice_set w.slots.items a s)
   pub room : IsRoomy w c
 
 -- the machine of process a ran, and has this status over these messages

@@ -41,17 +41,21 @@ pub record LastStep (y : ProcessState) (c : Core) (a : ℕ) (w : Processes) (l :
 
 abbrev pub SettlesMove : Core → ℕ → Move → MachineStatus → List Value → Processes → Label → Processes → Type 0
 SettlesMove c a v.Pure x mail w l w' =
-    (t : ProcessState) → x ≡ goes t → can_go t ≡ true → mail ≡ (of c a).mailbox → Shown a (cut_in c a t) w.shared.channels w l w'
-SettlesMove c a move x mail w l w' = (y : ProcessState) → MachineMoved (module_in w) a y (of c a).mailbox move x mail → LastStep y c a w l w'
+    (t : ProcessState) → x ≡ goes t → can_go t ≡ true → mail ≡ (of c a).mailbox
+    → Shown a (cut_in c a t) w.shared.channels w l w'
+SettlesMove c a move x mail w l w' = (y : ProcessState) → MachineMoved (module_in w) a y (of c a).mailbox move x mail
+    → LastStep y c a w l w'
 
 -- a machine made this move, and has this status over these messages
 abbrev pub SettlesAs : ℕ → Move → Processes → Label → Processes → Type 0
 SettlesAs a move w l w' =
-    (c : Core) (x : MachineStatus) (s : Slot) → RepresentsBut w c a → can_go (of c a).state ≡ true → IsLeftAt w a x s → SettlesMove c a move x s.mailbox.messages w l w'
+    (c : Core) (x : MachineStatus) (s : Slot) → RepresentsBut w c a → can_go (of c a).state ≡ true → IsLeftAt w a x s
+    → SettlesMove c a move x s.mailbox.messages w l w'
 
 -- process a waits at a `receive`
 abbrev pub WaitsIn : ℕ → Processes → Processes → Type 0
 WaitsIn a w w' =
-    (c : Core) (t : _) (s : Slot) → RepresentsBut w c a → can_go (of c a).state ≡ true → IsLeftAt w a (goes (running t)) s
+    (c : Core) (t : _) (s : Slot) → RepresentsBut w c a → can_go (of c a).state ≡ true
+    → IsLeftAt w a (goes (running t)) s
     → s.mailbox.messages ≡ (of c a).mailbox
     → Done a (leaving (with_state c a (waiting t)) []) w.shared.channels w w'

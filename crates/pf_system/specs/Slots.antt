@@ -82,7 +82,8 @@ SlotsAreSound m n (s ∷ ss) = SlotIsSound m n s × SlotsAreSound m (suc n) ss
 
 -- a machine ran and has this status; a process that had no machine is at its end
 abbrev pub LifeIsLeft : Checked → ℕ → MachineStatus → Life → MailView → Type 0
-LifeIsLeft m own x (life.Lives machine waits) mail = (machine.standing ≡ x) × IsMachineOf m own machine × (waits ≡ false) × IsAheadOf machine mail
+LifeIsLeft m own x (life.Lives machine waits) mail = (machine.standing ≡ x) × IsMachineOf m own machine
+    × (waits ≡ false) × IsAheadOf machine mail
 LifeIsLeft m own x (life.Ends r) mail = x ≡ over
 LifeIsLeft m own x (life.Ended e) mail = x ≡ over
 
@@ -92,7 +93,8 @@ SlotIsLeft m own x s = LifeIsLeft m own x s.life s.mailbox
 -- the process of a slot ran up to this move
 pub record RanInSlot (m : Checked) (own left : ℕ) (s : Slot) (move : Move) (used : ℕ) (s' : Slot) : Type 0 where
   pub standing : MachineStatus
-  pub ran : MachineRan (module_of m) own left (state_of s.life) s.mailbox.messages move standing used s'.mailbox.messages
+  pub ran : MachineRan (module_of m) own left (state_of s.life) s.mailbox.messages move standing used
+      s'.mailbox.messages
   pub leaves : SlotIsLeft m own standing s'
 
 -- a machine of the slot waits for an answer

@@ -33,7 +33,8 @@ MayGo x None = Unit {0}
 MayGo x (Some c) = IsAmong x (enabled c)
 
 -- within `left` steps an actor went on, by a transition of the definition: it showed this and used `used` steps
-pub record SimulatesTransition (left : ℕ) (s : SystemView) (x : Actor) (l : Label) (used : ℕ) (s' : SystemView) : Type 0 where
+pub record SimulatesTransition (left : ℕ) (s : SystemView) (x : Actor) (l : Label) (used : ℕ)
+    (s' : SystemView) : Type 0 where
   pub before : Configuration
   pub passed : Passed
   pub was : s.standing ≡ Some before

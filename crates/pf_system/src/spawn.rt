@@ -9,7 +9,8 @@ ghost use Rattle.pf_model.specs.Contraction.{spawn};
 ghost use Rattle.pf_model.specs.declared.bond.Bond.TheVariants as bonds;
 ghost use Rattle.pf_model.specs.declared.limits.TheConstants.{MOST_PROCESSES};
 ghost use Rattle.pf_ties.specs.Ties.{ties_opened};
-ghost use Rattle.pf_system.specs.Acts.{ActsIn, KeepsSlot, LifeBegins, OpensWithTies, OpensProcess, ReportsSpawn, answer};
+ghost use Rattle.pf_system.specs.Acts.{ActsIn, KeepsSlot, LifeBegins, OpensWithTies, OpensProcess, ReportsSpawn};
+ghost use Rattle.pf_system.specs.Acts.{answer};
 ghost use Rattle.pf_system.specs.Acts.{home_function};
 ghost use Rattle.pf_system.specs.Processes.{IsShaped, IsShapedFor};
 

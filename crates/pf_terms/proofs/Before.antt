@@ -13,7 +13,8 @@ pub before-none : (ts : List Term) → values_before ts none ≡ values_of ts
 before-none [] = refl
 before-none (t ∷ ts) = ap (more (value_of t)) (before-none ts)
 
-pub before-push : (ts : List Term) (t : Term) (vs : Values) → values_before (ts ++ t ∷ []) vs ≡ values_before ts (more (value_of t) vs)
+pub before-push : (ts : List Term) (t : Term) (vs : Values)
+    → values_before (ts ++ t ∷ []) vs ≡ values_before ts (more (value_of t) vs)
 before-push [] t vs = refl
 before-push (u ∷ ts) t vs = ap (more (value_of u)) (before-push ts t vs)
 
@@ -26,7 +27,9 @@ depth-before [] vs = omega arith
 depth-before (t ∷ ts) vs = omega (arith, depth-before ts vs)
 
 -- where a whole list is within the limits, so is what it ends with
-pub front_within : (ts : List Term) (v : Value) (vs : Values) (us : List Term) → values_before ts (more v vs) ≡ values_of us → IsWithinLimits (list (values_of us)) → IsWithinLimits (list (more v vs))
+pub front_within : (ts : List Term) (v : Value) (vs : Values) (us : List Term)
+    → values_before ts (more v vs) ≡ values_of us → IsWithinLimits (list (values_of us))
+    → IsWithinLimits (list (more v vs))
 front_within ts v vs us e w =
     let n = nodes-before ts (more v vs) in
     let d = depth-before ts (more v vs) in

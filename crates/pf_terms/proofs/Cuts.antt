@@ -1,5 +1,6 @@
 -- Names in one block of bytes.
-use Rattle.std.proofs.Common.{◌≡◌, ℕ, zero, suc, ◌+◌, ◌-◌, ◌<◌, ◌≤◌, List, [], ◌∷◌, ◌++◌, length, get_or, refl, ap, ◌∙◌, arith, take, drop}
+use Rattle.std.proofs.Common.{◌≡◌, ℕ, zero, suc, ◌+◌, ◌-◌, ◌<◌, ◌≤◌, List, [], ◌∷◌, ◌++◌, length, get_or, refl, ap, ◌∙◌}
+use Rattle.std.proofs.Common.{arith, take, drop}
 use Rattle.std.specs.Prelude.{slice_range}
 use Rattle.std.proofs.Math.Seq.{drop-append_seam, take-length}
 use Rattle.std.proofs.lemmas.List.{drop-append-le, take-append-le, length-drop}
@@ -21,20 +22,28 @@ pub record Stands (bytes : List ℕ) (from : ℕ) (ends : List ℕ) (i : ℕ) : 
   pub bound : get_or ends i 0 ≤ length bytes
   pub name : name_of (cut bytes from ends) i ≡ slice_range bytes (get_or (from ∷ ends) i 0) (get_or ends i 0)
 
-pub stands : (bytes : List ℕ) (from : ℕ) (ends : List ℕ) (i : ℕ) → AscendsTo (length bytes) from ends → i < length ends → Stands bytes from ends i
+pub stands : (bytes : List ℕ) (from : ℕ) (ends : List ℕ) (i : ℕ) → AscendsTo (length bytes) from ends → i < length ends
+    → Stands bytes from ends i
 stands bytes from [] i h k = absurd (omega arith)
-stands bytes from (end ∷ ends) zero h k = record { order = h.0; bound = last_end (length bytes) end ends h.1; name = refl }
+stands bytes from (end ∷ ends) zero h k = record {
+  order = h.0;
+  bound =
+      last_end (length bytes) end ends h.1;
+  name = refl;
+}
 stands bytes from (end ∷ ends) (suc i) h k =
     let t = stands bytes end ends i h.1 (omega arith) in
     record { order = t.order; bound = t.bound; name = t.name }
 
 -- one more name, after the others
-pub ascends_more : (size more from : ℕ) (ends : List ℕ) → size ≤ more → AscendsTo size from ends → AscendsTo more from (ends ++ more ∷ [])
+pub ascends_more : (size more from : ℕ) (ends : List ℕ) → size ≤ more → AscendsTo size from ends
+    → AscendsTo more from (ends ++ more ∷ [])
 ascends_more size more from [] k h = (omega arith, refl)
 ascends_more size more from (end ∷ ends) k h = (h.0, ascends_more size more end ends k h.1)
 
 module _ (bytes name : List ℕ) where
-  range_front : (from end : ℕ) → from ≤ end → end ≤ length bytes → slice_range (bytes ++ name) from end ≡ slice_range bytes from end
+  range_front : (from end : ℕ) → from ≤ end → end ≤ length bytes
+      → slice_range (bytes ++ name) from end ≡ slice_range bytes from end
   range_front from end h k =
       ap (take (end - from)) (drop-append-le from bytes name (omega arith))
       ∙ take-append-le (end - from) (drop from bytes) name (omega (arith, length-drop from bytes))
@@ -48,7 +57,9 @@ module _ (bytes name : List ℕ) where
 
   pub cut_more : (from : ℕ) (ends : List ℕ) → AscendsTo (length bytes) from ends
       → cut (bytes ++ name) from (ends ++ (length bytes + length name) ∷ []) ≡ cut bytes from ends ++ name ∷ []
-  cut_more from [] h = ap (λ n. slice_range (bytes ++ name) n (length bytes + length name) ∷ []) h ∙ ap (λ n. n ∷ []) range_behind
+  cut_more from [] h = ap (λ n. slice_range (bytes ++ name) n (length bytes + length name) ∷ []) h
+      ∙ ap (λ n. n ∷ []) range_behind
   cut_more from (end ∷ ends) h =
-      ap (λ n. n ∷ cut (bytes ++ name) end (ends ++ (length bytes + length name) ∷ [])) (range_front from end h.0 (last_end (length bytes) end ends h.1))
+      ap (λ n. n ∷ cut (bytes ++ name) end (ends ++ (length bytes + length name) ∷ []))
+      (range_front from end h.0 (last_end (length bytes) end ends h.1))
       ∙ ap (λ ns. slice_range bytes from end ∷ ns) (cut_more end ends h.1)

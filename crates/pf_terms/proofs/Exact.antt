@@ -20,11 +20,13 @@ module _ (name : ℕ → List ℕ) (n : ℕ) (apart : TellsApart name n) where
     same_by_order (atom a) (atom b) h k e = ap atom (apart a b h k (exact_bytes (name a) (name b) e))
     same_by_order (ref r) (ref s) h k e = ap ref (ranked r s Equal (sym e))
     same_by_order (pid p) (pid q) h k e = ap pid (ranked p q Equal (sym e))
-    same_by_order (tuple vs) (tuple ws) h k e = ap tuple (all_same_by_order vs ws h k (both_equal (nat_cmp (count vs) (count ws)) (compare_all name vs ws) e).1)
+    same_by_order (tuple vs) (tuple ws) h k e =
+        ap tuple (all_same_by_order vs ws h k (both_equal (nat_cmp (count vs) (count ws)) (compare_all name vs ws) e).1)
     same_by_order (list vs) (list ws) h k e = ap list (all_same_by_order vs ws h k e)
     same_by_order v w h k e = absurd (cc)
 
-    all_same_by_order : (vs ws : Values) → AllNamesBelow n vs → AllNamesBelow n ws → compare_all name vs ws ≡ Equal → vs ≡ ws
+    all_same_by_order : (vs ws : Values) → AllNamesBelow n vs → AllNamesBelow n ws
+        → compare_all name vs ws ≡ Equal → vs ≡ ws
     all_same_by_order none none h k e = refl
     all_same_by_order none (more w ws) h k e = absurd (cc)
     all_same_by_order (more v vs) none h k e = absurd (cc)

@@ -1,5 +1,6 @@
 -- A list of names that begins with fixed ones.
-use Rattle.std.proofs.Common.{◌≡◌, ℕ, zero, suc, ◌+◌, ◌-◌, ◌<◌, ◌≤◌, ◌^◌, List, [], ◌∷◌, ◌++◌, length, Bool, true, false, Some, refl, sym, ap, ◌∙◌, arith, inl, inr, append_assoc, length-append}
+use Rattle.std.proofs.Common.{◌≡◌, ℕ, zero, suc, ◌+◌, ◌-◌, ◌<◌, ◌≤◌, ◌^◌, List, [], ◌∷◌, ◌++◌, length, Bool, true}
+use Rattle.std.proofs.Common.{false, Some, refl, sym, ap, ◌∙◌, arith, inl, inr, append_assoc, length-append}
 use Rattle.std.specs.Prelude.{slice_get, if◌then◌else◌, ◌||◌, ◌⊎◌}
 use Rattle.std.specs.List.{list_any}
 use Rattle.std.specs.Str.{bytes_eq}
@@ -16,7 +17,8 @@ use Rattle.pf_terms.specs.Order.{TellsApart}
 use Rattle.pf_terms.specs.Numbers.{HasNumbers}
 
 -- what is in the front is there in the whole
-pub get-front : {X : Type 0} (fs xs : List X) (i : ℕ) (x : X) → slice_get fs i ≡ Some x → slice_get (fs ++ xs) i ≡ Some x
+pub get-front : {X : Type 0} (fs xs : List X) (i : ℕ) (x : X) → slice_get fs i ≡ Some x
+    → slice_get (fs ++ xs) i ≡ Some x
 get-front [] xs i x e = absurd (cc)
 get-front (f ∷ fs) xs zero x e = e
 get-front (f ∷ fs) xs (suc i) x e = get-front fs xs i x e
@@ -29,7 +31,8 @@ get-behind (f ∷ fs) xs i =
     ap (slice_get (f ∷ (fs ++ xs))) e ∙ get-behind fs xs i
 
 -- names of which as many differ as there are all differ
-pub apart_by_count : (names : List (List ℕ)) → distinct_count bytes_eq names ≡ length names → TellsApart (name_of names) (length names)
+pub apart_by_count : (names : List (List ℕ)) → distinct_count bytes_eq names ≡ length names
+    → TellsApart (name_of names) (length names)
 apart_by_count names e =
     let d = tells_apart (λ n. n) names (IsDistinct-from_count nat_list_eq_equiv names e) in
     rw map-id at d
@@ -42,7 +45,8 @@ module _ (fs xs : List (List ℕ)) where
   pub name-behind : (i : ℕ) → length fs ≤ i → name_of (fs ++ xs) i ≡ name_of xs (i - length fs)
   name-behind i h = get_or-append_right fs xs (length fs) i [] refl h
 
-  kept_front : (b : Bool) (name : List ℕ) → (if b then fs ++ xs else (fs ++ xs) ++ name ∷ []) ≡ fs ++ (if b then xs else xs ++ name ∷ [])
+  kept_front : (b : Bool) (name : List ℕ) → (if b then fs ++ xs else (fs ++ xs) ++ name ∷ []) ≡ fs
+      ++ (if b then xs else xs ++ name ∷ [])
   kept_front true name = refl
   kept_front false name = append_assoc fs xs (name ∷ [])
 
@@ -55,30 +59,38 @@ module _ (fs xs : List (List ℕ)) where
   none-front p h = (or_parts (list_any p fs) (list_any p xs) (sym (list_any-append p fs xs) ∙ h)).0
 
   -- a name that the front lacks goes last, after it
-  pub with_name-behind : (name : List ℕ) → list_any (bytes_eq name) fs ≡ false → with_name (fs ++ xs) name ≡ fs ++ with_name xs name
+  pub with_name-behind : (name : List ℕ) → list_any (bytes_eq name) fs ≡ false
+      → with_name (fs ++ xs) name ≡ fs ++ with_name xs name
   with_name-behind name h =
       ap (λ b. if b then fs ++ xs else (fs ++ xs) ++ name ∷ []) (any-behind (bytes_eq name) h)
       ∙ kept_front (list_any (bytes_eq name) xs) name
 
   -- no name after it is one of the front
-  apart : list_any (λ x. list_any (bytes_eq x) fs) xs ≡ false → (i j : ℕ) → i < length fs → j < length xs → ¬ (name_of xs j ≡ name_of fs i)
+  apart : list_any (λ x. list_any (bytes_eq x) fs) xs ≡ false → (i j : ℕ) → i < length fs → j < length xs
+      → ¬ (name_of xs j ≡ name_of fs i)
   apart none i j h k e =
-      let here = list_any_at (bytes_eq (name_of xs j)) fs i [] h ((bytes_eq-Decides (name_of xs j) (name_of fs i)).1 e) in
+      let here = list_any_at (bytes_eq (name_of xs j)) fs i [] h
+      ((bytes_eq-Decides (name_of xs j) (name_of fs i)).1 e) in
       let some = list_any_at (λ x. list_any (bytes_eq x) fs) xs j [] k here in
       false≢true (sym none ∙ some)
 
-  both : TellsApart (name_of fs) (length fs) → TellsApart (name_of xs) (length xs) → list_any (λ x. list_any (bytes_eq x) fs) xs ≡ false
+  both : TellsApart (name_of fs) (length fs) → TellsApart (name_of xs) (length xs)
+      → list_any (λ x. list_any (bytes_eq x) fs) xs ≡ false
       → (i j : ℕ) → i < length fs + length xs → j < length fs + length xs → name_of (fs ++ xs) i ≡ name_of (fs ++ xs) j
       → (i < length fs) ⊎ (length fs ≤ i) → (j < length fs) ⊎ (length fs ≤ j) → i ≡ j
   both f x none i j h k e (inl p) (inl q) = f i j p q (sym (name-front i p) ∙ e ∙ name-front j q)
-  both f x none i j h k e (inl p) (inr q) = absurd (apart none i (j - length fs) p (omega arith) (sym (name-behind j q) ∙ sym e ∙ name-front i p))
-  both f x none i j h k e (inr p) (inl q) = absurd (apart none j (i - length fs) q (omega arith) (sym (name-behind i p) ∙ e ∙ name-front j q))
+  both f x none i j h k e (inl p) (inr q) = absurd
+      (apart none i (j - length fs) p (omega arith) (sym (name-behind j q) ∙ sym e ∙ name-front i p))
+  both f x none i j h k e (inr p) (inl q) = absurd
+      (apart none j (i - length fs) q (omega arith) (sym (name-behind i p) ∙ e ∙ name-front j q))
   both f x none i j h k e (inr p) (inr q) =
-      let same : i - length fs ≡ j - length fs = x (i - length fs) (j - length fs) (omega arith) (omega arith) (sym (name-behind i p) ∙ e ∙ name-behind j q) in
+      let same : i - length fs ≡ j - length fs = x (i - length fs) (j - length fs) (omega arith) (omega arith)
+      (sym (name-behind i p) ∙ e ∙ name-behind j q) in
       omega arith
 
   -- names differ in the whole where they do in the front and after it, and the two have none in common
-  pub tells_apart-both : TellsApart (name_of fs) (length fs) → TellsApart (name_of xs) (length xs) → list_any (λ x. list_any (bytes_eq x) fs) xs ≡ false
+  pub tells_apart-both : TellsApart (name_of fs) (length fs) → TellsApart (name_of xs) (length xs)
+      → list_any (λ x. list_any (bytes_eq x) fs) xs ≡ false
       → TellsApart (name_of (fs ++ xs)) (length (fs ++ xs))
   tells_apart-both f x none i j h k e =
       let long = length-append fs xs in
@@ -88,8 +100,13 @@ pub fixed_numbers : HasNumbers fixed_names
 fixed_numbers = record { room = omega arith; distinct = apart_by_count fixed_names refl }
 
 -- one more name, which none of the names is
-pub one_more : (names : List (List ℕ)) (name : List ℕ) → HasNumbers names → length names < 2 ^ 32 → list_any (bytes_eq name) names ≡ false → HasNumbers (names ++ name ∷ [])
+pub one_more : (names : List (List ℕ)) (name : List ℕ) → HasNumbers names → length names < 2 ^ 32
+    → list_any (bytes_eq name) names ≡ false → HasNumbers (names ++ name ∷ [])
 one_more names name h room none =
     let alone : TellsApart (name_of (name ∷ [])) 1 = λ i j h k e. omega arith in
     let other : list_any (λ x. list_any (bytes_eq x) names) (name ∷ []) ≡ false = ap (λ b. b || false) none in
-    record { room = omega (arith, length-append names (name ∷ [])); distinct = tells_apart-both names (name ∷ []) h.distinct alone other }
+    record {
+      room = omega (arith, length-append names (name ∷ []));
+      distinct =
+          tells_apart-both names (name ∷ []) h.distinct alone other;
+    }

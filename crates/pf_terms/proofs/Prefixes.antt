@@ -1,5 +1,6 @@
 -- Names of a table that are entered one after another.
-use Rattle.std.proofs.Common.{◌≡◌, ℕ, suc, ◌+◌, ◌<◌, List, [], ◌∷◌, ◌++◌, length, take, Bool, true, false, refl, sym, ap, ◌∙◌, arith}
+use Rattle.std.proofs.Common.{◌≡◌, ℕ, suc, ◌+◌, ◌<◌, List, [], ◌∷◌, ◌++◌, length, take, Bool, true, false, refl, sym}
+use Rattle.std.proofs.Common.{ap, ◌∙◌, arith}
 use Rattle.std.specs.Prelude.{if◌then◌else◌, ◌||◌}
 use Rattle.std.specs.List.{list_any}
 use Rattle.std.specs.Str.{bytes_eq}
@@ -9,11 +10,13 @@ use Rattle.pf_terms.specs.Atoms.{with_name, name_of}
 use Rattle.pf_terms.specs.Order.{TellsApart}
 
 -- a name that is at no index isn't among them
-lacks : (names : List (List ℕ)) (name : List ℕ) → ((i : ℕ) → i < length names → ¬ (name_of names i ≡ name)) → list_any (bytes_eq name) names ≡ false
+lacks : (names : List (List ℕ)) (name : List ℕ) → ((i : ℕ) → i < length names → ¬ (name_of names i ≡ name))
+    → list_any (bytes_eq name) names ≡ false
 lacks [] name h = refl
 lacks (n ∷ ns) name h = by (bytes_eq name n) refl (lacks ns name (λ i k. h (suc i) (omega arith)))
   where
-    by : (b : Bool) → bytes_eq name n ≡ b → list_any (bytes_eq name) ns ≡ false → b || list_any (bytes_eq name) ns ≡ false
+    by : (b : Bool) → bytes_eq name n ≡ b → list_any (bytes_eq name) ns ≡ false
+        → b || list_any (bytes_eq name) ns ≡ false
     by true e k = absurd (h 0 (omega arith) (sym ((bytes_eq-Decides name n).0 e)))
     by false e k = k
 

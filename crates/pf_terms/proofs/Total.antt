@@ -14,12 +14,14 @@ abbrev pub alike : Value → Value → Bool
 alike v w = nat_eq (rank v) (rank w)
 
 -- a first comparison, and where it is equal a second: what holds of both holds of them together
-then_congr : (a p b c q r : Ordering) → (a ≡ Equal → c ≡ b) → (p ≡ Equal → r ≡ q) → ordering_then a p ≡ Equal → ordering_then c r ≡ ordering_then b q
+then_congr : (a p b c q r : Ordering) → (a ≡ Equal → c ≡ b) → (p ≡ Equal → r ≡ q) → ordering_then a p ≡ Equal
+    → ordering_then c r ≡ ordering_then b q
 then_congr Less p b c q r f g e = absurd (cc)
 then_congr Equal p b c q r f g e = ap (λ o. ordering_then o r) (f refl) ∙ ap (ordering_then b) (g e)
 then_congr Greater p b c q r f g e = absurd (cc)
 
-then_trans : (a b c p q r : Ordering) → (a ≡ Less → b ≡ Less → c ≡ Less) → (a ≡ Equal → c ≡ b) → (b ≡ Equal → c ≡ a) → (p ≡ Less → q ≡ Less → r ≡ Less)
+then_trans : (a b c p q r : Ordering) → (a ≡ Less → b ≡ Less → c ≡ Less) → (a ≡ Equal → c ≡ b) → (b ≡ Equal → c ≡ a)
+    → (p ≡ Less → q ≡ Less → r ≡ Less)
     → ordering_then a p ≡ Less → ordering_then b q ≡ Less → ordering_then c r ≡ Less
 then_trans Less Less c p q r t f g s d e = ap (λ o. ordering_then o r) (t refl refl)
 then_trans Less Equal c p q r t f g s d e = ap (λ o. ordering_then o r) (g refl)
@@ -52,7 +54,8 @@ module _ (name : ℕ → List ℕ) where
       let r = ranked (rank v) (rank w) Less (sym e ∙ apart v w h) in omega arith
 
   -- where two of three values are of different kinds, the kinds decide
-  mixed : (u v w : Value) → (alike u v && alike v w) ≡ false → compare name u v ≡ Less → compare name v w ≡ Less → compare name u w ≡ Less
+  mixed : (u v w : Value) → (alike u v && alike v w) ≡ false → compare name u v ≡ Less → compare name v w ≡ Less
+      → compare name u w ≡ Less
   mixed u v w h p q =
       let a = rank_le u v (alike u v) refl p in
       let b = rank_le v w (alike v w) refl q in
@@ -64,7 +67,8 @@ module _ (name : ℕ → List ℕ) where
   rank_same v w true h e = grind (arith, nat_tests)
   rank_same v w false h e = ranked (rank v) (rank w) Equal (sym e ∙ apart v w h)
 
-  mixed_congr : (u v w : Value) → (alike u v && alike v w) ≡ false → compare name u v ≡ Equal → compare name u w ≡ compare name v w
+  mixed_congr : (u v w : Value) → (alike u v && alike v w) ≡ false → compare name u v ≡ Equal
+      → compare name u w ≡ compare name v w
   mixed_congr u v w h p =
       let r = rank_same u v (alike u v) refl p in
       let left : alike u w ≡ false = grind (arith, nat_tests) in
@@ -100,7 +104,8 @@ module _ (name : ℕ → List ℕ) where
     congr (ref r) (ref s) (ref t) e = nat_cmp_total.congr r s t e
     congr (pid p) (pid q) (pid r) e = nat_cmp_total.congr p q r e
     congr (tuple us) (tuple vs) (tuple ws) e =
-        then_congr (nat_cmp (count us) (count vs)) (compare_all name us vs) _ _ _ _ (nat_cmp_total.congr (count us) (count vs) (count ws)) (congr_all us vs ws) e
+        then_congr (nat_cmp (count us) (count vs)) (compare_all name us vs) _ _ _ _
+        (nat_cmp_total.congr (count us) (count vs) (count ws)) (congr_all us vs ws) e
     congr (list us) (list vs) (list ws) e = congr_all us vs ws e
     congr u v w e = mixed_congr u v w refl e
 
@@ -118,7 +123,9 @@ module _ (name : ℕ → List ℕ) where
 
   nat_turned : (l m n : ℕ) → nat_cmp m n ≡ Equal → nat_cmp l n ≡ nat_cmp l m
   nat_turned l m n e =
-      nat_cmp_total.antisymm l n ∙ ap ordering_reverse (nat_cmp_total.congr n m l (nat_cmp_total.antisymm n m ∙ ap ordering_reverse e)) ∙ sym (nat_cmp_total.antisymm l m)
+      nat_cmp_total.antisymm l n ∙ ap ordering_reverse
+      (nat_cmp_total.congr n m l (nat_cmp_total.antisymm n m ∙ ap ordering_reverse e))
+      ∙ sym (nat_cmp_total.antisymm l m)
 
   mutual
     pub trans : (u v w : Value) → compare name u v ≡ Less → compare name v w ≡ Less → compare name u w ≡ Less
@@ -127,19 +134,23 @@ module _ (name : ℕ → List ℕ) where
     trans (ref r) (ref s) (ref t) p q = nat_cmp_total.trans r s t p q
     trans (pid x) (pid y) (pid z) p q = nat_cmp_total.trans x y z p q
     trans (tuple us) (tuple vs) (tuple ws) p q =
-        then_trans (nat_cmp (count us) (count vs)) (nat_cmp (count vs) (count ws)) (nat_cmp (count us) (count ws)) (compare_all name us vs) (compare_all name vs ws) (compare_all name us ws)
-        (nat_cmp_total.trans (count us) (count vs) (count ws)) (nat_cmp_total.congr (count us) (count vs) (count ws)) (nat_turned (count us) (count vs) (count ws)) (trans_all us vs ws) p q
+        then_trans (nat_cmp (count us) (count vs)) (nat_cmp (count vs) (count ws)) (nat_cmp (count us) (count ws))
+        (compare_all name us vs) (compare_all name vs ws) (compare_all name us ws)
+        (nat_cmp_total.trans (count us) (count vs) (count ws)) (nat_cmp_total.congr (count us) (count vs) (count ws))
+        (nat_turned (count us) (count vs) (count ws)) (trans_all us vs ws) p q
     trans (list us) (list vs) (list ws) p q = trans_all us vs ws p q
     trans u v w p q = mixed u v w refl p q
 
-    trans_all : (us vs ws : Values) → compare_all name us vs ≡ Less → compare_all name vs ws ≡ Less → compare_all name us ws ≡ Less
+    trans_all : (us vs ws : Values) → compare_all name us vs ≡ Less → compare_all name vs ws ≡ Less
+        → compare_all name us ws ≡ Less
     trans_all none none ws p q = absurd (cc)
     trans_all none (more v vs) none p q = absurd (cc)
     trans_all none (more v vs) (more w ws) p q = refl
     trans_all (more u us) none ws p q = absurd (cc)
     trans_all (more u us) (more v vs) none p q = absurd (cc)
     trans_all (more u us) (more v vs) (more w ws) p q =
-        then_trans (compare name u v) (compare name v w) (compare name u w) (compare_all name us vs) (compare_all name vs ws) (compare_all name us ws)
+        then_trans (compare name u v) (compare name v w) (compare name u w) (compare_all name us vs)
+        (compare_all name vs ws) (compare_all name us ws)
         (trans u v w) (congr u v w) (turned u v w) (trans_all us vs ws) p q
 
   pub compare_total : IsTotalOrder (compare name)

@@ -52,7 +52,8 @@ mutual
   pub all_decoded-code_values : (vs : Values) → all_decoded (code_values vs) ≡ vs
   all_decoded-code_values none = refl
   all_decoded-code_values (more v vs) =
-      ap (λ x. more x (all_decoded (code_values vs))) (decoded-code_value v) ∙ ap (λ xs. more v xs) (all_decoded-code_values vs)
+      ap (λ x. more x (all_decoded (code_values vs))) (decoded-code_value v) ∙ ap (λ xs. more v xs)
+      (all_decoded-code_values vs)
 
 abbrev pub coded_value : Coded Value
 coded_value =
@@ -60,4 +61,8 @@ coded_value =
 
 abbrev pub coded_values : Coded Values
 coded_values =
-    record { code = code_values; inj = λ x y e. sym (all_decoded-code_values x) ∙ ap all_decoded e ∙ all_decoded-code_values y }
+    record {
+      code = code_values;
+      inj = λ x y e. sym (all_decoded-code_values x) ∙ ap all_decoded e
+          ∙ all_decoded-code_values y;
+    }

@@ -14,4 +14,5 @@ pub record HasNumbers (names : List (List ℕ)) : Type 0 where
 -- an index of these names: it gives numbers at which the names are, and leaves out none but fixed ones
 pub record IsIndex (names : List (List ℕ)) (number : List ℕ → Option ℕ) : Type 0 where
   pub found : (name : List ℕ) → IfSome (number name) (λ n. slice_get names n ≡ Some name)
-  pub absent : (name : List ℕ) → list_any (bytes_eq name) fixed_names ≡ false → IfNone (number name) (list_any (bytes_eq name) names ≡ false)
+  pub absent : (name : List ℕ) → list_any (bytes_eq name) fixed_names ≡ false
+      → IfNone (number name) (list_any (bytes_eq name) names ≡ false)

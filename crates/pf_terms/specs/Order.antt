@@ -24,13 +24,20 @@ abbrev mutual
   compare name (atom a) w = elim w [ atom b ↦ slice_cmp nat_cmp (name a) (name b) | other ↦ nat_cmp 1 (rank other) ]
   compare name (ref r) w = elim w [ ref s ↦ nat_cmp r s | other ↦ nat_cmp 2 (rank other) ]
   compare name (pid p) w = elim w [ pid q ↦ nat_cmp p q | other ↦ nat_cmp 3 (rank other) ]
-  compare name (tuple vs) w = elim w [ tuple ws ↦ ordering_then (nat_cmp (count vs) (count ws)) (compare_all name vs ws) | other ↦ nat_cmp 4 (rank other) ]
+  compare name (tuple vs) w = elim w [
+    | tuple ws ↦ ordering_then (nat_cmp (count vs) (count ws)) (compare_all name vs ws)
+    | other ↦ nat_cmp 4 (rank other)
+  ]
   compare name (list vs) w = elim w [ list ws ↦ compare_all name vs ws | other ↦ nat_cmp 5 (rank other) ]
 
   -- the first elements that differ decide; of two runs that begin alike the shorter is less
   pub compare_all : (ℕ → List ℕ) → Values → Values → Ordering
   compare_all name none ws = elim ws [ none ↦ Equal | more w ws ↦ Less ]
-  compare_all name (more v vs) ws = elim ws [ none ↦ Greater | more w ws ↦ ordering_then (compare name v w) (compare_all name vs ws) ]
+  compare_all name (more v vs) ws = elim ws [
+    | none ↦ Greater
+    | more w ws ↦ ordering_then (compare name v w)
+        (compare_all name vs ws)
+  ]
 
 -- each atom in a value has a number below n
 abbrev mutual
@@ -56,4 +63,5 @@ OrderIsTotal = (name : ℕ → List ℕ) → IsTotalOrder (compare name)
 
 -- values with atoms of different names are equal in the order only where they are the same
 abbrev pub OrderIsExact : Type 0
-OrderIsExact = (name : ℕ → List ℕ) (n : ℕ) (v w : Value) → TellsApart name n → NamesBelow n v → NamesBelow n w → compare name v w ≡ Equal → v ≡ w
+OrderIsExact = (name : ℕ → List ℕ) (n : ℕ) (v w : Value) → TellsApart name n → NamesBelow n v → NamesBelow n w
+    → compare name v w ≡ Equal → v ≡ w

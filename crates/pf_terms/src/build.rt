@@ -64,7 +64,8 @@ impl List {
     pub fn cons(alloc: Global, head: Term, tail: List) -> Result<List, OrNoMemory<TooLarge>>
         ensures made { IfOk result (λ l. elements_of l ≡ more (value_of head) (elements_of tail)) }
         ensures within { OnOk result (IsWithinLimits (list (more (value_of head) (elements_of tail)))) }
-        ensures too_large { (result ≡ Err past_limits) ↔ (¬ IsWithinLimits (list (more (value_of head) (elements_of tail)))) }
+        ensures too_large { (result ≡ Err past_limits) ↔
+            (¬ IsWithinLimits (list (more (value_of head) (elements_of tail)))) }
     {
         match Cell::new(head, tail) {
             Some(cell) => Ok(List::Cons(Arc::new(alloc, cell)?)),

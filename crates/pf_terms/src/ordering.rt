@@ -58,7 +58,8 @@ fn order_lists(a: &List, b: &List, atoms: &AtomTable) -> Ordering
 
 #[cycle(order)]
 fn order_elements(a: &Elements, b: &Elements, atoms: &AtomTable) -> Ordering
-    ensures { result ≡ ordering_then (nat_cmp (count a.now) (count b.now)) (compare_all (name_of atoms.now) a.now b.now) }
+    ensures { result ≡ ordering_then (nat_cmp (count a.now) (count b.now))
+        (compare_all (name_of atoms.now) a.now b.now) }
 {
     let xs = a.as_slice();
     let ys = b.as_slice();

@@ -1,6 +1,7 @@
 //! Names in one block of bytes, by where each ends.
 
-ghost use Rattle.std.specs.Prelude.{◌≡◌, ◌+◌, ◌<◌, ◌++◌, ◌∷◌, [], length, slice_get, slice_index_or, Some, false, IfOk, IfSome, IfNone, OnErr, OnOk};
+ghost use Rattle.std.specs.Prelude.{◌≡◌, ◌+◌, ◌<◌, ◌++◌, ◌∷◌, [], length, slice_get, slice_index_or, Some, false, IfOk};
+ghost use Rattle.std.specs.Prelude.{IfSome, IfNone, OnErr, OnOk};
 ghost use Rattle.std.specs.List.{list_any};
 ghost use Rattle.std.specs.Str.{bytes_eq};
 ghost use Rattle.pf_terms.specs.Atoms.{name_of};

@@ -1,7 +1,8 @@
 //! Terms: values whose parts are shared, so that a copy, a head, a tail and a cons take the same time at any size.
 
 ghost use Rattle.std.specs.Prelude.{◌≡◌, ◌+◌, ◌<◌, ◌≤◌, ◌↔◌, IfOk, IfSome, IsTrue, MatchOption};
-ghost use Rattle.pf_terms.specs.Value.{count, depth, depth_in, list, more, nodes, nodes_in, none, tuple, IsWithinLimits};
+ghost use Rattle.pf_terms.specs.Value.{count, depth, depth_in, list, more, nodes, nodes_in, none, tuple};
+ghost use Rattle.pf_terms.specs.Value.{IsWithinLimits};
 ghost use Rattle.pf_terms.specs.Term.{elements_of, value_of, values_of};
 ghost use Rattle.pf_terms.specs.Order.{rank};
 
@@ -97,7 +98,8 @@ impl Model for Cell {
     ghost view = { λ a. more (value_of a.head) (elements_of a.tail) };
 
     ghost invariant = { λ a. (a.nodes ≡ nodes_in (more (value_of a.head) (elements_of a.tail)))
-        × (a.depth ≡ depth_in (more (value_of a.head) (elements_of a.tail))) × (a.nodes < MOST_NODES) × (a.depth < MOST_DEPTH) };
+        × (a.depth ≡ depth_in (more (value_of a.head) (elements_of a.tail))) × (a.nodes < MOST_NODES)
+        × (a.depth < MOST_DEPTH) };
 
     ghost size = { nodes_in };
 
@@ -148,8 +150,10 @@ pub(crate) struct Size {
 
 /// The size of these elements, where a tuple or a list of them is within the limits.
 pub(crate) fn size_of(items: &[Term]) -> Option<Size>
-    ensures is { IfSome result (λ s. (s.nodes ≡ nodes_in (values_of items.now)) × (s.depth ≡ depth_in (values_of items.now))) }
-    ensures within { MatchOption result (¬ IsWithinLimits (list (values_of items.now))) (λ _. IsWithinLimits (list (values_of items.now))) }
+    ensures is { IfSome result (λ s. (s.nodes ≡ nodes_in (values_of items.now))
+        × (s.depth ≡ depth_in (values_of items.now))) }
+    ensures within { MatchOption result (¬ IsWithinLimits (list (values_of items.now)))
+        (λ _. IsWithinLimits (list (values_of items.now))) }
 {
     let mut nodes = 0;
     let mut depth = 0;
@@ -252,7 +256,8 @@ impl List {
 
     /// The first element and the list of the others, where there is one.
     pub fn split(&self) -> Option<(&Term, &List)>
-        ensures { MatchOption result (elements_of self.now ≡ none) (λ p. elements_of self.now ≡ more (value_of p.0.now) (elements_of p.1.now)) }
+        ensures { MatchOption result (elements_of self.now ≡ none)
+            (λ p. elements_of self.now ≡ more (value_of p.0.now) (elements_of p.1.now)) }
     {
         match self {
             List::Nil => None,
@@ -264,7 +269,8 @@ impl List {
 impl Cell {
     /// A cell, which stands for the list of its head and the elements of its tail, where that is within the limits.
     pub(crate) fn new(head: Term, tail: List) -> Option<Cell>
-        ensures made { MatchOption result (¬ IsWithinLimits (list (more (value_of head) (elements_of tail)))) (λ c. c ≡ more (value_of head) (elements_of tail)) }
+        ensures made { MatchOption result (¬ IsWithinLimits (list (more (value_of head) (elements_of tail))))
+            (λ c. c ≡ more (value_of head) (elements_of tail)) }
         ensures within { IfSome result (λ _. IsWithinLimits (list (more (value_of head) (elements_of tail)))) }
     {
         let nodes = nodes(&head) + tail.nodes();
@@ -305,7 +311,8 @@ impl Cell {
 impl Elements {
     /// The elements, where a tuple of them is within the limits.
     pub(crate) fn new(items: Vec<Term>) -> Option<Elements>
-        ensures made { MatchOption result (¬ IsWithinLimits (tuple (values_of items.items))) (λ vs. vs ≡ values_of items.items) }
+        ensures made { MatchOption result (¬ IsWithinLimits (tuple (values_of items.items)))
+            (λ vs. vs ≡ values_of items.items) }
         ensures within { IfSome result (λ _. IsWithinLimits (tuple (values_of items.items))) }
     {
         let Size { nodes, depth } = size_of(&items)?;

@@ -1,5 +1,6 @@
 -- The atom of a name in a table that has no name twice.
-use Rattle.std.proofs.Common.{◌≡◌, ℕ, zero, suc, ◌<◌, Bool, true, false, List, [], ◌∷◌, length, Option, Some, None, refl, sym, ap, ◌∙◌, arith}
+use Rattle.std.proofs.Common.{◌≡◌, ℕ, zero, suc, ◌<◌, Bool, true, false, List, [], ◌∷◌, length, Option, Some, None}
+use Rattle.std.proofs.Common.{refl, sym, ap, ◌∙◌, arith}
 use Rattle.std.specs.Prelude.{slice_get, option_map, if◌then◌else◌, ◌||◌}
 use Rattle.std.specs.List.{list_any}
 use Rattle.std.specs.Str.{bytes_eq}
@@ -9,11 +10,14 @@ use Rattle.pf_terms.specs.Order.{TellsApart}
 use Rattle.pf_termtext.specs.Reading.{atom_of}
 
 -- the names after the first are distinct as well
-behind_apart : (n : List ℕ) (names : List (List ℕ)) → TellsApart (name_of (n ∷ names)) (length (n ∷ names)) → TellsApart (name_of names) (length names)
-behind_apart n names apart a b within_a within_b same = let next : suc a ≡ suc b = apart (suc a) (suc b) (omega arith) (omega arith) same in omega (arith, next)
+behind_apart : (n : List ℕ) (names : List (List ℕ)) → TellsApart (name_of (n ∷ names)) (length (n ∷ names))
+    → TellsApart (name_of names) (length names)
+behind_apart n names apart a b within_a within_b same = let next : suc a ≡ suc b = apart (suc a) (suc b) (omega arith)
+    (omega arith) same in omega (arith, next)
 
 -- where an atom has this name, it is the one
-pub atom_found : (names : List (List ℕ)) (a : ℕ) → TellsApart (name_of names) (length names) → a < length names → atom_of names (name_of names a) ≡ Some a
+pub atom_found : (names : List (List ℕ)) (a : ℕ) → TellsApart (name_of names) (length names) → a < length names
+    → atom_of names (name_of names a) ≡ Some a
 atom_found [] a apart within = absurd (omega arith)
 atom_found (n ∷ names) zero apart within = rw ((bytes_eq-Decides n n).1 refl) refl
 atom_found (n ∷ names) (suc a) apart within =
@@ -28,7 +32,8 @@ atom_found (n ∷ names) (suc a) apart within =
     by false e found = rw found refl
 
 -- an atom of this name is in the table
-pub atom_stands : (names : List (List ℕ)) (name : List ℕ) (a : ℕ) → atom_of names name ≡ Some a → (a < length names) × (name_of names a ≡ name)
+pub atom_stands : (names : List (List ℕ)) (name : List ℕ) (a : ℕ) → atom_of names name ≡ Some a
+    → (a < length names) × (name_of names a ≡ name)
 atom_stands [] name a e = absurd cc
 atom_stands (n ∷ names) name a e = by (bytes_eq name n) refl (atom_of names name) refl (atom_stands names name) e
   where
@@ -45,20 +50,24 @@ atom_stands (n ∷ names) name a e = by (bytes_eq name n) refl (atom_of names na
         rw (← next) (omega (arith, stands.0), stands.1)
 
 -- a name at an index of the table has its atom there
-pub atom_at : (names : List (List ℕ)) (name : List ℕ) (a : ℕ) → TellsApart (name_of names) (length names) → slice_get names a ≡ Some name → atom_of names name ≡ Some a
+pub atom_at : (names : List (List ℕ)) (name : List ℕ) (a : ℕ) → TellsApart (name_of names) (length names)
+    → slice_get names a ≡ Some name → atom_of names name ≡ Some a
 atom_at names name a apart e =
     let offset = placed names a e in
     ap (atom_of names) (sym offset.1) ∙ atom_found names a apart offset.0
   where
-    placed : (names : List (List ℕ)) (a : ℕ) → slice_get names a ≡ Some name → (a < length names) × (name_of names a ≡ name)
+    placed : (names : List (List ℕ)) (a : ℕ) → slice_get names a ≡ Some name
+        → (a < length names) × (name_of names a ≡ name)
     placed [] a e = absurd cc
     placed (n ∷ names) zero e = (omega arith, cc)
     placed (n ∷ names) (suc a) e = let later = placed names a e in (omega (arith, later.0), later.1)
 
 -- a name that the table lacks has no atom
-pub atom_absent : (names : List (List ℕ)) (name : List ℕ) → list_any (bytes_eq name) names ≡ false → atom_of names name ≡ None
+pub atom_absent : (names : List (List ℕ)) (name : List ℕ) → list_any (bytes_eq name) names ≡ false
+    → atom_of names name ≡ None
 atom_absent [] name e = refl
-atom_absent (n ∷ names) name e = by (bytes_eq name n) (list_any (bytes_eq name) names) refl refl e (atom_absent names name)
+atom_absent (n ∷ names) name e = by (bytes_eq name n) (list_any (bytes_eq name) names) refl refl e
+    (atom_absent names name)
   where
     by : (t u : Bool) → bytes_eq name n ≡ t → list_any (bytes_eq name) names ≡ u → (t || u) ≡ false
         → (list_any (bytes_eq name) names ≡ false → atom_of names name ≡ None) → atom_of (n ∷ names) name ≡ None

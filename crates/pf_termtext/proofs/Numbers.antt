@@ -1,10 +1,12 @@
 -- Integers as they are printed and read.
-use Rattle.std.proofs.Common.{◌≡◌, ℕ, zero, suc, ◌+◌, ◌*◌, ◌-◌, ◌^◌, ◌<◌, pos, negsuc, ℤ, Bool, true, false, cond, eqb, ltb, List, [], ◌∷◌, length, get_or, Some, None, refl, sym, ap, ◌∙◌, arith, rules}
+use Rattle.std.proofs.Common.{◌≡◌, ℕ, zero, suc, ◌+◌, ◌*◌, ◌-◌, ◌^◌, ◌<◌, pos, negsuc, ℤ, Bool, true, false, cond, eqb}
+use Rattle.std.proofs.Common.{ltb, List, [], ◌∷◌, length, get_or, Some, None, refl, sym, ap, ◌∙◌, arith, rules}
 use Rattle.std.specs.Prelude.{not, ◌&&◌}
 use Rattle.std.specs.List.{list_all, fold}
 use Rattle.std.specs.Fmt as print
 use Rattle.std.proofs.lemmas.Bool.{lt-ltb, ltb-true, eqb-true}
-use Rattle.std.proofs.lemmas.Fmt.{digits_decimal, digits_value-decimal, decimal-digits_value, decimal_digit, first_decimal, decimal_nonempty}
+use Rattle.std.proofs.lemmas.Fmt.{digits_decimal, digits_value-decimal, decimal-digits_value, decimal_digit}
+use Rattle.std.proofs.lemmas.Fmt.{first_decimal, decimal_nonempty}
 use Rattle.std.proofs.lemmas.Str.Parse.{IsNumeralModel, numerals_by_fold}
 use Rattle.pf_tokens.specs.Bytes.{is_digit}
 use Rattle.pf_tokens.specs.TokenKinds.{decimal}
@@ -23,16 +25,24 @@ own : IsNumeralModel are_digits (value_from 0)
 own = numerals_by_fold _ (search rules) value_from (search rules)
 
 -- digits of a numeral: at least one, and no zero before others
-numeral_parts : (ds : List ℕ) → is_numeral ds ≡ true → are_digits ds × (0 < length ds) × (get_or ds 0 0 ≡ 48 → length ds ≡ 1)
+numeral_parts : (ds : List ℕ) → is_numeral ds ≡ true
+    → are_digits ds × (0 < length ds) × (get_or ds 0 0 ≡ 48 → length ds ≡ 1)
 numeral_parts [] e = absurd cc
 numeral_parts (d ∷ []) e = (rw e refl, omega arith, λ _. omega arith)
 numeral_parts (d ∷ c ∷ ds) e = by (eqb d 48) refl e
   where
-    by : (t : Bool) → eqb d 48 ≡ t → (not t && list_all is_digit (d ∷ c ∷ ds)) ≡ true → are_digits (d ∷ c ∷ ds) × (0 < length (d ∷ c ∷ ds)) × (d ≡ 48 → length (d ∷ c ∷ ds) ≡ 1)
+    by : (t : Bool) → eqb d 48 ≡ t → (not t && list_all is_digit (d ∷ c ∷ ds)) ≡ true
+        → are_digits (d ∷ c ∷ ds) × (0 < length (d ∷ c ∷ ds)) × (d ≡ 48 → length (d ∷ c ∷ ds) ≡ 1)
     by true is e = absurd cc
-    by false is e = (e, omega arith, λ zero_first. absurd (let yes : false ≡ true = sym is ∙ ap (λ x. eqb x 48) zero_first in cc))
+    by false is e = (
+      e,
+      omega arith,
+      λ zero_first.
+          absurd (let yes : false ≡ true = sym is ∙ ap (λ x. eqb x 48) zero_first in cc),
+    )
 
-parts_numeral : (ds : List ℕ) → are_digits ds → 0 < length ds → (get_or ds 0 0 ≡ 48 → length ds ≡ 1) → is_numeral ds ≡ true
+parts_numeral : (ds : List ℕ) → are_digits ds → 0 < length ds → (get_or ds 0 0 ≡ 48 → length ds ≡ 1)
+    → is_numeral ds ≡ true
 parts_numeral [] digits some alone = absurd (omega arith)
 parts_numeral (d ∷ []) digits some alone = (both (is_digit d) true digits).0
 parts_numeral (d ∷ c ∷ ds) digits some alone = by (eqb d 48) refl
@@ -46,7 +56,8 @@ pub decimal_numeral : (n : ℕ) → n < 2 ^ 64 → is_numeral (print.decimal n) 
 decimal_numeral zero lt = rw (decimal_digit 0 (omega arith)) refl
 decimal_numeral (suc n) lt =
     let first = first_decimal (suc n) (omega arith) lt in
-    parts_numeral (print.decimal (suc n)) (digits_decimal own (suc n) lt) (decimal_nonempty (suc n) lt) (λ e. absurd (omega (arith, first, e)))
+    parts_numeral (print.decimal (suc n)) (digits_decimal own (suc n) lt) (decimal_nonempty (suc n) lt)
+    (λ e. absurd (omega (arith, first, e)))
 
 pub decimal_value : (n : ℕ) → n < 2 ^ 64 → decimal (print.decimal n) ≡ n
 decimal_value n lt = digits_value-decimal own n lt
@@ -64,10 +75,12 @@ IsPrintedBy false ds z = (print.signed_decimal z ≡ ds) × Has64Bits z
 IsPrintedBy true ds z = (print.signed_decimal z ≡ 45 ∷ ds) × Has64Bits z
 
 -- what is read of digits prints as them
-pub integer_printed : (minus : Bool) (ds : List ℕ) (z : ℤ) → integer_of_digits minus ds ≡ Some z → IsPrintedBy minus ds z
+pub integer_printed : (minus : Bool) (ds : List ℕ) (z : ℤ) → integer_of_digits minus ds ≡ Some z
+    → IsPrintedBy minus ds z
 integer_printed minus ds z e = numeral minus (is_numeral ds) refl e
   where
-    positive : (b : Bool) → ltb (decimal ds) (2 ^ 63) ≡ b → is_numeral ds ≡ true → cond b (Some (pos (decimal ds))) None ≡ Some z → IsPrintedBy false ds z
+    positive : (b : Bool) → ltb (decimal ds) (2 ^ 63) ≡ b → is_numeral ds ≡ true
+        → cond b (Some (pos (decimal ds))) None ≡ Some z → IsPrintedBy false ds z
     positive true lt is made =
         let same : pos (decimal ds) ≡ z = cc in
         let below : decimal ds < 2 ^ 63 = ltb-true (decimal ds) (2 ^ 63) lt in
@@ -82,10 +95,15 @@ integer_printed minus ds z e = numeral minus (is_numeral ds) refl e
         by true lt made =
             let same : negsuc n ≡ z = cc in
             let below : n < 2 ^ 63 = ltb-true n (2 ^ 63) lt in
-            rw (← same) (ap (λ x. 45 ∷ x) (ap print.decimal (sym value) ∙ numeral_printed ds is (omega (arith, below, value))), below)
+            rw (← same) (
+              ap (λ x. 45 ∷ x) (ap print.decimal (sym value) ∙ numeral_printed ds is
+                  (omega (arith, below, value))),
+              below,
+            )
         by false lt made = absurd cc
 
-    numeral : (minus t : Bool) → is_numeral ds ≡ t → cond t (signed minus (decimal ds)) None ≡ Some z → IsPrintedBy minus ds z
+    numeral : (minus t : Bool) → is_numeral ds ≡ t → cond t (signed minus (decimal ds)) None ≡ Some z
+        → IsPrintedBy minus ds z
     numeral false true is made = positive (ltb (decimal ds) (2 ^ 63)) refl is made
     numeral true true is made = negative (decimal ds) refl is made
     numeral minus false is made = absurd cc

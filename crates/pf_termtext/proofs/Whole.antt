@@ -18,15 +18,19 @@ use Rattle.pf_termtext.proofs.Sound.{Says, text_of, value_sound}
 use Rattle.pf_termtext.proofs.Again.{value_again}
 
 -- a text is of the value that is read of it
-pub text_of_read : (names : List (List ℕ)) (bytes : List ℕ) (v : Value) → value_of_text names bytes ≡ Some v → IsTextOf names bytes v
-text_of_read names bytes v e = option_and_then_some _ (value_at names MOST_DEPTH bytes) v e (λ p read made. by p.0 p.1 (value_sound names MOST_DEPTH bytes p.0 p.1 read) made)
+pub text_of_read : (names : List (List ℕ)) (bytes : List ℕ) (v : Value) → value_of_text names bytes ≡ Some v
+    → IsTextOf names bytes v
+text_of_read names bytes v e = option_and_then_some _ (value_at names MOST_DEPTH bytes) v e
+    (λ p read made. by p.0 p.1 (value_sound names MOST_DEPTH bytes p.0 p.1 read) made)
   where
     by : (w : Value) (rest : List ℕ) → Says names bytes w rest → value_alone w rest ≡ Some v → IsTextOf names bytes v
-    by w [] says made = rw (← same_Some w v made) (record { printed = says.0 ∙ append-nil (text_of names w); readable = says.1; within = says.2 })
+    by w [] says made = rw (← same_Some w v made)
+        (record { printed = says.0 ∙ append-nil (text_of names w); readable = says.1; within = says.2 })
     by w (b ∷ rest) says made = absurd cc
 
 -- what is read of the text of a value is the value
-pub read_of_text : (names : List (List ℕ)) (bytes : List ℕ) (v : Value) → TellsApart (name_of names) (length names) → IsTextOf names bytes v → value_of_text names bytes ≡ Some v
+pub read_of_text : (names : List (List ℕ)) (bytes : List ℕ) (v : Value) → TellsApart (name_of names) (length names)
+    → IsTextOf names bytes v → value_of_text names bytes ≡ Some v
 read_of_text names bytes v apart is =
     let read : value_at names MOST_DEPTH bytes ≡ Some (v, []) =
     ap (value_at names MOST_DEPTH) (is.printed ∙ sym (append-nil (text_of names v)))
@@ -45,17 +49,22 @@ read_back names v apart readable within =
     (is, λ w other. one_value names (text_of names v) w v apart other is)
 
 -- what the code reads, where reading gives it
-pub found_by : (names : List (List ℕ)) (bytes : List ℕ) (r : Result Term (OrNoMemory NoTerm)) → Gives value_of r (value_of_text names bytes) → IfOk r (λ t. IsTextOf names bytes (value_of t))
+pub found_by : (names : List (List ℕ)) (bytes : List ℕ) (r : Result Term (OrNoMemory NoTerm))
+    → Gives value_of r (value_of_text names bytes) → IfOk r (λ t. IsTextOf names bytes (value_of t))
 found_by names bytes (Ok t) gives = text_of_read names bytes (value_of t) gives
 found_by names bytes (Err e) gives = tt
 
-pub again_by : (names : List (List ℕ)) (bytes : List ℕ) (r : Result Term (OrNoMemory NoTerm)) → TellsApart (name_of names) (length names)
+pub again_by : (names : List (List ℕ)) (bytes : List ℕ) (r : Result Term (OrNoMemory NoTerm))
+    → TellsApart (name_of names) (length names)
     → Gives value_of r (value_of_text names bytes) → (v : Value) → IsTextOf names bytes v → IfOk r (λ t. value_of t ≡ v)
-again_by names bytes (Ok t) apart gives v is = same_Some (value_of t) v (sym gives ∙ read_of_text names bytes v apart is)
+again_by names bytes (Ok t) apart gives v is =
+    same_Some (value_of t) v (sym gives ∙ read_of_text names bytes v apart is)
 again_by names bytes (Err e) apart gives v is = tt
 
-pub refused_by : (names : List (List ℕ)) (bytes : List ℕ) (r : Result Term (OrNoMemory NoTerm)) → TellsApart (name_of names) (length names)
+pub refused_by : (names : List (List ℕ)) (bytes : List ℕ) (r : Result Term (OrNoMemory NoTerm))
+    → TellsApart (name_of names) (length names)
     → Gives value_of r (value_of_text names bytes) → r ≡ Err no_term → (v : Value) → IsTextOf names bytes v → ⊥
 refused_by names bytes (Ok t) apart gives e v is = absurd cc
-refused_by names bytes (Err (Fault x)) apart gives e v is = absurd (let both_ways : None ≡ Some v = sym gives ∙ read_of_text names bytes v apart is in cc)
+refused_by names bytes (Err (Fault x)) apart gives e v is =
+    absurd (let both_ways : None ≡ Some v = sym gives ∙ read_of_text names bytes v apart is in cc)
 refused_by names bytes (Err NoMemory) apart gives e v is = absurd cc

@@ -1,5 +1,7 @@
 -- The value at the front of a text, read from left to right.
-use Rattle.std.specs.Prelude.{◌≡◌, ℕ, zero, suc, ◌^◌, ℤ, pos, negsuc, Bool, true, false, ◌==◌, ◌&&◌, ◌||◌, not, nat_lt, nat_le, if◌then◌else◌, List, [], ◌∷◌, take, drop, Option, Some, None, option_map, option_and_then, Result, Ok, Err}
+use Rattle.std.specs.Prelude.{◌≡◌, ℕ, zero, suc, ◌^◌, ℤ, pos, negsuc, Bool, true, false, ◌==◌, ◌&&◌, ◌||◌, not, nat_lt}
+use Rattle.std.specs.Prelude.{nat_le, if◌then◌else◌, List, [], ◌∷◌, take, drop, Option, Some, None, option_map}
+use Rattle.std.specs.Prelude.{option_and_then, Result, Ok, Err}
 use Rattle.std.specs.List.{prefix_len}
 use Rattle.std.specs.Str.{bytes_eq}
 use Rattle.pf_errors.specs.declared.fault.OrNoMemory.{OrNoMemory}
@@ -68,7 +70,8 @@ atom_of (n ∷ names) name = if bytes_eq name n then Some 0 else option_map suc 
 -- the atom whose name is at the front as it is
 abbrev pub plain_at : List (List ℕ) → List ℕ → TextFront Value
 plain_at names text =
-    if is_plain_name (word_bytes text) then with_value_before (behind_word text) atom (atom_of names (word_bytes text)) else None
+    if is_plain_name (word_bytes text) then with_value_before (behind_word text) atom (atom_of names (word_bytes text))
+    else None
 
 -- the byte that a letter stands for after `\`
 abbrev pub escaped_byte : ℕ → Option ℕ

@@ -44,7 +44,8 @@ abbrev pub PrintedIsReadBack : Type 0
 PrintedIsReadBack =
     (names : List (List ℕ)) (v : Value) → TellsApart (name_of names) (length names)
     → CanBeRead (length names) v → IsWithinLimits v
-    → let bytes = value_text (name_of names) v in IsTextOf names bytes v × ((w : Value) → IsTextOf names bytes w → w ≡ v)
+    → let bytes = value_text (name_of names) v in IsTextOf names bytes v × ((w : Value)
+    → IsTextOf names bytes w → w ≡ v)
 
 -- the text is refused
 abbrev pub no_term : OrNoMemory NoTerm

@@ -2,7 +2,8 @@
 
 ghost use Rattle.std.specs.Prelude.{◌≡◌, option_map, false};
 ghost use Rattle.pf_terms.specs.Term.{value_of};
-ghost use Rattle.pf_termtext.specs.Reading.{Gives, atom_of, escaped_byte, name_at, plain_at, quoted_at, stands_alone, written_byte};
+ghost use Rattle.pf_termtext.specs.Reading.{Gives, atom_of, escaped_byte, name_at, plain_at, quoted_at, stands_alone};
+ghost use Rattle.pf_termtext.specs.Reading.{written_byte};
 
 use crate::bytes::{behind, split_word};
 use crate::fault::{Fault, no_term};

@@ -3,7 +3,8 @@
 ghost use Rattle.std.specs.Prelude.{◌≡◌, Err, IfOk, map};
 ghost use Rattle.pf_terms.specs.Term.{value_of, values_of};
 ghost use Rattle.pf_terms.specs.Value.{Value, list, tuple};
-ghost use Rattle.pf_termtext.specs.Reading.{Gives, bounded, elements_at, items_at, list_at, tuple_at, value_at, value_of_text};
+ghost use Rattle.pf_termtext.specs.Reading.{Gives, bounded, elements_at, items_at, list_at, tuple_at, value_at};
+ghost use Rattle.pf_termtext.specs.Reading.{value_of_text};
 ghost use Rattle.pf_termtext.specs.Texts.{IsTextOf, no_term};
 
 use crate::bytes::behind;

@@ -76,7 +76,8 @@ fn put_others(out: &mut Vec<u8>, atoms: &AtomTable, others: &[Term]) -> Result<(
 
 #[cycle(terms)]
 fn put_list(out: &mut Vec<u8>, atoms: &AtomTable, elements: &List) -> Result<(), NoMemory>
-    ensures { OnOk result (out.new.items ≡ out.old.items ++ value_text (name_of atoms.now) (list (elements_of elements.now))) }
+    ensures { OnOk result (out.new.items ≡ out.old.items ++ value_text (name_of atoms.now)
+        (list (elements_of elements.now))) }
 {
     put(out, b"[")?;
     if let Some((first, others)) = elements.split() {

@@ -6,7 +6,8 @@ ghost use Rattle.std.specs.List.{list_all, slice_split};
 ghost use Rattle.pf_tokens.specs.Bytes.{is_digit};
 ghost use Rattle.pf_tokens.specs.TokenKinds.{decimal};
 ghost use Rattle.pf_text.specs.Schedules.{schedule_text};
-ghost use Rattle.pf_text.specs.Numbers.{is_numeral, long, long_number_of, number_of_digits, numbers_of_texts, schedule_of};
+ghost use Rattle.pf_text.specs.Numbers.{is_numeral, long, long_number_of, number_of_digits, numbers_of_texts};
+ghost use Rattle.pf_text.specs.Numbers.{schedule_of};
 
 use crate::text::{put, put_number};
 use pf_errors::NoMemory;
@@ -66,7 +67,8 @@ pub fn number_of(text: &[u8]) -> Option<u32>
 
 /// The numbers of a text with commas between them, where each piece is one.
 fn numbers_of(alloc: Global, text: &[u8]) -> Result<Option<Vec<u32>>, AllocError>
-    ensures { IfOk result (λ ns. option_map (λ v. v.items) ns ≡ numbers_of_texts (slice_split (λ b. b == 44) text.now)) }
+    ensures { IfOk result (λ ns. option_map (λ v. v.items) ns ≡ numbers_of_texts
+        (slice_split (λ b. b == 44) text.now)) }
 {
     let mut numbers = Vec::new(alloc);
     for piece in text.split(|byte| *byte == b',') {

@@ -1,5 +1,6 @@
 -- What look-ups in a map give after a change.
-use Rattle.std.proofs.Common.{◌≡◌, ℕ, Bool, true, false, List, [], ◌∷◌, Option, Some, None, ◌==◌, nat_lt, if◌then◌else◌, refl, sym, ap, ◌∙◌, arith}
+use Rattle.std.proofs.Common.{◌≡◌, ℕ, Bool, true, false, List, [], ◌∷◌, Option, Some, None, ◌==◌, nat_lt, if◌then◌else◌}
+use Rattle.std.proofs.Common.{refl, sym, ap, ◌∙◌, arith}
 use Rattle.std.specs.Prelude.{is_some, unwrap_or}
 use Rattle.std.proofs.lemmas.Bool.{false≢true}
 use Rattle.std.proofs.lemmas.Bool.Decides.{nat_tests}
@@ -35,7 +36,8 @@ pub without_put : (k x : ℕ) (m : Entries) → got k m ≡ None → without k (
 without_put k x [] h = rw (eq_self k) refl
 without_put k x (p ∷ ps) h = by (k == p.0) (nat_lt k p.0) refl h (without_put k x ps) (without_none k ps)
   where
-    by : (e t : Bool) → (k == p.0) ≡ e → (if e then Some p.1 else got k ps) ≡ None → (got k ps ≡ None → without k (put k x ps) ≡ ps)
+    by : (e t : Bool) → (k == p.0) ≡ e → (if e then Some p.1 else got k ps) ≡ None
+        → (got k ps ≡ None → without k (put k x ps) ≡ ps)
         → (got k ps ≡ None → without k ps ≡ ps)
         → without k (if e then (k, x) ∷ ps else (if t then (k, x) ∷ p ∷ ps else p ∷ put k x ps)) ≡ p ∷ ps
     by true t q h r w = none_some (Some p.1) p.1 h refl

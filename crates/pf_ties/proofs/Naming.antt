@@ -1,5 +1,6 @@
 -- Names and the processes that have them, after a change.
-use Rattle.std.proofs.Common.{◌≡◌, ℕ, suc, Bool, true, false, not, [], ◌∷◌, Option, Some, None, ◌==◌, if◌then◌else◌, refl, sym, ap, ◌∙◌, arith}
+use Rattle.std.proofs.Common.{◌≡◌, ℕ, suc, Bool, true, false, not, [], ◌∷◌, Option, Some, None, ◌==◌, if◌then◌else◌}
+use Rattle.std.proofs.Common.{refl, sym, ap, ◌∙◌, arith}
 use Rattle.std.specs.Prelude.{is_some}
 use Rattle.std.proofs.lemmas.Bool.{false≢true}
 use Rattle.std.proofs.lemmas.Bool.Decides.{nat_tests}
@@ -36,7 +37,8 @@ leads_put a b n p h free m q e = by (m == n) refl
         ap (λ y. got y (put p n b)) (sym o) ∙ got_put p n b ∙ ap (λ y. Some y) (sym i)
     by false k = other (q == p) refl k
 
-pub inverse_put : (a b : Entries) (n p : ℕ) → AreInverse a b → got n a ≡ None → got p b ≡ None → AreInverse (put n p a) (put p n b)
+pub inverse_put : (a b : Entries) (n p : ℕ) → AreInverse a b → got n a ≡ None → got p b ≡ None
+    → AreInverse (put n p a) (put p n b)
 inverse_put a b n p h new' free = record {
   rising = put_rises 0 n p a (omega arith) h.rising;
   there = λ m q e. leads_put a b n p h.there free m q e;
@@ -50,7 +52,8 @@ leads_without a b n p h has m q e = by (m == n) refl
   where
     other : (t : Bool) → (q == p) ≡ t → (m == n) ≡ false → got q (without p b) ≡ Some m
     other true z k =
-        let i : m ≡ n = some_is m n (sym (h m q (sym (got_without_other m n a k) ∙ e)) ∙ ap (λ y. got y b) (same_from q p z) ∙ h n p has) in
+        let i : m ≡ n = some_is m n (sym (h m q (sym (got_without_other m n a k) ∙ e)) ∙ ap (λ y. got y b)
+        (same_from q p z) ∙ h n p has) in
         absurd (false≢true (sym k ∙ eq_of n m (sym i)))
     other false z k = got_without_other q p b z ∙ h m q (sym (got_without_other m n a k) ∙ e)
 
@@ -59,7 +62,8 @@ leads_without a b n p h has m q e = by (m == n) refl
         none_some (got m (without n a)) q (ap (λ y. got y (without n a)) (same_from m n k) ∙ got_without n a) e
     by false k = other (q == p) refl k
 
-pub inverse_without : (a b : Entries) (n p : ℕ) → AreInverse a b → got n a ≡ Some p → AreInverse (without n a) (without p b)
+pub inverse_without : (a b : Entries) (n p : ℕ) → AreInverse a b → got n a ≡ Some p
+    → AreInverse (without n a) (without p b)
 inverse_without a b n p h e = record {
   rising = without_rises 0 n a h.rising;
   there = λ m q g. leads_without a b n p h.there e m q g;
@@ -76,7 +80,8 @@ named_from : (p n : ℕ) (a : Entries) → got n a ≡ Some p → has_name p a �
 named_from p n [] e = none_some None p refl e
 named_from p n (x ∷ xs) e = by (n == x.0) (p == x.1) refl e (named_from p n xs)
   where
-    by : (t u : Bool) → (p == x.1) ≡ u → (if t then Some x.1 else got n xs) ≡ Some p → (got n xs ≡ Some p → has_name p xs ≡ true)
+    by : (t u : Bool) → (p == x.1) ≡ u → (if t then Some x.1 else got n xs) ≡ Some p
+        → (got n xs ≡ Some p → has_name p xs ≡ true)
         → (if u then true else has_name p xs) ≡ true
     by t true k e r = refl
     by true false k e r = absurd (false≢true (sym k ∙ eq_of x.1 p (some_is x.1 p e)))
@@ -87,7 +92,8 @@ got_more : (n p : ℕ) (x : ℕ × ℕ) (xs : Entries) → Rises (suc x.0) xs �
 got_more n p x xs h e = by (n == x.0) refl
   where
     by : (t : Bool) → (n == x.0) ≡ t → (if t then Some x.1 else got n xs) ≡ Some p
-    by true k = none_some (got n xs) p (ap (λ y. got y xs) (same_from n x.0 k) ∙ got_above x.0 (suc x.0) xs (omega arith) h) e
+    by true k = none_some (got n xs) p (ap (λ y. got y xs) (same_from n x.0 k) ∙ got_above x.0 (suc x.0) xs
+        (omega arith) h) e
     by false k = e
 
 got_head : (x : ℕ × ℕ) (xs : Entries) → got x.0 (x ∷ xs) ≡ Some x.1
@@ -122,7 +128,8 @@ kept : (p : ℕ) (a : Entries) → has_name p a ≡ false → without_name p a �
 kept p [] f = refl
 kept p (x ∷ xs) f = by (p == x.1) (x.1 == p) (eq_flip p x.1) f (kept p xs)
   where
-    by : (t u : Bool) → t ≡ u → (if t then true else has_name p xs) ≡ false → (has_name p xs ≡ false → without_name p xs ≡ xs)
+    by : (t u : Bool) → t ≡ u → (if t then true else has_name p xs) ≡ false
+        → (has_name p xs ≡ false → without_name p xs ≡ xs)
         → (if not u then x ∷ without_name p xs else without_name p xs) ≡ x ∷ xs
     by true u e f r = absurd (false≢true (sym f))
     by false true e f r = absurd (false≢true e)
@@ -131,7 +138,8 @@ kept p (x ∷ xs) f = by (p == x.1) (x.1 == p) (eq_flip p x.1) f (kept p xs)
 pub name_kept : (a b : Entries) (p : ℕ) → AreInverse a b → got p b ≡ None → a ≡ without_name p a
 name_kept a b p h e = sym (kept p a (sym (named_same a b p h) ∙ ap is_some e))
 
-lost : (p n low : ℕ) (a : Entries) → Rises low a → got n a ≡ Some p → ((m : ℕ) → got m a ≡ Some p → m ≡ n) → without n a ≡ without_name p a
+lost : (p n low : ℕ) (a : Entries) → Rises low a → got n a ≡ Some p → ((m : ℕ) → got m a ≡ Some p → m ≡ n)
+    → without n a ≡ without_name p a
 lost p n low [] h e one = refl
 lost p n low (x ∷ xs) h e one = by (n == x.0) (x.1 == p) refl refl e (lost p n (suc x.0) xs h.1)
   where
@@ -146,7 +154,8 @@ lost p n low (x ∷ xs) h e one = by (n == x.0) (x.1 == p) refl refl e (lost p n
     by true true k o e r =
         let i = same_from n x.0 k in
         let f = unnamed_from p (suc x.0) xs h.1 (none_more i) in
-        ap (λ y. without y xs) i ∙ without_none x.0 xs (got_above x.0 (suc x.0) xs (omega arith) h.1) ∙ sym (kept p xs f)
+        ap (λ y. without y xs) i ∙ without_none x.0 xs (got_above x.0 (suc x.0) xs (omega arith) h.1)
+        ∙ sym (kept p xs f)
     by true false k o e r = absurd (false≢true (sym o ∙ eq_of p x.1 (sym (some_is x.1 p e))))
     by false true k o e r =
         let i : x.0 ≡ n = one x.0 (got_head x xs ∙ ap (λ y. Some y) (same_from x.1 p o)) in

@@ -3,7 +3,8 @@ use Rattle.std.proofs.Common.{◌≡◌, ℕ, Bool, true, false, cond, eqb, ◌|
 use Rattle.std.proofs.lemmas.Bool.Decides.{nat_tests}
 use Rattle.std.proofs.lemmas.Bool.{eqb-true}
 use Rattle.pf_tokens.specs.declared.bytes.Class.{Class}
-use Rattle.pf_tokens.specs.declared.bytes.Class.TheVariants.{Blank, Percent, Digit, Lower, Upper, Dollar, Quote, DoubleQuote, Question, Dot, Other}
+use Rattle.pf_tokens.specs.declared.bytes.Class.TheVariants.{Blank, Percent, Digit, Lower, Upper, Dollar, Quote}
+use Rattle.pf_tokens.specs.declared.bytes.Class.TheVariants.{DoubleQuote, Question, Dot, Other}
 use Rattle.pf_tokens.specs.Bytes.{is_blank, is_digit, is_lower, is_upper, is_word_byte, class_of}
 use Rattle.pf_tokens.specs.Rules.{is_opening}
 

@@ -1,5 +1,6 @@
 -- The value of digits, as it grows.
-use Rattle.std.proofs.Common.{◌≡◌, ℕ, ◌+◌, ◌-◌, ◌*◌, ◌^◌, ◌<◌, ◌≤◌, List, [], ◌∷◌, ◌++◌, length, get_or, take, drop, Some, None, refl, ap, arith}
+use Rattle.std.proofs.Common.{◌≡◌, ℕ, ◌+◌, ◌-◌, ◌*◌, ◌^◌, ◌<◌, ◌≤◌, List, [], ◌∷◌, ◌++◌, length, get_or, take, drop}
+use Rattle.std.proofs.Common.{Some, None, refl, ap, arith}
 use Rattle.std.specs.List.{fold}
 use Rattle.std.proofs.lemmas.Bool.{le-ltb, lt-ltb}
 use Rattle.std.proofs.lemmas.List.{take-append-drop}
@@ -15,14 +16,16 @@ grows value [] = omega arith
 grows value (d ∷ ds) = omega (arith, grows (10 * value + (d - 48)) ds)
 
 -- one more digit
-pub decimal_more : (digits : List ℕ) (i : ℕ) → i < length digits → decimal (take (i + 1) digits) ≡ 10 * decimal (take i digits) + (get_or digits i 0 - 48)
+pub decimal_more : (digits : List ℕ) (i : ℕ) → i < length digits
+    → decimal (take (i + 1) digits) ≡ 10 * decimal (take i digits) + (get_or digits i 0 - 48)
 decimal_more digits i lt = fold_more more 0 digits i 0 lt
 
 -- the first digits make no larger value
 pub decimal_front : (digits : List ℕ) (i : ℕ) → decimal (take i digits) ≤ decimal digits
 decimal_front digits i =
     let all : decimal (take i digits ++ drop i digits) ≡ decimal digits = ap decimal (take-append-drop i digits) in
-    let two : decimal (take i digits ++ drop i digits) ≡ fold more (decimal (take i digits)) (drop i digits) = fold-append more 0 (take i digits) (drop i digits) in
+    let two : decimal (take i digits ++ drop i digits) ≡ fold more (decimal (take i digits)) (drop i digits) =
+    fold-append more 0 (take i digits) (drop i digits) in
     omega (arith, all, two, grows (decimal (take i digits)) (drop i digits))
 
 -- a value above the limit is none

@@ -1,5 +1,6 @@
 -- A run of bytes at the front of a text that pass a test.
-use Rattle.std.proofs.Common.{◌≡◌, ℕ, suc, ◌+◌, ◌<◌, Bool, true, false, cond, not, List, [], ◌∷◌, ◌++◌, length, take, drop, refl, ap, ◌∙◌, arith}
+use Rattle.std.proofs.Common.{◌≡◌, ℕ, suc, ◌+◌, ◌<◌, Bool, true, false, cond, not, List, [], ◌∷◌, ◌++◌, length, take}
+use Rattle.std.proofs.Common.{drop, refl, ap, ◌∙◌, arith}
 use Rattle.std.specs.List.{prefix_len, AllPass, list_all}
 use Rattle.std.proofs.lemmas.List.{get_or-take, length-take}
 use Rattle.std.proofs.lemmas.List.Sums.{prefix_len_passes}
@@ -21,7 +22,8 @@ run_each : (test : ℕ → Bool) (bytes : List ℕ) → list_all test (take (pre
 run_each test [] = refl
 run_each test (b ∷ bs) = by (test b) refl (run_each test bs)
   where
-    by : (t : Bool) → test b ≡ t → list_all test (take (prefix_len test bs) bs) ≡ true → list_all test (take (cond t (1 + prefix_len test bs) 0) (b ∷ bs)) ≡ true
+    by : (t : Bool) → test b ≡ t → list_all test (take (prefix_len test bs) bs) ≡ true
+        → list_all test (take (cond t (1 + prefix_len test bs) 0) (b ∷ bs)) ≡ true
     by true e later = let one : 1 + prefix_len test bs ≡ suc (prefix_len test bs) = omega arith in rw (one, e) later
     by false e later = refl
 
@@ -29,12 +31,14 @@ run_whole : (test : ℕ → Bool) (bytes : List ℕ) → ends test (drop (prefix
 run_whole test [] = refl
 run_whole test (b ∷ bs) = by (test b) refl (run_whole test bs)
   where
-    by : (t : Bool) → test b ≡ t → ends test (drop (prefix_len test bs) bs) ≡ true → ends test (drop (cond t (1 + prefix_len test bs) 0) (b ∷ bs)) ≡ true
+    by : (t : Bool) → test b ≡ t → ends test (drop (prefix_len test bs) bs) ≡ true
+        → ends test (drop (cond t (1 + prefix_len test bs) 0) (b ∷ bs)) ≡ true
     by true e later = let one : 1 + prefix_len test bs ≡ suc (prefix_len test bs) = omega arith in rw one later
     by false e later = rw e refl
 
 -- the bytes before the first that fails are a run
-pub run_front : (test : ℕ → Bool) (bytes : List ℕ) → IsRun test (take (prefix_len test bytes) bytes) (drop (prefix_len test bytes) bytes)
+pub run_front : (test : ℕ → Bool) (bytes : List ℕ)
+    → IsRun test (take (prefix_len test bytes) bytes) (drop (prefix_len test bytes) bytes)
 run_front test bytes = record { each = run_each test bytes; whole = run_whole test bytes }
 
 ends_none : (test : ℕ → Bool) (rest : List ℕ) → ends test rest ≡ true → prefix_len test rest ≡ 0
@@ -42,7 +46,8 @@ ends_none test [] e = refl
 ends_none test (b ∷ bs) e = rw (not_true (test b) e) refl
 
 -- a run is as long as the bytes before the first that fails
-pub prefix_len-run : (test : ℕ → Bool) (bytes rest : List ℕ) → IsRun test bytes rest → prefix_len test (bytes ++ rest) ≡ length bytes
+pub prefix_len-run : (test : ℕ → Bool) (bytes rest : List ℕ) → IsRun test bytes rest
+    → prefix_len test (bytes ++ rest) ≡ length bytes
 prefix_len-run test [] rest run = ends_none test rest run.whole
 prefix_len-run test (b ∷ bs) rest run =
     let passes = both (test b) (list_all test bs) run.each in

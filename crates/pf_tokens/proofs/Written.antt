@@ -76,12 +76,15 @@ mark_class symbols.Greater rest = refl
 -- two marks that are written alike are one
 pub one_mark : (a b : TokenMark) → mark_text a ≡ mark_text b → a ≡ b
 one_mark a b e =
-    let same : Some a ≡ Some b = sym (mark_found a) ∙ ap (λ t. find (λ other. bytes_eq (mark_text other) t) marks) e ∙ mark_found b in
+    let same : Some a ≡ Some b = sym (mark_found a) ∙ ap (λ t. find (λ other. bytes_eq (mark_text other) t) marks) e
+    ∙ mark_found b in
     cc
 
 -- no mark is empty
 pub mark_some : (m : TokenMark) → 0 < length (mark_text m)
-mark_some m = ltb-true 0 (length (mark_text m)) (find_all (λ other. ltb 0 (length (mark_text other))) (λ other. bytes_eq (mark_text other) (mark_text m)) marks m refl (mark_found m))
+mark_some m = ltb-true 0 (length (mark_text m))
+    (find_all (λ other. ltb 0 (length (mark_text other))) (λ other. bytes_eq (mark_text other) (mark_text m)) marks m
+    refl (mark_found m))
 
 -- a reserved word is found by its text
 pub reserved_found : (r : Reserved) → reserved_of (reserved_text r) ≡ Some r

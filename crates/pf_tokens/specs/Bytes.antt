@@ -1,5 +1,6 @@
 -- Classes of bytes.
-use Rattle.std.specs.Prelude.{ℕ, Bool, true, List, [], ◌∷◌, ◌==◌, nat_le, ◌&&◌, ◌||◌, not, if◌then◌else◌, Option, Some, None}
+use Rattle.std.specs.Prelude.{ℕ, Bool, true, List, [], ◌∷◌, ◌==◌, nat_le, ◌&&◌, ◌||◌, not, if◌then◌else◌, Option, Some}
+use Rattle.std.specs.Prelude.{None}
 use Rattle.pf_tokens.specs.declared.bytes.Class.{Class}
 use Rattle.pf_tokens.specs.declared.bytes.Class.TheVariants as classes
 

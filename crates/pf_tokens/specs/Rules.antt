@@ -1,5 +1,6 @@
 -- The rules of tokens: how the pieces of a text are written, and where a text is at fault.
-use Rattle.std.specs.Prelude.{◌≡◌, ◌≢◌, ◌⊎◌, ℕ, ◌+◌, ◌^◌, ◌<◌, ◌≤◌, Bool, ◌==◌, ◌&&◌, ◌||◌, not, IsTrue, IsFalse, List, [], ◌∷◌, ◌++◌, length, Option, Some, None, codes}
+use Rattle.std.specs.Prelude.{◌≡◌, ◌≢◌, ◌⊎◌, ℕ, ◌+◌, ◌^◌, ◌<◌, ◌≤◌, Bool, ◌==◌, ◌&&◌, ◌||◌, not, IsTrue, IsFalse, List}
+use Rattle.std.specs.Prelude.{[], ◌∷◌, ◌++◌, length, Option, Some, None, codes}
 use Rattle.std.specs.List.{list_all}
 use Rattle.pf_errors.specs.declared.code.Code.{Code}
 use Rattle.pf_errors.specs.declared.code.Code.TheVariants.{UnexpectedByte, Unfinished, IntegerTooLarge, SourceTooLong}
@@ -9,7 +10,9 @@ use Rattle.pf_errors.specs.declared.fault.OrNoMemory.TheVariants.{NoMemory, Faul
 use Rattle.pf_tokens.specs.declared.marks.TokenMark.{TokenMark}
 use Rattle.pf_tokens.specs.declared.words.Reserved.{Reserved}
 use Rattle.pf_tokens.specs.declared.scan.TheConstants.{MOST_SOURCE_BYTES}
-use Rattle.pf_tokens.specs.Bytes.{percent, dollar, single_quote, double_quote, backslash, is_blank, is_digit, is_lower, is_upper, is_word_byte, is_visible, is_quotable, is_comment, is_joined, ends, escape_of}
+use Rattle.pf_tokens.specs.Bytes.{percent, dollar, single_quote, double_quote, backslash, is_blank, is_digit, is_lower}
+use Rattle.pf_tokens.specs.Bytes.{is_upper, is_word_byte, is_visible, is_quotable, is_comment, is_joined, ends}
+use Rattle.pf_tokens.specs.Bytes.{escape_of}
 use Rattle.pf_tokens.specs.TokenKinds.{TokenKind, PlacedToken, decimal, mark_text, reserved_text, put_first}
 use Rattle.pf_tokens.specs.TokenKinds as kinds
 
@@ -40,7 +43,8 @@ IsName begins (b ∷ bs) rest = IsTrue (begins b) × IsRun is_word_byte (b ∷ b
 -- a byte is written as itself, where it may be, or as a `\` and the letter that stands for it
 abbrev pub WritesByte : (ℕ → Bool) → ℕ → List ℕ → Type 0
 WritesByte plain c bytes =
-    (IsTrue (plain c) × (bytes ≡ c ∷ [])) ⊎ ((letter : ℕ) × (escape_of letter ≡ Some c) × (bytes ≡ backslash ∷ letter ∷ []))
+    (IsTrue (plain c) × (bytes ≡ c ∷ [])) ⊎ ((letter : ℕ) × (escape_of letter ≡ Some c)
+    × (bytes ≡ backslash ∷ letter ∷ []))
 
 -- within quotes each byte that is allowed there is written as itself, but for the quote and `\`
 abbrev pub is_plain_in : ℕ → ℕ → Bool
@@ -67,13 +71,15 @@ IsCharacter code bytes = (one : List ℕ) × WritesByte is_plain_character code 
 -- a mark is written, and no longer mark is there
 pub record IsLongestMark (m : TokenMark) (bytes rest : List ℕ) : Type 0 where
   pub written : bytes ≡ mark_text m
-  pub longest : (other : TokenMark) (tail : List ℕ) → bytes ++ rest ≡ mark_text other ++ tail → length (mark_text other) ≤ length bytes
+  pub longest : (other : TokenMark) (tail : List ℕ) → bytes ++ rest ≡ mark_text other ++ tail
+      → length (mark_text other) ≤ length bytes
 
 -- the bytes are a token of this kind of token, before this rest
 abbrev pub IsToken : TokenKind → List ℕ → List ℕ → Type 0
 IsToken (kinds.integer value) bytes rest = (IsNumeral value bytes rest × (value < 2 ^ 63)) ⊎ IsCharacter value bytes
 IsToken (kinds.atom name) bytes rest =
-    (IsName is_lower bytes rest × (name ≡ bytes) × ((r : Reserved) → bytes ≢ reserved_text r)) ⊎ IsQuoted single_quote name bytes
+    (IsName is_lower bytes rest × (name ≡ bytes) × ((r : Reserved) → bytes ≢ reserved_text r))
+    ⊎ IsQuoted single_quote name bytes
 IsToken (kinds.variable name) bytes rest = IsName is_upper bytes rest × (name ≡ bytes) × (bytes ≢ codes "_")
 IsToken kinds.anonymous bytes rest = IsName is_upper bytes rest × (bytes ≡ codes "_")
 IsToken (kinds.text meant) bytes rest = IsQuoted double_quote meant bytes
@@ -124,7 +130,8 @@ pub record OpensQuoted (text : List ℕ) (written : ℕ) (rest : List ℕ) : Typ
 -- a quoted text or a character goes on with a wrong byte, n bytes on
 abbrev pub HasWrongByte : List ℕ → ℕ → Type 0
 HasWrongByte text n = (rest : List ℕ)
-    × ((OpensQuoted text n rest × IsWrong is_quotable rest) ⊎ ((text ≡ dollar ∷ rest) × (n ≡ 1) × IsWrong is_visible rest))
+    × ((OpensQuoted text n rest × IsWrong is_quotable rest)
+    ⊎ ((text ≡ dollar ∷ rest) × (n ≡ 1) × IsWrong is_visible rest))
 
 -- a quoted text or a character is cut off by the end of the file
 abbrev pub IsUnfinished : List ℕ → Type 0
@@ -132,7 +139,8 @@ IsUnfinished text = (rest : List ℕ) × IsCutOff rest × (((n : ℕ) × OpensQu
 
 -- a numeral is above 9223372036854775807
 abbrev pub IsTooLarge : List ℕ → Type 0
-IsTooLarge text = (value : ℕ) × (bytes rest : List ℕ) × (text ≡ bytes ++ rest) × IsNumeral value bytes rest × (2 ^ 63 ≤ value)
+IsTooLarge text = (value : ℕ) × (bytes rest : List ℕ) × (text ≡ bytes ++ rest) × IsNumeral value bytes rest
+    × (2 ^ 63 ≤ value)
 
 -- a text that begins with no piece has this fault, n bytes on
 abbrev pub IsFault : Code → ℕ → List ℕ → Type 0
@@ -149,7 +157,8 @@ pub record RulePart : Type 0 where
 -- the text is the parts, one after the other and each a piece, and then the rest
 abbrev pub BeginsWithParts : List RulePart → List ℕ → List ℕ → Type 0
 BeginsWithParts [] text rest = text ≡ rest
-BeginsWithParts (p ∷ ps) text rest = (tail : List ℕ) × (text ≡ p.bytes ++ tail) × IsPiece p.kind p.bytes tail × BeginsWithParts ps tail rest
+BeginsWithParts (p ∷ ps) text rest = (tail : List ℕ) × (text ≡ p.bytes ++ tail) × IsPiece p.kind p.bytes tail
+    × BeginsWithParts ps tail rest
 
 -- the tokens of parts, the first of which is at the offset
 abbrev pub tokens_from : ℕ → List RulePart → List PlacedToken
@@ -181,7 +190,8 @@ pub record HasFaultAt (text : List ℕ) (fault : Code) (offset : ℕ) : Type 0 w
 -- the first fault of the text is this, at the offset
 abbrev pub HasFault : List ℕ → Code → ℕ → Type 0
 HasFault text fault offset =
-    ((MOST_SOURCE_BYTES < length text) × (fault ≡ SourceTooLong) × (offset ≡ 0)) ⊎ ((length text ≤ MOST_SOURCE_BYTES) × HasFaultAt text fault offset)
+    ((MOST_SOURCE_BYTES < length text) × (fault ≡ SourceTooLong) × (offset ≡ 0))
+    ⊎ ((length text ≤ MOST_SOURCE_BYTES) × HasFaultAt text fault offset)
 
 -- the text has tokens
 abbrev pub HasSomeTokens : List ℕ → Type 0

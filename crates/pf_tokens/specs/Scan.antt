@@ -1,5 +1,7 @@
 -- The tokens of a text, or its first fault and the fault's offset, read from left to right.
-use Rattle.std.specs.Prelude.{◌≡◌, ℕ, zero, suc, ◌+◌, Bool, true, false, List, [], ◌∷◌, length, take, drop, Option, Some, None, option_map, Result, Ok, Err, if◌then◌else◌, nat_eq, nat_le, ◌==◌, ◌&&◌, slice_index, codes}
+use Rattle.std.specs.Prelude.{◌≡◌, ℕ, zero, suc, ◌+◌, Bool, true, false, List, [], ◌∷◌, length, take, drop, Option}
+use Rattle.std.specs.Prelude.{Some, None, option_map, Result, Ok, Err, if◌then◌else◌, nat_eq, nat_le, ◌==◌, ◌&&◌}
+use Rattle.std.specs.Prelude.{slice_index, codes}
 use Rattle.std.specs.List.{prefix_len, starts_with}
 use Rattle.std.specs.Str.{bytes_eq}
 use Rattle.pf_tokens.specs.declared.bytes.Class.{Class}
@@ -14,8 +16,10 @@ use Rattle.pf_tokens.specs.declared.quoted.QuoteStep.TheVariants as steps
 use Rattle.pf_tokens.specs.declared.piece.Piece.{Piece}
 use Rattle.pf_tokens.specs.declared.words.Reserved.{Reserved}
 use Rattle.pf_tokens.specs.declared.scan.TheConstants.{MOST_SOURCE_BYTES}
-use Rattle.pf_tokens.specs.Bytes.{backslash, is_digit, is_word_byte, is_comment, is_joined, is_visible, is_quotable, ends, class_of, escape_of}
-use Rattle.pf_tokens.specs.TokenKinds.{TokenKind, PlacedToken, kind_of, decimal, checked, longest_mark, mark_text, reserved_of, put_first}
+use Rattle.pf_tokens.specs.Bytes.{backslash, is_digit, is_word_byte, is_comment, is_joined, is_visible, is_quotable}
+use Rattle.pf_tokens.specs.Bytes.{ends, class_of, escape_of}
+use Rattle.pf_tokens.specs.TokenKinds.{TokenKind, PlacedToken, kind_of, decimal, checked, longest_mark, mark_text}
+use Rattle.pf_tokens.specs.TokenKinds.{reserved_of, put_first}
 use Rattle.pf_tokens.specs.TokenKinds as kinds
 
 -- a value, or a fault and its offset
@@ -140,7 +144,8 @@ variable_kind name = if bytes_eq name (codes "_") then kinds.anonymous else kind
 
 -- the variable at the front
 abbrev pub variable_at : List ℕ → Read Cut
-variable_at bytes = Ok (token (variable_kind (take (prefix_len is_word_byte bytes) bytes)) (prefix_len is_word_byte bytes))
+variable_at bytes = Ok (token (variable_kind (take (prefix_len is_word_byte bytes) bytes))
+    (prefix_len is_word_byte bytes))
 
 -- the character at the front, as an integer
 abbrev pub character_at : ℕ → List ℕ → Read Cut
@@ -166,7 +171,8 @@ dot_at offset bytes = if ends is_joined (drop 1 bytes) then Ok (token kinds.dot 
 
 -- the longest mark at the front
 abbrev pub mark_at : ℕ → List ℕ → Read Cut
-mark_at offset bytes = or_fault UnexpectedByte offset (λ m. token (kinds.mark m) (length (mark_text m))) (longest_mark bytes)
+mark_at offset bytes = or_fault UnexpectedByte offset (λ m. token (kinds.mark m) (length (mark_text m)))
+    (longest_mark bytes)
 
 -- the piece at the front, whose first byte has this class
 abbrev pub piece_of : Class → ℕ → List ℕ → Read Cut
@@ -190,7 +196,8 @@ piece_at offset bytes = piece_of (class_of (slice_index bytes 0)) offset bytes
 abbrev pub scan_step : (ℕ → List ℕ → Read (List PlacedToken)) → ℕ → List ℕ → Read (List PlacedToken)
 scan_step more offset [] = Ok []
 scan_step more offset (b ∷ bs) =
-    piece_at offset (b ∷ bs) >>= λ p. more (offset + p.1) (drop p.1 (b ∷ bs)) >>= λ ts. Ok (put_first p.0 offset (offset + p.1) ts)
+    piece_at offset (b ∷ bs) >>= λ p. more (offset + p.1) (drop p.1 (b ∷ bs)) >>= λ ts.
+    Ok (put_first p.0 offset (offset + p.1) ts)
 
 -- the tokens from an offset on, of at most n pieces
 unfoldable pub scan : ℕ → ℕ → List ℕ → Read (List PlacedToken)

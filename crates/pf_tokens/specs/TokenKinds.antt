@@ -1,5 +1,6 @@
 -- What tokens stand for, and how marks, reserved words and integers are written.
-use Rattle.std.specs.Prelude.{ℕ, ◌+◌, ◌-◌, ◌*◌, ◌^◌, Bool, nat_eq, nat_lt, if◌then◌else◌, List, [], ◌∷◌, Option, Some, None, codes}
+use Rattle.std.specs.Prelude.{ℕ, ◌+◌, ◌-◌, ◌*◌, ◌^◌, Bool, nat_eq, nat_lt, if◌then◌else◌, List, [], ◌∷◌, Option, Some}
+use Rattle.std.specs.Prelude.{None, codes}
 use Rattle.std.specs.List.{fold, find, starts_with}
 use Rattle.std.specs.Str.{bytes_eq}
 use Rattle.pf_tokens.specs.declared.marks.TokenMark.{TokenMark}

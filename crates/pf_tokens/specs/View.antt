@@ -3,7 +3,8 @@ use Rattle.std.specs.Prelude.{List, map}
 use Rattle.pf_tokens.specs.declared.numbered_token.NumberedKind.{NumberedKind as CodeNumberedKind}
 use Rattle.pf_tokens.specs.declared.numbered_token.NumberedKind.TheVariants as kinds
 use Rattle.pf_tokens.specs.declared.numbered_token.NumberedToken.{NumberedToken as CodeNumberedToken}
-use Rattle.pf_tokens.specs.NumberedTokens.{NumberedKind, integer, atom, variable, anonymous, text, own_module, dot, mark, reserved, NumberedToken}
+use Rattle.pf_tokens.specs.NumberedTokens.{NumberedKind, integer, atom, variable, anonymous, text, own_module, dot}
+use Rattle.pf_tokens.specs.NumberedTokens.{mark, reserved, NumberedToken}
 
 abbrev pub kind_of : CodeNumberedKind → NumberedKind
 kind_of (kinds.Integer n) = integer n.value

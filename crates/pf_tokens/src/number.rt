@@ -3,7 +3,8 @@
 ghost use Rattle.std.specs.Prelude.{◌≡◌, ◌<◌, ◌^◌, ℕ, length, List, map, IfOk, OnOk};
 ghost use Rattle.pf_terms.specs.Atoms.{fixed_names, with_name, names_entered};
 ghost use Rattle.pf_tokens.specs.TokenKinds.{placed_of, kind_of};
-ghost use Rattle.pf_tokens.specs.NumberedTokens.{atom_name, atoms_after, atoms_of, number_in, numbered_tokens, numbered_after, variable_name};
+ghost use Rattle.pf_tokens.specs.NumberedTokens.{atom_name, atoms_after, atoms_of, number_in, numbered_tokens};
+ghost use Rattle.pf_tokens.specs.NumberedTokens.{numbered_after, variable_name};
 ghost use Rattle.pf_tokens.specs.View.{token_list};
 ghost use Rattle.pf_tokens.specs.Numbering.{StandsForKind};
 
@@ -19,7 +20,8 @@ const LIMIT: usize = 4_294_967_295;
 /// The number of a name, which stays the name's as the table grows. The table has room for one more, before and after.
 fn number_of(alloc: Global, table: &mut AtomNumbers, name: &[u8]) -> Result<AtomId, NoMemory>
     requires { length table.old < 2 ^ 32 }
-    ensures number { IfOk result (λ a. (more : List (List ℕ)) → number_in (names_entered table.new more) name.now ≡ a.0) }
+    ensures number { IfOk result (λ a. (more : List (List ℕ))
+        → number_in (names_entered table.new more) name.now ≡ a.0) }
     ensures names { OnOk result (table.new ≡ with_name table.old name.now) }
     ensures room { OnOk result (length table.new < 2 ^ 32) }
 {

@@ -38,11 +38,17 @@ AreWrittenSoFar name l = l.text.items ≡ lines_text name (told_so_far l)
 
 -- the report that is written
 abbrev pub report_in : WrittenReport → Report
-report_in w = record { events = events_of w.lines; outcome = view_of_outcome w.outcome; steps = w.steps; verdict = w.verdict }
+report_in w = record {
+  events = events_of w.lines;
+  outcome = view_of_outcome w.outcome;
+  steps = w.steps;
+  verdict = w.verdict;
+}
 
 -- the lines after those of the events: the outcome, the steps and the verdict
 abbrev pub last_lines : (name : ℕ → List ℕ) → Outcome → (steps : ℕ) → Option Bool → List ℕ
-last_lines name o steps v = line (outcome_text name o) ++ line (codes "steps " ++ decimal steps) ++ line (verdict_text v)
+last_lines name o steps v = line (outcome_text name o) ++ line (codes "steps " ++ decimal steps)
+    ++ line (verdict_text v)
 
 -- those of a report
 abbrev pub report_end_text : (name : ℕ → List ℕ) → Report → List ℕ
@@ -69,15 +75,18 @@ IsShort p = length (waiting_bytes p) < 65536
 -- the lines that waited went out, or they wait on
 abbrev pub GoesOut : (name : ℕ → List ℕ) → (old new : Pieces) → (written_old written_new : Option (List ℕ)) → Type 0
 GoesOut name p q w0 w1 =
-    (out : List Event) × (gone_from q ≡ gone_from p ++ out) × (all_told q ≡ all_told p) × AreWrittenSoFar name q.lines × Appends w0 w1 (lines_text name out)
+    (out : List Event) × (gone_from q ≡ gone_from p ++ out) × (all_told q ≡ all_told p) × AreWrittenSoFar name q.lines
+    × Appends w0 w1 (lines_text name out)
 
 -- these events were put, and the lines of those that don't wait went out
 abbrev pub HasGoneOut : (name : ℕ → List ℕ) → List Event → Pieces → (written_old written_new : Option (List ℕ)) → Type 0
-HasGoneOut name es p w0 w1 = (es ≡ all_told p) × AreWrittenSoFar name p.lines × Appends w0 w1 (lines_text name (gone_from p))
+HasGoneOut name es p w0 w1 = (es ≡ all_told p) × AreWrittenSoFar name p.lines
+    × Appends w0 w1 (lines_text name (gone_from p))
 
 -- a report was cut short: memory ran out, and the lines of its first events went out, each whole; or a write failed and
 -- was counted, and a beginning of its text went out
-abbrev pub StopsShort : OrNoMemory StreamFault → (name : ℕ → List ℕ) → Report → (written_old written_new : Option (List ℕ)) → (failed_old failed_new : ℕ) → Type 0
+abbrev pub StopsShort : OrNoMemory StreamFault → (name : ℕ → List ℕ) → Report
+    → (written_old written_new : Option (List ℕ)) → (failed_old failed_new : ℕ) → Type 0
 StopsShort NoMemory name r w0 w1 n0 n1 =
     (es : List Event) × (rest : List Event) × (r.events ≡ es ++ rest) × Appends w0 w1 (lines_text name es) × (n1 ≡ n0)
 StopsShort (Fault fault) name r w0 w1 n0 n1 = AppendsFront w0 w1 (report_text name r) × CountsWrite fault n0 n1

@@ -5,7 +5,8 @@ ghost use Rattle.pf_terms.specs.Atoms.{name_of};
 ghost use Rattle.pf_model.specs.Reports.{view_of_event};
 ghost use Rattle.pf_model.specs.TermText.{line};
 ghost use Rattle.pf_model.specs.Text.{event_text, report_text};
-ghost use Rattle.pf_trace.specs.Written.{AreWritten, AreWrittenSoFar, report_end_text, events_of, told_so_far, report_in};
+ghost use Rattle.pf_trace.specs.Written.{AreWritten, AreWrittenSoFar, report_end_text, events_of, told_so_far};
+ghost use Rattle.pf_trace.specs.Written.{report_in};
 
 use crate::event_lines::EventLines;
 use crate::report::{put_event, put_last_lines};

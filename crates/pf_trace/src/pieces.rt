@@ -7,7 +7,8 @@ ghost use Rattle.pf_streams.specs.Streams.{LeavesFront};
 ghost use Rattle.pf_model.specs.Reports.{view_of_event, view_of_outcome};
 ghost use Rattle.pf_model.specs.TermText.{line};
 ghost use Rattle.pf_model.specs.Text.{event_text};
-ghost use Rattle.pf_trace.specs.Written.{AreWrittenSoFar, GoesOut, IsShort, gone_from, last_lines, lines_text, told_so_far, waiting_bytes};
+ghost use Rattle.pf_trace.specs.Written.{AreWrittenSoFar, GoesOut, IsShort, gone_from, last_lines, lines_text};
+ghost use Rattle.pf_trace.specs.Written.{told_so_far, waiting_bytes};
 
 use crate::lines::LinesSoFar;
 use crate::report::put_last_lines;

@@ -1,5 +1,7 @@
 -- What went out where the work stops.
-use Rattle.std.proofs.Common.{◌≡◌, ◌==◌, ◌<◌, ◌≤◌, ◌+◌, ◌-◌, ℕ, Bool, true, false, List, [], ◌∷◌, ◌++◌, length, take, Option, Some, None, refl, sym, ap, ◌∙◌, subst, arith, append_assoc, length-append, ◌⊎◌, inl, inr, zero, suc, not, eqb-true}
+use Rattle.std.proofs.Common.{◌≡◌, ◌==◌, ◌<◌, ◌≤◌, ◌+◌, ◌-◌, ℕ, Bool, true, false, List, [], ◌∷◌, ◌++◌, length, take}
+use Rattle.std.proofs.Common.{Option, Some, None, refl, sym, ap, ◌∙◌, subst, arith, append_assoc, length-append, ◌⊎◌}
+use Rattle.std.proofs.Common.{inl, inr, zero, suc, not, eqb-true}
 use Rattle.std.specs.Prelude.{IfSome, if◌then◌else◌}
 use Rattle.std.specs.Io.KnownBytes.{Appends, Consumes, IsAtEnd, Keeps}
 use Rattle.std.proofs.KnownBytes.{Appends-nil, Consumes-nil, Consumes-trans, Consumes-kept}
@@ -17,19 +19,24 @@ use Rattle.pf_world.specs.Chores.{Response}
 use Rattle.pf_world.specs.Steps.{WorldStep}
 use Rattle.pf_world.specs.Memory.{RespondsInTurn}
 use Rattle.pf_pool.specs.Profile.{IsRight, ForRight}
-use Rattle.pf_wire.specs.Steps.{AnswersOne, AnswersInPart, AreRead, SimulatesSteps, StepsAnsweredInPart, StepsLeaves, WholeAnswered, last_text}
-use Rattle.pf_wire.specs.Turns.{MayFollow, Turns, AnswersCommands, so_far, no_more, TellsUpTo, TellsAll, TellsInPart, TurnsLeave, TakesPiece, PieceLeaves}
+use Rattle.pf_wire.specs.Steps.{AnswersOne, AnswersInPart, AreRead, SimulatesSteps, StepsAnsweredInPart, StepsLeaves}
+use Rattle.pf_wire.specs.Steps.{WholeAnswered, last_text}
+use Rattle.pf_wire.specs.Turns.{MayFollow, Turns, AnswersCommands, so_far, no_more, TellsUpTo, TellsAll, TellsInPart}
+use Rattle.pf_wire.specs.Turns.{TurnsLeave, TakesPiece, PieceLeaves}
 use Rattle.pf_protocol.specs.Complete.{is_due, is_complete, CompleteCommands, unfinished}
 use Rattle.pf_wire.specs.declared.steps.TheConstants.{MOST_BYTES, WORKERS}
 use Rattle.pf_protocol.proofs.Shorter.{command_shorter}
-use Rattle.pf_wire.proofs.Progress.{begun, none_due, nothing_due, turn_of_one, turns_both, turns_later, finished_well, finished_ill, goes_on}
+use Rattle.pf_wire.proofs.Progress.{begun, none_due, nothing_due, turn_of_one, turns_both, turns_later, finished_well}
+use Rattle.pf_wire.proofs.Progress.{finished_ill, goes_on}
 
 -- a text, and the beginning of what goes on after it
-front_both : (w0 w1 w2 : Option (List ℕ)) (a b more : List ℕ) → Appends w0 w1 a → AppendsFront w1 w2 b → AppendsFront w0 w2 ((a ++ b) ++ more)
+front_both : (w0 w1 w2 : Option (List ℕ)) (a b more : List ℕ) → Appends w0 w1 a → AppendsFront w1 w2 b
+    → AppendsFront w0 w2 ((a ++ b) ++ more)
 front_both w0 w1 w2 a b more h k = (
   a ++ k.0,
   k.1 ++ more,
-  ap (λ (t : List ℕ). (a ++ t) ++ more) k.2 ∙ ap (λ (t : List ℕ). t ++ more) (sym (append_assoc a k.0 k.1)) ∙ append_assoc (a ++ k.0) k.1 more,
+  ap (λ (t : List ℕ). (a ++ t) ++ more) k.2 ∙ ap (λ (t : List ℕ). t ++ more) (sym (append_assoc a k.0 k.1))
+      ∙ append_assoc (a ++ k.0) k.1 more,
   appends_both w0 w1 w2 a k.0 h k.3,
 )
 
@@ -42,7 +49,8 @@ some_due : (b : ℕ) (bs : List ℕ) → is_due true (b ∷ bs) ≡ false → �
 some_due b bs h = omega (arith, eqb-true (length (b ∷ bs)) 0 (not_false (length (b ∷ bs) == 0) h))
 
 -- what follows what is due is shorter
-pub shorter_after : (over : Bool) (rest after : List ℕ) (k : ℕ) (w w' : World) (text : List ℕ) → is_due over rest ≡ true → AnswersOne rest k w text (Some after) w'
+pub shorter_after : (over : Bool) (rest after : List ℕ) (k : ℕ) (w w' : World) (text : List ℕ) → is_due over rest ≡ true
+    → AnswersOne rest k w text (Some after) w'
     → length after < length rest
 shorter_after over [] after k w w' text due a = absurd (nothing_due over due)
 shorter_after over (b ∷ bs) after k w w' text due a = omega (arith, command_shorter b bs a.0 after a.2)
@@ -50,43 +58,53 @@ shorter_after over (b ∷ bs) after k w w' text due a = omega (arith, command_sh
 -- ---- turns that are gathered
 
 -- what went out, and after it what is gathered, is the text of commands up to a rest
-abbrev pub AtHand : RunProfile → Bool → (bytes : List ℕ) → World → ℕ → (gathered rest : List ℕ) → World → ℕ → (written_old written_new : Option (List ℕ)) → Type 0
-AtHand p over bytes v j gathered rest w k w0 w1 = (out : List ℕ) × Appends w0 w1 out × Turns p over bytes v j (out ++ gathered) rest w k
+abbrev pub AtHand : RunProfile → Bool → (bytes : List ℕ) → World → ℕ → (gathered rest : List ℕ) → World → ℕ
+    → (written_old written_new : Option (List ℕ)) → Type 0
+AtHand p over bytes v j gathered rest w k w0 w1 = (out : List ℕ) × Appends w0 w1 out × Turns p over bytes v j
+    (out ++ gathered) rest w k
 
 -- a text was added
 abbrev pub IsAdded : (gathered_old text gathered_new : List ℕ) → (written_old written_new : Option (List ℕ)) → Type 0
 IsAdded g text g' w0 w1 = (out : List ℕ) × Appends w0 w1 out × (out ++ g' ≡ g ++ text)
 
 moved : (out more g g' text : List ℕ) → more ++ g' ≡ g ++ text → (out ++ g) ++ text ≡ (out ++ more) ++ g'
-moved out more g g' text e = append_assoc out g text ∙ ap (λ (t : List ℕ). out ++ t) (sym e) ∙ sym (append_assoc out more g')
+moved out more g g' text e = append_assoc out g text ∙ ap (λ (t : List ℕ). out ++ t) (sym e)
+    ∙ sym (append_assoc out more g')
 
 module _ (p : RunProfile) where
-  pub at_hand_first : (over : Bool) (bytes g : List ℕ) (v : World) (j : ℕ) (w : Option (List ℕ)) → g ≡ [] → AtHand p over bytes v j g bytes v j w w
+  pub at_hand_first : (over : Bool) (bytes g : List ℕ) (v : World) (j : ℕ) (w : Option (List ℕ)) → g ≡ []
+      → AtHand p over bytes v j g bytes v j w w
   at_hand_first over bytes g v j w e =
       ([], Appends-nil w, subst (λ (t : List ℕ). Turns p over bytes v j t bytes v j) (sym e) (begun p over bytes v j))
 
-  pub in_part : (over : Bool) (bytes rest : List ℕ) (v w : World) (j k : ℕ) (w0 w1 : Option (List ℕ)) → TellsUpTo p over bytes v j rest w k w0 w1
+  pub in_part : (over : Bool) (bytes rest : List ℕ) (v w : World) (j k : ℕ) (w0 w1 : Option (List ℕ))
+      → TellsUpTo p over bytes v j rest w k w0 w1
       → TellsInPart p over bytes v j w0 w1
   in_part over bytes rest v w j k w0 w1 t = (t.0, so_far rest w k t.1, (t.0, [], sym (append-nil t.0), t.2))
 
   -- all that is gathered went out
-  pub at_hand_sent : (over : Bool) (bytes g rest : List ℕ) (v w : World) (j k : ℕ) (w0 w1 w2 : Option (List ℕ)) → AtHand p over bytes v j g rest w k w0 w1
+  pub at_hand_sent : (over : Bool) (bytes g rest : List ℕ) (v w : World) (j k : ℕ) (w0 w1 w2 : Option (List ℕ))
+      → AtHand p over bytes v j g rest w k w0 w1
       → Appends w1 w2 g → TellsUpTo p over bytes v j rest w k w0 w2
   at_hand_sent over bytes g rest v w j k w0 w1 w2 a h = (a.0 ++ g, a.2, appends_both w0 w1 w2 a.0 g a.1 h)
 
   -- a beginning of it went out
-  pub at_hand_in_part : (over : Bool) (bytes g rest : List ℕ) (v w : World) (j k : ℕ) (w0 w1 w2 : Option (List ℕ)) → AtHand p over bytes v j g rest w k w0 w1
+  pub at_hand_in_part : (over : Bool) (bytes g rest : List ℕ) (v w : World) (j k : ℕ) (w0 w1 w2 : Option (List ℕ))
+      → AtHand p over bytes v j g rest w k w0 w1
       → AppendsFront w1 w2 g → TellsInPart p over bytes v j w0 w2
-  at_hand_in_part over bytes g rest v w j k w0 w1 w2 a h = (a.0 ++ g, so_far rest w k a.2, front_of_both w0 w1 w2 a.0 g a.1 h)
+  at_hand_in_part over bytes g rest v w j k w0 w1 w2 a h =
+      (a.0 ++ g, so_far rest w k a.2, front_of_both w0 w1 w2 a.0 g a.1 h)
 
   -- a write failed
-  pub leaves_at : (over : Bool) (bytes : List ℕ) (v : World) (j : ℕ) (w0 w1 : Option (List ℕ)) (f : StreamFault) (n0 n n1 : ℕ) → n ≡ n0 → CountsWrite f n n1
+  pub leaves_at : (over : Bool) (bytes : List ℕ) (v : World) (j : ℕ) (w0 w1 : Option (List ℕ)) (f : StreamFault)
+      (n0 n n1 : ℕ) → n ≡ n0 → CountsWrite f n n1
       → TellsInPart p over bytes v j w0 w1 → TurnsLeave p (Fault f) over bytes v j w0 w1 n0 n1
   leaves_at over bytes v j w0 w1 (Read e) n0 n n1 k c h = absurd c
   leaves_at over bytes v j w0 w1 (Write e) n0 n n1 k c h = (omega (arith, k, c), h)
 
 module _ (p : RunProfile) (right : IsRight p) where
-  one_more : (over : Bool) (bytes rest after : List ℕ) (v w w' : World) (j k : ℕ) (front text : List ℕ) → Turns p over bytes v j front rest w k → is_due over rest ≡ true
+  one_more : (over : Bool) (bytes rest after : List ℕ) (v w w' : World) (j k : ℕ) (front text : List ℕ)
+      → Turns p over bytes v j front rest w k → is_due over rest ≡ true
       → AnswersOne rest k w text (Some after) w' → Turns p over bytes v j (front ++ text) after w' (k + 1)
   one_more over bytes rest after v w w' j k front text t due a =
       let one = turn_of_one p over rest after w w' k a.0 a.1 due a.2 (a.4 p right) in
@@ -94,8 +112,10 @@ module _ (p : RunProfile) (right : IsRight p) where
       (subst (λ (s : List ℕ). Turns p over rest w k s after w' (k + 1)) (sym a.3) one)
 
   -- the answer is gathered too
-  pub at_hand_more : (over : Bool) (bytes g g' rest after : List ℕ) (v w w' : World) (j k : ℕ) (w0 w1 w2 : Option (List ℕ)) (text : List ℕ) → AtHand p over bytes v j g rest w k w0 w1
-      → is_due over rest ≡ true → AnswersOne rest k w text (Some after) w' → IsAdded g text g' w1 w2 → AtHand p over bytes v j g' after w' (k + 1) w0 w2
+  pub at_hand_more : (over : Bool) (bytes g g' rest after : List ℕ) (v w w' : World) (j k : ℕ)
+      (w0 w1 w2 : Option (List ℕ)) (text : List ℕ) → AtHand p over bytes v j g rest w k w0 w1
+      → is_due over rest ≡ true → AnswersOne rest k w text (Some after) w' → IsAdded g text g' w1 w2
+      → AtHand p over bytes v j g' after w' (k + 1) w0 w2
   at_hand_more over bytes g g' rest after v w w' j k w0 w1 w2 text h due a added = (
     h.0 ++ added.0,
     appends_both w0 w1 w2 h.0 added.0 h.1 added.1,
@@ -104,8 +124,10 @@ module _ (p : RunProfile) (right : IsRight p) where
   )
 
   -- a beginning of it went out, with what was gathered before
-  pub more_in_part : (over : Bool) (bytes g rest : List ℕ) (v w w' : World) (j k : ℕ) (w0 w1 w2 : Option (List ℕ)) (text : List ℕ) (next : Option (List ℕ))
-      → AtHand p over bytes v j g rest w k w0 w1 → is_due over rest ≡ true → AnswersOne rest k w text next w' → AppendsFront w1 w2 (g ++ text) → TellsInPart p over bytes v j w0 w2
+  pub more_in_part : (over : Bool) (bytes g rest : List ℕ) (v w w' : World) (j k : ℕ) (w0 w1 w2 : Option (List ℕ))
+      (text : List ℕ) (next : Option (List ℕ))
+      → AtHand p over bytes v j g rest w k w0 w1 → is_due over rest ≡ true → AnswersOne rest k w text next w'
+      → AppendsFront w1 w2 (g ++ text) → TellsInPart p over bytes v j w0 w2
   more_in_part over bytes g rest v w w' j k w0 w1 w2 text (Some after) h due a f = (
     (h.0 ++ g) ++ text,
     so_far after w' (k + 1) (one_more over bytes rest after v w w' j k (h.0 ++ g) text h.2 due a),
@@ -118,8 +140,10 @@ module _ (p : RunProfile) (right : IsRight p) where
   )
 
   -- the answer that the line is no command went out
-  pub ends_ill : (over : Bool) (bytes g g' rest : List ℕ) (v w w' : World) (j k : ℕ) (w0 w1 w2 w3 : Option (List ℕ)) (text : List ℕ) → AtHand p over bytes v j g rest w k w0 w1
-      → is_due over rest ≡ true → AnswersOne rest k w text None w' → IsAdded g text g' w1 w2 → Appends w2 w3 g' → TellsAll p over bytes v j w0 w3
+  pub ends_ill : (over : Bool) (bytes g g' rest : List ℕ) (v w w' : World) (j k : ℕ) (w0 w1 w2 w3 : Option (List ℕ))
+      (text : List ℕ) → AtHand p over bytes v j g rest w k w0 w1
+      → is_due over rest ≡ true → AnswersOne rest k w text None w' → IsAdded g text g' w1 w2 → Appends w2 w3 g'
+      → TellsAll p over bytes v j w0 w3
   ends_ill over bytes g g' rest v w w' j k w0 w1 w2 w3 text h due a added sent = (
     h.0 ++ g,
     rest,
@@ -132,8 +156,10 @@ module _ (p : RunProfile) (right : IsRight p) where
   )
 
   -- a beginning of that went out
-  pub ends_ill_in_part : (over : Bool) (bytes g g' rest : List ℕ) (v w w' : World) (j k : ℕ) (w0 w1 w2 w3 : Option (List ℕ)) (text : List ℕ) → AtHand p over bytes v j g rest w k w0 w1
-      → is_due over rest ≡ true → AnswersOne rest k w text None w' → IsAdded g text g' w1 w2 → AppendsFront w2 w3 g' → TellsInPart p over bytes v j w0 w3
+  pub ends_ill_in_part : (over : Bool) (bytes g g' rest : List ℕ) (v w w' : World) (j k : ℕ)
+      (w0 w1 w2 w3 : Option (List ℕ)) (text : List ℕ) → AtHand p over bytes v j g rest w k w0 w1
+      → is_due over rest ≡ true → AnswersOne rest k w text None w' → IsAdded g text g' w1 w2 → AppendsFront w2 w3 g'
+      → TellsInPart p over bytes v j w0 w3
   ends_ill_in_part over bytes g g' rest v w w' j k w0 w1 w2 w3 text h due a added sent = (
     (h.0 ++ g) ++ text,
     no_more (h.0 ++ g) rest w k h.2 (none_due over rest due a.0) (ap (λ (t : List ℕ). (h.0 ++ g) ++ t) a.1),
@@ -154,22 +180,30 @@ take_none (suc n) = refl
 
 none_left : (most : ℕ) (left read : List ℕ) → (left ≡ []) ⊎ (length read ≡ most) → take (most - length read) left ≡ []
 none_left most left read (inl e) = rw e (take_none (most - length read))
-none_left most left read (inr e) = let none : most - length read ≡ 0 = omega (arith, e) in ap (λ (n : ℕ). take n left) none
+none_left most left read (inr e) = let none : most - length read ≡ 0 = omega (arith, e) in
+    ap (λ (n : ℕ). take n left) none
 
 -- how what was read goes on, up to the most that may be read
 covers : (most : ℕ) (over : Bool) (r0 r1 : Option (List ℕ)) (read : List ℕ) → Consumes r0 r1 read → length read ≤ most
-    → (over ≡ true → IsAtEnd r1 ⊎ (length read ≡ most)) → (more : List ℕ) × MayFollow over more × IfSome r0 (λ input. read ++ more ≡ take most input)
+    → (over ≡ true → IsAtEnd r1 ⊎ (length read ≡ most))
+    → (more : List ℕ) × MayFollow over more × IfSome r0 (λ input. read ++ more ≡ take most input)
 covers most over None r1 read h le ends = ([], λ o. refl, tt)
 covers most over (Some input) None read h le ends = absurd h
-covers most over (Some input) (Some left) read h le ends =
-    (take (most - length read) left, λ o. none_left most left read (ends o), sym (ap (take most) h ∙ take_both most read left le))
+covers most over (Some input) (Some left) read h le ends = (
+  take (most - length read) left,
+  λ o. none_left most left read (ends o),
+  sym (ap (take most) h ∙ take_both most read left le),
+)
 
 -- n bytes were read, and what went out is the text of their commands up to the bytes that are kept
-abbrev pub Stands : (over : Bool) (bytes : List ℕ) → World → (k taken : ℕ) (read_old read_new written_old written_new : Option (List ℕ)) → Type 0
+abbrev pub Stands : (over : Bool) (bytes : List ℕ) → World
+    → (k taken : ℕ) (read_old read_new written_old written_new : Option (List ℕ)) → Type 0
 Stands over bytes w k taken r0 r1 w0 w1 = (read : List ℕ) × Consumes r0 r1 read × (length read ≡ taken)
-    × (over ≡ true → IsAtEnd r1 ⊎ (taken ≡ MOST_BYTES)) × ForRight (λ p. TellsUpTo p over read (new_world WORKERS) 1 bytes w k w0 w1)
+    × (over ≡ true → IsAtEnd r1 ⊎ (taken ≡ MOST_BYTES))
+    × ForRight (λ p. TellsUpTo p over read (new_world WORKERS) 1 bytes w k w0 w1)
 
-pub stands_first : (bytes : List ℕ) (w : World) (taken : ℕ) (r w' : Option (List ℕ)) → bytes ≡ [] → w ≡ new_world WORKERS → taken ≡ 0
+pub stands_first : (bytes : List ℕ) (w : World) (taken : ℕ) (r w' : Option (List ℕ)) → bytes ≡ []
+    → w ≡ new_world WORKERS → taken ≡ 0
     → Stands false bytes w 1 taken r r w' w'
 stands_first bytes w taken r out none_read is_new none_taken = (
   [],
@@ -186,37 +220,46 @@ stands_first bytes w taken r out none_read is_new none_taken = (
 )
 
 -- the number of the next command is no more than the bytes that were taken
-pub within_later : (old new piece : List ℕ) (k taken taken' : ℕ) → new ≡ old ++ piece → taken' ≡ taken + length piece → k + length old ≤ taken + 1 → k + length new ≤ taken' + 1
+pub within_later : (old new piece : List ℕ) (k taken taken' : ℕ) → new ≡ old ++ piece → taken' ≡ taken + length piece
+    → k + length old ≤ taken + 1 → k + length new ≤ taken' + 1
 within_later old new piece k taken taken' e t le = omega (arith, ap length e, length-append old piece, t, le)
 
 -- less is left to be taken
-pub less_left : (over : Bool) (most taken taken' : ℕ) → (over ≡ false → (taken < taken') × (taken' < most)) → taken ≤ taken'
+pub less_left : (over : Bool) (most taken taken' : ℕ) → (over ≡ false → (taken < taken') × (taken' < most))
+    → taken ≤ taken'
     → (most - taken') + (if over then 0 else 1) < (most - taken) + 1
 less_left true most taken taken' more le = omega (arith, le)
 less_left false most taken taken' more le = omega (arith, more refl)
 
 -- how what was read goes on
-pub goes : (over : Bool) (r0 r1 : Option (List ℕ)) (read : List ℕ) (taken : ℕ) → Consumes r0 r1 read → length read ≡ taken → taken ≤ MOST_BYTES
-    → (over ≡ true → IsAtEnd r1 ⊎ (taken ≡ MOST_BYTES)) → (more : List ℕ) × MayFollow over more × AreRead r0 (read ++ more)
+pub goes : (over : Bool) (r0 r1 : Option (List ℕ)) (read : List ℕ) (taken : ℕ) → Consumes r0 r1 read
+    → length read ≡ taken → taken ≤ MOST_BYTES
+    → (over ≡ true → IsAtEnd r1 ⊎ (taken ≡ MOST_BYTES))
+    → (more : List ℕ) × MayFollow over more × AreRead r0 (read ++ more)
 goes over r0 r1 read taken h e le ends =
     covers MOST_BYTES over r0 r1 read h (subst (λ (n : ℕ). n ≤ MOST_BYTES) (sym e) le)
     (λ o. subst (λ (n : ℕ). IsAtEnd r1 ⊎ (n ≡ MOST_BYTES)) (sym e) (ends o))
 
 -- the bytes that were read are no more than may be
-pub stands_taken : (over : Bool) (bytes : List ℕ) (w : World) (k taken : ℕ) (r0 r1 w0 w1 : Option (List ℕ)) → Stands over bytes w k taken r0 r1 w0 w1 → taken ≤ MOST_BYTES
+pub stands_taken : (over : Bool) (bytes : List ℕ) (w : World) (k taken : ℕ) (r0 r1 w0 w1 : Option (List ℕ))
+    → Stands over bytes w k taken r0 r1 w0 w1 → taken ≤ MOST_BYTES
     → (read : List ℕ) × (length read ≤ MOST_BYTES) × Consumes r0 r1 read
 stands_taken over bytes w k taken r0 r1 w0 w1 s le = (s.0, subst (λ (n : ℕ). n ≤ MOST_BYTES) (sym s.2) le, s.1)
 
 -- with what was taken after it
-pub stands_taken_more : (over : Bool) (bytes : List ℕ) (w : World) (k taken : ℕ) (r0 r1 r2 w0 w1 : Option (List ℕ)) (piece : List ℕ) → Stands over bytes w k taken r0 r1 w0 w1
-    → taken + length piece ≤ MOST_BYTES → Consumes r1 r2 piece → (read : List ℕ) × (length read ≤ MOST_BYTES) × Consumes r0 r2 read
+pub stands_taken_more : (over : Bool) (bytes : List ℕ) (w : World) (k taken : ℕ) (r0 r1 r2 w0 w1 : Option (List ℕ))
+    (piece : List ℕ) → Stands over bytes w k taken r0 r1 w0 w1
+    → taken + length piece ≤ MOST_BYTES → Consumes r1 r2 piece
+    → (read : List ℕ) × (length read ≤ MOST_BYTES) × Consumes r0 r2 read
 stands_taken_more over bytes w k taken r0 r1 r2 w0 w1 piece s le h =
     let sum : length (s.0 ++ piece) ≡ taken + length piece = omega (arith, length-append s.0 piece, s.2) in
     (s.0 ++ piece, subst (λ (n : ℕ). n ≤ MOST_BYTES) (sym sum) le, Consumes-trans r0 r1 r2 s.0 piece s.1 h)
 
 -- a piece more was read, of an input that wasn't over
-pub stands_later : {was over : Bool} {bytes bytes' : List ℕ} {w : World} {k taken taken' : ℕ} (r0 r1 r2 w0 w1 : Option (List ℕ)) → was ≡ false
-    → Stands was bytes w k taken r0 r1 w0 w1 → TakesPiece r1 r2 bytes bytes' taken taken' over → Stands over bytes' w k taken' r0 r2 w0 w1
+pub stands_later : {was over : Bool} {bytes bytes' : List ℕ} {w : World} {k taken taken' : ℕ}
+    (r0 r1 r2 w0 w1 : Option (List ℕ)) → was ≡ false
+    → Stands was bytes w k taken r0 r1 w0 w1 → TakesPiece r1 r2 bytes bytes' taken taken' over
+    → Stands over bytes' w k taken' r0 r2 w0 w1
 stands_later {was} {over} {bytes} {bytes'} {w} {k} {taken} {taken'} r0 r1 r2 w0 w1 going stood t =
     let s = subst (λ (b : Bool). Stands b bytes w k taken r0 r1 w0 w1) going stood in (
       s.0 ++ t.0,
@@ -233,7 +276,8 @@ stands_later {was} {over} {bytes} {bytes'} {w} {k} {taken} {taken'} r0 r1 r2 w0 
     )
 
 -- some commands more were answered
-pub stands_further : (over : Bool) (bytes rest : List ℕ) (w w' : World) (k l taken : ℕ) (r0 r1 w0 w1 w2 : Option (List ℕ)) → Stands over bytes w k taken r0 r1 w0 w1
+pub stands_further : (over : Bool) (bytes rest : List ℕ) (w w' : World) (k l taken : ℕ)
+    (r0 r1 w0 w1 w2 : Option (List ℕ)) → Stands over bytes w k taken r0 r1 w0 w1
     → ForRight (λ p. TellsUpTo p over bytes w k rest w' l w1 w2) → Stands over rest w' l taken r0 r1 w0 w2
 stands_further over bytes rest w w' k l taken r0 r1 w0 w1 w2 s t = (
   s.0,
@@ -242,13 +286,17 @@ stands_further over bytes rest w w' k l taken r0 r1 w0 w1 w2 s t = (
   s.3,
   λ p right.
       let one = s.4 p right in
-      let two = t p right in
-      (one.0 ++ two.0, turns_both p over s.0 bytes rest (new_world WORKERS) w w' 1 k l one.0 two.0 one.1 two.1, appends_both w0 w1 w2 one.0 two.0 one.2 two.2),
+      let two = t p right in (
+        one.0 ++ two.0,
+        turns_both p over s.0 bytes rest (new_world WORKERS) w w' 1 k l one.0 two.0 one.1 two.1,
+        appends_both w0 w1 w2 one.0 two.0 one.2 two.2,
+      ),
 )
 
 module _ (p : RunProfile) (right : IsRight p) where
   -- a beginning of the answer went out
-  pub stands_in_part : (over : Bool) (bytes : List ℕ) (w : World) (k taken : ℕ) (r0 r1 w0 w1 : Option (List ℕ)) → Stands over bytes w k taken r0 r1 w0 w1 → taken ≤ MOST_BYTES
+  pub stands_in_part : (over : Bool) (bytes : List ℕ) (w : World) (k taken : ℕ) (r0 r1 w0 w1 : Option (List ℕ))
+      → Stands over bytes w k taken r0 r1 w0 w1 → taken ≤ MOST_BYTES
       → StepsAnsweredInPart p r0 w0 w1
   stands_in_part over bytes w k taken r0 r1 w0 w1 s le =
       let c = goes over r0 r1 s.0 taken s.1 s.2 le s.3 in
@@ -258,17 +306,21 @@ module _ (p : RunProfile) (right : IsRight p) where
 
   -- nothing was read
   pub stands_before : (r w : Option (List ℕ)) → StepsAnsweredInPart p r w w
-  stands_before r w = stands_in_part false [] (new_world WORKERS) 1 0 r r w w (stands_first [] (new_world WORKERS) 0 r w refl refl refl) (omega arith)
+  stands_before r w = stands_in_part false [] (new_world WORKERS) 1 0 r r w w
+      (stands_first [] (new_world WORKERS) 0 r w refl refl refl) (omega arith)
 
-  tells_in_part : (over : Bool) (read bytes more : List ℕ) (w : World) (k : ℕ) (w0 w1 w2 : Option (List ℕ)) (front text : List ℕ) → Turns p over read (new_world WORKERS) 1 front bytes w k
-      → MayFollow over more → Appends w0 w1 front → AnswersCommands p over bytes w k text → AppendsFront w1 w2 text → AnswersInPart p (read ++ more) w0 w2
+  tells_in_part : (over : Bool) (read bytes more : List ℕ) (w : World) (k : ℕ) (w0 w1 w2 : Option (List ℕ))
+      (front text : List ℕ) → Turns p over read (new_world WORKERS) 1 front bytes w k
+      → MayFollow over more → Appends w0 w1 front → AnswersCommands p over bytes w k text → AppendsFront w1 w2 text
+      → AnswersInPart p (read ++ more) w0 w2
   tells_in_part over read bytes more w k w0 w1 w2 front text t f h (so_far rest x l u) g =
       let both = turns_both p over read bytes rest (new_world WORKERS) w x 1 k l front text t u in
       let m = goes_on p over read rest more x (front ++ text) l both f in
       ((front ++ text) ++ m.0, m.1, m.2, front_both w0 w1 w2 front text m.0 h g)
   tells_in_part over read bytes more w k w0 w1 w2 front text t f h (no_more next rest x l u none e) g =
       let both = turns_both p over read bytes rest (new_world WORKERS) w x 1 k l front next t u in
-      let same : (front ++ next) ++ last_text false l ≡ front ++ text = append_assoc front next (last_text false l) ∙ ap (λ (s : List ℕ). front ++ s) (sym e) in (
+      let same : (front ++ next) ++ last_text false l ≡ front ++ text = append_assoc front next (last_text false l)
+      ∙ ap (λ (s : List ℕ). front ++ s) (sym e) in (
         (front ++ next) ++ last_text false l,
         2,
         finished_ill p over read rest more x (front ++ next) l both f none,
@@ -276,31 +328,54 @@ module _ (p : RunProfile) (right : IsRight p) where
       )
 
   -- the answers to what was due stopped
-  pub stands_stopped : (over : Bool) (bytes : List ℕ) (w : World) (k taken : ℕ) (r0 r1 w0 w1 w2 : Option (List ℕ)) (e : OrNoMemory StreamFault) (m0 m1 n0 n1 n2 : ℕ)
-      → Stands over bytes w k taken r0 r1 w0 w1 → taken ≤ MOST_BYTES → m1 ≡ m0 → n1 ≡ n0 → TurnsLeave p e over bytes w k w1 w2 n1 n2
+  pub stands_stopped : (over : Bool) (bytes : List ℕ) (w : World) (k taken : ℕ) (r0 r1 w0 w1 w2 : Option (List ℕ))
+      (e : OrNoMemory StreamFault) (m0 m1 n0 n1 n2 : ℕ)
+      → Stands over bytes w k taken r0 r1 w0 w1 → taken ≤ MOST_BYTES → m1 ≡ m0 → n1 ≡ n0
+      → TurnsLeave p e over bytes w k w1 w2 n1 n2
       → StepsLeaves p e r0 r1 w0 w2 m0 m1 n0 n2
   stands_stopped over bytes w k taken r0 r1 w0 w1 w2 NoMemory m0 m1 n0 n1 n2 s le m n t =
       let c = goes over r0 r1 s.0 taken s.1 s.2 le s.3 in
-      let one = s.4 p right in
-      (m, t.0 ∙ n, (s.0 ++ c.0, c.2, tells_in_part over s.0 bytes c.0 w k w0 w1 w2 one.0 t.1.0 one.1 c.1 one.2 t.1.1 t.1.2))
+      let one = s.4 p right in (
+        m,
+        t.0 ∙ n,
+        (
+          s.0 ++ c.0,
+          c.2,
+          tells_in_part over s.0 bytes c.0 w k w0 w1 w2 one.0 t.1.0 one.1 c.1
+              one.2 t.1.1 t.1.2,
+        ),
+      )
   stands_stopped over bytes w k taken r0 r1 w0 w1 w2 (Fault (Read f)) m0 m1 n0 n1 n2 s le m n t = absurd t
   stands_stopped over bytes w k taken r0 r1 w0 w1 w2 (Fault (Write f)) m0 m1 n0 n1 n2 s le m n t =
       let c = goes over r0 r1 s.0 taken s.1 s.2 le s.3 in
-      let one = s.4 p right in
-      (m, t.0 ∙ ap (λ (i : ℕ). i + 1) n, (s.0 ++ c.0, c.2, tells_in_part over s.0 bytes c.0 w k w0 w1 w2 one.0 t.1.0 one.1 c.1 one.2 t.1.1 t.1.2))
+      let one = s.4 p right in (
+        m,
+        t.0 ∙ ap (λ (i : ℕ). i + 1) n,
+        (
+          s.0 ++ c.0,
+          c.2,
+          tells_in_part over s.0 bytes c.0 w k w0 w1 w2 one.0 t.1.0
+              one.1 c.1 one.2 t.1.1 t.1.2,
+        ),
+      )
 
   -- memory ran out
-  pub stands_without_memory : (over : Bool) (bytes : List ℕ) (w : World) (k taken : ℕ) (r0 r1 r2 w0 w1 : Option (List ℕ)) (m0 m1 n0 n1 : ℕ)
-      → Stands over bytes w k taken r0 r1 w0 w1 → taken ≤ MOST_BYTES → m1 ≡ m0 → n1 ≡ n0 → StepsLeaves p NoMemory r0 r2 w0 w1 m0 m1 n0 n1
-  stands_without_memory over bytes w k taken r0 r1 r2 w0 w1 m0 m1 n0 n1 s le m n = (m, n, stands_in_part over bytes w k taken r0 r1 w0 w1 s le)
+  pub stands_without_memory : (over : Bool) (bytes : List ℕ) (w : World) (k taken : ℕ)
+      (r0 r1 r2 w0 w1 : Option (List ℕ)) (m0 m1 n0 n1 : ℕ)
+      → Stands over bytes w k taken r0 r1 w0 w1 → taken ≤ MOST_BYTES → m1 ≡ m0 → n1 ≡ n0
+      → StepsLeaves p NoMemory r0 r2 w0 w1 m0 m1 n0 n1
+  stands_without_memory over bytes w k taken r0 r1 r2 w0 w1 m0 m1 n0 n1 s le m n =
+      (m, n, stands_in_part over bytes w k taken r0 r1 w0 w1 s le)
 
   -- the whole commands are answered
-  whole_answered : (bytes : List ℕ) (w : World) (k taken : ℕ) (r0 r1 r2 w0 w1 : Option (List ℕ)) → Stands false bytes w k taken r0 r1 w0 w1 → is_complete bytes ≡ false
+  whole_answered : (bytes : List ℕ) (w : World) (k taken : ℕ) (r0 r1 r2 w0 w1 : Option (List ℕ))
+      → Stands false bytes w k taken r0 r1 w0 w1 → is_complete bytes ≡ false
       → Keeps r1 r2 → WholeAnswered p r0 r2 w0 w1
   whole_answered bytes w k taken r0 r1 r2 w0 w1 s rest kept =
       let t = s.4 p right in
       let turns = t.1 in
-      let left : CompleteCommands (bytes ++ []) [] = subst (λ (bs : List ℕ). CompleteCommands bs []) (sym (append-nil bytes)) (unfinished bytes rest) in
+      let left : CompleteCommands (bytes ++ []) [] = subst (λ (bs : List ℕ). CompleteCommands bs [])
+      (sym (append-nil bytes)) (unfinished bytes rest) in
       let all = turns.wholes refl [] [] left in
       let steps : turns.steps ++ [] ≡ turns.steps = append-nil turns.steps in
       let outcomes : turns.outcomes ++ [] ≡ turns.outcomes = append-nil turns.outcomes in (
@@ -309,24 +384,33 @@ module _ (p : RunProfile) (right : IsRight p) where
         turns.outcomes,
         w,
         Consumes-kept r0 r1 r2 s.0 s.1 kept,
-        subst (λ (bs : List ℕ). CompleteCommands bs turns.steps) (append-nil s.0) (subst (CompleteCommands (s.0 ++ [])) steps all),
+        subst (λ (bs : List ℕ). CompleteCommands bs turns.steps) (append-nil s.0)
+            (subst (CompleteCommands (s.0 ++ [])) steps all),
         subst (λ (xs : List (Option Response)). RespondsInTurn p (new_world WORKERS) turns.steps xs w) outcomes
-            (subst (λ (ss : List WorldStep). RespondsInTurn p (new_world WORKERS) ss (turns.outcomes ++ []) w) steps (turns.in_turn [] [] w refl)),
+            (subst (λ (ss : List WorldStep). RespondsInTurn p (new_world WORKERS) ss (turns.outcomes ++ []) w) steps
+            (turns.in_turn [] [] w refl)),
         subst (Appends w0 w1) turns.writes t.2,
       )
 
   -- a piece could not be read
-  pub stands_unread : (e : OrNoMemory StreamFault) (bytes : List ℕ) (w : World) (k taken : ℕ) (r0 r1 r2 w0 w1 : Option (List ℕ)) (m0 m1 m2 n0 n1 : ℕ)
-      → Stands false bytes w k taken r0 r1 w0 w1 → taken ≤ MOST_BYTES → is_complete bytes ≡ false → m1 ≡ m0 → n1 ≡ n0 → PieceLeaves e r1 r2 m1 m2
+  pub stands_unread : (e : OrNoMemory StreamFault) (bytes : List ℕ) (w : World) (k taken : ℕ)
+      (r0 r1 r2 w0 w1 : Option (List ℕ)) (m0 m1 m2 n0 n1 : ℕ)
+      → Stands false bytes w k taken r0 r1 w0 w1 → taken ≤ MOST_BYTES → is_complete bytes ≡ false → m1 ≡ m0 → n1 ≡ n0
+      → PieceLeaves e r1 r2 m1 m2
       → StepsLeaves p e r0 r2 w0 w1 m0 m2 n0 n1
   stands_unread NoMemory bytes w k taken r0 r1 r2 w0 w1 m0 m1 m2 n0 n1 s le rest m n t =
       (t ∙ m, n, stands_in_part false bytes w k taken r0 r1 w0 w1 s le)
-  stands_unread (Fault (Read f)) bytes w k taken r0 r1 r2 w0 w1 m0 m1 m2 n0 n1 s le rest m n t =
-      (t.0 ∙ ap (λ (i : ℕ). i + 1) m, n, stands_in_part false bytes w k taken r0 r1 w0 w1 s le, whole_answered bytes w k taken r0 r1 r2 w0 w1 s rest t.1)
+  stands_unread (Fault (Read f)) bytes w k taken r0 r1 r2 w0 w1 m0 m1 m2 n0 n1 s le rest m n t = (
+    t.0 ∙ ap (λ (i : ℕ). i + 1) m,
+    n,
+    stands_in_part false bytes w k taken r0 r1 w0 w1 s le,
+    whole_answered bytes w k taken r0 r1 r2 w0 w1 s rest t.1,
+  )
   stands_unread (Fault (Write f)) bytes w k taken r0 r1 r2 w0 w1 m0 m1 m2 n0 n1 s le rest m n t = absurd t
 
   -- all was answered, and the last line was no command
-  pub stands_ended_ill : (over : Bool) (bytes : List ℕ) (w : World) (k taken : ℕ) (r0 r1 w0 w1 w2 : Option (List ℕ)) → Stands over bytes w k taken r0 r1 w0 w1 → taken ≤ MOST_BYTES
+  pub stands_ended_ill : (over : Bool) (bytes : List ℕ) (w : World) (k taken : ℕ) (r0 r1 w0 w1 w2 : Option (List ℕ))
+      → Stands over bytes w k taken r0 r1 w0 w1 → taken ≤ MOST_BYTES
       → TellsAll p over bytes w k w1 w2 → SimulatesSteps p r0 w0 w2 2
   stands_ended_ill over bytes w k taken r0 r1 w0 w1 w2 s le t =
       let c = goes over r0 r1 s.0 taken s.1 s.2 le s.3 in
@@ -341,10 +425,16 @@ module _ (p : RunProfile) (right : IsRight p) where
       )
 
   -- all was answered
-  pub stands_ended : (bytes : List ℕ) (w : World) (k taken : ℕ) (r0 r1 w0 w1 : Option (List ℕ)) → Stands true bytes w k taken r0 r1 w0 w1 → taken ≤ MOST_BYTES
+  pub stands_ended : (bytes : List ℕ) (w : World) (k taken : ℕ) (r0 r1 w0 w1 : Option (List ℕ))
+      → Stands true bytes w k taken r0 r1 w0 w1 → taken ≤ MOST_BYTES
       → is_due true bytes ≡ false → SimulatesSteps p r0 w0 w1 0
   stands_ended (b ∷ bs) w k taken r0 r1 w0 w1 s le done = absurd (some_due b bs done)
   stands_ended [] w k taken r0 r1 w0 w1 s le done =
       let c = goes true r0 r1 s.0 taken s.1 s.2 le s.3 in
-      let t = s.4 p right in
-      (s.0, t.0, subst (AreRead r0) (ap (λ (more : List ℕ). s.0 ++ more) (c.1 refl) ∙ append-nil s.0) c.2, finished_well p s.0 w t.0 k t.1, t.2)
+      let t = s.4 p right in (
+        s.0,
+        t.0,
+        subst (AreRead r0) (ap (λ (more : List ℕ). s.0 ++ more) (c.1 refl) ∙ append-nil s.0) c.2,
+        finished_well p s.0 w t.0 k t.1,
+        t.2,
+      )

@@ -1,5 +1,6 @@
 -- What `steps` writes for the bytes that it reads.
-use Rattle.std.specs.Prelude.{◌≡◌, ℕ, ◌+◌, Bool, if◌then◌else◌, List, [], ◌++◌, length, map, take, Option, Some, None, false, IfSome, codes}
+use Rattle.std.specs.Prelude.{◌≡◌, ℕ, ◌+◌, Bool, if◌then◌else◌, List, [], ◌++◌, length, map, take, Option, Some, None}
+use Rattle.std.specs.Prelude.{false, IfSome, codes}
 use Rattle.std.specs.Fmt.{decimal}
 use Rattle.std.specs.Io.KnownBytes.{Appends, Consumes}
 use Rattle.pf_errors.specs.Codes.{code_text}
@@ -23,7 +24,8 @@ use Rattle.pf_wire.specs.declared.steps.TheConstants.{MOST_BYTES, WORKERS}
 
 -- the line that would be command number k, counted from 1, is no command
 abbrev pub last_text : Bool → ℕ → List ℕ
-last_text good k = if good then [] else line (codes "command " ++ decimal k ++ codes " refused " ++ code_text code.NoCommand)
+last_text good k = if good then [] else line (codes "command " ++ decimal k ++ codes " refused "
+    ++ code_text code.NoCommand)
 
 abbrev pub steps_status : Bool → ℕ
 steps_status good = if good then 0 else 2
@@ -32,7 +34,8 @@ steps_status good = if good then 0 else 2
 -- world; nothing follows if it is no command
 abbrev pub AnswersOne : List ℕ → ℕ → World → List ℕ → Option (List ℕ) → World → Type 0
 AnswersOne bytes k w text (Some rest) w' =
-    (s : WorldStep) × (a : Option Response) × (command_at bytes ≡ Some (s, rest)) × (text ≡ step_text s a) × ForRight (λ p. RespondsTo p w s a w')
+    (s : WorldStep) × (a : Option Response) × (command_at bytes ≡ Some (s, rest)) × (text ≡ step_text s a)
+    × ForRight (λ p. RespondsTo p w s a w')
 AnswersOne bytes k w text None w' = (command_at bytes ≡ None) × (text ≡ last_text false k)
 
 -- the text and the status that some bytes are answered with: the answers to the steps of their commands, and if a line
@@ -62,7 +65,8 @@ AreRead r0 bytes = IfSome r0 (λ input. bytes ≡ take MOST_BYTES input)
 
 -- what was read is answered with the text that went out and the status
 abbrev pub SimulatesSteps : RunProfile → (read_old written_old written_new : Option (List ℕ)) → ℕ → Type 0
-SimulatesSteps p r0 w0 w1 status = (bytes : List ℕ) × (text : List ℕ) × AreRead r0 bytes × StepsText p bytes text status × Appends w0 w1 text
+SimulatesSteps p r0 w0 w1 status = (bytes : List ℕ) × (text : List ℕ) × AreRead r0 bytes × StepsText p bytes text status
+    × Appends w0 w1 text
 
 -- a beginning of the answer to what was to be read went out
 abbrev pub StepsAnsweredInPart : RunProfile → (read_old written_old written_new : Option (List ℕ)) → Type 0
@@ -70,12 +74,16 @@ StepsAnsweredInPart p r0 w0 w1 = (bytes : List ℕ) × AreRead r0 bytes × Answe
 
 -- the complete commands in what was read are answered, each with its whole text
 abbrev pub WholeAnswered : RunProfile → (read_old read_new written_old written_new : Option (List ℕ)) → Type 0
-WholeAnswered p r0 r1 w0 w1 = (bytes : List ℕ) × (steps : List WorldStep) × (outcomes : List (Option Response)) × (last : World)
+WholeAnswered p r0 r1 w0 w1 = (bytes : List ℕ) × (steps : List WorldStep) × (outcomes : List (Option Response))
+    × (last : World)
     × Consumes r0 r1 bytes × CompleteCommands bytes steps × RespondsInTurn p (new_world WORKERS) steps outcomes last
     × Appends w0 w1 (outcomes_text steps outcomes)
 
 -- what a fault leaves: which stream failed once more, and what went out
-abbrev pub StepsLeaves : RunProfile → OrNoMemory StreamFault → (read_old read_new written_old written_new : Option (List ℕ)) → (reads_old reads_new writes_old writes_new : ℕ) → Type 0
+abbrev pub StepsLeaves : RunProfile → OrNoMemory StreamFault
+    → (read_old read_new written_old written_new : Option (List ℕ))
+    → (reads_old reads_new writes_old writes_new : ℕ) → Type 0
 StepsLeaves p NoMemory r0 r1 w0 w1 m0 m1 n0 n1 = (m1 ≡ m0) × (n1 ≡ n0) × StepsAnsweredInPart p r0 w0 w1
-StepsLeaves p (Fault (Read e)) r0 r1 w0 w1 m0 m1 n0 n1 = (m1 ≡ m0 + 1) × (n1 ≡ n0) × StepsAnsweredInPart p r0 w0 w1 × WholeAnswered p r0 r1 w0 w1
+StepsLeaves p (Fault (Read e)) r0 r1 w0 w1 m0 m1 n0 n1 = (m1 ≡ m0 + 1) × (n1 ≡ n0) × StepsAnsweredInPart p r0 w0 w1
+    × WholeAnswered p r0 r1 w0 w1
 StepsLeaves p (Fault (Write e)) r0 r1 w0 w1 m0 m1 n0 n1 = (m1 ≡ m0) × (n1 ≡ n0 + 1) × StepsAnsweredInPart p r0 w0 w1

@@ -23,7 +23,8 @@ MayFollow over more = over ≡ true → more ≡ []
 -- Turns p over bytes v j text rest w k: whatever follows, the bytes are some commands and then the rest, which are
 -- complete commands unless the input is over; their steps lead from the world v to w, the text is their answers, and
 -- they are numbered from j up to k
-pub record Turns (p : RunProfile) (over : Bool) (bytes : List ℕ) (v : World) (j : ℕ) (text rest : List ℕ) (w : World) (k : ℕ) : Type 0 where
+pub record Turns (p : RunProfile) (over : Bool) (bytes : List ℕ) (v : World) (j : ℕ) (text rest : List ℕ) (w : World)
+    (k : ℕ) : Type 0 where
   pub steps : List WorldStep
   pub outcomes : List (Option Response)
   pub commands : (more : List ℕ) → MayFollow over more → (ss : List WorldStep) (good : Bool)
@@ -41,26 +42,32 @@ abbrev pub IsNoCommand : Bool → List ℕ → Type 0
 IsNoCommand over rest = (more : List ℕ) → MayFollow over more → Commands (rest ++ more) [] false
 
 -- the text answers some commands, the last of which may be none
-pub data AnswersCommands (p : RunProfile) (over : Bool) (bytes : List ℕ) (v : World) (j : ℕ) (text : List ℕ) : Type 0 where
-  so_far : (rest : List ℕ) (w : World) (k : ℕ) → Turns p over bytes v j text rest w k → AnswersCommands p over bytes v j text
+pub data AnswersCommands (p : RunProfile) (over : Bool) (bytes : List ℕ) (v : World) (j : ℕ)
+    (text : List ℕ) : Type 0 where
+  so_far : (rest : List ℕ) (w : World) (k : ℕ) → Turns p over bytes v j text rest w k
+      → AnswersCommands p over bytes v j text
   no_more : (front rest : List ℕ) (w : World) (k : ℕ) → Turns p over bytes v j front rest w k → IsNoCommand over rest
       → text ≡ front ++ last_text false k → AnswersCommands p over bytes v j text
 
 -- what went out is the text of commands up to a rest, which is not due
-abbrev pub TellsUpTo : RunProfile → Bool → (bytes : List ℕ) → World → ℕ → (rest : List ℕ) → World → ℕ → (written_old written_new : Option (List ℕ)) → Type 0
+abbrev pub TellsUpTo : RunProfile → Bool → (bytes : List ℕ) → World → ℕ → (rest : List ℕ) → World → ℕ
+    → (written_old written_new : Option (List ℕ)) → Type 0
 TellsUpTo p over bytes v j rest w k w0 w1 = (text : List ℕ) × Turns p over bytes v j text rest w k × Appends w0 w1 text
 
 -- what went out is the text of commands and of a line that is none
-abbrev pub TellsAll : RunProfile → Bool → (bytes : List ℕ) → World → ℕ → (written_old written_new : Option (List ℕ)) → Type 0
+abbrev pub TellsAll : RunProfile → Bool → (bytes : List ℕ) → World → ℕ
+    → (written_old written_new : Option (List ℕ)) → Type 0
 TellsAll p over bytes v j w0 w1 = (front rest : List ℕ) × (w : World) × (k : ℕ) × Turns p over bytes v j front rest w k
     × IsNoCommand over rest × Appends w0 w1 (front ++ last_text false k)
 
 -- a beginning of such a text went out
-abbrev pub TellsInPart : RunProfile → Bool → (bytes : List ℕ) → World → ℕ → (written_old written_new : Option (List ℕ)) → Type 0
+abbrev pub TellsInPart : RunProfile → Bool → (bytes : List ℕ) → World → ℕ
+    → (written_old written_new : Option (List ℕ)) → Type 0
 TellsInPart p over bytes v j w0 w1 = (text : List ℕ) × AnswersCommands p over bytes v j text × AppendsFront w0 w1 text
 
 -- what a fault leaves: whether a write failed, and what went out
-abbrev pub TurnsLeave : RunProfile → OrNoMemory StreamFault → Bool → (bytes : List ℕ) → World → ℕ → (written_old written_new : Option (List ℕ)) → (writes_old writes_new : ℕ) → Type 0
+abbrev pub TurnsLeave : RunProfile → OrNoMemory StreamFault → Bool → (bytes : List ℕ) → World → ℕ
+    → (written_old written_new : Option (List ℕ)) → (writes_old writes_new : ℕ) → Type 0
 TurnsLeave p NoMemory over bytes v j w0 w1 n0 n1 = (n1 ≡ n0) × TellsInPart p over bytes v j w0 w1
 TurnsLeave p (Fault (Read e)) over bytes v j w0 w1 n0 n1 = ⊥
 TurnsLeave p (Fault (Write e)) over bytes v j w0 w1 n0 n1 = (n1 ≡ n0 + 1) × TellsInPart p over bytes v j w0 w1
@@ -68,12 +75,16 @@ TurnsLeave p (Fault (Write e)) over bytes v j w0 w1 n0 n1 = (n1 ≡ n0 + 1) × T
 -- ---- pieces of an input
 
 -- a piece was taken; n bytes of the input are taken then, and whether the input is over
-abbrev pub TakesPiece : (read_old read_new : Option (List ℕ)) → (bytes_old bytes_new : List ℕ) → (taken_old taken_new : ℕ) → Bool → Type 0
-TakesPiece r0 r1 b0 b1 t0 t1 over = (piece : List ℕ) × Consumes r0 r1 piece × (b1 ≡ b0 ++ piece) × (t1 ≡ t0 + length piece)
-    × (over ≡ true → IsAtEnd r1 ⊎ (t1 ≡ MOST_BYTES)) × (over ≡ false → (t0 < t1) × (t1 < MOST_BYTES)) × (t1 ≤ MOST_BYTES)
+abbrev pub TakesPiece : (read_old read_new : Option (List ℕ)) → (bytes_old bytes_new : List ℕ)
+    → (taken_old taken_new : ℕ) → Bool → Type 0
+TakesPiece r0 r1 b0 b1 t0 t1 over = (piece : List ℕ) × Consumes r0 r1 piece × (b1 ≡ b0 ++ piece)
+    × (t1 ≡ t0 + length piece)
+    × (over ≡ true → IsAtEnd r1 ⊎ (t1 ≡ MOST_BYTES)) × (over ≡ false → (t0 < t1) × (t1 < MOST_BYTES))
+    × (t1 ≤ MOST_BYTES)
 
 -- what a failed read leaves
-abbrev pub PieceLeaves : OrNoMemory StreamFault → (read_old read_new : Option (List ℕ)) → (reads_old reads_new : ℕ) → Type 0
+abbrev pub PieceLeaves : OrNoMemory StreamFault → (read_old read_new : Option (List ℕ))
+    → (reads_old reads_new : ℕ) → Type 0
 PieceLeaves NoMemory r0 r1 m0 m1 = m1 ≡ m0
 PieceLeaves (Fault (Read e)) r0 r1 m0 m1 = (m1 ≡ m0 + 1) × Keeps r0 r1
 PieceLeaves (Fault (Write e)) r0 r1 m0 m1 = ⊥

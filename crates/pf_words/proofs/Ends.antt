@@ -1,11 +1,13 @@
 -- How the work of a command ends.
-use Rattle.std.proofs.Common.{◌≡◌, ℕ, Bool, true, false, List, Option, Result, Ok, Err, None, Some, refl, sym, ap, ◌∙◌, subst, inl, inr}
+use Rattle.std.proofs.Common.{◌≡◌, ℕ, Bool, true, false, List, Option, Result, Ok, Err, None, Some, refl, sym, ap, ◌∙◌}
+use Rattle.std.proofs.Common.{subst, inl, inr}
 use Rattle.std.specs.Prelude.{IfErr, IfOk, IfSome, IsErr, IsErrAnd, OnOk, is_some, option_map, take, ◌||◌}
 use Rattle.pf_errors.specs.declared.fault.OrNoMemory.{OrNoMemory}
 use Rattle.pf_errors.specs.declared.fault.OrNoMemory.TheVariants.{NoMemory, Fault}
 use Rattle.pf_streams.specs.declared.stream.StreamFault.{StreamFault}
 use Rattle.clap.specs.Words.{Text}
-use Rattle.pf_cli.specs.Args.{CommandWork, check, chart, farm, hunt, named_file, run, shrink, steps, view_of_args, view_of_hunt_args}
+use Rattle.pf_cli.specs.Args.{CommandWork, check, chart, farm, hunt, named_file, run, shrink, steps, view_of_args}
+use Rattle.pf_cli.specs.Args.{view_of_hunt_args}
 use Rattle.pf_cli.specs.declared.args.Args.{Args}
 use Rattle.pf_cli.specs.declared.args.Args.TheVariants.{Run, Hunt, Shrink, Chart, Check, Steps, Farm}
 use Rattle.pf_cli.specs.declared.args.FarmArgs.{FarmArgs}
@@ -16,29 +18,38 @@ use Rattle.pf_command.proofs.Streaming.{sent_as, sent_on}
 use Rattle.pf_wire.specs.Steps.{SimulatesSteps, StepsLeaves}
 use Rattle.pf_steps.specs.Profile.{run_profile}
 use Rattle.pf_cli_messages.specs.Texts.{HasStatus, IsFailure}
-use Rattle.pf_words.specs.Words.{AnswersOf, End, FromFile, FromInput, FromNamed, FromOne, StepsEnd, WorkEnds, has_source, is_farm, may_be_several, unless_several}
+use Rattle.pf_words.specs.Words.{AnswersOf, End, FromFile, FromInput, FromNamed, FromOne, StepsEnd, WorkEnds}
+use Rattle.pf_words.specs.Words.{has_source, is_farm, may_be_several, unless_several}
 
 -- ---- of a source
 
-pub sent_well : (P : Answering) (bytes known : List ℕ) (w0 w1 : Option (List ℕ)) (n0 n1 status : ℕ) (answered : End) → bytes ≡ known → answered ≡ Ok status
+pub sent_well : (P : Answering) (bytes known : List ℕ) (w0 w1 : Option (List ℕ)) (n0 n1 status : ℕ) (answered : End)
+    → bytes ≡ known → answered ≡ Ok status
     → Sends (P bytes) w0 w1 n0 n1 answered → Sends (P known) w0 w1 n0 n1 (Ok status)
-sent_well P bytes known w0 w1 n0 n1 status answered same was h = sent_as P bytes known w0 w1 n0 n1 (Ok status) same (subst (Sends (P bytes) w0 w1 n0 n1) was h)
+sent_well P bytes known w0 w1 n0 n1 status answered same was h = sent_as P bytes known w0 w1 n0 n1 (Ok status) same
+    (subst (Sends (P bytes) w0 w1 n0 n1) was h)
 
-pub sent_back : (P : Answering) (bytes known : List ℕ) (w0 w1 : Option (List ℕ)) (n0 n1 : ℕ) (answered r : End) (e : OrNoMemory StreamFault) → bytes ≡ known
-    → answered ≡ Err e → IsErr r × IsErrAnd r (λ f. f ≡ e) → Sends (P bytes) w0 w1 n0 n1 answered → Sends (P known) w0 w1 n0 n1 r
+pub sent_back : (P : Answering) (bytes known : List ℕ) (w0 w1 : Option (List ℕ)) (n0 n1 : ℕ) (answered r : End)
+    (e : OrNoMemory StreamFault) → bytes ≡ known
+    → answered ≡ Err e → IsErr r × IsErrAnd r (λ f. f ≡ e) → Sends (P bytes) w0 w1 n0 n1 answered
+    → Sends (P known) w0 w1 n0 n1 r
 sent_back P bytes known w0 w1 n0 n1 answered r e same was is h =
-    sent_on (P known) w0 w1 n0 n1 r e is (sent_as P bytes known w0 w1 n0 n1 (Err e) same (subst (Sends (P bytes) w0 w1 n0 n1) was h))
+    sent_on (P known) w0 w1 n0 n1 r e is (sent_as P bytes known w0 w1 n0 n1 (Err e) same
+    (subst (Sends (P bytes) w0 w1 n0 n1) was h))
 
 -- ---- of commands
 
 module _ (u0 u1 w0 w1 : Option (List ℕ)) (m0 m1 n0 n1 : ℕ) where
-  pub steps_end : (r : End) → IfOk r (λ status. SimulatesSteps run_profile u0 w0 w1 status) → OnOk r ((m1 ≡ m0) × (n1 ≡ n0))
-      → IfErr r (λ e. StepsLeaves run_profile e u0 u1 w0 w1 m0 m1 n0 n1) → StepsEnd (streams u0 w0 m0 n0) (streams u1 w1 m1 n1) r
+  pub steps_end : (r : End) → IfOk r (λ status. SimulatesSteps run_profile u0 w0 w1 status)
+      → OnOk r ((m1 ≡ m0) × (n1 ≡ n0))
+      → IfErr r (λ e. StepsLeaves run_profile e u0 u1 w0 w1 m0 m1 n0 n1)
+      → StepsEnd (streams u0 w0 m0 n0) (streams u1 w1 m1 n1) r
   steps_end (Ok s) answered counts fault = (counts, answered)
   steps_end (Err e) answered counts fault = inl fault
 
 -- a fault is handed on
-pub handed_on : (s t : Streams) (r : End) (e : OrNoMemory StreamFault) → IsErr r × IsErrAnd r (λ f. f ≡ e) → StepsEnd s t (Err e) → StepsEnd s t r
+pub handed_on : (s t : Streams) (r : End) (e : OrNoMemory StreamFault) → IsErr r × IsErrAnd r (λ f. f ≡ e)
+    → StepsEnd s t (Err e) → StepsEnd s t r
 handed_on s t (Ok status) e is h = absurd cc
 handed_on s t (Err f) e is h = subst (λ z. StepsEnd s t (Err z)) (sym is.1) h
 
@@ -93,8 +104,10 @@ module _ (w : CommandWork) (old new : Streams) (given : ℕ) where
       by false = h
 
 -- a file that can't be opened
-pub unopened : (w : CommandWork) (unread written : Option (List ℕ)) (failed_reads failed_writes given : ℕ) → is_farm w ≡ false → IsFailure given
-    → FromFile w (streams unread written failed_reads failed_writes) (streams unread written failed_reads failed_writes) given
+pub unopened : (w : CommandWork) (unread written : Option (List ℕ)) (failed_reads failed_writes given : ℕ)
+    → is_farm w ≡ false → IsFailure given
+    → FromFile w (streams unread written failed_reads failed_writes)
+    (streams unread written failed_reads failed_writes) given
 unopened w unread written m n given not is =
     (refl, refl, None, None, 0, 0, (Err NoMemory, undone w (streams None written 0 n) not, is))
 
@@ -119,7 +132,8 @@ is_some_of f (Some x) = refl
 
 -- a hunt of a name, or of several sources or roots
 pub hunt_of_several : (a : Args) (h : hunt_code.HuntArgs) (old new : Streams) (given : ℕ) → a ≡ Hunt h
-    → (is_some h.file || goes_over_several (view_of_hunt_args h)) ≡ true → FromOne (view_of_args a) (named_file a) old new given
+    → (is_some h.file || goes_over_several (view_of_hunt_args h)) ≡ true
+    → FromOne (view_of_args a) (named_file a) old new given
 hunt_of_several a h old new given is so =
     several (view_of_args a) old new given (named_file a)
     (ap (λ x. may_be_several (view_of_args x) (named_file x)) is

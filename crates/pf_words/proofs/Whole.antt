@@ -13,7 +13,8 @@ module _ (most : ℕ) (input bytes : List ℕ) (is : bytes ≡ take (most + 1) i
   pub all_read : bytes ≡ input
   all_read = is ∙ take_all (most + 1) input all_fits
 
-pub never_cut : (most : ℕ) (unread : Option (List ℕ)) (bytes text : List ℕ) → text ≡ bytes → IfSome unread (λ input. bytes ≡ take (most + 1) input)
+pub never_cut : (most : ℕ) (unread : Option (List ℕ)) (bytes text : List ℕ) → text ≡ bytes
+    → IfSome unread (λ input. bytes ≡ take (most + 1) input)
     → length bytes ≤ most → IfSome unread (λ input. text ≡ input)
 never_cut most None bytes text is read short = tt
 never_cut most (Some input) bytes text is read short = is ∙ all_read most input bytes read short

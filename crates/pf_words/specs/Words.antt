@@ -1,12 +1,14 @@
 -- What words are answered with between the standard input and the standard output.
-use Rattle.std.specs.Prelude.{◌≡◌, ◌⊎◌, ◌≤◌, ℕ, Bool, true, false, ◌||◌, is_some, codes, length, List, Option, None, Some, IfSome, Result, Ok, Err}
+use Rattle.std.specs.Prelude.{◌≡◌, ◌⊎◌, ◌≤◌, ℕ, Bool, true, false, ◌||◌, is_some, codes, length, List, Option, None}
+use Rattle.std.specs.Prelude.{Some, IfSome, Result, Ok, Err}
 use Rattle.std.specs.Str.{bytes_eq}
 use Rattle.pf_errors.specs.declared.memory.NoMemory.{NoMemory}
 use Rattle.pf_errors.specs.declared.fault.OrNoMemory.{OrNoMemory}
 use Rattle.pf_streams.specs.declared.stream.StreamFault.{StreamFault}
 use Rattle.pf_text.specs.Numbers.{schedule_of}
 use Rattle.clap.specs.Words.{Text}
-use Rattle.pf_cli.specs.Args.{ReadWords, Wanted, CommandWork, check, chart, farm, hunt, reading_of, reads, run, shrink, steps, tells, view_of_farm_args, works}
+use Rattle.pf_cli.specs.Args.{ReadWords, Wanted, CommandWork, check, chart, farm, hunt, reading_of, reads, run, shrink}
+use Rattle.pf_cli.specs.Args.{steps, tells, view_of_farm_args, works}
 use Rattle.pf_cli.specs.declared.args.FarmArgs.{FarmArgs}
 use Rattle.pf_cli.specs.declared.args.Format.{Format}
 use Rattle.pf_cli.specs.declared.args.Format.TheVariants.{Json}
@@ -54,7 +56,8 @@ is_farm w = false
 abbrev pub StepsEnd : (old new : Streams) → End → Type 0
 StepsEnd old new (Ok status) = NoneFailed old new × SimulatesSteps run_profile old.unread old.written new.written status
 StepsEnd old new (Err e) =
-    StepsLeaves run_profile e old.unread new.unread old.written new.written old.failed_reads new.failed_reads old.failed_writes new.failed_writes
+    StepsLeaves run_profile e old.unread new.unread old.written new.written old.failed_reads new.failed_reads
+    old.failed_writes new.failed_writes
     ⊎ (new ≡ old)
 
 -- what is asked for is answered, from a reader to a writer; a farm is none of this
@@ -107,7 +110,8 @@ writing_to written failed s = record s { written = written; failed_writes = fail
 abbrev pub InForm : Format → ((old new : Streams) → ℕ → Type 0) → (old new : Streams) → ℕ → Type 0
 InForm format.Text P old new given = P old new given
 InForm Json P old new given =
-    (before : Option (List ℕ)) × (after : Option (List ℕ)) × (m : ℕ) × (n : ℕ) × P (writing_to before m old) (writing_to after n new) given
+    (before : Option (List ℕ)) × (after : Option (List ℕ)) × (m : ℕ) × (n : ℕ) × P (writing_to before m old)
+    (writing_to after n new) given
 
 -- ---- words
 
@@ -145,7 +149,8 @@ AreContents file contents old new =
 -- what the words ask for is done by the schedule in these contents; or they have none, and nothing goes out
 abbrev pub IsDoneIn : (words : List Text) → (contents : Text) → (old new : Streams) → ℕ → Type 0
 IsDoneIn words contents old new given =
-    ((is_some (schedule_of (schedule_in contents)) ≡ true) × IsDoneOrRefused (reading_of (Some (schedule_in contents)) words) old new given)
+    ((is_some (schedule_of (schedule_in contents)) ≡ true)
+    × IsDoneOrRefused (reading_of (Some (schedule_in contents)) words) old new given)
     ⊎ IsRefused old new given
 
 -- a file is read, and it is done by the schedule in it; or the file can't be read or is too long, and nothing goes out
@@ -161,7 +166,8 @@ IsDoneAs words (tells status is_fault) = IsDone (tells status is_fault)
 
 -- words ask for this farm, if need be by a text for a schedule
 abbrev pub IsFarmOf : (words : List Text) → FarmArgs → Type 0
-IsFarmOf words args = (text : Option Text) × (w : Wanted) × (reading_of text words ≡ works w None) × (w.work ≡ farm (view_of_farm_args args))
+IsFarmOf words args = (text : Option Text) × (w : Wanted) × (reading_of text words ≡ works w None)
+    × (w.work ≡ farm (view_of_farm_args args))
 
 -- what words ask for is done; or they ask for a farm, or memory ran out, and nothing went out
 abbrev pub Obeys : (words : List Text) → (old new : Streams) → Result Obeyed NoMemory → Type 0

@@ -6,7 +6,8 @@ ghost use Rattle.std.specs.String.{string_bytes};
 ghost use Rattle.pf_cli.specs.Args.{named_file, view_of_args, view_of_command};
 ghost use Rattle.pf_command.specs.Streams.{streams};
 ghost use Rattle.pf_cli_messages.specs.Texts.{IsFailure};
-ghost use Rattle.pf_words.specs.Words.{AskedIsDone, AskedIsDoneOrRefused, Obeys, ObeysBy, ObeysByFile, ObeysIn, is_farm};
+ghost use Rattle.pf_words.specs.Words.{AskedIsDone, AskedIsDoneOrRefused, Obeys, ObeysBy, ObeysByFile, ObeysIn};
+ghost use Rattle.pf_words.specs.Words.{is_farm};
 
 use crate::schedule::{is_schedule, schedule_in, text_of_file, whole_text};
 use crate::work::work;

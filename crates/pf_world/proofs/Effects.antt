@@ -4,7 +4,8 @@ use Rattle.std.specs.Prelude.{if◌then◌else◌, All, slice_get}
 use Rattle.std.proofs.lemmas.Option.{slice_get_within, get_or_from_slice_get}
 use Rattle.pf_desks.specs.Desk.{Trial, Desk}
 use Rattle.pf_world.specs.World.{RunProfile, ClaimedRun, Hand, Deque, World}
-use Rattle.pf_world.specs.Chores.{Effect, new_run, is_run_of, from_deque, claimed_as, claim_effect, deque_effect, chore_effect}
+use Rattle.pf_world.specs.Chores.{Effect, new_run, is_run_of, from_deque, claimed_as, claim_effect, deque_effect}
+use Rattle.pf_world.specs.Chores.{chore_effect}
 use Rattle.pf_request.specs.declared.step.Chore.{Chore}
 use Rattle.pf_world.specs.Steps.{deque_owner, is_theft_of_own, effect_among, effect_of}
 use Rattle.pf_desks.specs.Desks.{desk_at}
@@ -43,7 +44,8 @@ module _ (P : Effect → Type 0) where
       both None (Some rs) i j h = absurd (cc)
       both None None i j h = absurd (cc)
 
-      own : (b : Bool) → (if b then None else effect_among p s.desks q t k (slice_get s.hands w) (slice_get s.deques (deque_owner w k))) ≡ Some e → P e
+      own : (b : Bool) → (if b then None else effect_among p s.desks q t k (slice_get s.hands w)
+          (slice_get s.deques (deque_owner w k))) ≡ Some e → P e
       own false h = both (slice_get s.hands w) (slice_get s.deques (deque_owner w k)) refl refl h
       own true h = absurd (cc)
 

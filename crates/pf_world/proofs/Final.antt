@@ -1,5 +1,6 @@
 -- A desk of which nobody knows how far its trials are gives the reply that settles a call.
-use Rattle.std.proofs.Common.{◌≡◌, ℕ, zero, suc, ◌+◌, Bool, true, false, List, [], ◌∷◌, ◌++◌, length, Option, Some, None, refl, sym, ap, ◌∙◌, subst}
+use Rattle.std.proofs.Common.{◌≡◌, ℕ, zero, suc, ◌+◌, Bool, true, false, List, [], ◌∷◌, ◌++◌, length, Option, Some}
+use Rattle.std.proofs.Common.{None, refl, sym, ap, ◌∙◌, subst}
 use Rattle.std.specs.Prelude.{◌≢◌, if◌then◌else◌, nat_lt, unwrap_or, Result, Ok, Err, All, slice_get}
 use Rattle.std.specs.Option.{option_flatten, option_map}
 use Rattle.std.proofs.lemmas.List.Elements.{All-set, All-push}
@@ -11,10 +12,14 @@ use Rattle.pf_quota.specs.declared.charges.Charge.TheVariants as charge
 use Rattle.pf_request.specs.Calls.{Call, submit, order, fetch, status, drop_trial, withdraw, usage, log, edition}
 use Rattle.pf_request.specs.Job.{Job}
 use Rattle.pf_check.specs.Module.{ReadModule}
-use Rattle.pf_desks.specs.Desk.{Profile, TrialState, queued, running, done, Trial, Desk, held_at, with_held, SourceReading, readable, faulty, job_ordered}
+use Rattle.pf_desks.specs.Desk.{Profile, TrialState, queued, running, done, Trial, Desk, held_at, with_held}
+use Rattle.pf_desks.specs.Desk.{SourceReading, readable, faulty, job_ordered}
 use Rattle.pf_desks.specs.declared.mark.FileMark.TheVariants.{Whole}
-use Rattle.pf_desks.specs.Desk.{Reply, ticket, result, uses, logged, has_edition, refused, Entry, called, claimed, filed, handed_back}
-use Rattle.pf_desks.specs.Calls.{calls_in, passed_by, within_limits, submitted, with_job, ordered, result_in, fetched, dropped, users_of, withdrawn, is_edition, in_edition, answer_of_call, with_entry, noted, reply_to, after_call}
+use Rattle.pf_desks.specs.Desk.{Reply, ticket, result, uses, logged, has_edition, refused, Entry, called, claimed}
+use Rattle.pf_desks.specs.Desk.{filed, handed_back}
+use Rattle.pf_desks.specs.Calls.{calls_in, passed_by, within_limits, submitted, with_job, ordered, result_in, fetched}
+use Rattle.pf_desks.specs.Calls.{dropped, users_of, withdrawn, is_edition, in_edition, answer_of_call, with_entry}
+use Rattle.pf_desks.specs.Calls.{noted, reply_to, after_call}
 use Rattle.pf_desks.specs.Work.{is_queued, is_running, in_state, after_claim, after_file, after_hand_back}
 use Rattle.pf_desks.proofs.Always.{OfWork, of_claim, of_file, of_back, moved}
 use Rattle.pf_desks.proofs.Histories.{call_notes}
@@ -26,7 +31,8 @@ use Rattle.pf_world.specs.Alone.{at_desk}
 use Rattle.pf_world.specs.Laws.{Settles}
 use Rattle.pf_world.proofs.Effects.{all_at}
 use Rattle.pf_world.proofs.Isolated.{desk_done}
-use Rattle.pf_world.proofs.Quiet.{forgot, bare, bare_held, bare_with, bare_more, bare_length, bare_state, bare_users, quiet, quiet_usage, quiet_passed}
+use Rattle.pf_world.proofs.Quiet.{forgot, bare, bare_held, bare_with, bare_more, bare_length, bare_state, bare_users}
+use Rattle.pf_world.proofs.Quiet.{quiet, quiet_usage, quiet_passed}
 
 module _ (p : Profile) where
   -- what is done is what the job means
@@ -47,7 +53,8 @@ module _ (p : Profile) where
       by None h = tt
       by (Some x) h = all_at IsRight ts i x h all
 
-  right_with : (ts : List (Option Trial)) (i : ℕ) (x : Option Trial) → All IsRight ts → IsRight x → All IsRight (with_held ts i x)
+  right_with : (ts : List (Option Trial)) (i : ℕ) (x : Option Trial) → All IsRight ts → IsRight x
+      → All IsRight (with_held ts i x)
   right_with ts zero x all new = all
   right_with ts (suc i) x all new = All-set IsRight ts i x new all
 
@@ -74,9 +81,11 @@ module _ (p : Profile) where
     abbrev IsMove : Desk × Reply → Desk × Reply → Type 0
     IsMove x y = (y.0 ≡ quiet x.0 h) × All IsRight x.0.trials × (x.1 ≡ y.1)
 
-    within_move : (k : Charge) (x y : Desk × Reply) → IsMove x y → IsMove (within_limits d (passed_by d k) x) (within_limits (quiet d h) (passed_by (quiet d h) k) y)
+    within_move : (k : Charge) (x y : Desk × Reply) → IsMove x y
+        → IsMove (within_limits d (passed_by d k) x) (within_limits (quiet d h) (passed_by (quiet d h) k) y)
     within_move k x y m =
-        subst (λ (o : Option Code). IsMove (within_limits d (passed_by d k) x) (within_limits (quiet d h) o y)) (sym (quiet_passed d h same k)) (by (passed_by d k))
+        subst (λ (o : Option Code). IsMove (within_limits d (passed_by d k) x) (within_limits (quiet d h) o y))
+        (sym (quiet_passed d h same k)) (by (passed_by d k))
       where
         by : (o : Option Code) → IsMove (within_limits d o x) (within_limits (quiet d h) o y)
         by None = m
@@ -89,8 +98,18 @@ module _ (p : Profile) where
     order_move : (n : ℕ) (r : Result Job Code) → IsMove (ordered d n r) (ordered (quiet d h) n r)
     order_move n (Err e) = (refl, right, refl)
     order_move n (Ok j) =
-        within_move (charge.Trial (steps_of_trial j.asked.limit j.asked.runs)) (with_job d n j, ticket (length d.trials + 1)) (with_job (quiet d h) n j, ticket (length (bare d.trials) + 1)) (
-          ap (λ (ts : List (Option Trial)). record { edition = d.edition; modules = d.modules; trials = ts; history = h })
+        within_move (charge.Trial (steps_of_trial j.asked.limit j.asked.runs))
+        (with_job d n j, ticket (length d.trials + 1)) (
+          with_job (quiet d h) n j,
+          ticket (length (bare d.trials) + 1),
+        ) (
+          ap (λ (ts : List (Option Trial)). record {
+            edition = d.edition;
+            modules = d.modules;
+            trials =
+                ts;
+            history = h;
+          })
               (bare_more d.trials (Some (record { module_number = n; job = j; state = queued }))),
           All-push IsRight d.trials (Some (record { module_number = n; job = j; state = queued })) right tt,
           ap (λ (k : ℕ). ticket (k + 1)) (sym (bare_length d.trials)),
@@ -99,7 +118,8 @@ module _ (p : Profile) where
     drop_move : (t : ℕ) (o : Option Trial) → IsMove (dropped d t o) (dropped (quiet d h) t (option_map forgot o))
     drop_move t None = (refl, right, refl)
     drop_move t (Some x) = (
-      ap (λ (ts : List (Option Trial)). record { edition = d.edition; modules = d.modules; trials = ts; history = h }) (bare_with d.trials t None),
+      ap (λ (ts : List (Option Trial)). record { edition = d.edition; modules = d.modules; trials = ts; history = h })
+          (bare_with d.trials t None),
       right_with d.trials t None right tt,
       refl,
     )
@@ -113,7 +133,8 @@ module _ (p : Profile) where
     edition_move e = by (is_edition e) (nat_lt e d.edition)
       where
         of : Desk → Bool → Bool → Desk × Reply
-        of k b f = if b then (if f then (k, refused code.EditionTooLow) else (record k { edition = e }, has_edition)) else (k, refused code.NoEdition)
+        of k b f = if b then (if f then (k, refused code.EditionTooLow) else (record k { edition = e }, has_edition))
+            else (k, refused code.NoEdition)
 
         by : (b f : Bool) → IsMove (of d b f) (of (quiet d h) b f)
         by true true = (refl, right, refl)
@@ -122,9 +143,11 @@ module _ (p : Profile) where
 
     -- a call leaves two desks that are alike, and its reply is the final one where it settles the call
     abbrev IsSettledMove : Call → Desk × Reply → Desk × Reply → Type 0
-    IsSettledMove c x y = (y.0 ≡ quiet x.0 h) × All IsRight x.0.trials × (Settles c x.1 → x.1 ≡ final_answer (quiet d h) c)
+    IsSettledMove c x y = (y.0 ≡ quiet x.0 h) × All IsRight x.0.trials × (Settles c x.1
+        → x.1 ≡ final_answer (quiet d h) c)
 
-    fetch_final : (o : Option Trial) → IsRight o → fetched o ≢ refused code.NotDone → fetched o ≡ final_fetched (option_map forgot o)
+    fetch_final : (o : Option Trial) → IsRight o → fetched o ≢ refused code.NotDone
+        → fetched o ≡ final_fetched (option_map forgot o)
     fetch_final None r n = refl
     fetch_final (Some t) r n = by t.state r n
       where
@@ -137,34 +160,46 @@ module _ (p : Profile) where
     settled_move : (c : Call) → IsSettledMove c (answer_of_call p d c) (answer_of_call p (quiet d h) c)
     settled_move (submit text) =
         (let m : IsMove (answer_of_call p d (submit text)) (answer_of_call p (quiet d h) (submit text)) =
-        within_move (charge.Module (length text)) (submitted d text (p.reading text)) (submitted (quiet d h) text (p.reading text)) (submit_move text (p.reading text))
+        within_move (charge.Module (length text)) (submitted d text (p.reading text))
+        (submitted (quiet d h) text (p.reading text)) (submit_move text (p.reading text))
         in (m.0, m.1, λ s. m.2))
     settled_move (order n r) =
-        (let m : IsMove (answer_of_call p d (order n r)) (answer_of_call p (quiet d h) (order n r)) = order_move n (job_ordered p d.edition (held_at d.modules n) r)
+        (let m : IsMove (answer_of_call p d (order n r)) (answer_of_call p (quiet d h) (order n r)) = order_move n
+        (job_ordered p d.edition (held_at d.modules n) r)
         in (m.0, m.1, λ s. m.2))
-    settled_move (fetch t) =
-        (refl, right, λ s. fetch_final (held_at d.trials t) (right_at d.trials t right) s ∙ ap final_fetched (sym (bare_held d.trials t)))
+    settled_move (fetch t) = (
+      refl,
+      right,
+      λ s. fetch_final (held_at d.trials t) (right_at d.trials t right) s ∙ ap final_fetched
+          (sym (bare_held d.trials t)),
+    )
     settled_move (status t) = (refl, right, λ s. absurd s)
     settled_move (drop_trial t) =
         (let m : IsMove (answer_of_call p d (drop_trial t)) (answer_of_call p (quiet d h) (drop_trial t)) =
-        subst (λ (o : Option Trial). IsMove (dropped d t (held_at d.trials t)) (dropped (quiet d h) t o)) (sym (bare_held d.trials t)) (drop_move t (held_at d.trials t))
+        subst (λ (o : Option Trial). IsMove (dropped d t (held_at d.trials t)) (dropped (quiet d h) t o))
+        (sym (bare_held d.trials t)) (drop_move t (held_at d.trials t))
         in (m.0, m.1, λ s. m.2))
     settled_move (withdraw n) =
         (let m : IsMove (answer_of_call p d (withdraw n)) (answer_of_call p (quiet d h) (withdraw n)) =
-        subst (λ (k : ℕ). IsMove (withdrawn d n (held_at d.modules n) (users_of d n)) (withdrawn (quiet d h) n (held_at d.modules n) k)) (sym (bare_users n d.trials)) (withdraw_move n (held_at d.modules n) (users_of d n))
+        subst (λ (k : ℕ). IsMove (withdrawn d n (held_at d.modules n) (users_of d n))
+        (withdrawn (quiet d h) n (held_at d.modules n) k)) (sym (bare_users n d.trials))
+        (withdraw_move n (held_at d.modules n) (users_of d n))
         in (m.0, m.1, λ s. m.2))
     settled_move usage = (refl, right, λ s. ap uses (sym (quiet_usage d h same)))
     settled_move log = (refl, right, λ s. ap logged (sym same))
-    settled_move (edition e) = (let m : IsMove (answer_of_call p d (edition e)) (answer_of_call p (quiet d h) (edition e)) = edition_move e in (m.0, m.1, λ s. m.2))
+    settled_move (edition e) = (let m : IsMove (answer_of_call p d (edition e))
+        (answer_of_call p (quiet d h) (edition e)) = edition_move e in (m.0, m.1, λ s. m.2))
 
     -- with the call noted on both desks, where the log has room
     abbrev IsCallMove : Call → Desk × Reply → Desk × Reply → Reply → Type 0
     IsCallMove c x y f = IsLike x.0 y.0 × (Settles c x.1 → x.1 ≡ f)
 
-    noted_move : (c : Call) (x y : Desk × Reply) → x.0.history ≡ d.history → IsSettledMove c x y → IsCallMove c (noted c x) (noted c y) (final_answer (quiet d h) c)
+    noted_move : (c : Call) (x y : Desk × Reply) → x.0.history ≡ d.history → IsSettledMove c x y
+        → IsCallMove c (noted c x) (noted c y) (final_answer (quiet d h) c)
     noted_move c x y kept m = (
       (
-        ap (λ (e : Desk). with_entry e (called c y.1)) m.0 ∙ sym (ap (λ (e : Desk). quiet (with_entry x.0 (called c x.1)) (e.history ++ called c y.1 ∷ [])) m.0),
+        ap (λ (e : Desk). with_entry e (called c y.1)) m.0
+            ∙ sym (ap (λ (e : Desk). quiet (with_entry x.0 (called c x.1)) (e.history ++ called c y.1 ∷ [])) m.0),
         ap (λ (e : Desk). calls_in (e.history ++ called c y.1 ∷ [])) m.0
             ∙ calls_more h c y.1
             ∙ ap (λ (n : ℕ). n + 1) same
@@ -176,9 +211,11 @@ module _ (p : Profile) where
     )
 
     call_move : (c : Call) → IsCallMove c (within_limits d (passed_by d charge.Call) (noted c (answer_of_call p d c)))
-        (within_limits (quiet d h) (passed_by (quiet d h) charge.Call) (noted c (answer_of_call p (quiet d h) c))) (final (quiet d h) c)
+        (within_limits (quiet d h) (passed_by (quiet d h) charge.Call) (noted c (answer_of_call p (quiet d h) c)))
+        (final (quiet d h) c)
     call_move c =
-        subst (λ (o : Option Code). IsCallMove c (within_limits d (passed_by d charge.Call) x) (within_limits (quiet d h) o y) (within_limits (quiet d h) o (quiet d h, f)).1)
+        subst (λ (o : Option Code). IsCallMove c (within_limits d (passed_by d charge.Call) x)
+        (within_limits (quiet d h) o y) (within_limits (quiet d h) o (quiet d h, f)).1)
         (sym (quiet_passed d h same charge.Call)) (by (passed_by d charge.Call))
       where
         x : Desk × Reply
@@ -190,21 +227,32 @@ module _ (p : Profile) where
         f : Reply
         f = final_answer (quiet d h) c
 
-        by : (o : Option Code) → IsCallMove c (within_limits d o x) (within_limits (quiet d h) o y) (within_limits (quiet d h) o (quiet d h, f)).1
-        by None = noted_move c (answer_of_call p d c) (answer_of_call p (quiet d h) c) (call_notes p d c) (settled_move c)
+        by : (o : Option Code) → IsCallMove c (within_limits d o x) (within_limits (quiet d h) o y)
+            (within_limits (quiet d h) o (quiet d h, f)).1
+        by None = noted_move c (answer_of_call p d c) (answer_of_call p (quiet d h) c) (call_notes p d c)
+            (settled_move c)
         by (Some e) = ((refl, same, right), λ s. refl)
 
-  pub like_call : (d e : Desk) (c : Call) → IsLike d e → IsLike (after_call p d c) (after_call p e c) × (Settles c (reply_to p d c) → reply_to p d c ≡ final e c)
+  pub like_call : (d e : Desk) (c : Call) → IsLike d e
+      → IsLike (after_call p d c) (after_call p e c) × (Settles c (reply_to p d c) → reply_to p d c ≡ final e c)
   like_call d e c l =
-      subst (λ (k : Desk). IsLike (after_call p d c) (after_call p k c) × (Settles c (reply_to p d c) → reply_to p d c ≡ final k c)) (sym l.0) (
+      subst (λ (k : Desk). IsLike (after_call p d c) (after_call p k c) × (Settles c (reply_to p d c)
+      → reply_to p d c ≡ final k c)) (sym l.0) (
       let m : _ = call_move d e.history l.1 l.2 c in (m.0, m.1)
       )
 
   -- ---- chores
 
-  like_moved : (d e : Desk) (t : ℕ) (f : Job → TrialState) (x : Entry) → OfWork x → ((j : Job) → IsRightState j (f j)) → IsLike d e → IsLike (moved d t f x) e
+  like_moved : (d e : Desk) (t : ℕ) (f : Job → TrialState) (x : Entry) → OfWork x → ((j : Job) → IsRightState j (f j))
+      → IsLike d e → IsLike (moved d t f x) e
   like_moved d e t f x of right l = (
-    l.0 ∙ ap (λ (ts : List (Option Trial)). record { edition = d.edition; modules = d.modules; trials = ts; history = e.history }) (sym (bare_state d.trials t f)),
+    l.0 ∙ ap (λ (ts : List (Option Trial)). record {
+      edition = d.edition;
+      modules = d.modules;
+      trials = ts;
+      history =
+          e.history;
+    }) (sym (bare_state d.trials t f)),
     l.1 ∙ sym (calls_worked d.history x of),
     right_with d.trials t (option_map (in_state f) (held_at d.trials t)) l.2 (one (held_at d.trials t)),
   )
@@ -217,15 +265,18 @@ module _ (p : Profile) where
   like_if true d k e old new = new
   like_if false d k e old new = old
 
-  pub like_chore : (d e : Desk) (w q t : ℕ) (k : Chore) → IsLike d e → IsLike (desk_done p (at_desk (worker_does w q t k)) d) e
+  pub like_chore : (d e : Desk) (w q t : ℕ) (k : Chore) → IsLike d e
+      → IsLike (desk_done p (at_desk (worker_does w q t k)) d) e
   like_chore d e w q t Claim l =
-      like_if (is_queued (held_at d.trials t)) d (after_claim d t) e l (like_moved d e t (λ j. running) (claimed t) (of_claim t) (λ j. tt) l)
+      like_if (is_queued (held_at d.trials t)) d (after_claim d t) e l
+      (like_moved d e t (λ j. running) (claimed t) (of_claim t) (λ j. tt) l)
   like_chore d e w q t File l =
       like_if (is_running (held_at d.trials t)) d (after_file p d t Whole) e l (
       like_moved d e t (λ j. done (p.meaning j.asked)) (filed t Whole) (of_file t Whole) (λ j. refl) l
       )
   like_chore d e w q t HandBack l =
-      like_if (is_running (held_at d.trials t)) d (after_hand_back d t) e l (like_moved d e t (λ j. queued) (handed_back t) (of_back t) (λ j. tt) l)
+      like_if (is_running (held_at d.trials t)) d (after_hand_back d t) e l
+      (like_moved d e t (λ j. queued) (handed_back t) (of_back t) (λ j. tt) l)
   like_chore d e w q t (Slice n) l = l
   like_chore d e w q t Park l = l
   like_chore d e w q t TakeUp l = l

@@ -1,5 +1,6 @@
 -- A step does to a project's desk what it does to one desk, and nothing where it doesn't belong to the project.
-use Rattle.std.proofs.Common.{◌≡◌, ℕ, ◌==◌, Bool, true, false, ◌&&◌, List, [], ◌∷◌, ◌++◌, Option, Some, None, refl, sym, ap, ◌∙◌, subst, arith}
+use Rattle.std.proofs.Common.{◌≡◌, ℕ, ◌==◌, Bool, true, false, ◌&&◌, List, [], ◌∷◌, ◌++◌, Option, Some, None, refl, sym}
+use Rattle.std.proofs.Common.{ap, ◌∙◌, subst, arith}
 use Rattle.std.specs.Prelude.{if◌then◌else◌, nat_lt, length, unwrap_or, filter_map}
 use Rattle.std.specs.List.{cons_option}
 use Rattle.std.proofs.lemmas.Bool.Decides.{nat_tests}
@@ -10,10 +11,12 @@ use Rattle.pf_desks.specs.Work.{claim_step, file_step, hand_back_step}
 use Rattle.pf_desks.specs.Desks.{Desks, DeskStep, desk_at, put_desk, worked, desk_after, desk_replies, replies_along}
 use Rattle.pf_desks.proofs.Isolated.{desk_placed}
 use Rattle.pf_world.specs.World.{RunProfile, RunProgress, going, over, ClaimedRun, Hand, Deque, World, new_world}
-use Rattle.pf_world.specs.Chores.{Response, Effect, MOST_PARKED, is_run_of, is_going, hand_emptied, file_effect, free_effect, busy_effect, chore_effect}
+use Rattle.pf_world.specs.Chores.{Response, Effect, MOST_PARKED, is_run_of, is_going, hand_emptied, file_effect}
+use Rattle.pf_world.specs.Chores.{free_effect, busy_effect, chore_effect}
 use Rattle.pf_request.specs.declared.step.Chore.{Chore}
 use Rattle.pf_request.specs.declared.step.Chore.TheVariants.{Claim, Slice, Park, TakeUp, Steal, File, HandBack}
-use Rattle.pf_world.specs.Steps.{WorldStep, client_calls, worker_does, deque_owner, with_effect, effect_of, take_step, responses, all_responses}
+use Rattle.pf_world.specs.Steps.{WorldStep, client_calls, worker_does, deque_owner, with_effect, effect_of, take_step}
+use Rattle.pf_world.specs.Steps.{responses, all_responses}
 use Rattle.pf_world.specs.Alone.{project_of, took_place, is_own, own_part, replies_of, heard, at_desk, heard_alone}
 use Rattle.pf_world.proofs.Effects.{from_some, where_so, where_claimed, where_from_deque, where_done, all_at}
 use Rattle.pf_world.proofs.Whole.{IsWholeProgress, IsWhole, IsWholeHand, IsWholeWorld, whole_step, whole_new}
@@ -47,19 +50,23 @@ module _ (p : RunProfile) where
 
   abbrev pub IsDoneAs : (w q t : ℕ) → Chore → Desk → Effect → Type 0
   IsDoneAs w q t k d e =
-      (unwrap_or e.desk d ≡ desk_done p.profile (at_desk (worker_does w q t k)) d) × (took_place e.response ≡ true) × (replies_of e.response ≡ [])
+      (unwrap_or e.desk d ≡ desk_done p.profile (at_desk (worker_does w q t k)) d) × (took_place e.response ≡ true)
+      × (replies_of e.response ≡ [])
 
   emptied_as : (w q t : ℕ) (k : Chore) (d : Desk) (o : Option Desk)
       → unwrap_or o d ≡ desk_done p.profile (at_desk (worker_does w q t k)) d → IsDoneAs w q t k d (hand_emptied o)
   emptied_as w q t k d (Some x) h = (h, refl, refl)
   emptied_as w q t k d None h = (h, refl, refl)
 
-  free_done : (w q t : ℕ) (k : Chore) (d : Desk) (rs : Deque) (e : Effect) → free_effect q t k d rs ≡ Some e → IsDoneAs w q t k d e
+  free_done : (w q t : ℕ) (k : Chore) (d : Desk) (rs : Deque) (e : Effect) → free_effect q t k d rs ≡ Some e
+      → IsDoneAs w q t k d e
   free_done w q t Claim d rs e h =
       where_claimed (IsDoneAs w q t Claim d) q t (held_at d.trials t) (claim_step d t) e h (λ x k i j.
       (sym (ap (λ (o : Option Desk). unwrap_or o d) j), refl, refl))
-  free_done w q t TakeUp d rs e h = where_from_deque (IsDoneAs w q t TakeUp d) q t rs e h (λ r ks i is. (refl, refl, refl))
-  free_done w q t (Steal v) d rs e h = where_from_deque (IsDoneAs w q t (Steal v) d) q t rs e h (λ r ks i is. (refl, refl, refl))
+  free_done w q t TakeUp d rs e h = where_from_deque (IsDoneAs w q t TakeUp d) q t rs e h
+      (λ r ks i is. (refl, refl, refl))
+  free_done w q t (Steal v) d rs e h = where_from_deque (IsDoneAs w q t (Steal v) d) q t rs e h
+      (λ r ks i is. (refl, refl, refl))
   free_done w q t (Slice n) d rs e h = absurd (cc)
   free_done w q t Park d rs e h = absurd (cc)
   free_done w q t File d rs e h = absurd (cc)
@@ -70,14 +77,16 @@ module _ (p : RunProfile) where
   busy_done w q t (Slice n) d r rs e h one =
       where_so (IsDoneAs w q t (Slice n) d) (is_going r.progress && nat_lt 0 n) _ e h (λ is. (refl, refl, refl))
   busy_done w q t Park d r rs e h one =
-      where_so (IsDoneAs w q t Park d) (is_going r.progress && nat_lt (length rs) MOST_PARKED) _ e h (λ is. (refl, refl, refl))
+      where_so (IsDoneAs w q t Park d) (is_going r.progress && nat_lt (length rs) MOST_PARKED) _ e h
+      (λ is. (refl, refl, refl))
   busy_done w q t File d r rs e h one = by r.progress h one
     where
       by : (g : RunProgress) → file_effect p t d g ≡ Some e → IsWholeProgress g → IsDoneAs w q t File d e
       by (going k) h one = absurd (cc)
       by (over m) h one =
           from_some (IsDoneAs w q t File d) _ e h (
-          emptied_as w q t File d (file_step p.profile d t m) (ap (λ (m : FileMark). unwrap_or (file_step p.profile d t m) d) one)
+          emptied_as w q t File d (file_step p.profile d t m)
+          (ap (λ (m : FileMark). unwrap_or (file_step p.profile d t m) d) one)
           )
   busy_done w q t HandBack d r rs e h one =
       from_some (IsDoneAs w q t HandBack d) _ e h (emptied_as w q t HandBack d (hand_back_step d t) refl)
@@ -106,14 +115,17 @@ pub same_project : (q r : ℕ) → (r == q) ≡ true → r ≡ q
 same_project q r h = grind (arith, nat_tests)
 
 -- what holds of each desk that a project's is made or kept as
-desk_made : (q r : ℕ) (f : Desk → Desk) (ds : Desks) → desk_at q (put_desk r (f (desk_at r ds)) ds) ≡ (if r == q then f (desk_at q ds) else desk_at q ds)
+desk_made : (q r : ℕ) (f : Desk → Desk) (ds : Desks)
+    → desk_at q (put_desk r (f (desk_at r ds)) ds) ≡ (if r == q then f (desk_at q ds) else desk_at q ds)
 desk_made q r f ds = desk_placed q r (f (desk_at r ds)) ds ∙ by (r == q) refl
   where
-    by : (b : Bool) → (r == q) ≡ b → (if b then f (desk_at r ds) else desk_at q ds) ≡ (if b then f (desk_at q ds) else desk_at q ds)
+    by : (b : Bool) → (r == q) ≡ b → (if b then f (desk_at r ds) else desk_at q ds)
+        ≡ (if b then f (desk_at q ds) else desk_at q ds)
     by true h = ap (λ k. f (desk_at k ds)) (same_project q r h)
     by false h = refl
 
-desk_kept : (q r : ℕ) (f : Desk → Desk) (ds : Desks) → desk_at r ds ≡ f (desk_at r ds) → desk_at q ds ≡ (if r == q then f (desk_at q ds) else desk_at q ds)
+desk_kept : (q r : ℕ) (f : Desk → Desk) (ds : Desks) → desk_at r ds ≡ f (desk_at r ds)
+    → desk_at q ds ≡ (if r == q then f (desk_at q ds) else desk_at q ds)
 desk_kept q r f ds h = by (r == q) refl
   where
     by : (b : Bool) → (r == q) ≡ b → desk_at q ds ≡ (if b then f (desk_at q ds) else desk_at q ds)
@@ -125,7 +137,8 @@ desk_with : (q r : ℕ) (f : Desk → Desk) (o : Option Desk) (ds : Desks) → u
 desk_with q r f (Some d) ds h = ap (λ (k : Desk). desk_at q (put_desk r k ds)) h ∙ desk_made q r f ds
 desk_with q r f None ds h = desk_kept q r f ds h
 
-replies_made : (q r : ℕ) (f : Desk → List Reply) (ds : Desks) → (if r == q then f (desk_at r ds) else []) ≡ (if r == q then f (desk_at q ds) else [])
+replies_made : (q r : ℕ) (f : Desk → List Reply) (ds : Desks)
+    → (if r == q then f (desk_at r ds) else []) ≡ (if r == q then f (desk_at q ds) else [])
 replies_made q r f ds = by (r == q) refl
   where
     by : (b : Bool) → (r == q) ≡ b → (if b then f (desk_at r ds) else []) ≡ (if b then f (desk_at q ds) else [])
@@ -141,8 +154,10 @@ none_either_way false rs h = refl
 -- what a step with this world and response does to one project
 abbrev IsLocal : RunProfile → ℕ → World → WorldStep → World × Response → Type 0
 IsLocal p q s x r =
-    ((if project_of x == q then replies_of r.1 else []) ≡ (if is_own q x r.1 then replies_done p.profile (at_desk x) (desk_at q s.desks) else []))
-    × (desk_at q r.0.desks ≡ (if is_own q x r.1 then desk_done p.profile (at_desk x) (desk_at q s.desks) else desk_at q s.desks))
+    ((if project_of x == q then replies_of r.1 else [])
+    ≡ (if is_own q x r.1 then replies_done p.profile (at_desk x) (desk_at q s.desks) else []))
+    × (desk_at q r.0.desks ≡ (if is_own q x r.1 then desk_done p.profile (at_desk x) (desk_at q s.desks)
+    else desk_at q s.desks))
 
 module _ (p : RunProfile) where
   local_effect : (q : ℕ) (s : World) (w r t : ℕ) (k : Chore) (e : Effect) → IsDoneAs p w r t k (desk_at r s.desks) e
@@ -155,10 +170,13 @@ module _ (p : RunProfile) where
       said : List Reply
       said = replies_done p.profile (at_desk x) (desk_at q s.desks)
 
-      by : (b : Bool) → b ≡ true → ((if r == q then replies_of e.response else []) ≡ (if (if b then r == q else false) then said else []))
-          × (desk_at q (worked r s.desks e.desk).0 ≡ (if (if b then r == q else false) then desk_done p.profile (at_desk x) (desk_at q s.desks) else desk_at q s.desks))
+      by : (b : Bool) → b ≡ true → ((if r == q then replies_of e.response else []) ≡ (if (if b then r == q else false)
+          then said else []))
+          × (desk_at q (worked r s.desks e.desk).0 ≡ (if (if b then r == q else false) then
+          desk_done p.profile (at_desk x) (desk_at q s.desks) else desk_at q s.desks))
       by true i = (
-        none_either_way (r == q) (replies_of e.response) h.2 ∙ sym (none_either_way (r == q) said (silence p.profile w r t k (desk_at q s.desks))),
+        none_either_way (r == q) (replies_of e.response) h.2
+            ∙ sym (none_either_way (r == q) said (silence p.profile w r t k (desk_at q s.desks))),
         desk_with q r (desk_done p.profile (at_desk x)) e.desk s.desks h.0,
       )
       by false i = absurd (cc)
@@ -170,22 +188,26 @@ module _ (p : RunProfile) where
   )
   local q s (worker_does w r t k) h = by (effect_of p s w r t k) refl
     where
-      by : (o : Option Effect) → effect_of p s w r t k ≡ o → IsLocal p q s (worker_does w r t k) (with_effect s w (deque_owner w k) r o)
+      by : (o : Option Effect) → effect_of p s w r t k ≡ o
+          → IsLocal p q s (worker_does w r t k) (with_effect s w (deque_owner w k) r o)
       by None i = (none_either_way (r == q) [] refl, refl)
       by (Some e) i = local_effect q s w r t k e (effect_done p s w r t k e i h)
 
   joined : (q : ℕ) (x : WorldStep) (a : Response) (xs : List WorldStep) (ans : List Response) (d d' : Desk)
-      → (if project_of x == q then replies_of a else []) ≡ (if is_own q x a then replies_done p.profile (at_desk x) d else [])
+      → (if project_of x == q then replies_of a else [])
+      ≡ (if is_own q x a then replies_done p.profile (at_desk x) d else [])
       → d' ≡ (if is_own q x a then desk_done p.profile (at_desk x) d else d)
       → heard q xs ans ≡ replies_along p.profile d' (filter_map at_desk (own_part q xs ans))
       → (if project_of x == q then replies_of a else []) ++ heard q xs ans
-      ≡ replies_along p.profile d (filter_map at_desk (if is_own q x a then x ∷ own_part q xs ans else own_part q xs ans))
+      ≡ replies_along p.profile d (filter_map at_desk (if is_own q x a then x ∷ own_part q xs ans
+      else own_part q xs ans))
   joined q x a xs ans d d' said is rest = by (is_own q x a) said is
     where
       own : List DeskStep
       own = filter_map at_desk (own_part q xs ans)
 
-      by : (b : Bool) → (if project_of x == q then replies_of a else []) ≡ (if b then replies_done p.profile (at_desk x) d else [])
+      by : (b : Bool) → (if project_of x == q then replies_of a else [])
+          ≡ (if b then replies_done p.profile (at_desk x) d else [])
           → d' ≡ (if b then desk_done p.profile (at_desk x) d else d)
           → (if project_of x == q then replies_of a else []) ++ heard q xs ans
           ≡ replies_along p.profile d (filter_map at_desk (if b then x ∷ own_part q xs ans else own_part q xs ans))
@@ -196,11 +218,13 @@ module _ (p : RunProfile) where
       by false said is = (λ i. said i ++ rest i) ∙ ap (λ k. replies_along p.profile k own) is
 
   isolated_from : (q : ℕ) (s : World) (xs : List WorldStep) → IsWholeWorld s
-      → heard q xs (responses p s xs) ≡ replies_along p.profile (desk_at q s.desks) (filter_map at_desk (own_part q xs (responses p s xs)))
+      → heard q xs (responses p s xs) ≡ replies_along p.profile (desk_at q s.desks)
+      (filter_map at_desk (own_part q xs (responses p s xs)))
   isolated_from q s [] h = refl
   isolated_from q s (x ∷ xs) h =
       let l : IsLocal p q s x (take_step p s x) = local q s x h in
-      joined q x (take_step p s x).1 xs (responses p (take_step p s x).0 xs) (desk_at q s.desks) (desk_at q (take_step p s x).0.desks) l.0 l.1 (
+      joined q x (take_step p s x).1 xs (responses p (take_step p s x).0 xs) (desk_at q s.desks)
+      (desk_at q (take_step p s x).0.desks) l.0 l.1 (
       isolated_from q (take_step p s x).0 xs (whole_step p s x h)
       )
 

@@ -1,5 +1,6 @@
 -- Whatever workers do and wherever allocations fail, the desks of a world are those of a world after some steps.
-use Rattle.std.proofs.Common.{◌≡◌, ℕ, Bool, true, false, ◌&&◌, List, [], ◌∷◌, ◌++◌, Option, Some, None, refl, sym, ap, ◌∙◌, subst}
+use Rattle.std.proofs.Common.{◌≡◌, ℕ, Bool, true, false, ◌&&◌, List, [], ◌∷◌, ◌++◌, Option, Some, None, refl, sym, ap}
+use Rattle.std.proofs.Common.{◌∙◌, subst}
 use Rattle.std.specs.Prelude.{if◌then◌else◌, nat_lt, length}
 use Rattle.pf_desks.specs.Desk.{Desk, held_at}
 use Rattle.pf_desks.specs.History.{IsLegalDesk}
@@ -9,7 +10,8 @@ use Rattle.pf_desks.specs.Desks.{Desks, DeskStep, client, worker, desk_at, worke
 use Rattle.pf_desks.proofs.Histories as histories
 use Rattle.pf_desks.proofs.Within.{legal_within}
 use Rattle.pf_world.specs.World.{RunProfile, RunProgress, going, over, ClaimedRun, Hand, Deque, World, new_world}
-use Rattle.pf_world.specs.Chores.{Response, Effect, MOST_PARKED, is_run_of, is_going, hand_emptied, file_effect, free_effect, busy_effect, chore_effect}
+use Rattle.pf_world.specs.Chores.{Response, Effect, MOST_PARKED, is_run_of, is_going, hand_emptied, file_effect}
+use Rattle.pf_world.specs.Chores.{free_effect, busy_effect, chore_effect}
 use Rattle.pf_request.specs.declared.step.Chore.{Chore}
 use Rattle.pf_request.specs.declared.step.Chore.TheVariants.{Claim, Slice, Park, TakeUp, Steal, File, HandBack}
 use Rattle.pf_world.specs.Steps.{WorldStep, client_calls, worker_does, deque_owner, with_effect, effect_of, take_step}
@@ -27,12 +29,15 @@ module _ (p : RunProfile) where
   abbrev IsWorkEffect : Desk → Effect → Type 0
   IsWorkEffect d e = IsWork d e.desk
 
-  work_emptied : (d : Desk) (k : DeskWork) (o : Option Desk) → worker_step p.profile d k ≡ o → IsWorkEffect d (hand_emptied o)
+  work_emptied : (d : Desk) (k : DeskWork) (o : Option Desk) → worker_step p.profile d k ≡ o
+      → IsWorkEffect d (hand_emptied o)
   work_emptied d k (Some x) h = (k, h)
   work_emptied d k None h = tt
 
-  free_work : (q t : ℕ) (k : Chore) (d : Desk) (rs : Deque) (e : Effect) → free_effect q t k d rs ≡ Some e → IsWorkEffect d e
-  free_work q t Claim d rs e h = where_claimed (IsWorkEffect d) q t (held_at d.trials t) (claim_step d t) e h (λ x k i j. (claim t, j))
+  free_work : (q t : ℕ) (k : Chore) (d : Desk) (rs : Deque) (e : Effect) → free_effect q t k d rs ≡ Some e
+      → IsWorkEffect d e
+  free_work q t Claim d rs e h = where_claimed (IsWorkEffect d) q t (held_at d.trials t) (claim_step d t) e h
+      (λ x k i j. (claim t, j))
   free_work q t TakeUp d rs e h = where_from_deque (IsWorkEffect d) q t rs e h (λ r ks i is. tt)
   free_work q t (Steal v) d rs e h = where_from_deque (IsWorkEffect d) q t rs e h (λ r ks i is. tt)
   free_work q t (Slice n) d rs e h = absurd (cc)
@@ -40,20 +45,24 @@ module _ (p : RunProfile) where
   free_work q t File d rs e h = absurd (cc)
   free_work q t HandBack d rs e h = absurd (cc)
 
-  busy_work : (t : ℕ) (k : Chore) (d : Desk) (r : ClaimedRun) (rs : Deque) (e : Effect) → busy_effect p t k d r rs ≡ Some e → IsWorkEffect d e
+  busy_work : (t : ℕ) (k : Chore) (d : Desk) (r : ClaimedRun) (rs : Deque) (e : Effect)
+      → busy_effect p t k d r rs ≡ Some e → IsWorkEffect d e
   busy_work t (Slice n) d r rs e h = where_so (IsWorkEffect d) (is_going r.progress && nat_lt 0 n) _ e h (λ is. tt)
-  busy_work t Park d r rs e h = where_so (IsWorkEffect d) (is_going r.progress && nat_lt (length rs) MOST_PARKED) _ e h (λ is. tt)
+  busy_work t Park d r rs e h = where_so (IsWorkEffect d) (is_going r.progress && nat_lt (length rs) MOST_PARKED)
+      _ e h (λ is. tt)
   busy_work t File d r rs e h = by r.progress h
     where
       by : (g : RunProgress) → file_effect p t d g ≡ Some e → IsWorkEffect d e
       by (going k) h = absurd (cc)
       by (over m) h = from_some (IsWorkEffect d) _ e h (work_emptied d (file t m) (file_step p.profile d t m) refl)
-  busy_work t HandBack d r rs e h = from_some (IsWorkEffect d) _ e h (work_emptied d (hand_back t) (hand_back_step d t) refl)
+  busy_work t HandBack d r rs e h = from_some (IsWorkEffect d) _ e h
+      (work_emptied d (hand_back t) (hand_back_step d t) refl)
   busy_work t Claim d r rs e h = absurd (cc)
   busy_work t TakeUp d r rs e h = absurd (cc)
   busy_work t (Steal v) d r rs e h = absurd (cc)
 
-  pub chore_work : (q t : ℕ) (k : Chore) (d : Desk) (hand : Hand) (rs : Deque) (e : Effect) → chore_effect p q t k d hand rs ≡ Some e → IsWorkEffect d e
+  pub chore_work : (q t : ℕ) (k : Chore) (d : Desk) (hand : Hand) (rs : Deque) (e : Effect)
+      → chore_effect p q t k d hand rs ≡ Some e → IsWorkEffect d e
   chore_work q t k d None rs e h = free_work q t k d rs e h
   chore_work q t k d (Some r) rs e h = by (is_run_of q t r) h
     where
@@ -67,14 +76,16 @@ module _ (p : RunProfile) where
   abbrev IsReached : Desks → Type 0
   IsReached w = (ss : List DeskStep) × (w ≡ after_steps p.profile [] ss)
 
-  one_more : (w : Desks) (ss : List DeskStep) (x : DeskStep) → after_steps p.profile w (ss ++ x ∷ []) ≡ (step p.profile (after_steps p.profile w ss) x).0
+  one_more : (w : Desks) (ss : List DeskStep) (x : DeskStep)
+      → after_steps p.profile w (ss ++ x ∷ []) ≡ (step p.profile (after_steps p.profile w ss) x).0
   one_more w [] x = refl
   one_more w (y ∷ ss) x = one_more (step p.profile w y).0 ss x
 
   reached_step : (w : Desks) (x : DeskStep) → IsReached w → IsReached (step p.profile w x).0
   reached_step w x h = (h.0 ++ x ∷ [], ap (λ (k : Desks). (step p.profile k x).0) h.1 ∙ sym (one_more [] h.0 x))
 
-  reached_with : (w : Desks) (r : ℕ) (o : Option Desk) → IsWork (desk_at r w) o → IsReached w → IsReached (worked r w o).0
+  reached_with : (w : Desks) (r : ℕ) (o : Option Desk) → IsWork (desk_at r w) o → IsReached w
+      → IsReached (worked r w o).0
   reached_with w r None k h = h
   reached_with w r (Some d) k h =
       subst (λ (o : Option Desk). IsReached (worked r w o).0) k.1 (reached_step w (worker r k.0) h)
@@ -87,7 +98,8 @@ module _ (p : RunProfile) where
       by None i = h
       by (Some e) i =
           reached_with s.desks r e.desk (
-          where_done (IsWorkEffect (desk_at r s.desks)) p s w r t k e i (λ hand rs x y done. chore_work r t k (desk_at r s.desks) hand rs e done)
+          where_done (IsWorkEffect (desk_at r s.desks)) p s w r t k e i
+          (λ hand rs x y done. chore_work r t k (desk_at r s.desks) hand rs e done)
           ) h
 
   pub refused_desks : (s : World) (x : WorldStep) → (refused_in s x).desks ≡ s.desks
@@ -100,11 +112,13 @@ module _ (p : RunProfile) where
   refused_desks s (worker_does w r t File) = refl
   refused_desks s (worker_does w r t HandBack) = refl
 
-  reached_answer : (s k : World) (x : WorldStep) (a : Option Response) → RespondsTo p s x a k → IsReached s.desks → IsReached k.desks
+  reached_answer : (s k : World) (x : WorldStep) (a : Option Response) → RespondsTo p s x a k → IsReached s.desks
+      → IsReached k.desks
   reached_answer s k x (Some a) to h = subst (λ (r : World × Response). IsReached r.0.desks) to (reached_after s x h)
   reached_answer s k x None to h = subst IsReached (sym (ap (λ (r : World). r.desks) to.1 ∙ refused_desks s x)) h
 
-  reached_from : (s s' : World) (xs : List WorldStep) (ans : List (Option Response)) → RespondsInTurn p s xs ans s' → IsReached s.desks → IsReached s'.desks
+  reached_from : (s s' : World) (xs : List WorldStep) (ans : List (Option Response)) → RespondsInTurn p s xs ans s'
+      → IsReached s.desks → IsReached s'.desks
   reached_from s s' [] [] to h = subst (λ (k : World). IsReached k.desks) (sym to) h
   reached_from s s' [] (a ∷ ans) to h = absurd to
   reached_from s s' (x ∷ xs) [] to h = absurd to

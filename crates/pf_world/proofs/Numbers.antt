@@ -13,4 +13,7 @@ use Rattle.pf_world.proofs.Isolated.{isolated}
 pub numbers : NumbersAmongWorkers
 numbers p n q xs =
     let own : List DeskStep = filter_map at_desk (own_part q xs (all_responses p n xs)) in
-    subst TellEachOnce (sym (isolated p n q xs)) (numbers_along p.profile no_desk own, tickets_along p.profile no_desk own)
+    subst TellEachOnce (sym (isolated p n q xs)) (
+      numbers_along p.profile no_desk own,
+      tickets_along p.profile no_desk own,
+    )

@@ -1,5 +1,6 @@
 -- The runs of a world stay those of the jobs of their trials.
-use Rattle.std.proofs.Common.{◌≡◌, ℕ, zero, suc, Bool, true, false, ◌&&◌, List, [], ◌∷◌, length, Option, Some, None, refl, sym, subst, arith}
+use Rattle.std.proofs.Common.{◌≡◌, ℕ, zero, suc, Bool, true, false, ◌&&◌, List, [], ◌∷◌, length, Option, Some, None}
+use Rattle.std.proofs.Common.{refl, sym, subst, arith}
 use Rattle.std.specs.Prelude.{if◌then◌else◌, nat_lt, All, IfSome, slice_get, replicate}
 use Rattle.std.specs.Option.{option_flatten, option_map}
 use Rattle.std.proofs.lemmas.List.Elements.{All-cons, All-head, All-tail, All-push, All-set, All-weaker}
@@ -10,10 +11,12 @@ use Rattle.pf_desks.specs.Desks.{Desks, client, desk_at, put_desk, worked, step}
 use Rattle.pf_desks.proofs.Jobs.{tickets_placed, tickets_stepped, tickets_worked, ticket_held}
 use Rattle.pf_desks.proofs.Isolated.{desk_there}
 use Rattle.pf_world.specs.World.{RunProfile, RunProgress, going, over, ClaimedRun, Hand, Deque, World, new_world}
-use Rattle.pf_world.specs.Chores.{Response, Effect, MOST_PARKED, new_run, is_run_of, is_going, hand_emptied, file_effect, free_effect, busy_effect, chore_effect}
+use Rattle.pf_world.specs.Chores.{Response, Effect, MOST_PARKED, new_run, is_run_of, is_going, hand_emptied}
+use Rattle.pf_world.specs.Chores.{file_effect, free_effect, busy_effect, chore_effect}
 use Rattle.pf_request.specs.declared.step.Chore.{Chore}
 use Rattle.pf_request.specs.declared.step.Chore.TheVariants.{Claim, Slice, Park, TakeUp, Steal, File, HandBack}
-use Rattle.pf_world.specs.Steps.{WorldStep, client_calls, worker_does, deque_owner, with_deque, with_effect, effect_of, take_step}
+use Rattle.pf_world.specs.Steps.{WorldStep, client_calls, worker_does, deque_owner, with_deque, with_effect, effect_of}
+use Rattle.pf_world.specs.Steps.{take_step}
 use Rattle.pf_world.specs.Memory.{out_of_memory, refused_in, RespondsTo, RespondsInTurn}
 use Rattle.pf_world.specs.Jobs.{IsOfTrial, RunsAreOfTrials, JobsAmongWorkers}
 use Rattle.pf_world.proofs.Effects.{all_at, from_some, where_so, where_claimed, where_from_deque, where_done}
@@ -52,20 +55,25 @@ module _ (p : RunProfile) where
   emptied q w (Some d) = (tt, tt)
   emptied q w None = (tt, tt)
 
-  pub new_of : (q t : ℕ) (w : Desks) (x : Trial) (d' : Desk) → held_at (desk_at q w).trials t ≡ Some x → claim_step (desk_at q w) t ≡ Some d'
+  pub new_of : (q t : ℕ) (w : Desks) (x : Trial) (d' : Desk) → held_at (desk_at q w).trials t ≡ Some x
+      → claim_step (desk_at q w) t ≡ Some d'
       → IsOfTrial (put_desk q d' w) (new_run q t x.job)
   new_of q t w x d' held claims =
       subst (λ (d : Desk). IsTicketOf d t x.job) (sym (desk_there q d' w))
       (tickets_worked p.profile (desk_at q w) d' (claim t) claims t x.job (ticket_held (desk_at q w) t x held))
 
-  free_of : (q t : ℕ) (k : Chore) (w : Desks) (rs : Deque) (e : Effect) → All (IsOfTrial w) rs → free_effect q t k (desk_at q w) rs ≡ Some e → IsOfTrials q w e
+  free_of : (q t : ℕ) (k : Chore) (w : Desks) (rs : Deque) (e : Effect) → All (IsOfTrial w) rs
+      → free_effect q t k (desk_at q w) rs ≡ Some e → IsOfTrials q w e
   free_of q t Claim w rs e all h =
-      where_claimed (IsOfTrials q w) q t (held_at (desk_at q w).trials t) (claim_step (desk_at q w) t) e h (λ x d i j. (new_of q t w x d i j, tt))
-  free_of q t TakeUp w rs e all h = where_from_deque (IsOfTrials q w) q t rs e h (λ r ks i is. taken r ks (subst (All (IsOfTrial w)) i all))
+      where_claimed (IsOfTrials q w) q t (held_at (desk_at q w).trials t) (claim_step (desk_at q w) t) e h
+      (λ x d i j. (new_of q t w x d i j, tt))
+  free_of q t TakeUp w rs e all h = where_from_deque (IsOfTrials q w) q t rs e h
+      (λ r ks i is. taken r ks (subst (All (IsOfTrial w)) i all))
     where
       taken : (r : ClaimedRun) (ks : Deque) → All (IsOfTrial w) (r ∷ ks) → IsOfTrial w r × All (IsOfTrial w) ks
       taken r ks a = (All-head (IsOfTrial w) r ks a, All-tail (IsOfTrial w) r ks a)
-  free_of q t (Steal v) w rs e all h = where_from_deque (IsOfTrials q w) q t rs e h (λ r ks i is. taken r ks (subst (All (IsOfTrial w)) i all))
+  free_of q t (Steal v) w rs e all h = where_from_deque (IsOfTrials q w) q t rs e h
+      (λ r ks i is. taken r ks (subst (All (IsOfTrial w)) i all))
     where
       taken : (r : ClaimedRun) (ks : Deque) → All (IsOfTrial w) (r ∷ ks) → IsOfTrial w r × All (IsOfTrial w) ks
       taken r ks a = (All-head (IsOfTrial w) r ks a, All-tail (IsOfTrial w) r ks a)
@@ -74,22 +82,27 @@ module _ (p : RunProfile) where
   free_of q t File w rs e all h = absurd (cc)
   free_of q t HandBack w rs e all h = absurd (cc)
 
-  busy_of : (q t : ℕ) (k : Chore) (w : Desks) (r : ClaimedRun) (rs : Deque) (e : Effect) → IsOfTrial w r → All (IsOfTrial w) rs
+  busy_of : (q t : ℕ) (k : Chore) (w : Desks) (r : ClaimedRun) (rs : Deque) (e : Effect) → IsOfTrial w r
+      → All (IsOfTrial w) rs
       → busy_effect p t k (desk_at q w) r rs ≡ Some e → IsOfTrials q w e
-  busy_of q t (Slice n) w r rs e own all h = where_so (IsOfTrials q w) (is_going r.progress && nat_lt 0 n) _ e h (λ is. (own, tt))
+  busy_of q t (Slice n) w r rs e own all h = where_so (IsOfTrials q w) (is_going r.progress && nat_lt 0 n) _ e h
+      (λ is. (own, tt))
   busy_of q t Park w r rs e own all h =
-      where_so (IsOfTrials q w) (is_going r.progress && nat_lt (length rs) MOST_PARKED) _ e h (λ is. (tt, All-push (IsOfTrial w) rs r all own))
+      where_so (IsOfTrials q w) (is_going r.progress && nat_lt (length rs) MOST_PARKED) _ e h
+      (λ is. (tt, All-push (IsOfTrial w) rs r all own))
   busy_of q t File w r rs e own all h = by r.progress h
     where
       by : (g : RunProgress) → file_effect p t (desk_at q w) g ≡ Some e → IsOfTrials q w e
       by (going k) h = absurd (cc)
       by (over m) h = from_some (IsOfTrials q w) _ e h (emptied q w (file_step p.profile (desk_at q w) t m))
-  busy_of q t HandBack w r rs e own all h = from_some (IsOfTrials q w) _ e h (emptied q w (hand_back_step (desk_at q w) t))
+  busy_of q t HandBack w r rs e own all h = from_some (IsOfTrials q w) _ e h
+      (emptied q w (hand_back_step (desk_at q w) t))
   busy_of q t Claim w r rs e own all h = absurd (cc)
   busy_of q t TakeUp w r rs e own all h = absurd (cc)
   busy_of q t (Steal v) w r rs e own all h = absurd (cc)
 
-  chore_of : (q t : ℕ) (k : Chore) (w : Desks) (hand : Hand) (rs : Deque) (e : Effect) → IsHandOf w hand → All (IsOfTrial w) rs
+  chore_of : (q t : ℕ) (k : Chore) (w : Desks) (hand : Hand) (rs : Deque) (e : Effect) → IsHandOf w hand
+      → All (IsOfTrial w) rs
       → chore_effect p q t k (desk_at q w) hand rs ≡ Some e → IsOfTrials q w e
   chore_of q t k w None rs e own all h = free_of q t k w rs e all h
   chore_of q t k w (Some r) rs e own all h = by (is_run_of q t r) h
@@ -104,11 +117,13 @@ module _ (p : RunProfile) where
   work_keeps q w None k r = λ t j h. h
   work_keeps q w (Some d) k r = tickets_placed r q d w (tickets_worked p.profile (desk_at q w) d k.0 k.1)
 
-  deques_with : (P : Deque → Type 0) (v : ℕ) (o : Option Deque) (ks : List Deque) → IfSome o P → All P ks → All P (with_deque v o ks)
+  deques_with : (P : Deque → Type 0) (v : ℕ) (o : Option Deque) (ks : List Deque) → IfSome o P → All P ks
+      → All P (with_deque v o ks)
   deques_with P v None ks h all = all
   deques_with P v (Some rs) ks h all = All-set P ks v rs h all
 
-  of_effect : (s : World) (w v q : ℕ) (e : Effect) → KeepsAllTickets s.desks (worked q s.desks e.desk).0 → IsOfTrials q s.desks e → RunsAreOfTrials s
+  of_effect : (s : World) (w v q : ℕ) (e : Effect) → KeepsAllTickets s.desks (worked q s.desks e.desk).0
+      → IsOfTrials q s.desks e → RunsAreOfTrials s
       → RunsAreOfTrials (with_effect s w v q (Some e)).0
   of_effect s w v q e keeps left all =
       let w' = (worked q s.desks e.desk).0 in (
@@ -118,17 +133,20 @@ module _ (p : RunProfile) where
 
   of_step : (s : World) (x : WorldStep) → RunsAreOfTrials s → RunsAreOfTrials (take_step p s x).0
   of_step s (client_calls q c) all =
-      let keeps : KeepsAllTickets s.desks (step p.profile s.desks (client q c)).0 = λ r. tickets_stepped p.profile r s.desks (client q c) in
+      let keeps : KeepsAllTickets s.desks (step p.profile s.desks (client q c)).0 =
+      λ r. tickets_stepped p.profile r s.desks (client q c) in
       (hands_kept s.desks _ keeps s.hands all.0, deques_kept s.desks _ keeps s.deques all.1)
   of_step s (worker_does w q t k) all = by (effect_of p s w q t k) refl
     where
       left : (e : Effect) → effect_of p s w q t k ≡ Some e → IsOfTrials q s.desks e
       left e i = where_done (IsOfTrials q s.desks) p s w q t k e i (λ hand rs x y done.
-          chore_of q t k s.desks hand rs e (all_at (IsHandOf s.desks) s.hands w hand x all.0) (all_at (All (IsOfTrial s.desks)) s.deques (deque_owner w k) rs y all.1) done)
+          chore_of q t k s.desks hand rs e (all_at (IsHandOf s.desks) s.hands w hand x all.0)
+          (all_at (All (IsOfTrial s.desks)) s.deques (deque_owner w k) rs y all.1) done)
 
       keeps : (e : Effect) → effect_of p s w q t k ≡ Some e → KeepsAllTickets s.desks (worked q s.desks e.desk).0
       keeps e i = work_keeps q s.desks e.desk
-          (where_done (λ x. IsWork p (desk_at q s.desks) x.desk) p s w q t k e i (λ hand rs x y done. chore_work p q t k (desk_at q s.desks) hand rs e done))
+          (where_done (λ x. IsWork p (desk_at q s.desks) x.desk) p s w q t k e i
+          (λ hand rs x y done. chore_work p q t k (desk_at q s.desks) hand rs e done))
 
       by : (o : Option Effect) → effect_of p s w q t k ≡ o → RunsAreOfTrials (with_effect s w (deque_owner w k) q o).0
       by None i = all
@@ -138,7 +156,8 @@ module _ (p : RunProfile) where
   pub of_refused : (s : World) (x : WorldStep) → RunsAreOfTrials s → RunsAreOfTrials (refused_in s x)
   of_refused s (client_calls q c) all = all
   of_refused s (worker_does w q t Claim) all = all
-  of_refused s (worker_does w q t (Slice n)) all = (All-set (IsHandOf s.desks) s.hands w _ (by (slice_get s.hands w) refl) all.0, all.1)
+  of_refused s (worker_does w q t (Slice n)) all =
+      (All-set (IsHandOf s.desks) s.hands w _ (by (slice_get s.hands w) refl) all.0, all.1)
     where
       out : (h : Hand) → IsHandOf s.desks h → IsHandOf s.desks (option_map out_of_memory h)
       out None h = tt
@@ -153,11 +172,13 @@ module _ (p : RunProfile) where
   of_refused s (worker_does w q t File) all = all
   of_refused s (worker_does w q t HandBack) all = all
 
-  pub of_answer : (s k : World) (x : WorldStep) (a : Option Response) → RespondsTo p s x a k → RunsAreOfTrials s → RunsAreOfTrials k
+  pub of_answer : (s k : World) (x : WorldStep) (a : Option Response) → RespondsTo p s x a k → RunsAreOfTrials s
+      → RunsAreOfTrials k
   of_answer s k x (Some a) to all = subst (λ (r : World × Response). RunsAreOfTrials r.0) to (of_step s x all)
   of_answer s k x None to all = subst RunsAreOfTrials (sym to.1) (of_refused s x all)
 
-  of_from : (s s' : World) (xs : List WorldStep) (ans : List (Option Response)) → RespondsInTurn p s xs ans s' → RunsAreOfTrials s → RunsAreOfTrials s'
+  of_from : (s s' : World) (xs : List WorldStep) (ans : List (Option Response)) → RespondsInTurn p s xs ans s'
+      → RunsAreOfTrials s → RunsAreOfTrials s'
   of_from s s' [] [] to all = subst RunsAreOfTrials (sym to) all
   of_from s s' [] (a ∷ ans) to all = absurd to
   of_from s s' (x ∷ xs) [] to all = absurd to

@@ -1,5 +1,6 @@
 -- Desks of which nobody knows how far their trials are: their limits are as those of the desks that workers changed.
-use Rattle.std.proofs.Common.{◌≡◌, ℕ, zero, suc, ◌+◌, ◌==◌, List, [], ◌∷◌, ◌++◌, length, map, Option, Some, None, refl, sym, ap}
+use Rattle.std.proofs.Common.{◌≡◌, ℕ, zero, suc, ◌+◌, ◌==◌, List, [], ◌∷◌, ◌++◌, length, map, Option, Some, None, refl}
+use Rattle.std.proofs.Common.{sym, ap}
 use Rattle.std.specs.Prelude.{count_by, fold, cond}
 use Rattle.std.specs.Option.{option_map}
 use Rattle.std.proofs.lemmas.List.{map-set}
@@ -32,11 +33,13 @@ bare_held ts (suc i) = at ts i
     at (Some x ∷ ts) zero = refl
     at (x ∷ ts) (suc i) = at ts i
 
-pub bare_with : (ts : List (Option Trial)) (i : ℕ) (x : Option Trial) → with_held (bare ts) i (option_map forgot x) ≡ bare (with_held ts i x)
+pub bare_with : (ts : List (Option Trial)) (i : ℕ) (x : Option Trial)
+    → with_held (bare ts) i (option_map forgot x) ≡ bare (with_held ts i x)
 bare_with ts zero x = refl
 bare_with ts (suc i) x = sym (map-set (option_map forgot) ts i x)
 
-pub bare_more : (ts : List (Option Trial)) (x : Option Trial) → bare ts ++ option_map forgot x ∷ [] ≡ bare (ts ++ x ∷ [])
+pub bare_more : (ts : List (Option Trial)) (x : Option Trial)
+    → bare ts ++ option_map forgot x ∷ [] ≡ bare (ts ++ x ∷ [])
 bare_more [] x = refl
 bare_more (y ∷ ts) x = ap (λ (zs : List (Option Trial)). option_map forgot y ∷ zs) (bare_more ts x)
 
@@ -59,10 +62,12 @@ bare_charges [] = refl
 bare_charges (None ∷ ts) = bare_charges ts
 bare_charges (Some x ∷ ts) = ap (λ (hs : List Holding). held_trial x ∷ hs) (bare_charges ts)
 
-pub bare_users : (n : ℕ) (ts : List (Option Trial)) → count_by (λ t. t.module_number == n) (all_held (bare ts)) ≡ count_by (λ t. t.module_number == n) (all_held ts)
+pub bare_users : (n : ℕ) (ts : List (Option Trial))
+    → count_by (λ t. t.module_number == n) (all_held (bare ts)) ≡ count_by (λ t. t.module_number == n) (all_held ts)
 bare_users n ts = from 0 ts
   where
-    from : (k : ℕ) (ts : List (Option Trial)) → fold (λ a t. a + cond (t.module_number == n) 1 0) k (all_held (bare ts)) ≡ fold (λ a t. a + cond (t.module_number == n) 1 0) k (all_held ts)
+    from : (k : ℕ) (ts : List (Option Trial)) → fold (λ a t. a + cond (t.module_number == n) 1 0) k (all_held (bare ts))
+        ≡ fold (λ a t. a + cond (t.module_number == n) 1 0) k (all_held ts)
     from k [] = refl
     from k (None ∷ ts) = from k ts
     from k (Some x ∷ ts) = from (k + cond (x.module_number == n) 1 0) ts

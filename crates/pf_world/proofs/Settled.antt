@@ -49,7 +49,8 @@ module _ (p : RunProfile) where
       → AreFinal (all_calls xs) (replies_along p.profile d (filter_map at_desk xs)) (finals e (all_calls xs))
   final_along d e [] l = tt
   final_along d e (client_calls r c ∷ xs) l =
-      (let m : _ = like_call p.profile d e c l in (m.1, final_along (after_call p.profile d c) (after_call p.profile e c) xs m.0))
+      (let m : _ = like_call p.profile d e c l in
+      (m.1, final_along (after_call p.profile d c) (after_call p.profile e c) xs m.0))
   final_along d e (worker_does w r t k ∷ xs) l =
       subst (λ (rs : List Reply). AreFinal (all_calls xs) rs (finals e (all_calls xs))) (no_reply w r t k d xs) (
       final_along (desk_done p.profile (at_desk (worker_does w r t k)) d) e xs (like_chore p.profile d e w r t k l)
@@ -69,19 +70,24 @@ module _ (p : RunProfile) where
       by true rest = ap (λ (cs : List Call). c ∷ cs) rest
       by false rest = rest
   own_calls q s (worker_does w r t k ∷ xs) =
-      by (is_own q (worker_does w r t k) (take_step p s (worker_does w r t k)).1) (own_calls q (take_step p s (worker_does w r t k)).0 xs)
+      by (is_own q (worker_does w r t k) (take_step p s (worker_does w r t k)).1)
+      (own_calls q (take_step p s (worker_does w r t k)).0 xs)
     where
       own : List WorldStep
       own = own_part q xs (responses p (take_step p s (worker_does w r t k)).0 xs)
 
-      by : (b : Bool) → all_calls own ≡ calls_of q xs → all_calls (if b then worker_does w r t k ∷ own else own) ≡ calls_of q xs
+      by : (b : Bool) → all_calls own ≡ calls_of q xs
+          → all_calls (if b then worker_does w r t k ∷ own else own) ≡ calls_of q xs
       by true rest = rest
       by false rest = rest
 
-  heard_final : (n q : ℕ) (xs : List WorldStep) → AreFinal (calls_of q xs) (heard q xs (all_responses p n xs)) (finals no_desk (calls_of q xs))
+  heard_final : (n q : ℕ) (xs : List WorldStep)
+      → AreFinal (calls_of q xs) (heard q xs (all_responses p n xs)) (finals no_desk (calls_of q xs))
   heard_final n q xs =
-      subst (λ (rs : List Reply). AreFinal (calls_of q xs) rs (finals no_desk (calls_of q xs))) (sym (isolated p n q xs)) (
-      subst (λ (cs : List Call). AreFinal cs (heard_alone p n q xs) (finals no_desk cs)) (own_calls q (new_world n) xs) (
+      subst (λ (rs : List Reply). AreFinal (calls_of q xs) rs (finals no_desk (calls_of q xs)))
+      (sym (isolated p n q xs)) (
+      subst (λ (cs : List Call). AreFinal cs (heard_alone p n q xs) (finals no_desk cs))
+      (own_calls q (new_world n) xs) (
       final_along no_desk no_desk (own_part q xs (all_responses p n xs)) (refl, refl, All-nil _)
       )
       )
@@ -102,6 +108,8 @@ module _ (p : RunProfile) where
 
 pub settled : SettledReplies
 settled p n m q xs ys h =
-    agree p (calls_of q xs) (heard q xs (all_responses p n xs)) (heard q ys (all_responses p m ys)) (finals p no_desk (calls_of q xs)) (heard_final p n q xs) (
-    subst (λ (cs : List Call). AreFinal p cs (heard q ys (all_responses p m ys)) (finals p no_desk cs)) (sym h) (heard_final p m q ys)
+    agree p (calls_of q xs) (heard q xs (all_responses p n xs)) (heard q ys (all_responses p m ys))
+    (finals p no_desk (calls_of q xs)) (heard_final p n q xs) (
+    subst (λ (cs : List Call). AreFinal p cs (heard q ys (all_responses p m ys)) (finals p no_desk cs)) (sym h)
+    (heard_final p m q ys)
     )

@@ -9,10 +9,12 @@ use Rattle.pf_desks.specs.Work.{claim_step, file_step, hand_back_step}
 use Rattle.pf_desks.specs.Desks.{desk_at}
 use Rattle.pf_desks.proofs.Isolated.{pick}
 use Rattle.pf_world.specs.World.{RunProfile, RunProgress, going, over, ClaimedRun, Hand, Deque, World, new_world}
-use Rattle.pf_world.specs.Chores.{Effect, MOST_PARKED, is_run_of, is_going, progress_after, hand_emptied, file_effect, free_effect, busy_effect, chore_effect}
+use Rattle.pf_world.specs.Chores.{Effect, MOST_PARKED, is_run_of, is_going, progress_after, hand_emptied, file_effect}
+use Rattle.pf_world.specs.Chores.{free_effect, busy_effect, chore_effect}
 use Rattle.pf_request.specs.declared.step.Chore.{Chore}
 use Rattle.pf_request.specs.declared.step.Chore.TheVariants.{Claim, Slice, Park, TakeUp, Steal, File, HandBack}
-use Rattle.pf_world.specs.Steps.{WorldStep, client_calls, worker_does, deque_owner, with_deque, with_effect, effect_of, take_step}
+use Rattle.pf_world.specs.Steps.{WorldStep, client_calls, worker_does, deque_owner, with_deque, with_effect, effect_of}
+use Rattle.pf_world.specs.Steps.{take_step}
 use Rattle.pf_world.proofs.Effects.{from_some, where_so, where_claimed, where_from_deque, where_done, all_at}
 
 abbrev pub IsWholeProgress : RunProgress → Type 0
@@ -51,10 +53,13 @@ module _ (p : RunProfile) where
       let both : All IsWhole (r ∷ ks) = All-same IsWhole (r ∷ ks) rs (sym i) all in
       (All-head IsWhole r ks both, All-tail IsWhole r ks both)
 
-  free_whole : (q t : ℕ) (k : Chore) (d : Desk) (rs : Deque) (e : Effect) → free_effect q t k d rs ≡ Some e → All IsWhole rs → IsWholeEffect e
-  free_whole q t Claim d rs e h all = where_claimed IsWholeEffect q t (held_at d.trials t) (claim_step d t) e h (λ x k i j. (tt, tt))
+  free_whole : (q t : ℕ) (k : Chore) (d : Desk) (rs : Deque) (e : Effect) → free_effect q t k d rs ≡ Some e
+      → All IsWhole rs → IsWholeEffect e
+  free_whole q t Claim d rs e h all = where_claimed IsWholeEffect q t (held_at d.trials t) (claim_step d t) e h
+      (λ x k i j. (tt, tt))
   free_whole q t TakeUp d rs e h all = where_from_deque IsWholeEffect q t rs e h (λ r ks i is. both_whole rs r ks i all)
-  free_whole q t (Steal v) d rs e h all = where_from_deque IsWholeEffect q t rs e h (λ r ks i is. both_whole rs r ks i all)
+  free_whole q t (Steal v) d rs e h all = where_from_deque IsWholeEffect q t rs e h
+      (λ r ks i is. both_whole rs r ks i all)
   free_whole q t (Slice n) d rs e h all = absurd (cc)
   free_whole q t Park d rs e h all = absurd (cc)
   free_whole q t File d rs e h all = absurd (cc)
@@ -63,9 +68,11 @@ module _ (p : RunProfile) where
   busy_whole : (t : ℕ) (k : Chore) (d : Desk) (r : ClaimedRun) (rs : Deque) (e : Effect)
       → busy_effect p t k d r rs ≡ Some e → IsWhole r → All IsWhole rs → IsWholeEffect e
   busy_whole t (Slice n) d r rs e h one all =
-      where_so IsWholeEffect (is_going r.progress && nat_lt 0 n) _ e h (λ is. (whole_after n r.job.asked r.progress one, tt))
+      where_so IsWholeEffect (is_going r.progress && nat_lt 0 n) _ e h
+      (λ is. (whole_after n r.job.asked r.progress one, tt))
   busy_whole t Park d r rs e h one all =
-      where_so IsWholeEffect (is_going r.progress && nat_lt (length rs) MOST_PARKED) _ e h (λ is. (tt, All-push IsWhole rs r all one))
+      where_so IsWholeEffect (is_going r.progress && nat_lt (length rs) MOST_PARKED) _ e h
+      (λ is. (tt, All-push IsWhole rs r all one))
   busy_whole t File d r rs e h one all = by r.progress h
     where
       by : (g : RunProgress) → file_effect p t d g ≡ Some e → IsWholeEffect e
@@ -87,7 +94,8 @@ module _ (p : RunProfile) where
 
   -- ---- steps
 
-  whole_with : (v : ℕ) (o : Option Deque) (ks : List Deque) → All (All IsWhole) ks → IsWholeDeck o → All (All IsWhole) (with_deque v o ks)
+  whole_with : (v : ℕ) (o : Option Deque) (ks : List Deque) → All (All IsWhole) ks → IsWholeDeck o
+      → All (All IsWhole) (with_deque v o ks)
   whole_with v (Some rs) ks all new = All-set (All IsWhole) ks v rs new all
   whole_with v None ks all new = all
 

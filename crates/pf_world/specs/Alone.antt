@@ -1,5 +1,6 @@
 -- One project among the others: the steps that belong to it, what it hears, and what it would hear alone.
-use Rattle.std.specs.Prelude.{ℕ, Bool, true, false, ◌==◌, if◌then◌else◌, List, [], ◌∷◌, ◌++◌, filter_map, Option, Some, None}
+use Rattle.std.specs.Prelude.{ℕ, Bool, true, false, ◌==◌, if◌then◌else◌, List, [], ◌∷◌, ◌++◌, filter_map, Option, Some}
+use Rattle.std.specs.Prelude.{None}
 use Rattle.pf_desks.specs.Desk.{no_desk, Reply}
 use Rattle.pf_desks.specs.declared.mark.FileMark.TheVariants.{Whole}
 use Rattle.pf_desks.specs.Work.{claim, file, hand_back}

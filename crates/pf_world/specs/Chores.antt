@@ -1,5 +1,6 @@
 -- The chores of workers: when each can be done, and what it leaves.
-use Rattle.std.specs.Prelude.{ℕ, ◌+◌, Bool, true, false, ◌&&◌, nat_lt, ◌==◌, if◌then◌else◌, [], ◌∷◌, ◌++◌, length, Option, Some, None}
+use Rattle.std.specs.Prelude.{ℕ, ◌+◌, Bool, true, false, ◌&&◌, nat_lt, ◌==◌, if◌then◌else◌, [], ◌∷◌, ◌++◌, length}
+use Rattle.std.specs.Prelude.{Option, Some, None}
 use Rattle.pf_model.specs.Meaning as model
 use Rattle.pf_request.specs.Job.{Job}
 use Rattle.pf_desks.specs.Desk.{Trial, Desk, held_at}
@@ -102,7 +103,8 @@ free_effect q t k d rs = None
 -- back at any time
 abbrev pub busy_effect : RunProfile → (ticket : ℕ) → Chore → Desk → ClaimedRun → Deque → Option Effect
 busy_effect p t (Slice n) d r rs = if is_going r.progress && nat_lt 0 n then Some (in_hand (sliced p n r)) else None
-busy_effect p t Park d r rs = if is_going r.progress && nat_lt (length rs) MOST_PARKED then Some (onto_deque r rs) else None
+busy_effect p t Park d r rs = if is_going r.progress && nat_lt (length rs) MOST_PARKED then
+    Some (onto_deque r rs) else None
 busy_effect p t File d r rs = file_effect p t d r.progress
 busy_effect p t HandBack d r rs = Some (hand_emptied (hand_back_step d t))
 busy_effect p t k d r rs = None

@@ -28,7 +28,8 @@ coded_progress = code_by _ (coded⊎ coded_ℕ coded_ℕ) parts_of_progress prog
 
 abbrev pub coded_claimed_run : Coded ClaimedRun
 coded_claimed_run =
-    code_by _ (coded× coded_ℕ (coded× coded_ℕ (coded× coded_job coded_progress))) (λ r. (r.project, (r.ticket, (r.job, r.progress))))
+    code_by _ (coded× coded_ℕ (coded× coded_ℕ (coded× coded_job coded_progress)))
+    (λ r. (r.project, (r.ticket, (r.job, r.progress))))
     (λ x. record { project = x.0; ticket = x.1.0; job = x.1.1.0; progress = x.1.1.1 }) (λ _. refl)
 
 abbrev pub coded_deque : Coded Deque

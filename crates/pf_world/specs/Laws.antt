@@ -70,4 +70,5 @@ LimitsAmongWorkers =
 
 -- whatever steps there are, no number of a module is given to a project twice, and no ticket
 abbrev pub NumbersAmongWorkers : Type 0
-NumbersAmongWorkers = (p : RunProfile) (n q : ℕ) (xs : List WorldStep) → TellEachOnce (heard q xs (all_responses p n xs))
+NumbersAmongWorkers = (p : RunProfile) (n q : ℕ) (xs : List WorldStep)
+    → TellEachOnce (heard q xs (all_responses p n xs))

@@ -24,4 +24,5 @@ calls_answered q xs ans = []
 abbrev pub HistoriesNoteTheCalls : Type 0
 HistoriesNoteTheCalls =
     (p : RunProfile) (n q : ℕ) (xs : List WorldStep) (ans : List (Option Response)) (s : World)
-    → RespondsInTurn p (new_world n) xs ans s → calls_noted (desk_at q s.desks).history ≡ take MOST_CALLS (calls_answered q xs ans)
+    → RespondsInTurn p (new_world n) xs ans s
+    → calls_noted (desk_at q s.desks).history ≡ take MOST_CALLS (calls_answered q xs ans)

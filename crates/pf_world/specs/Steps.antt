@@ -1,5 +1,6 @@
 -- The steps of a world: what clients and workers do, one after the other, and what is answered.
-use Rattle.std.specs.Prelude.{ℕ, Bool, false, ◌==◌, if◌then◌else◌, List, [], ◌∷◌, Option, Some, None, slice_get, slice_set}
+use Rattle.std.specs.Prelude.{ℕ, Bool, false, ◌==◌, if◌then◌else◌, List, [], ◌∷◌, Option, Some, None, slice_get}
+use Rattle.std.specs.Prelude.{slice_set}
 use Rattle.pf_request.specs.Calls.{Call}
 use Rattle.pf_desks.specs.Desks.{Desks, Answer, not_now, client, desk_at, worked, step}
 use Rattle.pf_world.specs.World.{RunProfile, Hand, Deque, World, new_world}
@@ -43,8 +44,15 @@ with_deque v None ks = ks
 
 -- the world after a worker's chore; a chore that can't be done leaves all as it was
 abbrev pub with_effect : World → (worker owner project : ℕ) → Option Effect → World × Response
-with_effect s w v q (Some e) =
-    (record { desks = (worked q s.desks e.desk).0; hands = slice_set s.hands w e.hand; deques = with_deque v e.deque s.deques }, e.response)
+with_effect s w v q (Some e) = (
+  record {
+    desks = (worked q s.desks e.desk).0;
+    hands = slice_set s.hands w e.hand;
+    deques =
+        with_deque v e.deque s.deques;
+  },
+  e.response,
+)
 with_effect s w v q None = (s, answer not_now)
 
 -- ---- steps

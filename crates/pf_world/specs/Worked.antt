@@ -22,7 +22,11 @@ use Rattle.pf_world.specs.Told.{step_text}
 -- a profile by which each source is one module, and each job has this many events and means what this says
 abbrev pub simple : (events : ℕ) → (model.Job → Result) → RunProfile
 simple n means = record {
-  profile = record { reading = λ text. readable sum_and_product; property = λ atoms text. Some returns; meaning = means };
+  profile = record {
+    reading = λ text. readable sum_and_product;
+    property = λ atoms text. Some returns;
+    meaning = means;
+  };
   events = λ j. n;
 }
 
@@ -165,7 +169,8 @@ growths_refused =
 -- a deque has room for a run if 63 are on it, and none if 64 are
 abbrev pub HasItsRoom : RunProfile → Desk → ClaimedRun → Type 0
 HasItsRoom p d r =
-    IsSome (busy_effect p r.ticket Park d r (replicate 63 r)) × (busy_effect p r.ticket Park d r (replicate 64 r) ≡ None)
+    IsSome (busy_effect p r.ticket Park d r (replicate 63 r))
+    × (busy_effect p r.ticket Park d r (replicate 64 r) ≡ None)
 
 -- whatever jobs mean, these lists are answered so, with one event to a job, or with five
 abbrev pub WorkedSteps : Type 0
@@ -175,7 +180,8 @@ WorkedSteps =
     × AreAnswered (simple 1 means) (stolen means)
     × AreAnswered (simple 5 means) (in_slices means)
     × AreAnswered (simple 1 means) (one_by_one means)
-    × ((s : World) × RespondsInTurn (simple 1 means) (new_world 4) (map (λ x. x.0) growths_refused) (map (λ x. x.1) growths_refused) s)
+    × ((s : World) × RespondsInTurn (simple 1 means) (new_world 4) (map (λ x. x.0) growths_refused)
+    (map (λ x. x.1) growths_refused) s)
     × ((d : Desk) (j : Job) → HasItsRoom (simple 1 means) d (new_run 1 1 j))
 
 -- ---- texts

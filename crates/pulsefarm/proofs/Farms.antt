@@ -13,13 +13,17 @@ of_fault (Ok s) given is h = absurd cc
 of_fault (Err e) given is h = h
 
 -- a farm of so many files that a fault ended is done, with a status of what fails
-pub ended_by : (inputs : List (Option (List ℕ))) (n : ℕ) (w0 w1 : Option (List ℕ)) (n0 n1 : ℕ) (r : End) (e : OrNoMemory StreamFault) → length inputs ≡ n
+pub ended_by : (inputs : List (Option (List ℕ))) (n : ℕ) (w0 w1 : Option (List ℕ)) (n0 n1 : ℕ) (r : End)
+    (e : OrNoMemory StreamFault) → length inputs ≡ n
     → r ≡ Err e → FarmEnds inputs w0 w1 n0 n1 r → (given : ℕ) → IsFailure given → FarmIsDone n w0 w1 n0 n1 given
-ended_by inputs n w0 w1 n0 n1 r e same is ends given fails = inr (inputs, Err e, same, subst (FarmEnds inputs w0 w1 n0 n1) is ends, fails)
+ended_by inputs n w0 w1 n0 n1 r e same is ends given fails =
+    inr (inputs, Err e, same, subst (FarmEnds inputs w0 w1 n0 n1) is ends, fails)
 
 -- one that is done from where nothing had gone out is done from the beginning
-pub from_beginning : (m n : ℕ) (w w0 w1 : Option (List ℕ)) (k n0 n1 given : ℕ) → m ≡ n → w ≡ w0 → k ≡ n0 → FarmIsDone m w w1 k n1 given
+pub from_beginning : (m n : ℕ) (w w0 w1 : Option (List ℕ)) (k n0 n1 given : ℕ) → m ≡ n → w ≡ w0 → k ≡ n0
+    → FarmIsDone m w w1 k n1 given
     → FarmIsDone n w0 w1 n0 n1 given
 from_beginning m n w w0 w1 k n0 n1 given files written failed done =
     subst (λ i. FarmIsDone i w0 w1 n0 n1 given) files
-    (subst (λ i. FarmIsDone m w0 w1 i n1 given) failed (subst (λ (x : Option (List ℕ)). FarmIsDone m x w1 k n1 given) written done))
+    (subst (λ i. FarmIsDone m w0 w1 i n1 given) failed
+    (subst (λ (x : Option (List ℕ)). FarmIsDone m x w1 k n1 given) written done))

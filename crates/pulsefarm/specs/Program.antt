@@ -13,19 +13,23 @@ use Rattle.pulsefarm.specs.Words.{words_of}
 
 -- a farm over these inputs ended: what its clients were answered went out; or a stream failed or memory ran out, before
 -- the farm began or after
-abbrev pub FarmEnds : List (Option (List ℕ)) → (written_old written_new : Option (List ℕ)) → (failed_old failed_new : ℕ) → End → Type 0
+abbrev pub FarmEnds : List (Option (List ℕ)) → (written_old written_new : Option (List ℕ))
+    → (failed_old failed_new : ℕ) → End → Type 0
 FarmEnds inputs w0 w1 n0 n1 (Ok status) = FarmPrints inputs status w0 w1 × (n1 ≡ n0)
 FarmEnds inputs w0 w1 n0 n1 (Err e) = ((w1 ≡ w0) × (n1 ≡ n0)) ⊎ FarmLeaves inputs e w0 w1 n0 n1
 
 -- a farm of so many files was run, and the program has the status of its end; or it wasn't begun, which is a failure,
 -- and nothing went out
-abbrev pub FarmIsDone : (files : ℕ) → (written_old written_new : Option (List ℕ)) → (failed_old failed_new : ℕ) → ℕ → Type 0
+abbrev pub FarmIsDone : (files : ℕ) → (written_old written_new : Option (List ℕ))
+    → (failed_old failed_new : ℕ) → ℕ → Type 0
 FarmIsDone n w0 w1 n0 n1 given =
     ((w1 ≡ w0) × (n1 ≡ n0) × IsFailure given)
-    ⊎ ((inputs : List (Option (List ℕ))) × (end : End) × (length inputs ≡ n) × FarmEnds inputs w0 w1 n0 n1 end × HasStatus end given)
+    ⊎ ((inputs : List (Option (List ℕ))) × (end : End) × (length inputs ≡ n) × FarmEnds inputs w0 w1 n0 n1 end
+    × HasStatus end given)
 
 -- it is done, whatever status this end of it has
-abbrev pub FarmAnswers : (files : ℕ) → (written_old written_new : Option (List ℕ)) → (failed_old failed_new : ℕ) → End → Type 0
+abbrev pub FarmAnswers : (files : ℕ) → (written_old written_new : Option (List ℕ))
+    → (failed_old failed_new : ℕ) → End → Type 0
 FarmAnswers n w0 w1 n0 n1 end = (given : ℕ) → HasStatus end given → FarmIsDone n w0 w1 n0 n1 given
 
 -- ---- words

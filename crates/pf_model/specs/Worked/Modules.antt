@@ -4,8 +4,11 @@ use Rattle.pf_terms.specs.Value.{int, atom, list, none, more}
 use Rattle.pf_terms.specs.Atoms.{fixed_names}
 use Rattle.pf_syntax.specs.Pattern.{Patterns, any, new, slot, known, tuple_of, no_patterns, pattern}
 use Rattle.pf_syntax.specs.Tree as b
-use Rattle.pf_syntax.specs.Tree.{Tree, Guard, Function, FunctionClause, lit, var, tuple, cons, op, neg, and_also, call, builtin, bind, case, if_expression, receive, send, no_trees, tree, no_clauses, clause, no_alternatives, alternative, no_guard}
-use Rattle.pf_syntax.specs.declared.operator.Operator.TheVariants.{Plus, Minus, Times, Quotient, Remainder, Append, Equal, Greater}
+use Rattle.pf_syntax.specs.Tree.{Tree, Guard, Function, FunctionClause, lit, var, tuple, cons, op, neg, and_also, call}
+use Rattle.pf_syntax.specs.Tree.{builtin, bind, case, if_expression, receive, send, no_trees, tree, no_clauses, clause}
+use Rattle.pf_syntax.specs.Tree.{no_alternatives, alternative, no_guard}
+use Rattle.pf_syntax.specs.declared.operator.Operator.TheVariants.{Plus, Minus, Times, Quotient, Remainder, Append}
+use Rattle.pf_syntax.specs.declared.operator.Operator.TheVariants.{Equal, Greater}
 use Rattle.pf_model.specs.Module.{Module}
 use Rattle.pf_syntax.specs.declared.operator.Builtin.TheVariants as builtins
 
@@ -676,9 +679,12 @@ spawned_watched =
       functions =
           of_function 22 0 true (
           of_clause no_patterns no_guard
-          (bind (pattern (tuple_of (pattern new (pattern new no_patterns))) no_patterns) (builtin builtins.SpawnMonitor (tree (lit (atom 21))
-          (tree (lit (atom 23)) (tree (lit (list none)) no_trees)))) (receive (clause (tuple_of (pattern (known (atom 9)) (pattern (slot 1)
-          (pattern (known (atom 7)) (pattern (slot 0) (pattern new no_patterns)))))) no_guard (var 2) no_clauses))) ∷ [])
+          (bind (pattern (tuple_of (pattern new (pattern new no_patterns))) no_patterns)
+          (builtin builtins.SpawnMonitor (tree (lit (atom 21))
+          (tree (lit (atom 23)) (tree (lit (list none)) no_trees))))
+          (receive (clause (tuple_of (pattern (known (atom 9)) (pattern (slot 1)
+          (pattern (known (atom 7)) (pattern (slot 0) (pattern new no_patterns)))))) no_guard (var 2) no_clauses)))
+          ∷ [])
           ∷ of_function 23 0 true (
           of_clause no_patterns no_guard
           (builtin builtins.Exit (tree (lit (atom 24)) no_trees)) ∷ [])
@@ -700,16 +706,23 @@ abbrev pub watched_until : Tree → Module
 watched_until ends =
     record {
       name = 21;
-      atoms = fixed_names ++ codes "module" ∷ codes "m" ∷ codes "main" ∷ codes "w" ∷ codes "kid" ∷ codes "two" ∷ codes "x" ∷ codes "ok"
+      atoms = fixed_names ++ codes "module" ∷ codes "m" ∷ codes "main" ∷ codes "w" ∷ codes "kid" ∷ codes "two"
+          ∷ codes "x" ∷ codes "ok"
           ∷ codes "z" ∷ [];
       functions =
           of_function 22 0 true (
           of_clause no_patterns no_guard
-          (bind no_patterns (send (builtin builtins.SelfPid no_trees) (lit (atom 23))) (bind (pattern (tuple_of (pattern any (pattern new no_patterns)))
-          no_patterns) (builtin builtins.SpawnMonitor (tree (lit (atom 21)) (tree (lit (atom 24)) (tree (lit (list none)) no_trees)))) (bind
-          no_patterns (builtin builtins.Spawn (tree (lit (atom 21)) (tree (lit (atom 25)) (tree (cons (builtin builtins.SelfPid no_trees) (lit (list none)))
-          no_trees)))) (bind no_patterns (receive (clause (known (atom 26)) no_guard (lit (atom 27)) no_clauses)) (bind no_patterns ends
-          (receive (clause (known (atom 23)) no_guard (receive (clause new no_guard (var 1) no_clauses)) no_clauses))))))) ∷ [])
+          (bind no_patterns (send (builtin builtins.SelfPid no_trees) (lit (atom 23)))
+          (bind (pattern (tuple_of (pattern any (pattern new no_patterns)))
+          no_patterns) (builtin builtins.SpawnMonitor
+          (tree (lit (atom 21)) (tree (lit (atom 24)) (tree (lit (list none)) no_trees)))) (bind
+          no_patterns (builtin builtins.Spawn
+          (tree (lit (atom 21)) (tree (lit (atom 25))
+          (tree (cons (builtin builtins.SelfPid no_trees) (lit (list none)))
+          no_trees)))) (bind no_patterns (receive (clause (known (atom 26)) no_guard (lit (atom 27)) no_clauses))
+          (bind no_patterns ends
+          (receive (clause (known (atom 23)) no_guard (receive (clause new no_guard (var 1) no_clauses))
+          no_clauses))))))) ∷ [])
           ∷ of_function 24 0 true (
           of_clause no_patterns no_guard
           (lit (atom 27)) ∷ [])

@@ -21,7 +21,8 @@ impl ClauseWalk {
         own: &Signatures,
     ) -> Result<(), NoMemory>
         requires { ListsFunctions own.now syntax.now.functions }
-        ensures { OnOk result (BeginsAnew self.old self.new (flat_map (flat_map (head_faults (names_of_module atoms.now syntax.now.functions))) syntax.now.functions)) }
+        ensures { OnOk result (BeginsAnew self.old self.new
+            (flat_map (flat_map (head_faults (names_of_module atoms.now syntax.now.functions))) syntax.now.functions)) }
     {
         for function in syntax.functions() {
             self.heads(syntax, atoms, own, &function.heads)?;
@@ -38,7 +39,9 @@ impl ClauseWalk {
         heads: &[Head],
     ) -> Result<(), NoMemory>
         requires { ListsFunctions own.now syntax.now.functions }
-        ensures { OnOk result (BeginsAnew self.old self.new (flat_map (head_faults (names_of_module atoms.now syntax.now.functions)) (map (head_over syntax.now.node_table) heads.now))) }
+        ensures { OnOk result (BeginsAnew self.old self.new
+            (flat_map (head_faults (names_of_module atoms.now syntax.now.functions))
+            (map (head_over syntax.now.node_table) heads.now))) }
     {
         for head in heads {
             self.head(syntax, atoms, own, head)?;
@@ -55,7 +58,8 @@ impl ClauseWalk {
         head: &Head,
     ) -> Result<(), NoMemory>
         requires { ListsFunctions own.now syntax.now.functions }
-        ensures { OnOk result (BeginsAnew self.old self.new (head_faults (names_of_module atoms.now syntax.now.functions) (head_over syntax.now.node_table head.now))) }
+        ensures { OnOk result (BeginsAnew self.old self.new
+            (head_faults (names_of_module atoms.now syntax.now.functions) (head_over syntax.now.node_table head.now))) }
     {
         let start = self.variables.trail_len();
         self.expr_patterns(syntax, &head.parameters)?;

@@ -59,7 +59,8 @@ impl ClauseWalk {
         syntax: &SyntaxTree,
         parts: &[ExprPatternId],
     ) -> Result<(), NoMemory>
-        ensures { OnOk result (ExprPatternsWalked self.old self.new (expr_patterns_at syntax.now.node_table parts.now)) }
+        ensures { OnOk result (ExprPatternsWalked self.old self.new
+            (expr_patterns_at syntax.now.node_table parts.now)) }
     {
         for part in parts {
             self.expr_pattern(syntax, *part)?;

@@ -16,4 +16,5 @@ pub returns-in-None : goal.returns-in-None
 returns-in-None c =
     let es = c.args.desks.now.entries in
     let q = c.args.project in
-    no_claim q es c.args.ticket no_desk (no_desk_at q es es (sym c.in-None.ensures.index) refl) (none_queued c.args.ticket) es refl
+    no_claim q es c.args.ticket no_desk (no_desk_at q es es (sym c.in-None.ensures.index) refl)
+    (none_queued c.args.ticket) es refl

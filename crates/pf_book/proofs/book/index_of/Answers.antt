@@ -12,6 +12,8 @@ returns-then-key-project-clause-index c =
     let es = c.args.desks.now.entries in
     let k = c.in-Some.key.now in
     let d = c.in-Some.field-0-1.now in
-    let at : slice_get es c.args.last ≡ Some (k, d) = ap (λ (l : Desks). slice_get l c.args.last) (sym c.as_slice.ensures.entries) ∙ sym c.in-Some.ensures.entry in
+    let at : slice_get es c.args.last ≡ Some (k, d) = ap (λ (l : Desks). slice_get l c.args.last)
+    (sym c.as_slice.ensures.entries) ∙ sym c.in-Some.ensures.entry in
     let first = own_first nat_eq nat_eq_equiv es c.args.last k d c.as_slice.ensures.unique at in
-    subst (λ (q : ℕ). Some c.args.last ≡ position (nat_eq q) (keys_of es)) c.if-key-project.true (sym (index-first (nat_eq k) es c.args.last first))
+    subst (λ (q : ℕ). Some c.args.last ≡ position (nat_eq q) (keys_of es)) c.if-key-project.true
+    (sym (index-first (nat_eq k) es c.args.last first))

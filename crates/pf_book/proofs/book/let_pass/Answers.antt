@@ -22,9 +22,11 @@ loop-project-preserved c =
     let k' : TrialQueue = record { waiting = c.pop_front.new.self; running = k.running } in
     let front = c.in-Some.ensures.item in
     let items : k.waiting.items ≡ (q, t) ∷ k'.waiting.items =
-    front_is k.waiting.items (q, t) front.3.0 front.1 ∙ ap (λ (l : List (ℕ × ℕ)). (q, t) ∷ l) (sym c.pop_front.ensures.rest) in
+    front_is k.waiting.items (q, t) front.3.0 front.1 ∙ ap (λ (l : List (ℕ × ℕ)). (q, t) ∷ l)
+    (sym c.pop_front.ensures.rest) in
     let all = c.loop-project.invariant.waits in
     let room : HoldsRoom k' 0 = omega (arith, all.room, c.pop_front.ensures.len, c.pop_front.ensures.capacity) in
     let none : job_at (desk_at q w).trials t ≡ None =
-    sym c.queued_in.ensures ∙ none_there (λ j. j.now.value) c.queued_in.result (sym c.is_some.ensures ∙ c.if-is_some.false) in
+    sym c.queued_in.ensures ∙ none_there (λ j. j.now.value) c.queued_in.result
+    (sym c.is_some.ensures ∙ c.if-is_some.false) in
     record { waits = first_passed q t k k' w items refl room (none_waiting (desk_at q w).trials t none) all }

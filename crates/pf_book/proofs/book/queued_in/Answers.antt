@@ -14,5 +14,6 @@ pub returns : goal.returns
 returns c =
     let es = c.args.desks.now.entries in
     let q = c.args.project in
-    let at = desk_at_index q es es c.in_ok-index.index c.index.result.now (sym c.in_ok-index.ensures.index) c.index.ensures refl in
+    let at = desk_at_index q es es c.in_ok-index.index c.index.result.now (sym c.in_ok-index.ensures.index)
+    c.index.ensures refl in
     c.queued.ensures ∙ ap (λ (k : Desk). job_at k.trials c.args.ticket) (sym at.here)

@@ -26,6 +26,8 @@ returns-in-Err-Fault-clause-asked c =
     let e = c.args.edition in
     let r = view_of_request c.args.order.now.request in
     let found : held_at c.args.modules.now c.args.order.now.module ≡ Some m = search rules in
-    let asks : Asks m e r (Err (job.code_of c.in-Err-Fault.refusal)) = subst (IsRefusal (Asks m e r)) c.in-Err-Fault.field-0-is c.in-Err-Fault.ensures in
+    let asks : Asks m e r (Err (job.code_of c.in-Err-Fault.refusal)) =
+    subst (IsRefusal (Asks m e r)) c.in-Err-Fault.field-0-is c.in-Err-Fault.ensures in
     let same : code_of c.from.result ≡ job.code_of c.in-Err-Fault.refusal = search rules in
-    subst (λ (x : Code). OrderAsksFor e c.args.modules.now c.args.order.now (Err x)) (sym same) (order_asks e c.args.modules.now c.args.order.now m _ found asks)
+    subst (λ (x : Code). OrderAsksFor e c.args.modules.now c.args.order.now (Err x)) (sym same)
+    (order_asks e c.args.modules.now c.args.order.now m _ found asks)

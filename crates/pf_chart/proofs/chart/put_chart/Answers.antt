@@ -7,5 +7,6 @@ pub returns-clause-put : goal.returns-clause-put
 returns-clause-put c =
     let before = c.args.out.now.items in
     on_ok_weaker c.put.result
-    (λ e. moved before c.put.new.out.items c.new-svg.ensures (e ∙ ap (λ (t : List ℕ). before ++ t) c.as_bytes.ensures) c.in_ok-put_document.ensures)
+    (λ e. moved before c.put.new.out.items c.new-svg.ensures (e ∙ ap (λ (t : List ℕ). before ++ t) c.as_bytes.ensures)
+    c.in_ok-put_document.ensures)
     c.put.ensures.ok

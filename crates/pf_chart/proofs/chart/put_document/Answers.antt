@@ -36,25 +36,34 @@ returns c =
     let laid = c.in_ok-layout.ensures.laid in
     let sheet = c.new-sheet.result in
     let with_rows : map told all.items ≡ filter (has_row compact) report.events =
-    c.in_ok-all_rows.ensures.events ∙ ap (λ es. filter (has_row compact) (map view_of_event es)) c.deref.ensures.value in
+    c.in_ok-all_rows.ensures.events ∙ ap (λ es. filter (has_row compact) (map view_of_event es))
+    c.deref.ensures.value in
     let are : map told rows ≡ shown_events manner report =
-    ap (map told) (c.page_of-rows.ensures ∙ ap (page_of manner.page) c.deref-2.ensures.value) ∙ paged manner.page all.items ∙ ap (page_of manner.page) with_rows in
-    let processes : c.len-processes.result ≡ length (map process_of columns) = omega (arith, c.len-processes.ensures, layout.columns.ok.0, length-map columns process_of) in
+    ap (map told) (c.page_of-rows.ensures ∙ ap (page_of manner.page) c.deref-2.ensures.value)
+    ∙ paged manner.page all.items ∙ ap (page_of manner.page) with_rows in
+    let processes : c.len-processes.result ≡ length (map process_of columns) =
+    omega (arith, c.len-processes.ensures, layout.columns.ok.0, length-map columns process_of) in
     let places : map (λ (r : EventRow). r.index) sheet.rows.now ≡ rows_from compact 0 report.events =
-    ap (map (λ (r : EventRow). r.index)) (c.new-sheet.ensures.rows ∙ c.deref-3.ensures.value) ∙ c.in_ok-all_rows.ensures.places
+    ap (map (λ (r : EventRow). r.index)) (c.new-sheet.ensures.rows ∙ c.deref-3.ensures.value)
+    ∙ c.in_ok-all_rows.ensures.places
     ∙ ap (λ es. rows_from compact 0 (map view_of_event es)) c.deref.ensures.value in
     let size : c.len.result ≡ length all.items = omega (arith, c.len.ensures, all.ok.0) in
     let above : sheet.above ≡ first_row manner.page (length (filter (has_row compact) report.events)) =
-    c.new-sheet.ensures.above ∙ c.first_row-above.ensures.first ∙ ap (first_row manner.page) (size ∙ sym (length_told all.items) ∙ ap length with_rows) in
+    c.new-sheet.ensures.above ∙ c.first_row-above.ensures.first ∙ ap (first_row manner.page)
+    (size ∙ sym (length_told all.items) ∙ ap length with_rows) in
     let page = page_is sheet (pitch_of (length (map process_of columns))) (rows_from compact 0 report.events)
     (first_row manner.page (length (filter (has_row compact) report.events))) (length (shown_events manner report))
-    (c.new-sheet.ensures.pitch ∙ ap pitch_of processes) places above (c.new-sheet.ensures.count ∙ sym (length_told rows) ∙ ap length are) in
-    let before = grown_on (grows_by _ _ _ c.in_ok-open.ensures) (grown_on (drawn_grows _ _ _ c.in_ok-put_words.ensures) (drawn_grows _ _ _ c.in_ok-put.ensures)) in
+    (c.new-sheet.ensures.pitch ∙ ap pitch_of processes) places above (c.new-sheet.ensures.count ∙ sym (length_told rows)
+    ∙ ap length are) in
+    let before = grown_on (grows_by _ _ _ c.in_ok-open.ensures)
+    (grown_on (drawn_grows _ _ _ c.in_ok-put_words.ensures) (drawn_grows _ _ _ c.in_ok-put.ensures)) in
     let drawn = page_drawn manner report (length (map process_of columns)) in
-    let lines = lines_of (page_in sheet) drawn (length columns) (length (map process_of columns)) layout.traffic.arrows.items layout.traffic.arrows.items _ _
+    let lines = lines_of (page_in sheet) drawn (length columns) (length (map process_of columns))
+    layout.traffic.arrows.items layout.traffic.arrows.items _ _
     page (sym (length-map columns process_of)) refl c.in_ok-put_layout.ensures.lines in
     on_ok_weaker c.close.result
-    (λ h. chart_of (name_of c.args.atoms.now) c.args.names.root.now (texts c.args.names.known.now) manner c.args.report.now columns rows sheet.count
+    (λ h. chart_of (name_of c.args.atoms.now) c.args.names.root.now (texts c.args.names.known.now) manner
+    c.args.report.now columns rows sheet.count
     c.deref-4.result.now c.deref-5.result.now c.width.result c.height.result
     (record { all = c.in_ok-layout.ensures.processes; by_pid = laid.by_pid })
     (record {
@@ -68,5 +77,6 @@ returns c =
     are c.new-sheet.ensures.count
     (c.deref-4.ensures.value ∙ c.in_ok-outcome.ensures) (c.deref-5.ensures.value ∙ c.in_ok-outcome.ensures)
     c.in_ok-open.ensures
-    (in_turn (plainly c.in_ok-put_words.ensures c.in_ok-put.ensures) (in_turn c.in_ok-put_layout.ensures.drawn c.in_ok-put_bottom.ensures)) h)
+    (in_turn (plainly c.in_ok-put_words.ensures c.in_ok-put.ensures)
+    (in_turn c.in_ok-put_layout.ensures.drawn c.in_ok-put_bottom.ensures)) h)
     c.close.ensures

@@ -7,4 +7,5 @@ pub put-requires-clause-whole : goal.put-requires-clause-whole
 put-requires-clause-whole c = λ os. refl
 
 pub returns : goal.returns
-returns c = on_ok_weaker c.end_line.result (λ h. in_turn c.in_ok-put.ensures (in_turn c.in_ok-rect.ensures h)) c.end_line.ensures
+returns c = on_ok_weaker c.end_line.result (λ h. in_turn c.in_ok-put.ensures (in_turn c.in_ok-rect.ensures h))
+    c.end_line.ensures

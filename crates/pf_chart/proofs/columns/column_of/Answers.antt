@@ -13,7 +13,8 @@ returns c =
     let facts = c.binary_search_by_key.ensures in
     let searched = facts.position (λ (k : Column). k.pid) (answers_always _ _ _ (λ f a r s called. search rules)) in
     record {
-      found = subst (λ o. IfSome o (λ i. (i < length xs) × HoldsAt (λ (k : Column). k.pid ≡ p) xs i)) (sym c.ok.ensures.value)
+      found = subst (λ o. IfSome o (λ i. (i < length xs) × HoldsAt (λ (k : Column). k.pid ≡ p) xs i))
+          (sym c.ok.ensures.value)
           (found_pid xs p c.binary_search_by_key.result facts.bound searched);
       missing = λ none. lacks_pid xs p c.binary_search_by_key.result searched (sym c.ok.ensures.value ∙ none);
     }

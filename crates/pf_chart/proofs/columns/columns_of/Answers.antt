@@ -18,5 +18,6 @@ returns c =
           (subst (λ ps. IsPermutation ps (map process_of sorted)) spawned
           (IsPermutation-map process_of _ _ c.sort_unstable_by_key.ensures.permutation));
       by_pid = subst (λ ps. IsNonDecreasingBy (λ (p : Process). p.pid) ps) (sym c.mark_outcome.ensures)
-          (told_by_pid sorted (IsNonDecreasingBy-from_sort_by_key (λ (k : Column). k.pid) sorted c.sort_unstable_by_key.ensures.sorted (λ a r f' called. search rules)));
+          (told_by_pid sorted (IsNonDecreasingBy-from_sort_by_key (λ (k : Column). k.pid) sorted
+          c.sort_unstable_by_key.ensures.sorted (λ a r f' called. search rules)));
     }

@@ -9,5 +9,7 @@ use Rattle.pf_chart.proofs.events.put_event.Goals as goal
 
 pub returns : goal.returns
 returns c =
-    let text : c.deref.result.now ≡ label_text (name_of c.args.atoms.now) (label_of c.args.row.now.event.now.label) = search rules in
-    on_ok_weaker c.put_mark.result (λ h. renamed (ap twice text) (grouped c.in_ok-put_opening.ensures h)) c.put_mark.ensures
+    let text : c.deref.result.now ≡ label_text (name_of c.args.atoms.now) (label_of c.args.row.now.event.now.label) =
+    search rules in
+    on_ok_weaker c.put_mark.result (λ h. renamed (ap twice text) (grouped c.in_ok-put_opening.ensures h))
+    c.put_mark.ensures

@@ -13,9 +13,11 @@ loop-place-preserved c =
     let row = c.index-rows-place.result in
     let read : row ≡ get_or c.args.rows.now c.loop-place.place row = search rules in
     renamed
-    (grown_by (λ row. event_labels (name_of c.args.atoms.now) (view_of_event row.event.now)) c.args.rows.now c.loop-place.place row c.loop-place-test.true read)
+    (grown_by (λ row. event_labels (name_of c.args.atoms.now) (view_of_event row.event.now)) c.args.rows.now
+    c.loop-place.place row c.loop-place-test.true read)
     (in_turn c.loop-place.invariant c.in_ok-put_event.ensures)
 
 pub returns : goal.returns
 returns c =
-    to_end (λ row. event_labels (name_of c.args.atoms.now) (view_of_event row.event.now)) c.args.rows.now c.loop-place.place c.loop-place-test.false c.loop-place.invariant
+    to_end (λ row. event_labels (name_of c.args.atoms.now) (view_of_event row.event.now)) c.args.rows.now
+    c.loop-place.place c.loop-place-test.false c.loop-place.invariant

@@ -9,4 +9,5 @@ put-requires-clause-whole c = λ os. refl
 pub returns : goal.returns
 returns c =
     on_ok_weaker c.close_group.result
-    (λ h. to_close (in_turn (plainly c.in_ok-title.ensures c.in_ok-path.ensures) c.in_ok-put.ensures) h) c.close_group.ensures
+    (λ h. to_close (in_turn (plainly c.in_ok-title.ensures c.in_ok-path.ensures) c.in_ok-put.ensures) h)
+    c.close_group.ensures

@@ -11,8 +11,10 @@ pub loop-place-preserved : goal.loop-place-preserved
 loop-place-preserved c =
     let row = c.index-rows-place.result in
     let read : row ≡ get_or c.args.rows.now c.loop-place.place row = search rules in
-    renamed (grown_by (λ row. choice_labels (view_of_event row.event.now)) c.args.rows.now c.loop-place.place row c.loop-place-test.true read)
+    renamed (grown_by (λ row. choice_labels (view_of_event row.event.now)) c.args.rows.now c.loop-place.place row
+    c.loop-place-test.true read)
     (in_turn c.loop-place.invariant c.in_ok-put_number_of.ensures)
 
 pub returns : goal.returns
-returns c = to_end (λ row. choice_labels (view_of_event row.event.now)) c.args.rows.now c.loop-place.place c.loop-place-test.false c.loop-place.invariant
+returns c = to_end (λ row. choice_labels (view_of_event row.event.now)) c.args.rows.now c.loop-place.place
+    c.loop-place-test.false c.loop-place.invariant

@@ -8,8 +8,10 @@ loop-index-init c = nothing _
 
 pub loop-index-preserved : goal.loop-index-preserved
 loop-index-preserved c =
-    renamed (grown (λ column. process_labels c.args.sheet.count c.args.names.root.now (texts c.args.names.known.now) (process_of column)) c.args.columns.now c.loop-index.index _ c.loop-index-test.true)
+    renamed (grown (λ column. process_labels c.args.sheet.count c.args.names.root.now (texts c.args.names.known.now)
+    (process_of column)) c.args.columns.now c.loop-index.index _ c.loop-index-test.true)
     (in_turn c.loop-index.invariant c.in_ok-put_column.ensures)
 
 pub returns : goal.returns
-returns c = to_end (λ column. process_labels c.args.sheet.count c.args.names.root.now (texts c.args.names.known.now) (process_of column)) c.args.columns.now c.loop-index.index c.loop-index-test.false c.loop-index.invariant
+returns c = to_end (λ column. process_labels c.args.sheet.count c.args.names.root.now (texts c.args.names.known.now)
+    (process_of column)) c.args.columns.now c.loop-index.index c.loop-index-test.false c.loop-index.invariant

@@ -8,4 +8,5 @@ use Rattle.pf_chart.proofs.heads.put_columns.Given as goal
 -- the labels of the columns so far are drawn
 abbrev pub invariant-loop-index : goal.invariant-loop-index
 invariant-loop-index l =
-    DrawsInChart (flat_map (λ c. process_labels l.sheet.count l.names.root.now (texts l.names.known.now) (process_of c)) (take l.index l.columns)) l.fn.svg l.svg
+    DrawsInChart (flat_map (λ c. process_labels l.sheet.count l.names.root.now (texts l.names.known.now) (process_of c))
+    (take l.index l.columns)) l.fn.svg l.svg

@@ -16,4 +16,5 @@ loop-index-preserved c =
 pub returns : goal.returns
 returns c =
     let all : c.loop-index.index ≡ c.head_rows-index-end.result = omega arith in
-    renamed (ap (λ (k : ℕ). copies k (labels_of_origin c.args.origin)) (all ∙ c.head_rows-index-end.ensures)) c.loop-index.invariant
+    renamed (ap (λ (k : ℕ). copies k (labels_of_origin c.args.origin)) (all ∙ c.head_rows-index-end.ensures))
+    c.loop-index.invariant

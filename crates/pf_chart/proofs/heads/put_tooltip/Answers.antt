@@ -5,10 +5,13 @@ use Rattle.pf_svg.proofs.Drawn.{renamed}
 use Rattle.pf_chart.proofs.heads.put_tooltip.Goals as goal
 
 pub returns-in-Root : goal.returns-in-Root
-returns-in-Root c = on_ok_weaker c.title.result (λ h. renamed (ap labels_of_origin (sym c.in-Root.is)) h) c.title.ensures
+returns-in-Root c = on_ok_weaker c.title.result (λ h. renamed (ap labels_of_origin (sym c.in-Root.is)) h)
+    c.title.ensures
 
 pub returns-in-Named : goal.returns-in-Named
-returns-in-Named c = on_ok_weaker c.title-in-Named.result (λ h. renamed (ap labels_of_origin (sym c.in-Named.is)) h) c.title-in-Named.ensures
+returns-in-Named c = on_ok_weaker c.title-in-Named.result (λ h. renamed (ap labels_of_origin (sym c.in-Named.is)) h)
+    c.title-in-Named.ensures
 
 pub returns-in-Unnamed : goal.returns-in-Unnamed
-returns-in-Unnamed c = on_ok_weaker c.title-in-Unnamed.result (λ h. renamed (ap labels_of_origin (sym c.in-Unnamed.is)) h) c.title-in-Unnamed.ensures
+returns-in-Unnamed c = on_ok_weaker c.title-in-Unnamed.result
+    (λ h. renamed (ap labels_of_origin (sym c.in-Unnamed.is)) h) c.title-in-Unnamed.ensures

@@ -11,7 +11,8 @@ loop-index-preserved c =
     let a = c.index.result.now in
     let b = c.joined.result in
     let count = c.loop-index.invariant.count in
-    joined_next c.in_ok-receipts.receipts.items c.loop-index.index c.args.arrows.now.items c.loop-index.arrows.items a b c.loop-index.invariant
+    joined_next c.in_ok-receipts.receipts.items c.loop-index.index c.args.arrows.now.items c.loop-index.arrows.items a b
+    c.loop-index.invariant
     (omega (arith, count, c.loop-index-test.true, c.len-index-end.ensures, c.args.arrows.now.ok.0)) c.index.ensures
     (subst (λ (rs : List (Option ℕ)). IsJoinedBy rs a.kind a.reach a b) c.deref.ensures.value c.joined.ensures)
 

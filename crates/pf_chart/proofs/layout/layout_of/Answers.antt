@@ -24,16 +24,20 @@ loop-row-preserved c =
     let read : event ≡ get_or es row event = search rules in
     let low : row < length es = omega arith in
     record {
-      processes = subst (λ (ps : List Process). IsPermutation (processes_of (view_of_report c.args.report.now).events) ps) (sym c.event.ensures.processes) c.loop-row.invariant.processes;
-      laid = c.in_ok-event.ensures.laid (map view_of_event es) (event_at view_of_event es row event low read) c.loop-row.invariant.laid;
+      processes = subst (λ (ps : List Process). IsPermutation (processes_of (view_of_report c.args.report.now).events)
+          ps) (sym c.event.ensures.processes) c.loop-row.invariant.processes;
+      laid = c.in_ok-event.ensures.laid (map view_of_event es) (event_at view_of_event es row event low read)
+          c.loop-row.invariant.laid;
     }
 
 pub returns : goal.returns
 returns c =
     let es = c.args.report.now.events.items in
     record {
-      processes = subst (λ cs. IsPermutation (processes_of (view_of_report c.args.report.now).events) (map process_of cs.items)) (sym c.in_manner.ensures.columns)
+      processes = subst (λ cs. IsPermutation (processes_of (view_of_report c.args.report.now).events)
+          (map process_of cs.items)) (sym c.in_manner.ensures.columns)
           c.loop-row.invariant.processes;
-      laid = all_laid view_of_event es c.loop-row.row c.args.compact c.loop-row.layout c.in_manner.new.layout c.loop-row.invariant.laid (omega arith)
+      laid = all_laid view_of_event es c.loop-row.row c.args.compact c.loop-row.layout c.in_manner.new.layout
+          c.loop-row.invariant.laid (omega arith)
           c.in_manner.ensures.columns c.in_ok-in_manner.ensures.manner;
     }

@@ -12,7 +12,8 @@ loop-index-preserved c =
     let i = c.loop-index.index in
     let e = c.index-events-index.result in
     let read : e ≡ get_or es i e = search rules in
-    let next = row_next c.args.compact es i e c.loop-index.rows.items _ _ c.has_row-has_row.result c.loop-index-test.true read refl refl
+    let next = row_next c.args.compact es i e c.loop-index.rows.items _ _ c.has_row-has_row.result
+    c.loop-index-test.true read refl refl
     c.has_row-has_row.ensures c.in_ok-put_row.ensures c.loop-index.invariant.events c.loop-index.invariant.places in
     record { events = next.0; places = next.1 }
 

@@ -7,6 +7,7 @@ use Rattle.pf_chart.proofs.rows.rows_of.Given as goal
 -- the rows so far are those of the events so far
 abbrev pub invariant-loop-index : goal.invariant-loop-index
 invariant-loop-index l = record {
-  events : map (λ r. view_of_event r.event.now) l.rows.items ≡ filter (has_row l.compact) (map view_of_event (take l.index l.events));
+  events : map (λ r. view_of_event r.event.now) l.rows.items ≡ filter (has_row l.compact)
+      (map view_of_event (take l.index l.events));
   places : map (λ r. r.index) l.rows.items ≡ rows_from l.compact 0 (map view_of_event (take l.index l.events));
 }

@@ -5,7 +5,8 @@ use Rattle.pf_chart.proofs.strokes.end.Goals as goal
 
 pub returns-in-Some : goal.returns-in-Some
 returns-in-Some c =
-    subst (λ o. c.at.result ≡ end_by (page_in c.args.sheet) c.args.arrow.now o) (sym c.in-Some.is ∙ c.end.ensures) c.at.ensures
+    subst (λ o. c.at.result ≡ end_by (page_in c.args.sheet) c.args.arrow.now o)
+    (sym c.in-Some.is ∙ c.end.ensures) c.at.ensures
 
 pub returns-in-None : goal.returns-in-None
 returns-in-None c =

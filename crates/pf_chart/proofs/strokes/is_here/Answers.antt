@@ -16,5 +16,6 @@ returns-in_default-Some c =
     let x = c.side.result in
     c.is_across.ensures ∙ ap (is_across x) c.side-in_default-Some.ensures
     ∙ here_by p x c.in_default-Some.event c.in_default-Some.not-Here-0
-    ∙ ap (λ (y : PageSide). is_here_by p y (Some c.in_default-Some.event)) (c.side.ensures ∙ ap (side_of p) c.beginning.ensures)
+    ∙ ap (λ (y : PageSide). is_here_by p y (Some c.in_default-Some.event))
+    (c.side.ensures ∙ ap (side_of p) c.beginning.ensures)
     ∙ ap (is_here_by p _) (sym c.in_default-Some.is-1 ∙ c.end.ensures)

@@ -16,11 +16,14 @@ returns c =
     let from = c.beginning.result in
     let to = c.end.result in
     let line = c.in_ok-put_path.ensures.text
-    ∙ ap (λ (t : List ℕ). c.title.new.self ++ t) (ap (λ x. path_text x to) c.beginning.ensures ∙ ap (path_text (beginning_of p a)) c.end.ensures) in
+    ∙ ap (λ (t : List ℕ). c.title.new.self ++ t) (ap (λ x. path_text x to) c.beginning.ensures
+    ∙ ap (path_text (beginning_of p a)) c.end.ensures) in
     record {
       drawn = on_ok_weaker c.close_group.result
-          (λ h. grouped c.in_ok-put_opening.ensures (to_close (in_turn c.in_ok-title.ensures c.in_ok-put_path.ensures.drawn) h)) c.close_group.ensures;
+          (λ h. grouped c.in_ok-put_opening.ensures
+          (to_close (in_turn c.in_ok-title.ensures c.in_ok-put_path.ensures.drawn) h)) c.close_group.ensures;
       line = on_ok_weaker c.close_group.result
-          (λ h here. then_holds (grown_on (opened_grows _ _ _ c.in_ok-put_opening.ensures) (drawn_grows _ _ _ c.in_ok-title.ensures))
+          (λ h here. then_holds (grown_on (opened_grows _ _ _ c.in_ok-put_opening.ensures)
+          (drawn_grows _ _ _ c.in_ok-title.ensures))
           (holds_then (holds_put _ _ _ line) (closed_grows _ _ _ h))) c.close_group.ensures;
     }

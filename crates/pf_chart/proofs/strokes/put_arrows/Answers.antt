@@ -10,12 +10,15 @@ loop-arrow-init c = record { drawn = nothing _; lines = λ i a low at from to he
 pub loop-arrow-preserved : goal.loop-arrow-preserved
 loop-arrow-preserved c = record {
   drawn = in_turn c.loop-arrow.invariant.drawn c.in_ok-put_signal.ensures.drawn;
-  lines = lines_next (page_in c.args.sheet) (length c.args.columns.now) c.loop-arrow.arrow-index c.args.arrows.now _ c.loop-arrow.invariant.lines c.loop-arrow-test.true
-      (drawn_grows _ _ _ c.loop-arrow.invariant.drawn) (drawn_grows _ _ _ c.in_ok-put_signal.ensures.drawn) c.in_ok-put_signal.ensures.line;
+  lines = lines_next (page_in c.args.sheet) (length c.args.columns.now) c.loop-arrow.arrow-index c.args.arrows.now _
+      c.loop-arrow.invariant.lines c.loop-arrow-test.true
+      (drawn_grows _ _ _ c.loop-arrow.invariant.drawn) (drawn_grows _ _ _ c.in_ok-put_signal.ensures.drawn)
+      c.in_ok-put_signal.ensures.line;
 }
 
 pub returns : goal.returns
 returns c = record {
   drawn = c.loop-arrow.invariant.drawn;
-  lines = lines_all (page_in c.args.sheet) (length c.args.columns.now) c.loop-arrow.arrow-index c.args.arrows.now c.loop-arrow.invariant.lines c.loop-arrow-test.false;
+  lines = lines_all (page_in c.args.sheet) (length c.args.columns.now) c.loop-arrow.arrow-index c.args.arrows.now
+      c.loop-arrow.invariant.lines c.loop-arrow-test.false;
 }

@@ -13,9 +13,11 @@ returns-in-Some-clause-err c =
 pub returns-in-None-clause-ok : goal.returns-in-None-clause-ok
 returns-in-None-clause-ok c =
     let rows = rows_of (found_of c.args.rows.now) in
-    values_taken rows c.hunt_values.result view_of_hunt_args (sym (ap is_some c.in-None.is) ∙ c.clash.ensures.some) c.hunt_values.ensures.ok
+    values_taken rows c.hunt_values.result view_of_hunt_args (sym (ap is_some c.in-None.is) ∙ c.clash.ensures.some)
+    c.hunt_values.ensures.ok
 
 pub returns-in-None-clause-err : goal.returns-in-None-clause-err
 returns-in-None-clause-err c =
     let rows = rows_of (found_of c.args.rows.now) in
-    values_refused rows c.hunt_values.result (sym (ap is_some c.in-None.is) ∙ c.clash.ensures.some) c.hunt_values.ensures.err
+    values_refused rows c.hunt_values.result (sym (ap is_some c.in-None.is) ∙ c.clash.ensures.some)
+    c.hunt_values.ensures.err

@@ -6,7 +6,8 @@ use Rattle.pf_cli.proofs.Parsed.{words_refused, words_none, words_wanted, words_
 use Rattle.pf_cli.proofs.parse.read_by.Goals as goal
 
 pub returns-in-Err-clause-err : goal.returns-in-Err-clause-err
-returns-in-Err-clause-err c = words_refused (option_map (λ s. s.now) c.args.text) (map (λ w. w.now) c.args.words.now) c.in-Err.e c.in-Err.ensures.kinds
+returns-in-Err-clause-err c = words_refused (option_map (λ s. s.now) c.args.text) (map (λ w. w.now) c.args.words.now)
+    c.in-Err.e c.in-Err.ensures.kinds
 
 pub returns-in_default-clause-err : goal.returns-in_default-clause-err
 returns-in_default-clause-err c =
@@ -15,7 +16,8 @@ returns-in_default-clause-err c =
     let none : subcommand_of pulsefarm words ≡ None = sym (c.in_default.ensures ∙ c.in-Ok.ensures.ok) in
     elim (c.mistake.ensures) [
       | inl h ↦ inl h
-      | inr h ↦ inr (values_refused text words _ (words_none text words c.in-Ok.ensures.kinds none) c.in-Ok.ensures.kinds (h ∙ ap own_fault (sym none)))
+      | inr h ↦ inr (values_refused text words _ (words_none text words c.in-Ok.ensures.kinds none)
+          c.in-Ok.ensures.kinds (h ∙ ap own_fault (sym none)))
     ]
 
 pub returns-in-Ok-command_args-clause-ok : goal.returns-in-Ok-command_args-clause-ok
@@ -52,5 +54,6 @@ returns-clause-err c =
     let some : subcommand_of pulsefarm words ≡ Some (name, rows) = sym (c.in-Some.ensures ∙ c.in-Ok.ensures.ok) in
     elim (c.in-Err-command_args.ensures.err) [
       | inl h ↦ inl h
-      | inr h ↦ inr (values_refused text words _ (words_wanted text words name rows c.in-Ok.ensures.kinds some ∙ h.1) c.in-Ok.ensures.kinds (h.0 ∙ ap own_fault (sym some)))
+      | inr h ↦ inr (values_refused text words _ (words_wanted text words name rows c.in-Ok.ensures.kinds some ∙ h.1)
+          c.in-Ok.ensures.kinds (h.0 ∙ ap own_fault (sym some)))
     ]

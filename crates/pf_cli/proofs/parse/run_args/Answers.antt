@@ -13,7 +13,8 @@ returns-in-Err-guided-clause-err c =
     elim (c.in-Err-guided.ensures.err) [
       | inl h ↦ inl h
       | inr h ↦ inr (
-        h.0 ∙ sym (values_chosen text (first_of (codes "seed") rows) (first_of (codes "weights") rows) (first_of (codes "schedule") rows) cs c.in-Ok.ensures.ok),
+        h.0 ∙ sym (values_chosen text (first_of (codes "seed") rows) (first_of (codes "weights") rows)
+            (first_of (codes "schedule") rows) cs c.in-Ok.ensures.ok),
         none_guided text rows cs c.in-Ok.ensures.ok h.1,
       )
     ]

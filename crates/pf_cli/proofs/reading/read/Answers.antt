@@ -11,9 +11,13 @@ returns-in-Err c =
     let words : List (List ℕ) = map (λ w. w.now) c.args.words.now in
     elim c.match-schedule.branch [
       | in-Some w ↦
-          rw w.in-Some.is (text_told c.told.result view_of_reading c.match-schedule.text.now w.in-Some.text.now words (file_of words) None (kind_of c.in-Err.error)
-          (ap (λ t. t.now) w.text-is) c.in-Err.ensures.err (rw c.kind.ensures at c.told.ensures.told) (rw c.kind.ensures at c.told.ensures.memory))
+          rw w.in-Some.is (text_told c.told.result view_of_reading c.match-schedule.text.now w.in-Some.text.now words
+          (file_of words) None (kind_of c.in-Err.error)
+          (ap (λ t. t.now) w.text-is) c.in-Err.ensures.err (rw c.kind.ensures at c.told.ensures.told)
+          (rw c.kind.ensures at c.told.ensures.memory))
       | in-None w ↦
-          rw w.in-None.is (text_told c.told.result view_of_reading c.match-schedule.text.now (codes "none") words (file_of words) (schedule_file_of words) (kind_of c.in-Err.error)
-          (search (rules, w.text-is)) c.in-Err.ensures.err (rw c.kind.ensures at c.told.ensures.told) (rw c.kind.ensures at c.told.ensures.memory))
+          rw w.in-None.is (text_told c.told.result view_of_reading c.match-schedule.text.now (codes "none") words
+          (file_of words) (schedule_file_of words) (kind_of c.in-Err.error)
+          (search (rules, w.text-is)) c.in-Err.ensures.err (rw c.kind.ensures at c.told.ensures.told)
+          (rw c.kind.ensures at c.told.ensures.memory))
     ]

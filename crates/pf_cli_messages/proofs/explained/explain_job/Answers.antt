@@ -20,7 +20,8 @@ returns c =
     let r = view_of_report c.in_ok-report.report in
     let name = c.as_slice.result.now in
     let root =
-    sym (ap (option_map (λ (f : FunctionId). f.0)) c.in-Some.is) ∙ c.root.ensures ∙ ap (λ z. root_of name z.atoms z.functions) c.deref.ensures
+    sym (ap (option_map (λ (f : FunctionId). f.0)) c.in-Some.is) ∙ c.root.ensures
+    ∙ ap (λ z. root_of name z.atoms z.functions) c.deref.ensures
     ∙ ap (λ (z : Module). root_of name z.atoms z.functions) (c.module-module.ensures ∙ from.code)
     ∙ ap (λ n. root_of n m.code.atoms m.code.functions) c.as_slice.ensures ∙ from.root in
     if_ok c.explain_known.result

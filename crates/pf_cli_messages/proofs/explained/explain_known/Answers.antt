@@ -9,10 +9,12 @@ returns c =
     if_ok c.lines_of.result
     (λ text lines. record {
       places = c.in_ok-places.places;
-      are_places = subst (λ m. ArePlaces m c.args.source.now c.in_ok-places.places) c.deref.ensures c.in_ok-places.ensures;
+      are_places = subst (λ m. ArePlaces m c.args.source.now c.in_ok-places.places) c.deref.ensures
+          c.in_ok-places.ensures;
       standings = c.in_ok-standings.standings.items;
       stand = c.in_ok-standings.ensures.stand;
       points = c.in_ok-standings.ensures.points;
-      lines = subst (λ xs. AreStatusLines c.args.run.now c.in_ok-places.places xs text.items) c.as_slice.ensures.value lines;
+      lines = subst (λ xs. AreStatusLines c.args.run.now c.in_ok-places.places xs text.items)
+          c.as_slice.ensures.value lines;
     })
     c.lines_of.ensures

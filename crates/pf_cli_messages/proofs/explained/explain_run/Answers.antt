@@ -10,5 +10,6 @@ returns-in-Some c =
     let j = c.in-Some.job in
     let found = subst (FindsRun a c.args.source.now) c.in-Some.is c.in_ok-job.ensures in
     if_ok c.explain_job.result
-    (λ text tells. told found.1.0 j text.items found.1.1 found.1.2 found.0 (subst (λ b. ReportsProcesses j.asked a.priorities b text.items) c.bytes.ensures tells))
+    (λ text tells. told found.1.0 j text.items found.1.1 found.1.2 found.0
+    (subst (λ b. ReportsProcesses j.asked a.priorities b text.items) c.bytes.ensures tells))
     c.explain_job.ensures

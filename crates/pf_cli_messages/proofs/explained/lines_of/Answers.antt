@@ -10,9 +10,11 @@ loop-standing-preserved c rest lines =
     let xs = c.args.standings.now in
     let l = c.loop-standing in
     subst (λ t. AreStatusLines k places xs (t ++ rest)) (sym c.in_ok-push.ensures.items)
-    (next_line k places xs l.standing-index _ l.text.items c.put_standing.new.out.items rest c.loop-standing-test.true c.in_ok-put_standing.ensures lines l.invariant)
+    (next_line k places xs l.standing-index _ l.text.items c.put_standing.new.out.items rest c.loop-standing-test.true
+    c.in_ok-put_standing.ensures lines l.invariant)
 
 pub returns : goal.returns
 returns c =
     let l = c.loop-standing in
-    all_lines c.args.run.now c.args.places.now c.args.standings.now l.standing-index l.text.items (omega arith) l.invariant
+    all_lines c.args.run.now c.args.places.now c.args.standings.now l.standing-index l.text.items
+    (omega arith) l.invariant

@@ -17,4 +17,5 @@ returns c = λ ts has.
     let names = c.args.atoms.now in
     let only = c.in_ok-found.ensures.only ts has in
     let same : ts ≡ map placed_of c.in_ok-found.found.items = cc in
-    c.in-None.ensures ∙ ap (λ found. lacked names (map placed_of found)) c.deref.ensures.value ∙ ap (lacked names) (sym same)
+    c.in-None.ensures ∙ ap (λ found. lacked names (map placed_of found)) c.deref.ensures.value
+    ∙ ap (lacked names) (sym same)

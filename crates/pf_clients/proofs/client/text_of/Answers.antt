@@ -11,5 +11,6 @@ pub returns : goal.returns
 returns c =
     let q = c.args.project in
     let step = client_calls q usage in
-    c.in_ok-put_outcome.ensures step refl ∙ ap (λ t. t ++ step_text step (response_in c.response_of-response.result)) c.new.ensures.items
+    c.in_ok-put_outcome.ensures step refl ∙ ap (λ t. t ++ step_text step (response_in c.response_of-response.result))
+    c.new.ensures.items
     ∙ ap (step_text step) c.response_of-response.ensures ∙ outcome_of_call q usage c.args.outcome

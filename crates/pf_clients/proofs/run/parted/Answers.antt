@@ -1,4 +1,5 @@
-use Rattle.std.proofs.Common.{◌≡◌, ◌∷◌, [], ◌++◌, length, map, sym, ap, ◌∙◌, subst, arith, append-nil, append_assoc, length-append}
+use Rattle.std.proofs.Common.{◌≡◌, ◌∷◌, [], ◌++◌, length, map, sym, ap, ◌∙◌, subst, arith, append-nil, append_assoc}
+use Rattle.std.proofs.Common.{length-append}
 use Rattle.std.specs.Vec.Iter.{into_iter_items}
 use Rattle.std.proofs.lemmas.List.{map-append}
 use Rattle.pf_clients.specs.Farms.{answers_of}
@@ -13,8 +14,10 @@ clients-preserved g c =
     let steps : into_iter_items l.client-iterator ≡ x ∷ left = c.in-Some.ensures.steps.0 in
     let more = length-append l.yielded (x ∷ []) in
     record {
-      seats = c.push_reserved.ensures.items ∙ ap (λ t. t ++ x.seat ∷ []) l.invariant.seats ∙ sym (map-append (λ k. k.seat) l.yielded (x ∷ []));
-      answers = c.push_reserved-in-clients.ensures.items ∙ ap (λ t. t ++ answers_of x.told x.ended ∷ []) l.invariant.answers
+      seats = c.push_reserved.ensures.items ∙ ap (λ t. t ++ x.seat ∷ []) l.invariant.seats
+          ∙ sym (map-append (λ k. k.seat) l.yielded (x ∷ []));
+      answers = c.push_reserved-in-clients.ensures.items ∙ ap (λ t. t ++ answers_of x.told x.ended ∷ [])
+          l.invariant.answers
           ∙ sym (map-append (λ k. answers_of k.told k.ended) l.yielded (x ∷ []));
       seats_len = omega (arith, c.push_reserved.ensures.len, l.invariant.seats_len, more);
       answers_len = omega (arith, c.push_reserved-in-clients.ensures.len, l.invariant.answers_len, more);
@@ -27,13 +30,17 @@ clients-preserved g c =
 pub returns-clause-seats : goal.returns-clause-seats
 returns-clause-seats g c =
     let l = c.clients in
-    let left : length (into_iter_items l.client-iterator) ≡ 0 = sym l.client-iterator.rest.ok.0 ∙ c.in-None.ensures.steps.0 in
-    let all = l.invariant.rest ∙ ap (λ t. l.yielded ++ t) (nothing_left (into_iter_items l.client-iterator) left) ∙ append-nil l.yielded in
+    let left : length (into_iter_items l.client-iterator) ≡ 0 = sym l.client-iterator.rest.ok.0
+    ∙ c.in-None.ensures.steps.0 in
+    let all = l.invariant.rest ∙ ap (λ t. l.yielded ++ t) (nothing_left (into_iter_items l.client-iterator) left)
+    ∙ append-nil l.yielded in
     l.invariant.seats ∙ sym (ap (λ t. map (λ k. k.seat) t) all)
 
 pub returns-clause-answers : goal.returns-clause-answers
 returns-clause-answers g c =
     let l = c.clients in
-    let left : length (into_iter_items l.client-iterator) ≡ 0 = sym l.client-iterator.rest.ok.0 ∙ c.in-None.ensures.steps.0 in
-    let all = l.invariant.rest ∙ ap (λ t. l.yielded ++ t) (nothing_left (into_iter_items l.client-iterator) left) ∙ append-nil l.yielded in
+    let left : length (into_iter_items l.client-iterator) ≡ 0 = sym l.client-iterator.rest.ok.0
+    ∙ c.in-None.ensures.steps.0 in
+    let all = l.invariant.rest ∙ ap (λ t. l.yielded ++ t) (nothing_left (into_iter_items l.client-iterator) left)
+    ∙ append-nil l.yielded in
     l.invariant.answers ∙ sym (ap (λ t. map (λ k. answers_of k.told k.ended) t) all)

@@ -23,7 +23,8 @@ close-closing-requires-clause-ring g c =
     let now = c.serve-begun.new.seats in
     let len : length now ≡ c.in_ok-farm.seats.len = search rules in
     let was : c.deref_mut-2.result.now ≡ c.in_ok-farm.seats.items = c.deref_mut-2.ensures.value in
-    subst IsRing (sym (whole c.in_ok-farm.seats.len now c.in_ok-farm.seats.items len)) (c.serve-begun.ensures.ring (subst IsRing (sym was) c.in_ok-farm.ensures.ring))
+    subst IsRing (sym (whole c.in_ok-farm.seats.len now c.in_ok-farm.seats.items len))
+    (c.serve-begun.ensures.ring (subst IsRing (sym was) c.in_ok-farm.ensures.ring))
 
 pub close-closing-requires-clause-idle : goal.close-closing-requires-clause-idle
 close-closing-requires-clause-idle g c =
@@ -41,12 +42,17 @@ returns-clause-answered g c =
     let lent : c.deref_mut.result.now ≡ vec.items = c.deref_mut.ensures.value in
     let begun : c.serve-begun.result ≡ true = first_of (assumption c.if-not-begun.false, search (rules, not_false)) in
     let Served : T → T → Type 0 = λ x y. IsServed remaining x.file x.seat.project y.seat y.told.items y.ended in
-    let served : EachTwo (λ k. Served) 1 vec.items now = subst (λ cs. EachTwo (λ k. Served) 1 cs now) lent (at_true c.serve-begun.result begun c.serve-begun.ensures.served) in
+    let served : EachTwo (λ k. Served) 1 vec.items now = subst (λ cs. EachTwo (λ k. Served) 1 cs now) lent
+    (at_true c.serve-begun.result begun c.serve-begun.ensures.served) in
     let close = c.close-closing.ensures in
-    let farm = farm_answered (λ (x : T). x.seat) (λ (x : T). x.file) (λ (x : T). x.told) (λ (x : T). x.ended) remaining c.args.files.items vec.items now
-    (take vec.len (now ++ drop (length now) vec.items)) c.close-closing.result c.parted-told.result.seats.items c.parted-told.result.answers.items c.in_ok-clients.ensures.seated served
-    (whole vec.len now vec.items len) c.parted-told.ensures.seats c.parted-told.ensures.answers close.seats close.receipts c.look_up.ensures close.full close.ended close.told in
-    farm_prints (map remaining c.args.files.items) (map client_text c.parted-told.result.answers.items) farm (g.W.Write.contents c.args.writer.now.inner)
+    let farm = farm_answered (λ (x : T). x.seat) (λ (x : T). x.file) (λ (x : T). x.told) (λ (x : T). x.ended) remaining
+    c.args.files.items vec.items now
+    (take vec.len (now ++ drop (length now) vec.items)) c.close-closing.result c.parted-told.result.seats.items
+    c.parted-told.result.answers.items c.in_ok-clients.ensures.seated served
+    (whole vec.len now vec.items len) c.parted-told.ensures.seats c.parted-told.ensures.answers close.seats
+    close.receipts c.look_up.ensures close.full close.ended close.told in
+    farm_prints (map remaining c.args.files.items) (map client_text c.parted-told.result.answers.items) farm
+    (g.W.Write.contents c.args.writer.now.inner)
     (g.W.Write.contents c.write_all.new.writer.inner) c.write_all.result c.write_all.ensures.printed
 
 pub returns-clause-fault : goal.returns-clause-fault
@@ -59,10 +65,16 @@ returns-clause-fault g c =
     let lent : c.deref_mut.result.now ≡ vec.items = c.deref_mut.ensures.value in
     let begun : c.serve-begun.result ≡ true = first_of (assumption c.if-not-begun.false, search (rules, not_false)) in
     let Served : T → T → Type 0 = λ x y. IsServed remaining x.file x.seat.project y.seat y.told.items y.ended in
-    let served : EachTwo (λ k. Served) 1 vec.items now = subst (λ cs. EachTwo (λ k. Served) 1 cs now) lent (at_true c.serve-begun.result begun c.serve-begun.ensures.served) in
+    let served : EachTwo (λ k. Served) 1 vec.items now = subst (λ cs. EachTwo (λ k. Served) 1 cs now) lent
+    (at_true c.serve-begun.result begun c.serve-begun.ensures.served) in
     let close = c.close-closing.ensures in
-    let farm = farm_answered (λ (x : T). x.seat) (λ (x : T). x.file) (λ (x : T). x.told) (λ (x : T). x.ended) remaining c.args.files.items vec.items now
-    (take vec.len (now ++ drop (length now) vec.items)) c.close-closing.result c.parted-told.result.seats.items c.parted-told.result.answers.items c.in_ok-clients.ensures.seated served
-    (whole vec.len now vec.items len) c.parted-told.ensures.seats c.parted-told.ensures.answers close.seats close.receipts c.look_up.ensures close.full close.ended close.told in
-    farm_leaves (map remaining c.args.files.items) (map client_text c.parted-told.result.answers.items) farm (g.W.Write.contents c.args.writer.now.inner)
-    (g.W.Write.contents c.write_all.new.writer.inner) c.args.writer.now.failures.total c.write_all.new.writer.failures.total c.write_all.result c.write_all.ensures.in_part
+    let farm = farm_answered (λ (x : T). x.seat) (λ (x : T). x.file) (λ (x : T). x.told) (λ (x : T). x.ended) remaining
+    c.args.files.items vec.items now
+    (take vec.len (now ++ drop (length now) vec.items)) c.close-closing.result c.parted-told.result.seats.items
+    c.parted-told.result.answers.items c.in_ok-clients.ensures.seated served
+    (whole vec.len now vec.items len) c.parted-told.ensures.seats c.parted-told.ensures.answers close.seats
+    close.receipts c.look_up.ensures close.full close.ended close.told in
+    farm_leaves (map remaining c.args.files.items) (map client_text c.parted-told.result.answers.items) farm
+    (g.W.Write.contents c.args.writer.now.inner)
+    (g.W.Write.contents c.write_all.new.writer.inner) c.args.writer.now.failures.total
+    c.write_all.new.writer.failures.total c.write_all.result c.write_all.ensures.in_part

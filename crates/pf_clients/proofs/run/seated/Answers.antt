@@ -1,4 +1,5 @@
-use Rattle.std.proofs.Common.{rules, ◌≡◌, ℕ, ◌+◌, ◌∷◌, [], ◌++◌, Some, length, refl, sym, ap, ◌∙◌, subst, arith, append-nil, append_assoc, length-append}
+use Rattle.std.proofs.Common.{rules, ◌≡◌, ℕ, ◌+◌, ◌∷◌, [], ◌++◌, Some, length, refl, sym, ap, ◌∙◌, subst, arith}
+use Rattle.std.proofs.Common.{append-nil, append_assoc, length-append}
 use Rattle.std.specs.Vec.Iter.{into_iter_items}
 use Rattle.pf_farm_state.specs.Clients.{empty_client}
 use Rattle.pf_farm.specs.Farms.{opened_farm}
@@ -11,7 +12,8 @@ use Rattle.pf_clients.proofs.run.seated.Goals as goal
 
 pub files-init : goal.files-init
 files-init g c =
-    let P : ℕ → g.row.R.Denot → Client g.row.N.Denot g.row.R.Denot → Type 0 = λ k f x. (x.seat ≡ empty_client k) × (x.file ≡ Some f) × (x.told.items ≡ []) in
+    let P : ℕ → g.row.R.Denot → Client g.row.N.Denot g.row.R.Denot
+    → Type 0 = λ k f x. (x.seat ≡ empty_client k) × (x.file ≡ Some f) × (x.told.items ≡ []) in
     record {
       seated = subst (λ cs. EachTwo P 1 [] cs) (sym c.new-clients.ensures.items) (tt {0});
       clients = c.new-clients.ensures.len;
@@ -23,32 +25,45 @@ files-init g c =
 
 pub files-preserved : goal.files-preserved
 files-preserved g c =
-    let P : ℕ → g.row.R.Denot → Client g.row.N.Denot g.row.R.Denot → Type 0 = λ k f x. (x.seat ≡ empty_client k) × (x.file ≡ Some f) × (x.told.items ≡ []) in
+    let P : ℕ → g.row.R.Denot → Client g.row.N.Denot g.row.R.Denot
+    → Type 0 = λ k f x. (x.seat ≡ empty_client k) × (x.file ≡ Some f) × (x.told.items ≡ []) in
     let l = c.files in
     let x = c.in-Some.file in
-    let client : Client g.row.N.Denot g.row.R.Denot = record { seat = c.in-Ok.seat; file = Some x; told = c.new.result; ended = Answered } in
+    let client : Client g.row.N.Denot g.row.R.Denot = record {
+      seat = c.in-Ok.seat;
+      file = Some x;
+      told = c.new.result;
+      ended = Answered;
+    } in
     let left = into_iter_items c.next.new.self in
     let steps : into_iter_items l.file-iterator ≡ x ∷ left = c.in-Some.ensures.steps.0 in
     let more = length-append l.yielded (x ∷ []) in
     let place : l.project + 1 ≡ 1 + length l.yielded = omega (arith, l.invariant.project) in
     let count : length l.yielded + 1 ≡ length (l.yielded ++ x ∷ []) = omega (arith, more) in
-    let one : P (1 + length l.yielded) x client = (c.in-Ok.ensures.seat.0 ∙ ap empty_client place, refl, c.new.ensures.items) in
+    let one : P (1 + length l.yielded) x client =
+    (c.in-Ok.ensures.seat.0 ∙ ap empty_client place, refl, c.new.ensures.items) in
     record {
-      seated = subst (λ cs. EachTwo P 1 (l.yielded ++ x ∷ []) cs) (sym c.in_ok-push.ensures.items) (two_more P 1 l.yielded l.clients.items x client l.invariant.seated one);
+      seated = subst (λ cs. EachTwo P 1 (l.yielded ++ x ∷ []) cs) (sym c.in_ok-push.ensures.items)
+          (two_more P 1 l.yielded l.clients.items x client l.invariant.seated one);
       clients = omega (arith, c.in_ok-push.ensures.len, l.invariant.clients, more);
       rest = l.invariant.rest ∙ ap (λ t. l.yielded ++ t) steps ∙ sym (append_assoc l.yielded (x ∷ []) left);
       rest_len = omega (arith, l.invariant.rest_len, ap (λ t. length t) steps, more);
       project = omega (arith, l.invariant.project, more);
-      farm = c.in-Ok.ensures.seat.1 ∙ ap (λ f. opened_farm f.workers (f.given + 1)) l.invariant.farm ∙ ap (opened_farm c.args.farm.now.workers) count;
+      farm = c.in-Ok.ensures.seat.1 ∙ ap (λ f. opened_farm f.workers (f.given + 1)) l.invariant.farm
+          ∙ ap (opened_farm c.args.farm.now.workers) count;
     }
 
 pub returns-clause-seated : goal.returns-clause-seated
 returns-clause-seated g c =
-    let P : ℕ → g.row.R.Denot → Client g.row.N.Denot g.row.R.Denot → Type 0 = λ k f x. (x.seat ≡ empty_client k) × (x.file ≡ Some f) × (x.told.items ≡ []) in
+    let P : ℕ → g.row.R.Denot → Client g.row.N.Denot g.row.R.Denot
+    → Type 0 = λ k f x. (x.seat ≡ empty_client k) × (x.file ≡ Some f) × (x.told.items ≡ []) in
     let l = c.files in
-    let left : length (into_iter_items l.file-iterator) ≡ 0 = sym l.file-iterator.rest.ok.0 ∙ c.in-None.ensures.steps.0 in
-    let all = l.invariant.rest ∙ ap (λ t. l.yielded ++ t) (nothing_left (into_iter_items l.file-iterator) left) ∙ append-nil l.yielded in
+    let left : length (into_iter_items l.file-iterator) ≡ 0 = sym l.file-iterator.rest.ok.0
+    ∙ c.in-None.ensures.steps.0 in
+    let all = l.invariant.rest ∙ ap (λ t. l.yielded ++ t) (nothing_left (into_iter_items l.file-iterator) left)
+    ∙ append-nil l.yielded in
     subst (λ fs. EachTwo P 1 fs l.clients.items) (sym all) l.invariant.seated
 
 pub returns-clause-new : goal.returns-clause-new
-returns-clause-new g c = let l = c.files in all_new (λ k. k.seat) (λ k. k.file) (λ k. k.told) (λ k. k.ended) 1 l.yielded l.clients.items l.invariant.seated
+returns-clause-new g c = let l = c.files in all_new (λ k. k.seat) (λ k. k.file) (λ k. k.told) (λ k. k.ended) 1 l.yielded
+    l.clients.items l.invariant.seated

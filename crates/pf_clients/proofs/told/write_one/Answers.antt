@@ -13,7 +13,8 @@ replies-preserved g c =
     let l = c.replies in
     record {
       so_far =
-          adds_reply c.args.told.now l.reply-index l.gathered.text.items c.add_told.new.self.text.items _ _ _ l.invariant.so_far c.reply-item.result c.replies-test.true c.reply-item.is
+          adds_reply c.args.told.now l.reply-index l.gathered.text.items c.add_told.new.self.text.items _ _ _
+          l.invariant.so_far c.reply-item.result c.replies-test.true c.reply-item.is
           c.in_ok-add_told.ensures.added;
       same = c.in_ok-add_told.ensures.kept ∙ l.invariant.same;
     }
@@ -22,15 +23,18 @@ pub returns-in_err-add_told-clause-front : goal.returns-in_err-add_told-clause-f
 returns-in_err-add_told-clause-front g c =
     let l = c.replies in
     at_err c.from_residual.result
-    (front_at_reply c.args.told.now l.reply-index l.gathered.text.items c.add_told.new.self.text.items _ _ _ l.invariant.so_far c.reply-item.result c.replies-test.true c.reply-item.is
+    (front_at_reply c.args.told.now l.reply-index l.gathered.text.items c.add_told.new.self.text.items _ _ _
+    l.invariant.so_far c.reply-item.result c.replies-test.true c.reply-item.is
     c.in_err-add_told.ensures.front)
 
 pub returns-clause-written : goal.returns-clause-written
 returns-clause-written g c =
     let l = c.replies in
-    on_ok_weaker c.send.result (λ h. all_sent c.args.told.now l.reply-index l.gathered.text.items [] _ _ _ l.invariant.so_far (omega (arith, c.replies-test.false)) h.0) c.send.ensures.sent
+    on_ok_weaker c.send.result (λ h. all_sent c.args.told.now l.reply-index l.gathered.text.items [] _ _ _
+    l.invariant.so_far (omega (arith, c.replies-test.false)) h.0) c.send.ensures.sent
 
 pub returns-clause-front : goal.returns-clause-front
 returns-clause-front g c =
     let l = c.replies in
-    on_err_weaker c.send.result (λ h. front_sent c.args.told.now l.reply-index l.gathered.text.items [] _ _ _ l.invariant.so_far (omega (arith, c.replies-test.false)) h) c.send.ensures.front
+    on_err_weaker c.send.result (λ h. front_sent c.args.told.now l.reply-index l.gathered.text.items [] _ _ _
+    l.invariant.so_far (omega (arith, c.replies-test.false)) h) c.send.ensures.front

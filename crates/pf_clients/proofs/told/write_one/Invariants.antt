@@ -8,6 +8,7 @@ abbrev pub invariant-replies : goal.invariant-replies
 invariant-replies g l =
     let contents = g.W.Write.contents in
     record {
-      so_far : IsAdded [] (told_text (take l.reply-index l.told)) l.gathered.text.items (contents l.fn.writer.inner) (contents l.writer.inner);
+      so_far : IsAdded [] (told_text (take l.reply-index l.told)) l.gathered.text.items (contents l.fn.writer.inner)
+          (contents l.writer.inner);
       same : l.writer.failures.total ≡ l.fn.writer.failures.total;
     }

@@ -14,8 +14,10 @@ returns-in-None c =
     let asked = view_of_chart_args args in
     let m = c.args.module in
     IfOk-weaker c.draw_module.result
-    (λ a. (bytes : List ℕ) → IsModuleOf bytes m → ChartAnswers c.manner_of.result (run_args args.run.request args.run.edition) bytes a.text.items a.status)
+    (λ a. (bytes : List ℕ) → IsModuleOf bytes m
+    → ChartAnswers c.manner_of.result (run_args args.run.request args.run.edition) bytes a.text.items a.status)
     (λ a. (bytes : List ℕ) → IsModuleOf bytes m → DrawnAnswers asked bytes a.text.items a.status)
     (λ a answers bytes of.
     answers_own asked.run (DrawsJob asked.run.request.root (manner_of asked)) bytes a.text.items a.status c.in-None.is
-    (subst (λ m. ChartAnswers m (run_args args.run.request args.run.edition) bytes a.text.items a.status) c.manner_of.ensures (answers bytes of))) c.draw_module.ensures
+    (subst (λ m. ChartAnswers m (run_args args.run.request args.run.edition) bytes a.text.items a.status)
+    c.manner_of.ensures (answers bytes of))) c.draw_module.ensures

@@ -17,4 +17,5 @@ returns c =
     let root = c.args.root.now in
     let run = view_of_report c.in_ok-run.run' in
     IfOk-weaker c.draw_run.result (DrawsRun own root c.args.manner run) (DrawsMeaning j root c.args.manner)
-    (λ a drawn. (run, c.in_ok-run.ensures, (drawn.0, rescheduled own numbers run drawn.0 drawn.1, drawn.2, drawn.3))) c.draw_run.ensures
+    (λ a drawn. (run, c.in_ok-run.ensures, (drawn.0, rescheduled own numbers run drawn.0 drawn.1, drawn.2, drawn.3)))
+    c.draw_run.ensures

@@ -18,11 +18,13 @@ pub draw_result-requires-clause-result : goal.draw_result-requires-clause-result
 draw_result-requires-clause-result c =
     let f = c.args.finished.now in
     let job : c.deref.result.now ≡ f.job = c.deref.ensures ∙ c.job.ensures in
-    subst (λ r. IsResult c.deref.result.now.asked r) (sym c.in-Some.ensures.0) (subst (λ (k : Job). IsResult k.asked f.result) (sym job) c.in-Some.ensures.1)
+    subst (λ r. IsResult c.deref.result.now.asked r) (sym c.in-Some.ensures.0)
+    (subst (λ (k : Job). IsResult k.asked f.result) (sym job) c.in-Some.ensures.1)
 
 pub returns-in-Some : goal.returns-in-Some
 returns-in-Some c =
     let f = c.args.finished.now in
     let root = c.args.root.now in
     let job : c.deref.result.now ≡ f.job = c.deref.ensures ∙ c.job.ensures in
-    subst (λ j. IfOk c.draw_result.result (λ a. DrawsJob root c.args.manner j a.text.items a.status)) job c.draw_result.ensures
+    subst (λ j. IfOk c.draw_result.result (λ a. DrawsJob root c.args.manner j a.text.items a.status)) job
+    c.draw_result.ensures

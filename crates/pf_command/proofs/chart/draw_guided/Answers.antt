@@ -24,13 +24,17 @@ returns-in-Ok c =
     let q = c.in_ok-request-in-Ok.request in
     let by = c.in_ok-request-in-Ok.ensures in
     let asks : Asks m asked.edition asked.request (Ok j) =
-    asks_shared m c.in_ok-share.field-0 c.number.result asked.edition asked.request (Ok j) c.in_ok-share.ensures c.number.ensures.number c.in-Ok.ensures in
+    asks_shared m c.in_ok-share.field-0 c.number.result asked.edition asked.request (Ok j) c.in_ok-share.ensures
+    c.number.ensures.number c.in-Ok.ensures in
     IfOk-weaker c.draw_module.result
-    (λ a. (bytes : List ℕ) → IsModuleOf bytes m → ChartAnswers c.manner_of.result (run_args q c.args.args.now.run.edition) bytes a.text.items a.status)
+    (λ a. (bytes : List ℕ) → IsModuleOf bytes m
+    → ChartAnswers c.manner_of.result (run_args q c.args.args.now.run.edition) bytes a.text.items a.status)
     (λ a. (bytes : List ℕ) → IsModuleOf bytes m → DrawnAnswers drawn bytes a.text.items a.status)
     (λ a answers bytes of.
-    answers_guided asked (DrawsJob asked.request.root (manner_of drawn)) bytes a.text.items a.status c.args.seed m j by.0 (view_of_request q) c.requires of asks by.1 by.2
-    (draws_alike (AsksOf (run_args q c.args.args.now.run.edition)) (view_of_request q) asked.request c.manner_of.result (manner_of drawn) (choices_of by.0) bytes a.text.items a.status
+    answers_guided asked (DrawsJob asked.request.root (manner_of drawn)) bytes a.text.items a.status c.args.seed m j
+    by.0 (view_of_request q) c.requires of asks by.1 by.2
+    (draws_alike (AsksOf (run_args q c.args.args.now.run.edition)) (view_of_request q) asked.request c.manner_of.result
+    (manner_of drawn) (choices_of by.0) bytes a.text.items a.status
     by.2 c.manner_of.ensures (answers bytes of)))
     c.draw_module.ensures
 
@@ -42,9 +46,11 @@ returns-in-Err-Fault c =
     let code = code_of c.in-Err-Fault.refusal in
     let told = rw c.in-Err-Fault.field-0-is at c.in-Err-Fault.ensures in
     let asks : Asks m asked.edition asked.request (Err code) =
-    asks_shared m c.in_ok-share.field-0 c.number.result asked.edition asked.request (Err code) c.in_ok-share.ensures c.number.ensures.number told in
+    asks_shared m c.in_ok-share.field-0 c.number.result asked.edition asked.request (Err code) c.in_ok-share.ensures
+    c.number.ensures.number told in
     let known : c.code.result ≡ code = c.code.ensures ∙ ap code_of c.in-Err-Fault.refusal-is in
     IfOk-weaker c.refused_by_code.result (λ a. Refuses a (code_text code))
     (λ a. (bytes : List ℕ) → IsModuleOf bytes m → DrawnAnswers drawn bytes a.text.items a.status)
-    (λ a is bytes of. row_job_refused (AsksOfRun asked) (DrawsJob asked.request.root (manner_of drawn)) m bytes a code of (refused c.args.seed code c.requires asks) is)
+    (λ a is bytes of. row_job_refused (AsksOfRun asked) (DrawsJob asked.request.root (manner_of drawn)) m bytes a
+    code of (refused c.args.seed code c.requires asks) is)
     (rw known at c.refused_by_code.ensures)

@@ -11,5 +11,6 @@ returns-else-runs-gt0 c =
     let is : c.runs.result ≡ j.asked.runs = c.runs.ensures in
     let none : c.runs.result ≤ 0 = c.if-runs-gt0.false in
     let one : j.asked.runs ≡ zero = omega arith in
-    IfOk-weaker c.draw_one_run.result (DrawsMeaning j.asked root c.args.manner) (λ a. DrawsJob root c.args.manner j a.text.items a.status)
+    IfOk-weaker c.draw_one_run.result (DrawsMeaning j.asked root c.args.manner)
+    (λ a. DrawsJob root c.args.manner j a.text.items a.status)
     (λ a drawn. draws_one_run root c.args.manner j a one drawn) c.draw_one_run.ensures

@@ -19,8 +19,11 @@ returns-in-Shrunk c =
     let j = c.args.job.now in
     let root = c.args.root.now in
     let is = subst (λ x. IsResult j.asked (result_of x)) c.in-Shrunk.is c.requires.result in
-    IfOk-weaker c.draw_by_schedule.result (DrawsMeaning (by_schedule j.asked c.deref-in-Shrunk.result.now) root c.args.manner) (λ a. DrawsJob root c.args.manner j a.text.items a.status)
-    (λ a drawn. draws_found root c.args.manner j a _ _ is (subst (λ ns. DrawsMeaning (by_schedule j.asked ns) root c.args.manner a) (c.deref-in-Shrunk.ensures.value ∙ ap (λ v. v.items) c.deref.ensures) drawn))
+    IfOk-weaker c.draw_by_schedule.result (DrawsMeaning (by_schedule j.asked c.deref-in-Shrunk.result.now) root
+    c.args.manner) (λ a. DrawsJob root c.args.manner j a.text.items a.status)
+    (λ a drawn. draws_found root c.args.manner j a _ _ is
+    (subst (λ ns. DrawsMeaning (by_schedule j.asked ns) root c.args.manner a)
+    (c.deref-in-Shrunk.ensures.value ∙ ap (λ v. v.items) c.deref.ensures) drawn))
     c.draw_by_schedule.ensures
 
 pub returns-in-NothingFails : goal.returns-in-NothingFails
@@ -28,5 +31,6 @@ returns-in-NothingFails c =
     let j = c.args.job.now in
     let root = c.args.root.now in
     let is = subst (λ x. IsResult j.asked (result_of x)) c.in-NothingFails.is c.requires.result in
-    IfOk-weaker c.refused_by_code.result (λ a. Refuses a (code_text code.NothingFails)) (λ a. DrawsJob root c.args.manner j a.text.items a.status)
+    IfOk-weaker c.refused_by_code.result (λ a. Refuses a (code_text code.NothingFails))
+    (λ a. DrawsJob root c.args.manner j a.text.items a.status)
     (λ a told. draws_none root c.args.manner j a is told) c.refused_by_code.ensures

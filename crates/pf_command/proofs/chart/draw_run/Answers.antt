@@ -19,6 +19,11 @@ returns c =
     let run = view_of_report c.args.run.now in
     let text = c.put_chart.new.out.items in
     let begun =
-    subst (λ (before : List ℕ). IsChart (name_of table) root names c.args.manner run before text) c.new-text.ensures.items c.in_ok-put_chart.ensures.put in
-    let are = subst (λ ns. AreNamesIn j run (texts ns)) (sym c.as_slice.ensures.value) c.in_ok-names.ensures in
-    (names, are, subst (λ t. IsChart (name_of t) root names c.args.manner run [] text) atoms begun, c.run_status-status.ensures)
+    subst (λ (before : List ℕ). IsChart (name_of table) root names c.args.manner run before text)
+    c.new-text.ensures.items c.in_ok-put_chart.ensures.put in
+    let are = subst (λ ns. AreNamesIn j run (texts ns)) (sym c.as_slice.ensures.value) c.in_ok-names.ensures in (
+      names,
+      are,
+      subst (λ t. IsChart (name_of t) root names c.args.manner run [] text) atoms begun,
+      c.run_status-status.ensures,
+    )

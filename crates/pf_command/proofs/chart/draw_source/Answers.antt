@@ -12,6 +12,8 @@ returns-in-Err c =
     let refusal = c.in-Err.refusal in
     let asked = view_of_chart_args c.args.args.now in
     let bytes = c.args.source.now in
-    IfOk-weaker c.refused_at.result (λ a. Refuses a (refusal_text refusal.code refusal.offset)) (λ a. DrawnAnswers asked bytes a.text.items a.status)
-    (λ a is. row_refused (AsksOfRun asked.run) (DrawsJob asked.run.request.root (manner_of asked)) bytes a refusal.code refusal.offset c.in-Err.ensures is)
+    IfOk-weaker c.refused_at.result (λ a. Refuses a (refusal_text refusal.code refusal.offset))
+    (λ a. DrawnAnswers asked bytes a.text.items a.status)
+    (λ a is. row_refused (AsksOfRun asked.run) (DrawsJob asked.run.request.root (manner_of asked)) bytes a refusal.code
+    refusal.offset c.in-Err.ensures is)
     c.refused_at.ensures

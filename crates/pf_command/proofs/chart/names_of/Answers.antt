@@ -17,7 +17,8 @@ returns c =
     let r = view_of_report c.args.report.now in
     let name = c.args.root.now in
     let root =
-    sym (ap (option_map (λ (f : FunctionId). f.0)) c.in-Some.is) ∙ c.root.ensures ∙ ap (λ (z : Checked). root_of name z.atoms z.functions) c.deref.ensures
+    sym (ap (option_map (λ (f : FunctionId). f.0)) c.in-Some.is) ∙ c.root.ensures
+    ∙ ap (λ (z : Checked). root_of name z.atoms z.functions) c.deref.ensures
     ∙ ap (λ (z : Module). root_of name z.atoms z.functions) c.module-module.ensures ∙ c.requires.root in
     let is_run : IsKnownRunOf j r _ = record {
       code = c.module-module.ensures;
@@ -34,6 +35,7 @@ returns-in_default c =
     let j = c.args.job.now.asked in
     let name = c.args.root.now in
     let never : None ≡ Some j.root =
-    sym (ap (option_map (λ (f : FunctionId). f.0)) c.in_default.is) ∙ c.root.ensures ∙ ap (λ (z : Checked). root_of name z.atoms z.functions) c.deref.ensures
+    sym (ap (option_map (λ (f : FunctionId). f.0)) c.in_default.is) ∙ c.root.ensures
+    ∙ ap (λ (z : Checked). root_of name z.atoms z.functions) c.deref.ensures
     ∙ ap (λ (z : Module). root_of name z.atoms z.functions) c.module-module.ensures ∙ c.requires.root in
     absurd (cc)

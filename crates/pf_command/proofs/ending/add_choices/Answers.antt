@@ -20,8 +20,10 @@ returns-in_err-add_number-in-Some-clause-front g c =
     let ys = c.in-Some.others.now in
     let whole : c.args.events.now ≡ x ∷ ys = search rules in
     at_fault c.from_residual.result
-    (subst (λ t. AppendsFront w (g.W.Write.contents c.add_number.new.writer.inner) (c.args.waiting.now.items ++ t)) (schedule_of_more c.args.events.now ys x whole)
-    (front_longer c.args.waiting.now.items (decimal x.choice) (after_commas (map (λ e. e.choice) ys)) _ _ (rw c.from.ensures at c.in_err-add_number-in-Some.ensures.front)))
+    (subst (λ t. AppendsFront w (g.W.Write.contents c.add_number.new.writer.inner) (c.args.waiting.now.items ++ t))
+    (schedule_of_more c.args.events.now ys x whole)
+    (front_longer c.args.waiting.now.items (decimal x.choice) (after_commas (map (λ e. e.choice) ys)) _ _
+    (rw c.from.ensures at c.in_err-add_number-in-Some.ensures.front)))
 
 pub returns-in_ok-add_number-in-Some-clause-added : goal.returns-in_ok-add_number-in-Some-clause-added
 returns-in_ok-add_number-in-Some-clause-added g c =
@@ -31,8 +33,10 @@ returns-in_ok-add_number-in-Some-clause-added g c =
     let whole : c.args.events.now ≡ x ∷ ys = search rules in
     on_ok_weaker c.add_others.result
     (λ k.
-    subst (λ t. Adds c.args.waiting.now.items t c.add_others.new.waiting.items w (g.W.Write.contents c.add_others.new.writer.inner)) (schedule_of_more c.args.events.now ys x whole)
-    (adds_both c.args.waiting.now.items (decimal x.choice) c.add_number.new.waiting.items (after_commas (map (λ e. e.choice) ys)) c.add_others.new.waiting.items _ _ _
+    subst (λ t. Adds c.args.waiting.now.items t c.add_others.new.waiting.items w
+    (g.W.Write.contents c.add_others.new.writer.inner)) (schedule_of_more c.args.events.now ys x whole)
+    (adds_both c.args.waiting.now.items (decimal x.choice) c.add_number.new.waiting.items
+    (after_commas (map (λ e. e.choice) ys)) c.add_others.new.waiting.items _ _ _
     (rw c.from.ensures at c.in_ok-add_number-in-Some.ensures.added) k))
     c.add_others.ensures.added
 
@@ -44,7 +48,9 @@ returns-in_ok-add_number-in-Some-clause-front g c =
     let whole : c.args.events.now ≡ x ∷ ys = search rules in
     on_err_weaker c.add_others.result
     (λ k.
-    subst (λ t. AppendsFront w (g.W.Write.contents c.add_others.new.writer.inner) (c.args.waiting.now.items ++ t)) (schedule_of_more c.args.events.now ys x whole)
-    (front_after c.args.waiting.now.items (decimal x.choice) c.add_number.new.waiting.items (after_commas (map (λ e. e.choice) ys)) _ _ _
+    subst (λ t. AppendsFront w (g.W.Write.contents c.add_others.new.writer.inner) (c.args.waiting.now.items ++ t))
+    (schedule_of_more c.args.events.now ys x whole)
+    (front_after c.args.waiting.now.items (decimal x.choice) c.add_number.new.waiting.items
+    (after_commas (map (λ e. e.choice) ys)) _ _ _
     (rw c.from.ensures at c.in_ok-add_number-in-Some.ensures.added) k))
     c.add_others.ensures.front

@@ -7,6 +7,7 @@ abbrev pub invariant-loop-event : goal.invariant-loop-event
 invariant-loop-event g l =
     let contents = g.W.Write.contents in
     record {
-      added : Adds l.fn.waiting.items (after_commas (map (λ e. e.choice) (take l.event-index l.events))) l.waiting.items (contents l.fn.writer.inner) (contents l.writer.inner);
+      added : Adds l.fn.waiting.items (after_commas (map (λ e. e.choice) (take l.event-index l.events))) l.waiting.items
+          (contents l.fn.writer.inner) (contents l.writer.inner);
       kept : l.writer.failures.total ≡ l.fn.writer.failures.total;
     }

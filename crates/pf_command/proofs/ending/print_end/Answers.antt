@@ -9,7 +9,8 @@ returns-in-Told g c bytes ns found =
     let h = view_of_hunt_args c.args.args.now in
     subst
     (λ x.
-    PrintsAnswer (MaySay h bytes ns x) (g.W.Write.contents c.args.writer.now.inner) (g.W.Write.contents c.print_answer.new.writer.inner) c.args.writer.now.failures.total
+    PrintsAnswer (MaySay h bytes ns x) (g.W.Write.contents c.args.writer.now.inner)
+    (g.W.Write.contents c.print_answer.new.writer.inner) c.args.writer.now.failures.total
     c.print_answer.new.writer.failures.total c.print_answer.result)
     (sym c.in-Told.is) c.print_answer.ensures
 
@@ -19,6 +20,7 @@ returns-in-Found g c bytes ns found =
     let one = subst (IsFound h bytes ns) c.in-Found.is found in
     subst
     (λ x.
-    PrintsAnswer (MaySay h bytes ns x) (g.W.Write.contents c.args.writer.now.inner) (g.W.Write.contents c.print_found.new.writer.inner) c.args.writer.now.failures.total
+    PrintsAnswer (MaySay h bytes ns x) (g.W.Write.contents c.args.writer.now.inner)
+    (g.W.Write.contents c.print_found.new.writer.inner) c.args.writer.now.failures.total
     c.print_found.new.writer.failures.total c.print_found.result)
     (sym c.in-Found.is) (c.print_found.ensures bytes ns one.0 one.1)

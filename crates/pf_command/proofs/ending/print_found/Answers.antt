@@ -17,8 +17,14 @@ returns-in_err-print_seed g c bytes ns of least =
     let r = view_of_report f.failure.report in
     let head = seed_text s h.strategy (choices_of r) in
     let m = may_be_told h bytes f.job ns s r f.runs least in
-    printed_fault (TellsSought h bytes f.job ns (Failure f.runs)) _ _ _ _ c.from_residual.result c.in_err-print_seed.field-0.0 c.from_residual.ensures
-    (head ++ m.0, m.1, m.2, front_of_more _ _ head m.0 c.in_err-print_seed.ensures.front, c.in_err-print_seed.ensures.counted)
+    printed_fault (TellsSought h bytes f.job ns (Failure f.runs)) _ _ _ _ c.from_residual.result
+    c.in_err-print_seed.field-0.0 c.from_residual.ensures (
+      head ++ m.0,
+      m.1,
+      m.2,
+      front_of_more _ _ head m.0 c.in_err-print_seed.ensures.front,
+      c.in_err-print_seed.ensures.counted,
+    )
 
 pub returns-in-Some : goal.returns-in-Some
 returns-in-Some g c bytes ns of least =
@@ -27,12 +33,16 @@ returns-in-Some g c bytes ns of least =
     let s = f.failure.seed in
     let r = view_of_report f.failure.report in
     let printed =
-    prints_after (TellsShrinking h bytes r c.in-Some.runs) (TellsSought h bytes f.job ns (Failure (Some c.in-Some.runs))) (seed_text s h.strategy (choices_of r)) _ _ _ _ _ _
+    prints_after (TellsShrinking h bytes r c.in-Some.runs)
+    (TellsSought h bytes f.job ns (Failure (Some c.in-Some.runs)))
+    (seed_text s h.strategy (choices_of r)) _ _ _ _ _ _
     c.print_shrunk.result c.in_ok-print_seed.ensures.written c.in_ok-print_seed.ensures.kept
-    (λ t k tells. tells_shrinking h bytes f.job ns s r c.in-Some.runs t k least tells) (c.print_shrunk.ensures bytes of) in
+    (λ t k tells. tells_shrinking h bytes f.job ns s r c.in-Some.runs t k least tells)
+    (c.print_shrunk.ensures bytes of) in
     subst
     (λ o.
-    PrintsAnswer (TellsSought h bytes f.job ns (Failure o)) (g.W.Write.contents c.args.writer.now.inner) (g.W.Write.contents c.print_shrunk.new.writer.inner)
+    PrintsAnswer (TellsSought h bytes f.job ns (Failure o)) (g.W.Write.contents c.args.writer.now.inner)
+    (g.W.Write.contents c.print_shrunk.new.writer.inner)
     c.args.writer.now.failures.total c.print_shrunk.new.writer.failures.total c.print_shrunk.result)
     (sym c.in-Some.is) printed
 
@@ -43,10 +53,13 @@ returns g c bytes ns of least =
     let s = f.failure.seed in
     let r = view_of_report f.failure.report in
     let printed =
-    prints_after (TellsReport f.job r) (TellsSought h bytes f.job ns (Failure None)) (seed_text s h.strategy (choices_of r)) _ _ _ _ _ _
-    c.print_failure.result c.in_ok-print_seed.ensures.written c.in_ok-print_seed.ensures.kept (λ t k tells. tells_report h bytes f.job ns s r t k least tells) c.print_failure.ensures in
+    prints_after (TellsReport f.job r) (TellsSought h bytes f.job ns (Failure None))
+    (seed_text s h.strategy (choices_of r)) _ _ _ _ _ _
+    c.print_failure.result c.in_ok-print_seed.ensures.written c.in_ok-print_seed.ensures.kept
+    (λ t k tells. tells_report h bytes f.job ns s r t k least tells) c.print_failure.ensures in
     subst
     (λ o.
-    PrintsAnswer (TellsSought h bytes f.job ns (Failure o)) (g.W.Write.contents c.args.writer.now.inner) (g.W.Write.contents c.print_failure.new.writer.inner)
+    PrintsAnswer (TellsSought h bytes f.job ns (Failure o)) (g.W.Write.contents c.args.writer.now.inner)
+    (g.W.Write.contents c.print_failure.new.writer.inner)
     c.args.writer.now.failures.total c.print_failure.new.writer.failures.total c.print_failure.result)
     (sym c.in-None.is) printed

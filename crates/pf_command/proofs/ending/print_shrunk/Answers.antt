@@ -11,10 +11,12 @@ pub returns-in-Ok : goal.returns-in-Ok
 returns-in-Ok g c bytes of =
     let h = view_of_hunt_args c.args.args.now in
     let r = view_of_report c.args.report.now in
-    prints_more (IsAnswer c.in-Ok.answer) (TellsShrinking h bytes r c.args.runs) _ _ _ _ (λ t s is. inl (rw (is.0, is.1) (c.in-Ok.ensures bytes of))) c.print_answer.result c.print_answer.ensures
+    prints_more (IsAnswer c.in-Ok.answer) (TellsShrinking h bytes r c.args.runs) _ _ _ _
+    (λ t s is. inl (rw (is.0, is.1) (c.in-Ok.ensures bytes of))) c.print_answer.result c.print_answer.ensures
 
 pub returns-in-Err : goal.returns-in-Err
 returns-in-Err g c bytes of =
     let h = view_of_hunt_args c.args.args.now in
     let r = view_of_report c.args.report.now in
-    prints_more IsNoMemory (TellsShrinking h bytes r c.args.runs) _ _ _ _ (λ t s is. inr is) c.print_no_memory.result c.print_no_memory.ensures
+    prints_more IsNoMemory (TellsShrinking h bytes r c.args.runs) _ _ _ _ (λ t s is. inr is) c.print_no_memory.result
+    c.print_no_memory.ensures

@@ -19,7 +19,8 @@ returns-in_ok-share-in-Ok g c =
     let same = subst (IsModuleOf bytes) (sym c.in_ok-share-in-Ok.ensures) c.in-Ok.ensures in
     IfOk-weaker c.hunt_module.result (λ x. HearsSome heard old (OfEach m (λ bytes. HuntEndsAs h h.sought bytes x)) new)
     (λ x. HearsSome heard old (HuntEndsAs h h.sought bytes x) new)
-    (λ x. hears_weaker heard (OfEach m (λ bytes. HuntEndsAs h h.sought bytes x)) (HuntEndsAs h h.sought bytes x) old new (λ ns ends. ends bytes same))
+    (λ x. hears_weaker heard (OfEach m (λ bytes. HuntEndsAs h h.sought bytes x)) (HuntEndsAs h h.sought bytes x) old new
+    (λ ns ends. ends bytes same))
     c.hunt_module.ensures
 
 pub returns-in_ok-answer-in-Err : goal.returns-in_ok-answer-in-Err

@@ -6,7 +6,8 @@ use Rattle.pf_command.proofs.hunt.print_hunt.Goals as goal
 
 pub returns-in_err-end-clause-sent : goal.returns-in_err-end-clause-sent
 returns-in_err-end-clause-sent g c =
-    sent_memory (HuntAnswers (view_of_hunt_args c.args.args.now) c.args.source.now) _ _ c.from_residual.result c.from_residual.ensures
+    sent_memory (HuntAnswers (view_of_hunt_args c.args.args.now) c.args.source.now) _ _ c.from_residual.result
+    c.from_residual.ensures
 
 pub returns-in_err-print_end-clause-sent : goal.returns-in_err-print_end-clause-sent
 returns-in_err-print_end-clause-sent g c =
@@ -14,8 +15,10 @@ returns-in_err-print_end-clause-sent g c =
     let bytes = c.args.source.now in
     let f = c.in_err-print_end.field-0.0 in
     let ends = c.in_ok-end.ensures in
-    sent_fault (HuntAnswers h bytes) _ _ _ _ c.from_residual-in_err-print_end.result f c.from_residual-in_err-print_end.ensures
-    (prints_more (MaySay h bytes ends.0 c.in_ok-end.end) (HuntAnswers h bytes) _ _ _ _ (λ t s say. (ends.0, ends.1.1 t s say)) (Err f)
+    sent_fault (HuntAnswers h bytes) _ _ _ _ c.from_residual-in_err-print_end.result f
+    c.from_residual-in_err-print_end.ensures
+    (prints_more (MaySay h bytes ends.0 c.in_ok-end.end) (HuntAnswers h bytes) _ _ _ _
+    (λ t s say. (ends.0, ends.1.1 t s say)) (Err f)
     (c.in_err-print_end.ensures bytes ends.0 ends.1.0))
 
 pub returns-clause-sent : goal.returns-clause-sent
@@ -23,7 +26,8 @@ returns-clause-sent g c =
     let h = view_of_hunt_args c.args.args.now in
     let bytes = c.args.source.now in
     let ends = c.in_ok-end.ensures in
-    prints_more (MaySay h bytes ends.0 c.in_ok-end.end) (HuntAnswers h bytes) _ _ _ _ (λ t s say. (ends.0, ends.1.1 t s say)) (Ok c.in_ok-print_end.field-0)
+    prints_more (MaySay h bytes ends.0 c.in_ok-end.end) (HuntAnswers h bytes) _ _ _ _
+    (λ t s say. (ends.0, ends.1.1 t s say)) (Ok c.in_ok-print_end.field-0)
     (c.in_ok-print_end.ensures bytes ends.0 ends.1.0)
 
 pub returns-clause-heard : goal.returns-clause-heard
@@ -32,7 +36,8 @@ returns-clause-heard g c =
     let bytes = c.args.source.now in
     let ends = c.in_ok-end.ensures in (
       ends.0,
-      prints_more (MaySay h bytes ends.0 c.in_ok-end.end) (HuntNotifies h ends.0 bytes) _ _ _ _ ends.1.1 (Ok c.in_ok-print_end.field-0)
+      prints_more (MaySay h bytes ends.0 c.in_ok-end.end) (HuntNotifies h ends.0 bytes) _ _ _ _ ends.1.1
+          (Ok c.in_ok-print_end.field-0)
           (c.in_ok-print_end.ensures bytes ends.0 ends.1.0),
       ends.2,
     )

@@ -9,16 +9,19 @@ pub returns : goal.returns
 returns g c = (
   c.args.answer.now.text.items,
   (refl, refl),
-  subst (Appends (g.W.Write.contents c.args.writer.now.inner) (g.W.Write.contents c.put.new.self.inner)) c.deref.ensures.value c.in_ok-put.ensures.written,
+  subst (Appends (g.W.Write.contents c.args.writer.now.inner) (g.W.Write.contents c.put.new.self.inner))
+      c.deref.ensures.value c.in_ok-put.ensures.written,
   c.in_ok-put.ensures.kept,
 )
 
 pub returns-in_err-put : goal.returns-in_err-put
 returns-in_err-put g c =
-    printed_fault (IsAnswer c.args.answer.now) _ _ _ _ c.from_residual.result c.in_err-put.field-0.0 c.from_residual.ensures (
+    printed_fault (IsAnswer c.args.answer.now) _ _ _ _ c.from_residual.result c.in_err-put.field-0.0
+    c.from_residual.ensures (
       c.args.answer.now.text.items,
       c.args.answer.now.status,
       (refl, refl),
-      subst (AppendsFront (g.W.Write.contents c.args.writer.now.inner) (g.W.Write.contents c.put.new.self.inner)) c.deref.ensures.value c.in_err-put.ensures.front,
+      subst (AppendsFront (g.W.Write.contents c.args.writer.now.inner) (g.W.Write.contents c.put.new.self.inner))
+          c.deref.ensures.value c.in_err-put.ensures.front,
       c.in_err-put.ensures.counted,
     )

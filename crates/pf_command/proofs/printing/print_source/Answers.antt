@@ -13,10 +13,12 @@ returns-in-Err-clause-told g c =
     let asked = view_of_run_args c.args.args.now in
     let bytes = c.args.source.now in
     sends_more (IsRefusedText (refusal_text refusal.code refusal.offset)) (RunAnswers asked bytes) _ _ _ _
-    (λ t s is. rw (is.0, is.1) (source_refused refusal.code refusal.offset c.in-Err.ensures)) c.print_refusal.result c.print_refusal.ensures
+    (λ t s is. rw (is.0, is.1) (source_refused refusal.code refusal.offset c.in-Err.ensures)) c.print_refusal.result
+    c.print_refusal.ensures
 
 pub returns-in-Err-clause-waits : goal.returns-in-Err-clause-waits
 returns-in-Err-clause-waits g c =
     let old = c.args.waiting.now in
     let bytes = c.args.source.now in
-    went_refused (RunCounts (view_of_run_args c.args.args.now) old old bytes) _ _ _ _ _ (λ t. refused_before bytes t) c.print_refusal.result c.print_refusal.ensures
+    went_refused (RunCounts (view_of_run_args c.args.args.now) old old bytes) _ _ _ _ _ (λ t. refused_before bytes t)
+    c.print_refusal.result c.print_refusal.ensures

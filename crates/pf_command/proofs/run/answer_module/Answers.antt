@@ -14,7 +14,8 @@ returns-in-Ok g c =
     let asked = run_args c.args.request.now c.args.edition in
     let m = c.args.module in
     let job = c.in-Ok.job in
-    let asks : AsksOf asked m (Ok job) = asks_in m c.number.result asked.edition asked.request (Ok job) c.number.ensures.number c.in-Ok.ensures in
+    let asks : AsksOf asked m (Ok job) = asks_in m c.number.result asked.edition asked.request
+    (Ok job) c.number.ensures.number c.in-Ok.ensures in
     IfOk-weaker c.answer_job.result (λ a. ReportsJob job a.text.items a.status)
     (λ a. (bytes : List ℕ) → IsModuleOf bytes m → AnswersRun asked bytes a.text.items a.status)
     (λ a tells bytes is. row_told (AsksOf asked) ReportsJob m bytes job a is asks tells) c.answer_job.ensures
@@ -25,7 +26,9 @@ returns-in-Err-Fault g c =
     let m = c.args.module in
     let code = code_of c.in-Err-Fault.refusal in
     let refused = rw c.in-Err-Fault.field-0-is at c.in-Err-Fault.ensures in
-    let asks : AsksOf asked m (Err code) = asks_in m c.number.result asked.edition asked.request (Err code) c.number.ensures.number refused in
+    let asks : AsksOf asked m (Err code) = asks_in m c.number.result asked.edition asked.request
+    (Err code) c.number.ensures.number refused in
     IfOk-weaker c.refused_by_code.result (λ a. Refuses a (code_text code))
     (λ a. (bytes : List ℕ) → IsModuleOf bytes m → AnswersRun asked bytes a.text.items a.status)
-    (λ a told bytes is. row_job_refused (AsksOf asked) ReportsJob m bytes a code is asks told) (rw c.code.ensures at c.refused_by_code.ensures)
+    (λ a told bytes is. row_job_refused (AsksOf asked) ReportsJob m bytes a code is asks told)
+    (rw c.code.ensures at c.refused_by_code.ensures)

@@ -10,5 +10,7 @@ returns-in-Err g c =
     let refusal = c.in-Err.refusal in
     let asked = run_args c.args.request.now c.args.edition in
     let bytes = c.args.source.now in
-    IfOk-weaker c.refused_at.result (λ a. Refuses a (refusal_text refusal.code refusal.offset)) (λ a. AnswersRun asked bytes a.text.items a.status)
-    (λ a is. row_refused (AsksOf asked) ReportsJob bytes a refusal.code refusal.offset c.in-Err.ensures is) c.refused_at.ensures
+    IfOk-weaker c.refused_at.result (λ a. Refuses a (refusal_text refusal.code refusal.offset))
+    (λ a. AnswersRun asked bytes a.text.items a.status)
+    (λ a is. row_refused (AsksOf asked) ReportsJob bytes a refusal.code refusal.offset c.in-Err.ensures is)
+    c.refused_at.ensures

@@ -13,7 +13,8 @@ use Rattle.pf_command.proofs.run.write_finished.Goals as goal
 pub write_result-requires : goal.write_result-requires
 write_result-requires c =
     let job : c.deref.result.now ≡ c.args.finished.now.job = c.deref.ensures ∙ c.job-job.ensures in
-    let atoms : c.atoms-atoms.result.now ≡ c.args.finished.now.job.asked.code.atoms = c.atoms-atoms.ensures ∙ ap (λ (m : Checked). m.atoms) c.deref-2.ensures
+    let atoms : c.atoms-atoms.result.now ≡ c.args.finished.now.job.asked.code.atoms =
+    c.atoms-atoms.ensures ∙ ap (λ (m : Checked). m.atoms) c.deref-2.ensures
     ∙ ap (λ (k : Module). k.atoms) c.module.ensures ∙ ap (λ (k : Job). k.asked.code.atoms) job in
     subst (λ l. IsWritten (name_of l) c.in-Some.result.now) (sym atoms) c.in-Some.ensures.2
 
@@ -27,7 +28,8 @@ returns-in-Some c =
     ∙ ap (λ (k : Module). k.atoms) c.module.ensures ∙ ap (λ (k : Job). k.asked.code.atoms) job in
     let came = result_of c.in-Some.result.now in
     IfOk-weaker c.write_result.result (TellsResult table came) (λ a. ReportsJob j a.text.items a.status)
-    (λ a tells. tells_result j table came f.result a c.in-Some.ensures.1 c.in-Some.ensures.0 atoms tells) c.write_result.ensures
+    (λ a tells. tells_result j table came f.result a c.in-Some.ensures.1 c.in-Some.ensures.0 atoms tells)
+    c.write_result.ensures
 
 pub returns-in-None : goal.returns-in-None
 returns-in-None c =
@@ -37,4 +39,5 @@ returns-in-None c =
     let same : asked ≡ j = c.deref-in-None.ensures ∙ c.job-job.ensures in
     IfOk-weaker c.write_no_memory.result (λ a. (asked.asked.runs ≡ zero) × TellsResult table (report memory_report) a)
     (λ a. ReportsJob j a.text.items a.status)
-    (λ a is. tells_no_memory j table a (subst (λ (k : Job). k.asked.runs ≡ zero) same is.0) is.1) c.write_no_memory.ensures
+    (λ a is. tells_no_memory j table a (subst (λ (k : Job). k.asked.runs ≡ zero) same is.0) is.1)
+    c.write_no_memory.ensures

@@ -7,4 +7,5 @@ use Rattle.pf_command.proofs.seeds.put_rows.Given as goal
 
 -- the rows so far have gone out
 abbrev pub invariant-loop-row : goal.invariant-loop-row
-invariant-loop-row l = l.out.items ≡ l.fn.out.items ++ flat_map (λ x. row_text (name_of l.atoms) (row_of x)) (take l.row-index l.rows)
+invariant-loop-row l = l.out.items ≡ l.fn.out.items ++ flat_map (λ x. row_text (name_of l.atoms) (row_of x))
+    (take l.row-index l.rows)

@@ -22,8 +22,13 @@ returns-in-Ok g c =
     IfOk-weaker c.seek_failure.result (λ x. HearsSome heard old (OfEach m (λ bytes. TellsAs h bytes job sought x)) new)
     (λ x. HearsSome heard old (OfEach m (λ bytes. HuntEndsAs h sought bytes x)) new)
     (λ x.
-    hears_weaker heard (OfEach m (λ bytes. TellsAs h bytes job sought x)) (OfEach m (λ bytes. HuntEndsAs h sought bytes x)) old new
-    (λ ns tells bytes of. ((tells bytes of).0, λ t s say. hunted m job ns t s of c.in-Ok.ensures ((tells bytes of).1 t s say))))
+    hears_weaker heard (OfEach m (λ bytes. TellsAs h bytes job sought x))
+    (OfEach m (λ bytes. HuntEndsAs h sought bytes x)) old new
+    (λ ns tells bytes of. (
+      (tells bytes of).0,
+      λ t s say. hunted m job ns t s of c.in-Ok.ensures
+          ((tells bytes of).1 t s say),
+    )))
     c.seek_failure.ensures
 
 pub returns-in-Err-Fault : goal.returns-in-Err-Fault

@@ -10,7 +10,8 @@ returns-in-Failure g c =
     subst
     (λ s.
     IfOk c.hunt_failure.result
-    (λ x. HearsSome g.S.HuntObserver.Heard c.args.seeds.now (OfEach c.args.module (λ bytes. HuntEndsAs h s bytes x)) c.hunt_failure.new.seeds))
+    (λ x. HearsSome g.S.HuntObserver.Heard c.args.seeds.now (OfEach c.args.module (λ bytes. HuntEndsAs h s bytes x))
+    c.hunt_failure.new.seeds))
     (sym c.in-Failure.is) c.hunt_failure.ensures
 
 pub returns-in_ok-answer-in-Outcomes : goal.returns-in_ok-answer-in-Outcomes
@@ -20,7 +21,8 @@ returns-in_ok-answer-in-Outcomes g c =
     let heard = c.in_ok-answer-in-Outcomes.ensures in (
       heard.0,
       (λ bytes of.
-          let answers = subst (λ s. SoughtAnswers h s bytes heard.0 a.text.items a.status) (sym c.in-Outcomes.is) (heard.1 bytes of) in
+          let answers = subst (λ s. SoughtAnswers h s bytes heard.0 a.text.items a.status) (sym c.in-Outcomes.is)
+          (heard.1 bytes of) in
           (tt, λ t s say. rw (say.0, say.1) answers)),
       heard.2,
     )

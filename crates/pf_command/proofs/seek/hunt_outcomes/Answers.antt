@@ -20,13 +20,16 @@ returns-in-Ok g c =
     let heard = g.S.HuntObserver.Heard in
     let old = c.args.seeds.now in
     let new = c.seek_outcomes.new.seeds in
-    let asks = asks_in m c.number.result h.edition h.request (Ok job) c.number.ensures.number (rw c.in_ok-share.ensures at c.in-Ok.ensures) in
-    IfOk-weaker c.seek_outcomes.result (λ a. HearsSome heard old (λ ns. (bytes : List ℕ) → TellsSought h bytes job ns Outcomes a.text.items a.status) new)
+    let asks = asks_in m c.number.result h.edition h.request (Ok job) c.number.ensures.number
+    (rw c.in_ok-share.ensures at c.in-Ok.ensures) in
+    IfOk-weaker c.seek_outcomes.result (λ a. HearsSome heard old (λ ns. (bytes : List ℕ)
+    → TellsSought h bytes job ns Outcomes a.text.items a.status) new)
     (λ a. HearsSome heard old (OfEach m (λ bytes ns. SoughtAnswers h Outcomes bytes ns a.text.items a.status)) new)
     (λ a.
     hears_weaker heard (λ ns. (bytes : List ℕ) → TellsSought h bytes job ns Outcomes a.text.items a.status)
     (OfEach m (λ bytes ns. SoughtAnswers h Outcomes bytes ns a.text.items a.status)) old new
-    (λ ns told bytes of. hunted m job ns a.text.items a.status of (run_asked Outcomes m (Ok job) (tt {0}) asks) (told bytes)))
+    (λ ns told bytes of. hunted m job ns a.text.items a.status of
+    (run_asked Outcomes m (Ok job) (tt {0}) asks) (told bytes)))
     c.seek_outcomes.ensures
 
 pub returns-in-Err-Fault : goal.returns-in-Err-Fault
@@ -43,7 +46,8 @@ returns-in-Err-Fault g c =
     (λ a is. (
       [],
       (λ bytes of.
-          refused _ _ (row_job_refused (HuntAsksFor h Outcomes) (λ j t s. ⊥) m bytes a code of (run_asked Outcomes m (Err code) (tt {0}) asks) is)),
+          refused _ _ (row_job_refused (HuntAsksFor h Outcomes) (λ j t s. ⊥) m bytes a code of
+          (run_asked Outcomes m (Err code) (tt {0}) asks) is)),
       hears_none heard old,
     ))
     (rw c.code.ensures at c.refused_by_code.ensures)

@@ -17,10 +17,19 @@ returns g c =
     let end = found.field-0.end in
     let may = c.may_stop-may_stop in
     let heard = found.ensures.heard in
-    let known = subst (λ f. FirstFailing args.leaks args.strategy j.asked args.first end (option_map failure_of f)) c.in-Some.is found.ensures.known.failure in
-    let told = subst (λ f. SearchNotices args.strategy j.asked may.result args.first args.end end (option_map failure_of f) heard.0) c.in-Some.is heard.1 in (
+    let known = subst (λ f. FirstFailing args.leaks args.strategy j.asked args.first end (option_map failure_of f))
+    c.in-Some.is found.ensures.known.failure in
+    let told = subst (λ f. SearchNotices args.strategy j.asked may.result args.first args.end end
+    (option_map failure_of f) heard.0) c.in-Some.is heard.1 in (
       heard.0,
-      (λ bytes of. ((of, least_of_all h bytes j heard.0 may.result end (failure_of c.in-Some.failure) may.ensures known told), λ t s say. say)),
+      (λ bytes of. (
+        (
+          of,
+          least_of_all h bytes j heard.0 may.result end (failure_of c.in-Some.failure) may.ensures known
+              told,
+        ),
+        λ t s say. say,
+      )),
       heard.2,
     )
 
@@ -33,12 +42,17 @@ returns-in_default g c =
     let end = found.field-0.end in
     let may = c.may_stop-may_stop in
     let heard = found.ensures.heard in
-    let none = subst (λ f. FirstFailing args.leaks args.strategy j.asked args.first end (option_map failure_of f)) c.in_default.is found.ensures.known.failure in
-    let told = subst (λ f. SearchNotices args.strategy j.asked may.result args.first args.end end (option_map failure_of f) heard.0) c.in_default.is heard.1 in
+    let none = subst (λ f. FirstFailing args.leaks args.strategy j.asked args.first end (option_map failure_of f))
+    c.in_default.is found.ensures.known.failure in
+    let told = subst (λ f. SearchNotices args.strategy j.asked may.result args.first args.end end
+    (option_map failure_of f) heard.0) c.in_default.is heard.1 in
     let reach = subst (λ b. SearchedTo b args.first args.end end) may.ensures found.ensures.reach in
     let is = c.in_ok-write_none.ensures in (
       heard.0,
-      (λ bytes of.
-          (tt, λ t s say. rw (say.0 ∙ is.0, say.1 ∙ is.1) (none_fails c.args.runs end reach (none_so_far h bytes j heard.0 may.result end may.ensures none told)))),
+      (λ bytes of. (
+        tt,
+        λ t s say. rw (say.0 ∙ is.0, say.1 ∙ is.1)
+            (none_fails c.args.runs end reach (none_so_far h bytes j heard.0 may.result end may.ensures none told)),
+      )),
       heard.2,
     )

@@ -26,7 +26,8 @@ returns g c =
     let new = c.tally_all.new.observer in
     let reach = subst (λ b. SearchedTo b h.seeds.0 h.seeds.1 end) may.ensures c.in_ok-tallied.ensures.reach in
     IfOk-weaker c.write_rows.result
-    (λ a. (a.text.items ≡ front_text h end ++ strategy_text h.strategy ++ flat_map (λ x. row_text (atom_names_of j) (row_of x)) rows)
+    (λ a. (a.text.items ≡ front_text h end ++ strategy_text h.strategy
+    ++ flat_map (λ x. row_text (atom_names_of j) (row_of x)) rows)
     × (a.status ≡ (if list_any (λ x. is_failure x.verdict) rows then 1 else 0)))
     (λ a. HearsSome heard old (λ ns. (bytes : List ℕ) → TellsSought h bytes j ns Outcomes a.text.items a.status) new)
     (λ a is.
@@ -34,7 +35,9 @@ returns g c =
     (λ ns. (bytes : List ℕ) → TellsSought h bytes j ns Outcomes a.text.items a.status) old new
     (λ ns told bytes.
     tells_rows h bytes j ns end (rows_in rows) a reach c.in_ok-tallied.ensures.known.rows
-    (subst (λ b. TallyNotices h.strategy j.asked b h.seeds.0 h.seeds.1 end ns) may.ensures told)
-    (is.0 ∙ ap (λ t. front_text h end ++ strategy_text h.strategy ++ t) (texts_are (atom_names_of j) rows), is.1 ∙ ap (λ b. if b then 1 else 0) (fails_are rows)))
+    (subst (λ b. TallyNotices h.strategy j.asked b h.seeds.0 h.seeds.1 end ns) may.ensures told) (
+      is.0 ∙ ap (λ t. front_text h end ++ strategy_text h.strategy ++ t) (texts_are (atom_names_of j) rows),
+      is.1 ∙ ap (λ b. if b then 1 else 0) (fails_are rows),
+    ))
     c.in_ok-tallied.ensures.heard)
     c.write_rows.ensures

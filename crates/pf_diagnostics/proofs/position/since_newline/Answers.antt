@@ -1,7 +1,8 @@
 use Rattle.std.proofs.Common.{◌≡◌, ◌<◌, ◌-◌, true, get_or, ap, arith}
 use Rattle.pf_diagnostics.specs.Positions.{is_newline}
 use Rattle.pf_diagnostics.proofs.Lines.{since_is}
-use Rattle.pf_diagnostics.proofs.position.since_newline.Goals.{then-loop-start-test+else-front-start-ne10, else-loop-start-test}
+use Rattle.pf_diagnostics.proofs.position.since_newline.Goals.{then-loop-start-test+else-front-start-ne10}
+use Rattle.pf_diagnostics.proofs.position.since_newline.Goals.{else-loop-start-test}
 use Rattle.pf_diagnostics.proofs.position.since_newline.Goals as goal
 
 pub returns : goal.returns

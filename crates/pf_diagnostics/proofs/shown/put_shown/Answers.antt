@@ -9,5 +9,7 @@ loop-at-init c = sym (append-nil _)
 
 pub loop-at-preserved : goal.loop-at-preserved
 loop-at-preserved c =
-    let first : c.byte_at-before.result ≡ get_or c.args.bytes.now (c.loop-at.at - 1) 0 = c.byte_at-before.ensures ∙ ap (λ (k : ℕ). get_or c.args.bytes.now k 0) c.saturating_sub.ensures in
-    one_more _ _ _ _ c.loop-at.at (c.loop-at.at + 1) _ _ _ (omega arith) first c.byte_at.ensures c.byte_at-next.ensures c.loop-at.invariant c.in_ok-put_byte.ensures
+    let first : c.byte_at-before.result ≡ get_or c.args.bytes.now (c.loop-at.at - 1) 0 = c.byte_at-before.ensures
+    ∙ ap (λ (k : ℕ). get_or c.args.bytes.now k 0) c.saturating_sub.ensures in
+    one_more _ _ _ _ c.loop-at.at (c.loop-at.at + 1) _ _ _ (omega arith) first c.byte_at.ensures c.byte_at-next.ensures
+    c.loop-at.invariant c.in_ok-put_byte.ensures

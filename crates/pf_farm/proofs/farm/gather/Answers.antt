@@ -1,4 +1,5 @@
-use Rattle.std.proofs.Common.{◌≡◌, ◌+◌, List, [], ◌∷◌, ◌++◌, length, vec_len, Option, sym, ap, ◌∙◌, subst, arith, append_assoc}
+use Rattle.std.proofs.Common.{◌≡◌, ◌+◌, List, [], ◌∷◌, ◌++◌, length, vec_len, Option, sym, ap, ◌∙◌, subst, arith}
+use Rattle.std.proofs.Common.{append_assoc}
 use Rattle.pf_farm_accounts.specs.DequeViews.{OwnerView, ThiefView, IsThiefOf, stolen_by}
 use Rattle.pf_farm_accounts.proofs.DequeSteps.{dealt_length}
 use Rattle.pf_farm.specs.Seats.{WorkSeatView, IsRing, AllIdle}
@@ -25,14 +26,21 @@ seats-init g c =
       drained = ap (λ x. x.0.drained) ends ∙ idle.1.1;
       opened = omega (arith, less, c.take_in-owner.ensures.opened);
       ended = omega (arith, less, c.take_in-owner.ensures.ended);
-      amount = omega (arith, c.take_in-owner.ensures.amounts, ap (λ x. length x.0.pushed) ends, ap (λ x. length x.0.popped) ends, ap (λ x. length (stolen_by x.1)) ends);
+      amount = omega (
+        arith,
+        c.take_in-owner.ensures.amounts,
+        ap (λ x. length x.0.pushed) ends,
+        ap (λ x. length x.0.popped) ends,
+        ap (λ x. length (stolen_by x.1)) ends,
+      );
       last = (w, ws, items, ap (λ x. x.1) ends);
       spent = (w, [], ap (λ x. x.0) ends, items, tt);
     }
 
 pub take_in-own-requires : goal.take_in-own-requires
 take_in-own-requires g c =
-    let items : c.seats.seats.items ≡ c.pop-in-seats.new.self.items ++ c.in-Some-pop.seat ∷ [] = c.in-Some-pop.ensures.items in
+    let items : c.seats.seats.items ≡ c.pop-in-seats.new.self.items ++ c.in-Some-pop.seat ∷ [] =
+    c.in-Some-pop.ensures.items in
     (idle_last c.pop-in-seats.new.self.items c.in-Some-pop.seat (subst AllIdle items c.seats.invariant.idle)).1.0
 
 pub close-requires-clause-thief : goal.close-requires-clause-thief
@@ -42,7 +50,9 @@ close-requires-clause-thief g c =
     let ws = c.pop-in-seats.new.self.items in
     let items : c.seats.seats.items ≡ ws ++ s ∷ [] = c.in-Some-pop.ensures.items in
     let P : Option (ThiefView _) → Type 0 = λ x. IsThiefOf x c.seats.owner in
-    subst P (sym (ap (λ x. x.1) c.take_in-own.ensures.ends)) (steals_from ws s c.seats.owner c.take_in-owner.result.1 (subst (λ l. IsOpen l c.seats.owner c.take_in-owner.result.1) items v.ring))
+    subst P (sym (ap (λ x. x.1) c.take_in-own.ensures.ends))
+    (steals_from ws s c.seats.owner c.take_in-owner.result.1
+    (subst (λ l. IsOpen l c.seats.owner c.take_in-owner.result.1) items v.ring))
 
 pub seats-preserved : goal.seats-preserved
 seats-preserved g c =
@@ -58,14 +68,31 @@ seats-preserved g c =
     let t : WorkSeatView = v.spent.0 in
     let done : List WorkSeatView = v.spent.1 in
     record {
-      ring = subst (λ o. IsOpen ws o c.take_in-owner.result.1) (sym (ap (λ x. x.0) ends)) (opens_more ws s c.seats.owner c.take_in-owner.result.1 (subst (λ l. IsOpen l c.seats.owner c.take_in-owner.result.1) items v.ring));
+      ring = subst (λ o. IsOpen ws o c.take_in-owner.result.1) (sym (ap (λ x. x.0) ends))
+          (opens_more ws s c.seats.owner c.take_in-owner.result.1
+          (subst (λ l. IsOpen l c.seats.owner c.take_in-owner.result.1) items v.ring));
       idle = idle.0;
       drained = ap (λ x. x.0.drained) ends ∙ idle.1.1;
       opened = omega (arith, v.opened, less, c.take_in-own.ensures.opened);
       ended = omega (arith, v.ended, less, c.take_in-own.ensures.ended);
-      amount = omega (arith, v.amount, c.take_in-own.ensures.amounts, dealt_length _ _ _ dealt, ap (λ x. length x.0.pushed) ends, ap (λ x. length x.0.popped) ends, ap (λ x. length (stolen_by x.1)) ends);
+      amount = omega (
+        arith,
+        v.amount,
+        c.take_in-own.ensures.amounts,
+        dealt_length _ _ _ dealt,
+        ap (λ x. length x.0.pushed) ends,
+        ap (λ x. length x.0.popped) ends,
+        ap (λ x. length (stolen_by x.1)) ends,
+      );
       last = v.last;
-      spent = (s, t ∷ done, ap (λ x. x.0) ends, v.spent.3 ∙ ap (λ l. l ++ t ∷ done) items ∙ append_assoc ws (s ∷ []) (t ∷ done), (spends s t c.seats.owner c.take_in-own.result.1 v.spent.2 next dealt, v.spent.4));
+      spent = (
+        s,
+        t ∷ done,
+        ap (λ x. x.0) ends,
+        v.spent.3 ∙ ap (λ l. l ++ t ∷ done) items ∙ append_assoc ws (s ∷ [])
+            (t ∷ done),
+        (spends s t c.seats.owner c.take_in-own.result.1 v.spent.2 next dealt, v.spent.4),
+      );
     }
 
 pub returns-in-Some-clause-even : goal.returns-in-Some-clause-even

@@ -11,9 +11,12 @@ invariant-seats g l = record {
   drained : l.owner.drained ≡ true;
   opened : l.opened.parts + vec_len l.seats ≡ l.fn.opened.parts + vec_len l.fn.seats;
   ended : l.ended.parts + vec_len l.seats ≡ l.fn.ended.parts + vec_len l.fn.seats;
-  amount : l.opened.amount + l.fn.ended.amount + length l.owner.popped + length (stolen_by l.thief) ≡ l.ended.amount + l.fn.opened.amount + length l.owner.pushed;
-  last : (last : WorkSeatView) × (others : List WorkSeatView) × (l.fn.seats.items ≡ others ++ last ∷ []) × (l.thief ≡ last.next);
-  spent : (t : WorkSeatView) × (done : List WorkSeatView) × (l.owner ≡ t.own) × (l.fn.seats.items ≡ l.seats.items ++ t ∷ done) × AllSpent t done;
+  amount : l.opened.amount + l.fn.ended.amount + length l.owner.popped + length (stolen_by l.thief) ≡ l.ended.amount
+      + l.fn.opened.amount + length l.owner.pushed;
+  last : (last : WorkSeatView) × (others : List WorkSeatView) × (l.fn.seats.items ≡ others ++ last ∷ [])
+      × (l.thief ≡ last.next);
+  spent : (t : WorkSeatView) × (done : List WorkSeatView) × (l.owner ≡ t.own)
+      × (l.fn.seats.items ≡ l.seats.items ++ t ∷ done) × AllSpent t done;
 }
 
 abbrev pub decreases-seats : goal.decreases-seats

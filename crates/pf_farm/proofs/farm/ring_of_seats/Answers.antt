@@ -12,12 +12,17 @@ loop-i-preserved g c =
     let items : c.push.new.self.items ≡ c.loop-i.seats.items ++ w ∷ [] = search rules in
     let is = c.seat.ensures.seat in
     let opens = c.in_ok-own.ensures in
-    let chained = chain_push from (Some c.loop-i.owner.deque) c.loop-i.seats.items w v.chain (ap (λ (x : WorkSeatView). Some x.own.deque) is) in
-    let next : thief_deque w.next ≡ Some c.in_ok-own.own.deque = ap (λ (x : WorkSeatView). thief_deque x.next) is ∙ ap (λ t. Some t.deque) opens.1 in
+    let chained = chain_push from (Some c.loop-i.owner.deque) c.loop-i.seats.items w v.chain
+    (ap (λ (x : WorkSeatView). Some x.own.deque) is) in
+    let next : thief_deque w.next ≡ Some c.in_ok-own.own.deque = ap (λ (x : WorkSeatView). thief_deque x.next) is
+    ∙ ap (λ t. Some t.deque) opens.1 in
     let P : List WorkSeatView × Option DequePlace → Type 0 = λ x. IsChain from x.0 x.1 in
-    let chain : IsChain from c.push.new.self.items (Some c.in_ok-own.own.deque) = subst P (λ i. (sym items i, next i)) chained in
+    let chain : IsChain from c.push.new.self.items (Some c.in_ok-own.own.deque) =
+    subst P (λ i. (sym items i, next i)) chained in
     let rest : w.own.drained ≡ true = ap (λ (x : WorkSeatView). x.own.drained) is ∙ ap (λ o. o.drained) v.empty in
-    let idle : AllIdle c.push.new.self.items = subst AllIdle (sym items) (idle_push c.loop-i.seats.items w v.idle (ap (λ (x : WorkSeatView). x.busy) is, rest)) in
+    let idle : AllIdle c.push.new.self.items =
+    subst AllIdle (sym items) (idle_push c.loop-i.seats.items w v.idle (ap (λ (x : WorkSeatView). x.busy) is, rest))
+    in
     record {
       chain = chain;
       empty = opens.0;
@@ -35,14 +40,19 @@ returns-clause-ring g c =
     let items : c.push-2.new.self.items ≡ c.loop-i.seats.items ++ w ∷ [] = search rules in
     let is = c.seat-2.ensures.seat in
     let opens = c.in_ok-owner.ensures in
-    let chained = chain_push from (Some c.loop-i.owner.deque) c.loop-i.seats.items w v.chain (ap (λ (x : WorkSeatView). Some x.own.deque) is) in
-    let next : thief_deque w.next ≡ from = ap (λ (x : WorkSeatView). thief_deque x.next) is ∙ ap (λ t. Some t.deque) opens.1 in
-    subst IsRing (sym items) (ring_back from c.loop-i.seats.items w (search rules) (subst (λ p. IsChain from (c.loop-i.seats.items ++ w ∷ []) p) next chained))
+    let chained = chain_push from (Some c.loop-i.owner.deque) c.loop-i.seats.items w v.chain
+    (ap (λ (x : WorkSeatView). Some x.own.deque) is) in
+    let next : thief_deque w.next ≡ from = ap (λ (x : WorkSeatView). thief_deque x.next) is
+    ∙ ap (λ t. Some t.deque) opens.1 in
+    subst IsRing (sym items) (ring_back from c.loop-i.seats.items w (search rules)
+    (subst (λ p. IsChain from (c.loop-i.seats.items ++ w ∷ []) p) next chained))
 
 pub returns-clause-idle : goal.returns-clause-idle
 returns-clause-idle g c =
     let w = c.seat-2.result in
     let is = c.seat-2.ensures.seat in
     let items : c.push-2.new.self.items ≡ c.loop-i.seats.items ++ w ∷ [] = search rules in
-    let rest : w.own.drained ≡ true = ap (λ (x : WorkSeatView). x.own.drained) is ∙ ap (λ o. o.drained) c.loop-i.invariant.empty in
-    subst AllIdle (sym items) (idle_push c.loop-i.seats.items w c.loop-i.invariant.idle (ap (λ (x : WorkSeatView). x.busy) is, rest))
+    let rest : w.own.drained ≡ true = ap (λ (x : WorkSeatView). x.own.drained) is
+    ∙ ap (λ o. o.drained) c.loop-i.invariant.empty in
+    subst AllIdle (sym items) (idle_push c.loop-i.seats.items w c.loop-i.invariant.idle
+    (ap (λ (x : WorkSeatView). x.busy) is, rest))

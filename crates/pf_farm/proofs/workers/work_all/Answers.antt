@@ -10,15 +10,19 @@ for_each_mut-requires-send-T g c κs within = search (work_seat_send, sendable) 
 
 pub for_each_mut-requires-sync-F : goal.for_each_mut-requires-sync-F
 for_each_mut-requires-sync-F g c κs within =
-    closure_sync _ _ _ 2 _ _ _ _ _ c.type_bounds.sync-R (floor_sync (param 0 g.row.N) g.N.FarmNames) c.type_bounds.sync-G
+    closure_sync _ _ _ 2 _ _ _ _ _ c.type_bounds.sync-R (floor_sync (param 0 g.row.N) g.N.FarmNames)
+    c.type_bounds.sync-G
 
 pub for_each_mut-requires-clause-accepts : goal.for_each_mut-requires-clause-accepts
-for_each_mut-requires-clause-accepts g c κs within = λ i p inside is. ap (λ s. s.busy) is ∙ (idle_at c.args.seats.now i p.now c.requires.idle inside).0
+for_each_mut-requires-clause-accepts g c κs within = λ i p inside is. ap (λ s. s.busy) is
+    ∙ (idle_at c.args.seats.now i p.now c.requires.idle inside).0
 
 pub returns-clause-ring : goal.returns-clause-ring
 returns-clause-ring g c = λ ring. let len : length c.for_each_mut.new.s ≡ length c.args.seats.now = search rules in
-    ring_each c.args.seats.now c.for_each_mut.new.s len (λ i d inside. let made = (c.for_each_mut.ensures i d inside).1 in search rules) ring
+    ring_each c.args.seats.now c.for_each_mut.new.s len
+    (λ i d inside. let made = (c.for_each_mut.ensures i d inside).1 in search rules) ring
 
 pub returns-clause-idle : goal.returns-clause-idle
 returns-clause-idle g c = let len : length c.for_each_mut.new.s ≡ length c.args.seats.now = search rules in
-    idle_each c.for_each_mut.new.s (λ i d inside. let made = (c.for_each_mut.ensures i d (subst (λ n. i < n) len inside)).1 in search rules)
+    idle_each c.for_each_mut.new.s (λ i d inside.
+    let made = (c.for_each_mut.ensures i d (subst (λ n. i < n) len inside)).1 in search rules)

@@ -8,7 +8,8 @@ use Rattle.pf_farm_accounts.proofs.register.enter_as.Goals as goal
 pub another-requires : goal.another-requires
 another-requires g c =
     let deque = c.len_as.new.self in
-    subst (λ e. Forks IsBorneOnce (worker_port deque) (worker_view deque) (with_entry (worker_view deque) e) no_knowledge) (sym c.requires) (enters (worker_port deque) (worker_view deque) c.args.entry.now (search rules))
+    subst (λ e. Forks IsBorneOnce (worker_port deque) (worker_view deque) (with_entry (worker_view deque) e)
+    no_knowledge) (sym c.requires) (enters (worker_port deque) (worker_view deque) c.args.entry.now (search rules))
 
 pub absorb-requires-clause-rule : goal.absorb-requires-clause-rule
 absorb-requires-clause-rule g c = borrows _ _ _ _ (search rules) c.pass.invariant.1

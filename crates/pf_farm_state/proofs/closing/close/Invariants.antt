@@ -10,7 +10,8 @@ abbrev pub invariant-loop-client : goal.invariant-loop-client
 invariant-loop-client g l = record {
   seats : map closed_as l.closed.items ≡ l.yielded;
   rest : l.fn.clients.items ≡ l.yielded ++ into_iter_items l.client-iterator;
-  gathered : l.gathering ≡ gathering_of l.fn.gathering.log (all_receipts l.closed.items) (l.fn.gathering.parts + length l.yielded);
+  gathered : l.gathering ≡ gathering_of l.fn.gathering.log (all_receipts l.closed.items)
+      (l.fn.gathering.parts + length l.yielded);
   full : ForRight (λ p. AreFull l.closed.items l.book);
   room : length l.yielded + length (into_iter_items l.client-iterator) ≤ vec_capacity l.closed;
 }

@@ -10,6 +10,8 @@ pub returns-clause-full : goal.returns-clause-full
 returns-clause-full g c = λ p right full.
     let s = c.client.inside.seat in
     let w = c.args.book.now in
-    let legal : ForRight (λ p. IsLegalDesk p (desk_at s.project w)) = subst (λ q. ForRight (λ p. IsLegalDesk p (desk_at q w))) c.project.ensures c.note_count.ensures.legal in
+    let legal : ForRight (λ p. IsLegalDesk p (desk_at s.project w)) =
+    subst (λ q. ForRight (λ p. IsLegalDesk p (desk_at q w))) c.project.ensures c.note_count.ensures.legal in
     ap (λ q. calls_in (desk_at q w).history) c.add.ensures.project
-    ∙ is_most c.args.gathering.now.log s.seen w s.project c.requires legal c.add.ensures.seen (c.client.invariant full) p right
+    ∙ is_most c.args.gathering.now.log s.seen w s.project c.requires legal c.add.ensures.seen
+    (c.client.invariant full) p right

@@ -8,4 +8,5 @@ returns c =
     let behind = c.split_at.result.1.now in
     cut_out source c.args.start c.args.end behind c.split_at-2.result.0.now
     (c.split_at.ensures.back ∙ ap (λ (n : ℕ). drop n source) c.min.ensures)
-    (c.split_at-2.ensures.front ∙ ap (λ (n : ℕ). take n behind) (c.min-2.ensures ∙ ap (λ (m : ℕ). min m (length behind)) c.saturating_sub.ensures))
+    (c.split_at-2.ensures.front ∙ ap (λ (n : ℕ). take n behind)
+    (c.min-2.ensures ∙ ap (λ (m : ℕ). min m (length behind)) c.saturating_sub.ensures))

@@ -9,8 +9,11 @@ pub returns : goal.returns
 returns c =
     let source = c.args.source.now in
     let r = c.in-Some.field-0 in
-    let found = subst (λ o. IfSome o (λ f. Reads c.deref.result.now (refused f.code f.offset))) c.in-Some.is c.in_ok-code.ensures in
-    let reads = subst (λ (bytes : List ℕ). Reads bytes (refused r.code r.offset)) (c.deref.ensures.value ∙ c.in_ok-alone.ensures) found in
-    let at : c.min-front.result + c.min-behind.result ≡ min (r.offset - length HEAD.now + c.args.start) (length source) =
+    let found = subst (λ o. IfSome o (λ f. Reads c.deref.result.now (refused f.code f.offset))) c.in-Some.is
+    c.in_ok-code.ensures in
+    let reads = subst (λ (bytes : List ℕ). Reads bytes (refused r.code r.offset))
+    (c.deref.ensures.value ∙ c.in_ok-alone.ensures) found in
+    let at : c.min-front.result + c.min-behind.result ≡ min (r.offset - length HEAD.now + c.args.start)
+    (length source) =
     omega (arith, c.min-front.ensures, c.min-behind.ensures, c.saturating_sub-within.ensures) in
     subst (IsFault source r.code) (sym at) (alone c.args.start c.args.end r.offset r.code reads)

@@ -8,4 +8,5 @@ pub loop-piece-preserved : goal.loop-piece-preserved
 loop-piece-preserved c = mended_again _ _ _ c.loop-piece.invariant c.put_bare.ensures
 
 pub returns-then-is_closed : goal.returns-then-is_closed
-returns-then-is_closed c = mended_again _ _ _ (mended_again _ _ _ c.loop-piece.invariant c.put_bare.ensures) c.put_body.ensures
+returns-then-is_closed c = mended_again _ _ _ (mended_again _ _ _ c.loop-piece.invariant c.put_bare.ensures)
+    c.put_body.ensures

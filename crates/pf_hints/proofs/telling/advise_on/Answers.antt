@@ -7,4 +7,5 @@ pub returns : goal.returns
 returns c =
     let source = c.args.source.now in
     let fault = c.args.fault in
-    IfOk-weaker c.advise.result (IsAdvice source fault.code fault.offset) (IsOfFault source) (λ a h. (fault.code, fault.offset, c.requires, h)) c.advise.ensures
+    IfOk-weaker c.advise.result (IsAdvice source fault.code fault.offset) (IsOfFault source)
+    (λ a h. (fault.code, fault.offset, c.requires, h)) c.advise.ensures

@@ -8,4 +8,5 @@ pub returns : goal.returns
 returns c =
     let source = c.args.source.now in
     subst (All (IsOfFault source)) (sym c.in_ok-push.ensures.items)
-    (All-push (IsOfFault source) c.args.told.now.items c.in_ok-advise_on.field-0 c.requires.told c.in_ok-advise_on.ensures)
+    (All-push (IsOfFault source) c.args.told.now.items c.in_ok-advise_on.field-0 c.requires.told
+    c.in_ok-advise_on.ensures)

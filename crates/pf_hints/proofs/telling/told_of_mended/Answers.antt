@@ -6,7 +6,8 @@ use Rattle.pf_hints.proofs.telling.told_of_mended.Goals as goal
 
 pub put_fault-requires-clause-fault : goal.put_fault-requires-clause-fault
 put_fault-requires-clause-fault c =
-    faults_of_rest c.args.source.now c.next_fault.new.mended.items _ (mended_again _ _ _ c.loop.invariant.rest c.next_fault.ensures.rest) c.in_ok-fault.ensures.fault
+    faults_of_rest c.args.source.now c.next_fault.new.mended.items _
+    (mended_again _ _ _ c.loop.invariant.rest c.next_fault.ensures.rest) c.in_ok-fault.ensures.fault
 
 pub loop-init : goal.loop-init
 loop-init c = record {

@@ -12,6 +12,7 @@ returns-clause-heard g c =
     let x = option_map failure_of s.failure in
     let l = option_map leak_of s.leak in
     hears_then g.O.HuntObserver.Heard (Searches c.args.may_stop c.args.from c.args.end s.end x)
-    (SearchNotices h.strategy h.job.asked c.args.may_stop c.args.from c.args.end s.end x) c.args.observer.now c.search_blocks.new.observer
+    (SearchNotices h.strategy h.job.asked c.args.may_stop c.args.from c.args.end s.end x) c.args.observer.now
+    c.search_blocks.new.observer
     c.tell_leak.new.observer (leak_notice l) c.in_ok-searched.ensures.heard c.tell_leak.ensures
     (λ blocks searches. (blocks, l, searches, c.in_ok-searched.ensures.known.leak, refl))

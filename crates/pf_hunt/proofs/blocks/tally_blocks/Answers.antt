@@ -7,7 +7,8 @@ use Rattle.pf_hunt.proofs.Counting.{counted_both, each_is_counted, ends_there, r
 use Rattle.pf_hunt.proofs.Hearing.{all_run, block_run, none_run, stopped_there}
 use Rattle.pf_hunt.proofs.Leaking.{leaks_there, no_leak}
 use Rattle.pf_hunt.proofs.Stopping.{may_stop_then}
-use Rattle.pf_hunt.proofs.blocks.tally_blocks.Goals.{else-next-end-via-then-next-end+else-stops, else-next-end-via-else-next-end}
+use Rattle.pf_hunt.proofs.blocks.tally_blocks.Goals.{else-next-end-via-then-next-end+else-stops}
+use Rattle.pf_hunt.proofs.blocks.tally_blocks.Goals.{else-next-end-via-else-next-end}
 use Rattle.pf_hunt.proofs.blocks.tally_blocks.Goals as goal
 
 pub loop-at-init : goal.loop-at-init
@@ -20,14 +21,16 @@ loop-at-init g c =
       within = inl refl;
       rows = subst (Tallies w j from from) (sym c.new-tally.ensures) (no_seed from (omega arith));
       leak = no_leak w j from from (omega arith);
-      heard = none_run g.O.HuntObserver.Heard (HasFailures w j from) c.args.may_stop from c.args.end c.args.observer.now;
+      heard = none_run g.O.HuntObserver.Heard (HasFailures w j from) c.args.may_stop from c.args.end
+          c.args.observer.now;
     }
 
 pub join-requires : goal.join-requires
 join-requires g c =
     let at = c.loop-at in
     let next = c.block_end-next.ensures in
-    counted_both c.args.hunt.now.strategy c.args.hunt.now.job.asked c.args.from at.at c.block_end-next.result _ _ at.invariant.behind (omega (arith, next.0))
+    counted_both c.args.hunt.now.strategy c.args.hunt.now.job.asked c.args.from at.at c.block_end-next.result _ _
+    at.invariant.behind (omega (arith, next.0))
     (omega (arith, next.1, c.ranges.end.fits)) at.invariant.rows c.in_ok-block.ensures.rows
 
 pub failures-requires : goal.failures-requires
@@ -37,7 +40,8 @@ failures-requires g c =
     let at = c.loop-at in
     let next = c.block_end-next.ensures in
     let all = rows_of c.join.new.self in
-    let rows = rows_on w j c.args.from at.at c.block_end-next.result _ _ all at.invariant.behind (omega (arith, next.0)) at.invariant.rows
+    let rows = rows_on w j c.args.from at.at c.block_end-next.result _ _ all at.invariant.behind (omega (arith, next.0))
+    at.invariant.rows
     c.in_ok-block.ensures.rows c.in_ok-join.ensures in
     let count = each_is_counted w j c.args.from c.block_end-next.result all rows in
     omega (arith, count, next.1, c.ranges.end.fits)
@@ -51,15 +55,18 @@ returns-then-stops-clause-known g c =
     let block = c.in_ok-block.ensures in
     record {
       rows =
-          rows_on w j c.args.from at.at c.block_end-next.result _ _ (rows_of c.join.new.self) at.invariant.behind (omega (arith, next.0)) at.invariant.rows
+          rows_on w j c.args.from at.at c.block_end-next.result _ _ (rows_of c.join.new.self) at.invariant.behind
+          (omega (arith, next.0)) at.invariant.rows
           block.rows c.in_ok-join.ensures;
-      leak = c.earlier-leak.ensures w j c.args.from at.at c.block_end-next.result at.invariant.behind (omega (arith, next.0)) at.invariant.leak block.leak;
+      leak = c.earlier-leak.ensures w j c.args.from at.at c.block_end-next.result at.invariant.behind
+          (omega (arith, next.0)) at.invariant.leak block.leak;
       end = refl;
     }
 
 pub returns-then-stops-clause-reach : goal.returns-then-stops-clause-reach
 returns-then-stops-clause-reach g c =
-    less_far c.block_end-next.result (may_stop_then c.args.may_stop c.progress-pace.result (sym c.stops.ensures ∙ c.if-stops.true))
+    less_far c.block_end-next.result (may_stop_then c.args.may_stop c.progress-pace.result
+    (sym c.stops.ensures ∙ c.if-stops.true))
     (omega (arith, c.loop-at.invariant.behind, c.block_end-next.ensures.0)) (omega (arith, c.if-next-end.true))
 
 pub returns-then-stops-clause-heard : goal.returns-then-stops-clause-heard
@@ -69,11 +76,15 @@ returns-then-stops-clause-heard g c =
     let at = c.loop-at in
     let next = c.block_end-next.result in
     let all = rows_of c.join.new.self in
-    let rows = rows_on w j c.args.from at.at next _ _ all at.invariant.behind (omega (arith, c.block_end-next.ensures.0)) at.invariant.rows
+    let rows = rows_on w j c.args.from at.at next _ _ all at.invariant.behind
+    (omega (arith, c.block_end-next.ensures.0)) at.invariant.rows
     c.in_ok-block.ensures.rows c.in_ok-join.ensures in
-    stopped_there g.O.HuntObserver.Heard (HasFailures w j c.args.from) c.args.may_stop c.args.from c.args.end c.args.observer.now at.observer
-    c.progress-pace.new.self at.at next c.failures.result c.progress-pace.result at.invariant.heard c.progress-pace.ensures
-    (omega (arith, c.block_end-next.ensures.0)) (all, rows, c.failures.ensures) (omega (arith, c.if-next-end.true)) (sym c.stops.ensures ∙ c.if-stops.true)
+    stopped_there g.O.HuntObserver.Heard (HasFailures w j c.args.from) c.args.may_stop c.args.from c.args.end
+    c.args.observer.now at.observer
+    c.progress-pace.new.self at.at next c.failures.result c.progress-pace.result at.invariant.heard
+    c.progress-pace.ensures
+    (omega (arith, c.block_end-next.ensures.0)) (all, rows, c.failures.ensures) (omega (arith, c.if-next-end.true))
+    (sym c.stops.ensures ∙ c.if-stops.true)
 
 pub loop-at-preserved : goal.loop-at-preserved
 loop-at-preserved g c =
@@ -84,7 +95,8 @@ loop-at-preserved g c =
     let end = c.block_end-next.result in
     let block = c.in_ok-block.ensures in
     let all = rows_of c.join.new.self in
-    let rows = rows_on w j c.args.from at.at end _ _ all at.invariant.behind (omega (arith, next.0)) at.invariant.rows block.rows c.in_ok-join.ensures in
+    let rows = rows_on w j c.args.from at.at end _ _ all at.invariant.behind (omega (arith, next.0)) at.invariant.rows
+    block.rows c.in_ok-join.ensures in
     let on : end < c.args.end → stops c.args.may_stop c.progress-pace.result ≡ false =
     λ before. elim c.else-next-end.branch [
       | else-next-end-via-then-next-end+else-stops w ↦ sym w.stops.ensures ∙ w.if-stops.false
@@ -94,10 +106,13 @@ loop-at-preserved g c =
       behind = omega (arith, next.0, at.invariant.behind);
       within = inr next.1;
       rows = rows;
-      leak = c.earlier-leak.ensures w j c.args.from at.at end at.invariant.behind (omega (arith, next.0)) at.invariant.leak block.leak;
+      leak = c.earlier-leak.ensures w j c.args.from at.at end at.invariant.behind (omega (arith, next.0))
+          at.invariant.leak block.leak;
       heard =
-          block_run g.O.HuntObserver.Heard (HasFailures w j c.args.from) c.args.may_stop c.args.from c.args.end c.args.observer.now at.observer
-          c.progress-pace.new.self at.at end c.failures.result c.progress-pace.result at.invariant.heard c.progress-pace.ensures (omega (arith, next.0))
+          block_run g.O.HuntObserver.Heard (HasFailures w j c.args.from) c.args.may_stop c.args.from c.args.end
+          c.args.observer.now at.observer
+          c.progress-pace.new.self at.at end c.failures.result c.progress-pace.result at.invariant.heard
+          c.progress-pace.ensures (omega (arith, next.0))
           (all, rows, c.failures.ensures) next.1 on;
     }
 
@@ -108,8 +123,10 @@ returns-clause-known g c =
     let at = c.loop-at in
     let over = c.loop-at-test.false in
     record {
-      rows = ends_there w j c.args.from c.args.end at.at (rows_of at.tally) at.invariant.rows at.invariant.within (omega (arith, over));
-      leak = leaks_there w j c.args.from c.args.end at.at (option_map leak_of at.leak) at.invariant.leak at.invariant.within (omega (arith, over));
+      rows = ends_there w j c.args.from c.args.end at.at (rows_of at.tally) at.invariant.rows at.invariant.within
+          (omega (arith, over));
+      leak = leaks_there w j c.args.from c.args.end at.at (option_map leak_of at.leak) at.invariant.leak
+          at.invariant.within (omega (arith, over));
       end = refl;
     }
 
@@ -119,5 +136,6 @@ returns-clause-reach g c = to_end
 pub returns-clause-heard : goal.returns-clause-heard
 returns-clause-heard g c =
     let h = c.args.hunt.now in
-    all_run g.O.HuntObserver.Heard (HasFailures h.strategy h.job.asked c.args.from) c.args.may_stop c.args.from c.args.end c.args.observer.now
+    all_run g.O.HuntObserver.Heard (HasFailures h.strategy h.job.asked c.args.from) c.args.may_stop c.args.from
+    c.args.end c.args.observer.now
     c.loop-at.observer c.loop-at.at c.loop-at.invariant.heard (omega (arith, c.loop-at-test.false))

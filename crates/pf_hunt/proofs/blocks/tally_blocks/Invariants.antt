@@ -14,7 +14,8 @@ invariant-loop-at g l = record {
   rows : Tallies l.hunt.strategy l.hunt.job.asked l.from l.at (rows_of l.tally);
   leak : FirstLeaking l.hunt.strategy l.hunt.job.asked l.from l.at (option_map leak_of l.leak);
   heard :
-      HearsSome g.O.HuntObserver.Heard l.fn.observer (HuntGoesOn (HasFailures l.hunt.strategy l.hunt.job.asked l.from) l.may_stop l.from l.end l.at)
+      HearsSome g.O.HuntObserver.Heard l.fn.observer
+      (HuntGoesOn (HasFailures l.hunt.strategy l.hunt.job.asked l.from) l.may_stop l.from l.end l.at)
       l.observer;
 }
 

@@ -25,9 +25,11 @@ loop-seed-preserved c =
     let at = c.loop-seed in
     let judged = c.in_ok-judged.ensures in
     record {
-      none = one_more (fails h.leaks) h.strategy j c.args.from at.seed judged.0 at.invariant.none judged.1 (sym (c.if-fails.ensures judged.0 judged.2));
+      none = one_more (fails h.leaks) h.strategy j c.args.from at.seed judged.0 at.invariant.none judged.1
+          (sym (c.if-fails.ensures judged.0 judged.2));
       leak =
-          c.earlier-leak.ensures h.strategy j c.args.from at.seed (at.seed + 1) (omega (arith, at.auto.seed)) (omega arith) at.invariant.leak
+          c.earlier-leak.ensures h.strategy j c.args.from at.seed (at.seed + 1) (omega (arith, at.auto.seed))
+          (omega arith) at.invariant.leak
           (c.leak_at.ensures h.strategy j judged.0 judged.1 judged.2.2);
       at = inr (omega (arith, c.loop-seed-test.true));
     }
@@ -47,7 +49,8 @@ returns-then-fails c =
           (ap (fails h.leaks) same ∙ sym (c.if-fails.ensures judged.0 judged.2)) at.invariant.none;
       leak =
           subst (λ n. FirstLeaking h.strategy j c.args.from n (option_map leak_of c.earlier-leak.result)) past
-          (c.earlier-leak.ensures h.strategy j c.args.from at.seed (at.seed + 1) (omega (arith, at.auto.seed)) (omega arith) at.invariant.leak
+          (c.earlier-leak.ensures h.strategy j c.args.from at.seed (at.seed + 1) (omega (arith, at.auto.seed))
+          (omega arith) at.invariant.leak
           (c.leak_at.ensures h.strategy j judged.0 judged.1 judged.2.2));
       end = refl;
     }
@@ -59,6 +62,7 @@ returns c =
     let over = c.loop-seed-test.false in
     record {
       failure = none_is (λ s r from to m. at.invariant.none s r from (omega (arith, over)) m);
-      leak = leaks_there h.strategy h.job.asked c.args.from c.args.end at.seed (option_map leak_of at.leak) at.invariant.leak at.invariant.at (omega (arith, over));
+      leak = leaks_there h.strategy h.job.asked c.args.from c.args.end at.seed (option_map leak_of at.leak)
+          at.invariant.leak at.invariant.at (omega (arith, over));
       end = refl;
     }

@@ -8,4 +8,5 @@ pub judged_run-requires : goal.judged_run-requires
 judged_run-requires c none = ap (λ j. j.asked.runs) c.in_ok-by_seed.ensures
 
 pub returns : goal.returns
-returns c = subst (λ j. IfOk c.judged_run-2.result (λ v. Judges (choosing_of None j.asked) j.asked v)) c.in_ok-by_seed.ensures c.judged_run-2.ensures
+returns c = subst (λ j. IfOk c.judged_run-2.result (λ v. Judges (choosing_of None j.asked) j.asked v))
+    c.in_ok-by_seed.ensures c.judged_run-2.ensures

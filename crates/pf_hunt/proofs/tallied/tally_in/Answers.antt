@@ -10,7 +10,8 @@ pub loop-seed-init : goal.loop-seed-init
 loop-seed-init c =
     let j = c.args.hunt.now.job.asked in
     record {
-      rows = subst (Tallies c.args.hunt.now.strategy j c.args.from c.args.from) (sym c.new-tally.ensures) (no_seed c.args.from (omega arith));
+      rows = subst (Tallies c.args.hunt.now.strategy j c.args.from c.args.from) (sym c.new-tally.ensures)
+          (no_seed c.args.from (omega arith));
       leak = no_leak c.args.hunt.now.strategy j c.args.from c.args.from (omega arith);
       at = inl refl;
     }
@@ -18,7 +19,8 @@ loop-seed-init c =
 pub add-requires : goal.add-requires
 add-requires c =
     let at = c.loop-seed in
-    let counted = each_is_counted c.args.hunt.now.strategy c.args.hunt.now.job.asked c.args.from at.seed (rows_of at.tally) at.invariant.rows in
+    let counted = each_is_counted c.args.hunt.now.strategy c.args.hunt.now.job.asked c.args.from at.seed
+    (rows_of at.tally) at.invariant.rows in
     let judged = c.in_ok-judged.ensures in
     let one = ap (λ x. x.count) (c.met.ensures judged.0 judged.2) in
     let fits = c.ranges.end.fits in
@@ -33,9 +35,11 @@ loop-seed-preserved c =
     record {
       rows =
           rw (c.in_ok-add.ensures, c.met.ensures judged.0 judged.2)
-          (one_seed_more c.args.hunt.now.strategy j c.args.from at.seed (rows_of at.tally) judged.0 (omega (arith, at.auto.seed)) at.invariant.rows judged.1);
+          (one_seed_more c.args.hunt.now.strategy j c.args.from at.seed (rows_of at.tally) judged.0
+          (omega (arith, at.auto.seed)) at.invariant.rows judged.1);
       leak =
-          c.earlier-leak.ensures c.args.hunt.now.strategy j c.args.from at.seed (at.seed + 1) (omega (arith, at.auto.seed)) (omega arith) at.invariant.leak
+          c.earlier-leak.ensures c.args.hunt.now.strategy j c.args.from at.seed (at.seed + 1)
+          (omega (arith, at.auto.seed)) (omega arith) at.invariant.leak
           (c.leak_at.ensures c.args.hunt.now.strategy j judged.0 judged.1 judged.2.2);
       at = inr (omega (arith, c.loop-seed-test.true));
     }
@@ -47,7 +51,9 @@ returns c =
     let at = c.loop-seed in
     let over = c.loop-seed-test.false in
     record {
-      rows = ends_there w j c.args.from c.args.end at.seed (rows_of at.tally) at.invariant.rows at.invariant.at (omega (arith, over));
-      leak = leaks_there w j c.args.from c.args.end at.seed (option_map leak_of at.leak) at.invariant.leak at.invariant.at (omega (arith, over));
+      rows = ends_there w j c.args.from c.args.end at.seed (rows_of at.tally) at.invariant.rows at.invariant.at
+          (omega (arith, over));
+      leak = leaks_there w j c.args.from c.args.end at.seed (option_map leak_of at.leak) at.invariant.leak
+          at.invariant.at (omega (arith, over));
       end = refl;
     }

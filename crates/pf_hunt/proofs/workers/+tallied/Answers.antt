@@ -15,9 +15,11 @@ join-front-requires-send-A g t c κs = search (crosses, sendable) depth 30
 pub join-requires : goal.join-requires
 join-requires g t c =
     let h = c.args.hunt.now in
-    let front = IfOk-at_ok (TalliesAll h c.args.from c.edge-middle.result) c.in_ok-front.was c.join-front.ensures.first in
+    let front = IfOk-at_ok (TalliesAll h c.args.from c.edge-middle.result) c.in_ok-front.was
+    c.join-front.ensures.first in
     let back = IfOk-at_ok (TalliesAll h c.edge-middle.result c.args.end) c.in_ok-back.was c.join-front.ensures.second in
-    counted_both h.strategy h.job.asked c.args.from c.edge-middle.result c.args.end _ _ c.edge-middle.ensures.0 c.edge-middle.ensures.1 c.ranges.end.fits front.rows back.rows
+    counted_both h.strategy h.job.asked c.args.from c.edge-middle.result c.args.end _ _ c.edge-middle.ensures.0
+    c.edge-middle.ensures.1 c.ranges.end.fits front.rows back.rows
 
 pub returns : goal.returns
 returns g t c =
@@ -28,8 +30,10 @@ returns g t c =
     let front = IfOk-at_ok (TalliesAll h from middle) c.in_ok-front.was c.join-front.ensures.first in
     let back = IfOk-at_ok (TalliesAll h middle end) c.in_ok-back.was c.join-front.ensures.second in
     record {
-      rows = rw c.in_ok-join.ensures (parts_are_the_whole h.strategy h.job.asked from middle end _ _ c.edge-middle.ensures.0 c.edge-middle.ensures.1 front.rows back.rows);
-      leak = c.earlier-leak.ensures h.strategy h.job.asked from middle end c.edge-middle.ensures.0 c.edge-middle.ensures.1 front.leak back.leak;
+      rows = rw c.in_ok-join.ensures (parts_are_the_whole h.strategy h.job.asked from middle end _ _
+          c.edge-middle.ensures.0 c.edge-middle.ensures.1 front.rows back.rows);
+      leak = c.earlier-leak.ensures h.strategy h.job.asked from middle end c.edge-middle.ensures.0
+          c.edge-middle.ensures.1 front.leak back.leak;
       end = refl;
     }
 

@@ -15,4 +15,5 @@ returns c h a m le le' front back =
     let none = none_fails_in h a m f.failure f.leak f.end (sym c.if-is_some.ensures) front in
     let b = c.in_ok-back.back in
     finds_both h a m c.args.end b.failure b.leak c.earlier.result b.end le le' none.0
-    (λ d to leak. c.earlier.ensures h.strategy h.job.asked a m d le to none.1 leak) (IfOk-at_ok (FindsFailure h m c.args.end) c.in_ok-back.was back)
+    (λ d to leak. c.earlier.ensures h.strategy h.job.asked a m d le to none.1 leak)
+    (IfOk-at_ok (FindsFailure h m c.args.end) c.in_ok-back.was back)

@@ -12,19 +12,22 @@ use Rattle.pf_hunt_suite.proofs.hunt.hunt_job.Goals as goal
 pub returns-in_err-request-clause-cut : goal.returns-in_err-request-clause-cut
 returns-in_err-request-clause-cut g c =
     let args = c.args.args.now in
-    at_err c.from_residual.result (cut_at_once g.O.HuntObserver.Heard (is_some args.time) args.first args.end c.args.observer.now)
+    at_err c.from_residual.result (cut_at_once g.O.HuntObserver.Heard (is_some args.time) args.first args.end
+    c.args.observer.now)
 
 pub returns-in_err-others-clause-cut : goal.returns-in_err-others-clause-cut
 returns-in_err-others-clause-cut g c =
     let args = c.args.args.now in
-    at_err c.from_residual-in_err-others.result (cut_at_once g.O.HuntObserver.Heard (is_some args.time) args.first args.end c.args.observer.now)
+    at_err c.from_residual-in_err-others.result
+    (cut_at_once g.O.HuntObserver.Heard (is_some args.time) args.first args.end c.args.observer.now)
 
 pub returns-in_err-searched-clause-cut : goal.returns-in_err-searched-clause-cut
 returns-in_err-searched-clause-cut g c =
     let args = c.args.args.now in
     at_err c.from_residual-in_err-searched.result
     (subst
-    (λ b. HearsSome g.O.HuntObserver.Heard c.args.observer.now (CutNotices has_none b args.first args.end) c.first_failing.new.observer)
+    (λ b. HearsSome g.O.HuntObserver.Heard c.args.observer.now (CutNotices has_none b args.first args.end)
+    c.first_failing.new.observer)
     c.is_some-may_stop.ensures c.in_err-searched.ensures.cut)
 
 pub returns-clause-ends : goal.returns-clause-ends
@@ -37,7 +40,8 @@ returns-clause-ends g c =
     let may = c.is_some-may_stop in
     let found = c.in_ok-searched.ensures in
     let reach = subst (λ b. SearchedTo b args.first args.end s.end) may.ensures found.reach in
-    hears_weaker g.O.HuntObserver.Heard (SearchNotices h.strategy j.asked may.result args.first args.end s.end x) (JobEnds h j c.end_of.result)
+    hears_weaker g.O.HuntObserver.Heard (SearchNotices h.strategy j.asked may.result args.first args.end s.end x)
+    (JobEnds h j c.end_of.result)
     c.args.observer.now c.first_failing.new.observer
     (λ ns told.
     c.end_of.ensures j ns found.known.failure reach

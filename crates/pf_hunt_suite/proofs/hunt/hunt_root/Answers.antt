@@ -18,14 +18,19 @@ returns-in-Ok-clause-ends g c =
     let heard = g.O.HuntObserver.Heard in
     let old = c.args.observer.now in
     let new = c.hunt_job.new.observer in
-    IfOk-weaker c.hunt_job.result (λ e. HearsSome heard old (JobEnds h job e) new) (λ e. HearsSome heard old (RootEnds h root m e) new)
-    (λ e ends. hears_weaker heard (JobEnds h job e) (RootEnds h root m e) old new (λ ns job_ends. hunted job e ns c.in-Ok.ensures job_ends) ends)
+    IfOk-weaker c.hunt_job.result (λ e. HearsSome heard old (JobEnds h job e) new)
+    (λ e. HearsSome heard old (RootEnds h root m e) new)
+    (λ e ends. hears_weaker heard (JobEnds h job e) (RootEnds h root m e) old new
+    (λ ns job_ends. hunted job e ns c.in-Ok.ensures job_ends) ends)
     c.hunt_job.ensures.ends
 
 pub returns-in-Err-Fault-clause-ends : goal.returns-in-Err-Fault-clause-ends
 returns-in-Err-Fault-clause-ends g c =
-    let told = rw c.in-Err-Fault.field-0-is at c.in-Err-Fault.ensures in
-    ([], rw (c.code.ensures, c.in-Err-Fault.field-0-is) (refused (code_of c.in-Err-Fault.refusal) told), hears_none g.O.HuntObserver.Heard c.args.observer.now)
+    let told = rw c.in-Err-Fault.field-0-is at c.in-Err-Fault.ensures in (
+      [],
+      rw (c.code.ensures, c.in-Err-Fault.field-0-is) (refused (code_of c.in-Err-Fault.refusal) told),
+      hears_none g.O.HuntObserver.Heard c.args.observer.now,
+    )
 
 pub returns-in-Err-NoMemory-clause-cut : goal.returns-in-Err-NoMemory-clause-cut
 returns-in-Err-NoMemory-clause-cut g c =

@@ -6,4 +6,5 @@ use Rattle.pf_hunt_suite.proofs.roots.roots_of.Given as goal
 
 -- the roots of the entries so far
 abbrev pub invariant-loop-export : goal.invariant-loop-export
-invariant-loop-export l = l.atoms.items ≡ fold (λ atoms e. name_with_root atoms (export_of e)) [] (take l.export-index l.exports)
+invariant-loop-export l = l.atoms.items ≡ fold (λ atoms e. name_with_root atoms (export_of e)) []
+    (take l.export-index l.exports)

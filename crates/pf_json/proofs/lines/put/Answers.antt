@@ -6,5 +6,8 @@ pub loop-rest-preserved : goal.loop-rest-preserved
 loop-rest-preserved g c =
     let w = c.loop-rest.invariant in
     let n = c.in-Ok.n in
-    let rest = c.loop-rest.rest.now in
-    (w.0 ++ take n rest, rw c.split_at.ensures.back (split_more _ w.0 rest n w.1), appends_both _ _ _ w.0 (take n rest) w.2 c.in-Ok.ensures.bytes)
+    let rest = c.loop-rest.rest.now in (
+      w.0 ++ take n rest,
+      rw c.split_at.ensures.back (split_more _ w.0 rest n w.1),
+      appends_both _ _ _ w.0 (take n rest) w.2 c.in-Ok.ensures.bytes,
+    )

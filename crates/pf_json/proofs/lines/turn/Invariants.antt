@@ -9,5 +9,6 @@ invariant-loop-byte l =
     record {
       objects : objects_from (view_of_held l.held) l.text
           ≡ l.out.items ++ objects_from (record { place = l.place; line = l.line.items }) (drop l.byte-index l.text);
-      held : held_behind (view_of_held l.held) l.text ≡ held_behind (record { place = l.place; line = l.line.items }) (drop l.byte-index l.text);
+      held : held_behind (view_of_held l.held) l.text ≡ held_behind (record { place = l.place; line = l.line.items })
+          (drop l.byte-index l.text);
     }

@@ -11,7 +11,8 @@ returns-then-starts_with-clause-is c =
     let t = c.args.text.now in
     let k = c.loop-start.start - 1 in
     let at : last_start w (drop k t) ≡ Some 0 =
-    begins w t _ k c.loop-start.start c.starts_with.result (omega (arith, c.loop-start.invariant.within, c.loop-start-test.true)) (omega (arith, c.loop-start-test.true))
+    begins w t _ k c.loop-start.start c.starts_with.result
+    (omega (arith, c.loop-start.invariant.within, c.loop-start-test.true)) (omega (arith, c.loop-start-test.true))
     c.loop-start.invariant.none (take_rest t k) c.starts_with.ensures.value
     ∙ ap (λ (b : Bool). if b then Some 0 else None) c.if-starts_with.true in
     let same : k + 0 ≡ k = omega arith in
@@ -24,7 +25,8 @@ loop-start-preserved c =
     let k = c.loop-start.start - 1 in
     record {
       within = omega (arith, c.loop-start.invariant.within);
-      none = begins w t _ k c.loop-start.start c.starts_with.result (omega (arith, c.loop-start.invariant.within, c.loop-start-test.true)) (omega (arith, c.loop-start-test.true))
+      none = begins w t _ k c.loop-start.start c.starts_with.result
+          (omega (arith, c.loop-start.invariant.within, c.loop-start-test.true)) (omega (arith, c.loop-start-test.true))
           c.loop-start.invariant.none (take_rest t k) c.starts_with.ensures.value
           ∙ ap (λ (b : Bool). if b then Some 0 else None) c.if-starts_with.false;
     }

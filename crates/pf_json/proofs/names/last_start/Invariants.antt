@@ -4,7 +4,10 @@ use Rattle.pf_json.proofs.names.last_start.Given as goal
 
 -- the words begin nowhere from here on
 abbrev pub invariant-loop-start : goal.invariant-loop-start
-invariant-loop-start l = record { within : l.start ≤ length l.text; none : last_start l.words (drop l.start l.text) ≡ None }
+invariant-loop-start l = record {
+  within : l.start ≤ length l.text;
+  none : last_start l.words (drop l.start l.text) ≡ None;
+}
 
 abbrev pub decreases-loop-start : goal.decreases-loop-start
 decreases-loop-start l = l.start

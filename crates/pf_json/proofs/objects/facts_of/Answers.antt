@@ -12,8 +12,12 @@ use Rattle.pf_json.proofs.objects.facts_of.Goals as goal
 pub returns : goal.returns
 returns c =
     let line = c.args.line.now in
-    let no_name : named_root line ≡ None = sym c.in_ok-facts.ensures ∙ ap (option_map (λ v. views_of v.items)) c.in_default.is in
-    let no_shape : facts_by_first shapes line ≡ None = sym c.in_ok-facts-2.ensures ∙ ap (option_map (λ v. views_of v.items)) c.in_default-2.is in
-    IfOk-weaker c.alone.result (λ v. views_of v.items ≡ view_of_fact c.said.result ∷ []) (λ v. views_of v.items ≡ facts_of line)
-    (λ v e. e ∙ (ap (λ (f : Fact). f ∷ []) c.said.ensures ∙ told_else (named_root line) (facts_by_first shapes line) (said line) no_name no_shape))
+    let no_name : named_root line ≡ None = sym c.in_ok-facts.ensures ∙ ap (option_map (λ v. views_of v.items))
+    c.in_default.is in
+    let no_shape : facts_by_first shapes line ≡ None = sym c.in_ok-facts-2.ensures
+    ∙ ap (option_map (λ v. views_of v.items)) c.in_default-2.is in
+    IfOk-weaker c.alone.result (λ v. views_of v.items ≡ view_of_fact c.said.result ∷ [])
+    (λ v. views_of v.items ≡ facts_of line)
+    (λ v e. e ∙ (ap (λ (f : Fact). f ∷ []) c.said.ensures ∙ told_else (named_root line) (facts_by_first shapes line)
+    (said line) no_name no_shape))
     c.alone.ensures

@@ -8,6 +8,7 @@ use Rattle.pf_json.proofs.objects.put_facts.Given as goal
 abbrev pub invariant-loop-fact : goal.invariant-loop-fact
 invariant-loop-fact l =
     record {
-      tokens : l.writer.tokens ≡ l.fn.writer.tokens ++ flat_map (λ f. fact_tokens (view_of_fact f)) (take l.fact-index l.facts);
+      tokens : l.writer.tokens ≡ l.fn.writer.tokens ++ flat_map (λ f. fact_tokens (view_of_fact f))
+          (take l.fact-index l.facts);
       before : l.writer.before ≡ l.fn.writer.before;
     }

@@ -12,6 +12,7 @@ pub returns-clause-tokens : goal.returns-clause-tokens
 returns-clause-tokens c =
     let before = c.args.writer.now.tokens in
     let facts = c.args.facts.now in
-    let begun = ap (λ (ts : List Token). ts ++ flat_map (λ f. fact_tokens (view_of_fact f)) facts) c.in_ok-begin_object.ensures.ok in
+    let begun = ap (λ (ts : List Token). ts ++ flat_map (λ f. fact_tokens (view_of_fact f)) facts)
+    c.in_ok-begin_object.ensures.ok in
     let told = ap (λ (ts : List Token). ts ++ token.end_object ∷ []) (c.in_ok-put_facts.ensures.tokens ∙ begun) in
     on_ok_weaker c.end_object.result (λ e. e ∙ (told ∙ object_behind before facts)) c.end_object.ensures.ok

@@ -7,4 +7,5 @@ use Rattle.pf_json.proofs.parts.facts_by.Given as goal
 -- the line's facts are those so far, and those of what is left by the parts that are left
 abbrev pub invariant-loop-part : goal.invariant-loop-part
 invariant-loop-part l =
-    facts_by (map view_of_part l.shape) l.line ≡ behind (views_of l.facts.items) (facts_by (map view_of_part (drop l.part-index l.shape)) l.rest)
+    facts_by (map view_of_part l.shape) l.line ≡ behind (views_of l.facts.items)
+    (facts_by (map view_of_part (drop l.part-index l.shape)) l.rest)

@@ -13,5 +13,6 @@ returns c =
     let q = expr_pattern_at c.args.syntax.now.node_table c.args.id.0 in
     let m = c.pattern.new.module in
     by_ok _ _ (λ p. BecomesAlone q (pattern_at m.tables p.0)) c.pattern.ensures
-    (λ p h formed. same_atoms (names_of_module m.atoms c.args.syntax.now.functions) only_atoms (λ a. refl) no_scope q (pattern_at m.tables p.0)
+    (λ p h formed. same_atoms (names_of_module m.atoms c.args.syntax.now.functions) only_atoms (λ a. refl) no_scope q
+    (pattern_at m.tables p.0)
     (h.answer.means no_scope (sym c.new-slots.ensures) formed (no_faults no_scope q refl)))

@@ -10,7 +10,8 @@ use Rattle.pf_lower.proofs.Growing.{by_ok}
 use Rattle.pf_lower.proofs.bodies.put_last.Goals as goal
 
 -- with a pattern it is a match
-ending_is : (t : Tables) (ps : List PatternId) (x : Tree) → 0 < length ps → tr.match (patterns_at t ps) x ≡ ending (patterns_at t ps) x
+ending_is : (t : Tables) (ps : List PatternId) (x : Tree) → 0 < length ps
+    → tr.match (patterns_at t ps) x ≡ ending (patterns_at t ps) x
 ending_is t [] x h = absurd (omega arith)
 ending_is t (p ∷ ps) x h = refl
 
@@ -19,4 +20,5 @@ returns c =
     let t = c.args.module.now.tables in
     let some : 0 < length c.args.element.patterns.items = search (rules, tests) in
     by_ok _ _ _ c.put_node.ensures
-    (λ x h. subst (λ y. PartPut c.args.module.now c.put_node.new.module y x) (ending_is t c.args.element.patterns.items (part_over t c.args.element.value) some) h)
+    (λ x h. subst (λ y. PartPut c.args.module.now c.put_node.new.module y x)
+    (ending_is t c.args.element.patterns.items (part_over t c.args.element.value) some) h)

@@ -8,5 +8,6 @@ invariant-loop-read l = record {
   name : l.module.name ≡ l.initial.module.name;
   atoms : l.module.atoms ≡ l.initial.module.atoms;
   unbound : l.slots ≡ [];
-  functions : EachFunction (names_of_module l.initial.module.atoms l.syntax.functions) l.syntax.exports (take l.read-index l.syntax.functions) l.module.functions;
+  functions : EachFunction (names_of_module l.initial.module.atoms l.syntax.functions) l.syntax.exports
+      (take l.read-index l.syntax.functions) l.module.functions;
 }

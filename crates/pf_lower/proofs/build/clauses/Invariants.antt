@@ -5,5 +5,6 @@ use Rattle.pf_lower.proofs.build.clauses.Given as goal
 
 abbrev pub invariant-loop-head : goal.invariant-loop-head
 invariant-loop-head l =
-    SoFar (next_head l.syntax.functions l.syntax.node_table) (EachHead l.syntax.functions l.syntax.node_table) l.initial.module l.module l.initial.slots l.slots
+    SoFar (next_head l.syntax.functions l.syntax.node_table) (EachHead l.syntax.functions l.syntax.node_table)
+    l.initial.module l.module l.initial.slots l.slots
     (take l.head-index l.heads) l.found.items × (l.slots ≡ [])

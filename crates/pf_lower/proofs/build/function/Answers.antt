@@ -18,7 +18,11 @@ returns-in-Ok c =
     let count = parameters_length b h.parameters.items in
     let short : c.in-Ok.arity ≡ length h.parameters.items = search rules in
     let counted : c.len-count.result ≡ length h.parameters.items = search rules in
-    function_done fs b c.args.syntax.now.exports c.args.module.now c.clauses.new.module c.clauses.new.slots (map (head_over b) hs) (head_over b h) (map (head_over b) (drop 1 hs)) _
+    function_done fs b c.args.syntax.now.exports c.args.module.now c.clauses.new.module c.clauses.new.slots
+    (map (head_over b) hs) (head_over b h) (map (head_over b) (drop 1 hs)) _
     (ap (map (head_over b)) (first_is hs h (c.in-Some.ensures.value ∙ ap (λ l. slice_get l 0) c.deref.ensures.value)))
-    refl (short ∙ sym count) (c.has.ensures ∙ c.requires.exports h.ident.name.0 c.len-count.result ∙ ap (is_exported c.args.syntax.now.exports h.ident.name.0) (counted ∙ sym count))
-    (subst (λ l. Lowers c.args.module.now c.clauses.new.module c.clauses.new.slots [] (λ u. HeadsMean fs u (map (head_over b) l) c.in_ok-clauses.clauses.items)) c.as_slice.ensures.value c.in_ok-clauses.ensures)
+    refl (short ∙ sym count) (c.has.ensures ∙ c.requires.exports h.ident.name.0 c.len-count.result
+    ∙ ap (is_exported c.args.syntax.now.exports h.ident.name.0) (counted ∙ sym count))
+    (subst (λ l. Lowers c.args.module.now c.clauses.new.module c.clauses.new.slots []
+    (λ u. HeadsMean fs u (map (head_over b) l) c.in_ok-clauses.clauses.items)) c.as_slice.ensures.value
+    c.in_ok-clauses.ensures)

@@ -21,7 +21,8 @@ abbrev pub decreases-construct : goal.decreases-construct
 decreases-construct l = 8 * expr_depth (expr_over l.syntax.now.node_table l.node.now)
 
 abbrev pub decreases-pair : goal.decreases-pair
-decreases-pair l = 8 * max (expr_depth (expr_at l.syntax.now.node_table l.first.0)) (expr_depth (expr_at l.syntax.now.node_table l.second.0)) + 2
+decreases-pair l = 8 * max (expr_depth (expr_at l.syntax.now.node_table l.first.0))
+    (expr_depth (expr_at l.syntax.now.node_table l.second.0)) + 2
 
 abbrev pub decreases-expressions : goal.decreases-expressions
 decreases-expressions l = 8 * exprs_depth (exprs_at l.syntax.now.node_table l.ids.now) + 2
@@ -46,20 +47,24 @@ decreases-branches l = 8 * branches_depth (branches_over l.syntax.now.node_table
 
 abbrev pub invariant-expressions-loop-id : goal.invariant-expressions-loop-id
 invariant-expressions-loop-id l =
-    SoFar (next_expr l.syntax.functions l.syntax.node_table) (EachExpr l.syntax.functions l.syntax.node_table) l.initial.module l.module l.initial.slots l.slots
+    SoFar (next_expr l.syntax.functions l.syntax.node_table) (EachExpr l.syntax.functions l.syntax.node_table)
+    l.initial.module l.module l.initial.slots l.slots
     (take l.id-index l.ids) l.parts.items
 
 abbrev pub invariant-elements-loop-id : goal.invariant-elements-loop-id
 invariant-elements-loop-id l =
-    SoFar (next_element l.syntax.functions l.syntax.node_table) (EachElement l.syntax.functions l.syntax.node_table) l.initial.module l.module l.initial.slots l.slots
+    SoFar (next_element l.syntax.functions l.syntax.node_table) (EachElement l.syntax.functions l.syntax.node_table)
+    l.initial.module l.module l.initial.slots l.slots
     (take l.id-index l.ids) l.found.items
 
 abbrev pub invariant-guard-loop-one : goal.invariant-guard-loop-one
 invariant-guard-loop-one l =
-    SoFar (next_tests l.syntax.functions l.syntax.node_table) (EachTests l.syntax.functions l.syntax.node_table) l.initial.module l.module l.initial.slots l.slots
+    SoFar (next_tests l.syntax.functions l.syntax.node_table) (EachTests l.syntax.functions l.syntax.node_table)
+    l.initial.module l.module l.initial.slots l.slots
     (take l.one-index l.condition.alternatives.items) l.alternatives.items
 
 abbrev pub invariant-branches-loop-arm : goal.invariant-branches-loop-arm
 invariant-branches-loop-arm l =
-    SoFar (next_branch l.syntax.functions l.syntax.node_table) (EachBranch l.syntax.functions l.syntax.node_table) l.initial.module l.module l.initial.slots l.slots
+    SoFar (next_branch l.syntax.functions l.syntax.node_table) (EachBranch l.syntax.functions l.syntax.node_table)
+    l.initial.module l.module l.initial.slots l.slots
     (take l.arm-index l.arms) l.clauses.items

@@ -22,11 +22,13 @@ returns-in-Some c =
     let at = c.args.ident.offset in
     by_ok _ _ _ c.put_node.ensures
     (λ x h. expr_put fs m m _ _ c.args.slots.now _ (p.call f at es) _ x refl refl (grown_itself m)
-    (λ g e i k. w.own g f at c.in-Some.function.0 es _ (ap (own_in fs f) (arity_length c.args.syntax.now.node_table c.args.ids.now) ∙ c.in-Some.ensures)
+    (λ g e i k. w.own g f at c.in-Some.function.0 es _
+    (ap (own_in fs f) (arity_length c.args.syntax.now.node_table c.args.ids.now) ∙ c.in-Some.ensures)
     (c.requires.parts_are.means g e i (call_clean n g f at es k))) h)
 
 -- what was found by a name and a number is found by others that are the same
-found_by : {X : Type 0} (B : List ℕ → ℕ → X) (name there : List ℕ) (k count : ℕ) (x : X) → name ≡ there → k ≡ count → x ≡ B name count → B there k ≡ x
+found_by : {X : Type 0} (B : List ℕ → ℕ → X) (name there : List ℕ) (k count : ℕ) (x : X) → name ≡ there → k ≡ count
+    → x ≡ B name count → B there k ≡ x
 found_by B name there k count x e d h = ap (B there) d ∙ ap (λ (l : List ℕ). B l count) (sym e) ∙ sym h
 
 pub returns-in-Some-builtin_named : goal.returns-in-Some-builtin_named
@@ -38,10 +40,13 @@ returns-in-Some-builtin_named c =
     let f = c.args.ident.name.0 in
     let at = c.args.ident.offset in
     let named = c.name.ensures ∙ ap (λ (a : List (List ℕ)). name_of a f) c.atoms.ensures in
-    let found = found_by builtin_named c.name.result.now (name_of m.atoms f) (arity_of es) (length c.args.ids.now) (Some c.in-Some-builtin_named.builtin) named (arity_length c.args.syntax.now.node_table c.args.ids.now) c.in-Some-builtin_named.ensures in
+    let found = found_by builtin_named c.name.result.now (name_of m.atoms f) (arity_of es) (length c.args.ids.now)
+    (Some c.in-Some-builtin_named.builtin) named (arity_length c.args.syntax.now.node_table c.args.ids.now)
+    c.in-Some-builtin_named.ensures in
     by_ok _ _ _ c.put_node-in-Some-builtin_named.ensures
     (λ x h. expr_put fs m m _ _ c.args.slots.now _ (p.call f at es) _ x refl refl (grown_itself m)
-    (λ g e i k. w.builtin g f at c.in-Some-builtin_named.builtin es _ found (c.requires.parts_are.means g e i (call_clean n g f at es k))) h)
+    (λ g e i k. w.builtin g f at c.in-Some-builtin_named.builtin es _ found
+    (c.requires.parts_are.means g e i (call_clean n g f at es k))) h)
 
 pub returns-in-None : goal.returns-in-None
 returns-in-None c =
@@ -53,6 +58,7 @@ returns-in-None c =
     let at = c.args.ident.offset in
     let count = arity_length c.args.syntax.now.node_table c.args.ids.now in
     let named = c.name.ensures ∙ ap (λ (a : List (List ℕ)). name_of a f) c.atoms.ensures in
-    let found = found_by builtin_named c.name.result.now (name_of m.atoms f) (arity_of es) (length c.args.ids.now) None named count c.in-None.ensures in
+    let found = found_by builtin_named c.name.result.now (name_of m.atoms f) (arity_of es) (length c.args.ids.now) None
+    named count c.in-None.ensures in
     expr_here fs m c.args.slots.now _ (p.call f at es) part.Nil refl tt
     (λ g e i k. absurd (call_defined n g f at es (ap (own_in fs f) count ∙ c.in_default.ensures) found k))

@@ -14,4 +14,5 @@ returns-in-Some c =
     let is = rw c.in-Some.is at c.in_ok-made.ensures in
     by_ok _ _ _ c.put_literal.ensures
     (λ x h. expr_put fs m m _ _ c.args.slots.now _ (p.text c.args.codes.now) _ x refl refl (grown_itself m)
-    (λ g e f k. subst (λ v. ExprIs (names_of_module m.atoms fs) g (p.text c.args.codes.now) (lit v)) (sym is) (w.text g c.args.codes.now)) h)
+    (λ g e f k. subst (λ v. ExprIs (names_of_module m.atoms fs) g (p.text c.args.codes.now) (lit v)) (sym is)
+    (w.text g c.args.codes.now)) h)

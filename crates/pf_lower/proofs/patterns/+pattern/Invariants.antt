@@ -14,5 +14,6 @@ decreases-patterns l = 2 * expr_patterns_depth (expr_patterns_at l.syntax.now.no
 
 abbrev pub invariant-patterns-loop-id : goal.invariant-patterns-loop-id
 invariant-patterns-loop-id l =
-    SoFar (next_expr_pattern l.syntax.functions l.syntax.node_table) (EachExprPattern l.syntax.functions l.syntax.node_table) l.initial.module l.module l.initial.slots l.slots
+    SoFar (next_expr_pattern l.syntax.functions l.syntax.node_table)
+    (EachExprPattern l.syntax.functions l.syntax.node_table) l.initial.module l.module l.initial.slots l.slots
     (take l.id-index l.ids) l.parts.items

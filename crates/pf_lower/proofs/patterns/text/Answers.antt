@@ -12,13 +12,16 @@ returns-in-Some c =
     let m = c.args.module.now in
     let is = rw c.in-Some.is at c.in_ok-made.ensures in
     by_ok _ _ _ c.put_known.ensures
-    (λ p h. expr_pattern_put c.args.syntax.now.functions m m _ _ c.args.slots.now _ (expr_pattern.text c.args.codes.now) _ p refl refl (grown_itself m)
-    (λ g e f k. subst (λ v. ExprPatternIs (names_of_module m.atoms c.args.syntax.now.functions) g (expr_pattern.text c.args.codes.now) (known v)) (sym is) (w.text g c.args.codes.now)) h)
+    (λ p h. expr_pattern_put c.args.syntax.now.functions m m _ _ c.args.slots.now _ (expr_pattern.text c.args.codes.now)
+    _ p refl refl (grown_itself m)
+    (λ g e f k. subst (λ v. ExprPatternIs (names_of_module m.atoms c.args.syntax.now.functions) g
+    (expr_pattern.text c.args.codes.now) (known v)) (sym is) (w.text g c.args.codes.now)) h)
 
 pub returns-in-None : goal.returns-in-None
 returns-in-None c =
     let m = c.args.module.now in
     let too_large = rw c.in-None.is at c.in_ok-made.ensures in
     by_ok _ _ _ c.put_pattern.ensures
-    (λ p h. expr_pattern_put c.args.syntax.now.functions m m _ _ c.args.slots.now _ (expr_pattern.text c.args.codes.now) _ p refl refl (grown_itself m)
+    (λ p h. expr_pattern_put c.args.syntax.now.functions m m _ _ c.args.slots.now _ (expr_pattern.text c.args.codes.now)
+    _ p refl refl (grown_itself m)
     (λ g e f k. absurd (too_large f)) h)

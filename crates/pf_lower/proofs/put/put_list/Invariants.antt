@@ -15,5 +15,6 @@ invariant-loop-element l = record {
   all : All (OperandRepresents l.initial.module.tables) l.front.items;
   stands : OperandRepresents l.module.tables l.list;
   is : conses (parts_over l.initial.module.tables l.front.items) (part_over l.module.tables l.list)
-      ≡ conses (parts_over l.initial.module.tables l.initial.front.items) (part_over l.initial.module.tables l.initial.list);
+      ≡ conses (parts_over l.initial.module.tables l.initial.front.items)
+      (part_over l.initial.module.tables l.initial.list);
 }

@@ -6,7 +6,8 @@ pub loop-element-preserved : goal.loop-element-preserved
 loop-element-preserved c =
     let i = c.loop-element.invariant in
     let put = c.in_ok-list.ensures in
-    let s = pattern_step c.args.module.now c.loop-element.module c.put_pattern.new.module c.loop-element.front.items c.pop.new.self.items c.in-Some.element
+    let s = pattern_step c.args.module.now c.loop-element.module c.put_pattern.new.module c.loop-element.front.items
+    c.pop.new.self.items c.in-Some.element
     c.loop-element.list c.in_ok-list.list _ c.in-Some.ensures.items i.grown i.all put i.is in
     record {
       grown = grown_on c.args.module.now c.loop-element.module c.put_pattern.new.module i.grown put.grown;

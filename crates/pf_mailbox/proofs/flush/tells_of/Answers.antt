@@ -10,7 +10,8 @@ pub returns-then-items-ne5 : goal.returns-then-items-ne5
 returns-then-items-ne5 c =
     let r = c.args.reference in
     let items = c.as_slice-items.result.now in
-    sym (ap (λ t. tells_of r (value_of t)) c.in-Tuple.is ∙ ap (λ vs. tells_of r (tuple vs)) (sym (c.as_slice-items.ensures ∙ c.deref.ensures))
+    sym (ap (λ t. tells_of r (value_of t)) c.in-Tuple.is ∙ ap (λ vs. tells_of r (tuple vs))
+    (sym (c.as_slice-items.ensures ∙ c.deref.ensures))
     ∙ quiet_unless_five r items c.if-items-ne5.true)
 
 pub returns-in-Ref : goal.returns-in-Ref
@@ -19,5 +20,6 @@ returns-in-Ref c =
     let items = c.as_slice-items.result.now in
     let x = c.index-items-1.result in
     let at = slice_get_read items _ 1 x refl (omega (arith, c.if-items-ne5.false)) c.index-items-1.is in
-    sym (ap (λ t. tells_of r (value_of t)) c.in-Tuple.is ∙ ap (λ vs. tells_of r (tuple vs)) (sym (c.as_slice-items.ensures ∙ c.deref.ensures))
+    sym (ap (λ t. tells_of r (value_of t)) c.in-Tuple.is ∙ ap (λ vs. tells_of r (tuple vs))
+    (sym (c.as_slice-items.ensures ∙ c.deref.ensures))
     ∙ tells_by_second r items x c.if-items-ne5.false at ∙ ap (λ t. second_tells r (value_of t)) c.in-Ref.is)

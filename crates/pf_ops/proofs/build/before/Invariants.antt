@@ -7,7 +7,8 @@ use Rattle.pf_ops.proofs.build.before.Given as goal
 -- what is left, before what was made, is the whole; and what was made is within the limits
 abbrev pub invariant-loop-item : goal.invariant-loop-item
 invariant-loop-item l = record {
-  whole : values_before (values_of l.items.items) (elements_of l.list) ≡ values_before (values_of l.fn.items.items) (elements_of l.fn.list);
+  whole : values_before (values_of l.items.items) (elements_of l.list) ≡ values_before (values_of l.fn.items.items)
+      (elements_of l.fn.list);
   within : IsWithinLimits (list (elements_of l.list));
 }
 

@@ -5,12 +5,14 @@ use Rattle.pf_ops.proofs.Counted.{before_first, item_is}
 use Rattle.pf_ops.proofs.builtins.item.Goals as goal
 
 pub returns-then-number-lt1 : goal.returns-then-number-lt1
-returns-then-number-lt1 c = before_first (values_of c.args.items.now) c.args.number (omega (arith, ints, c.if-number-lt1.true))
+returns-then-number-lt1 c = before_first (values_of c.args.items.now) c.args.number
+    (omega (arith, ints, c.if-number-lt1.true))
 
 pub returns-in_ok-copied-in-Some : goal.returns-in_ok-copied-in-Some
 returns-in_ok-copied-in-Some c =
     ap (λ v. Ok v) c.in_ok-copied-in-Some.ensures
-    ∙ item_is c.args.items.now c.args.number _ (Some c.in-Some.found.now) (omega (arith, ints, c.if-number-lt1.false)) c.in-Some.ensures
+    ∙ item_is c.args.items.now c.args.number _ (Some c.in-Some.found.now) (omega (arith, ints, c.if-number-lt1.false))
+    c.in-Some.ensures
 
 pub returns-in-None : goal.returns-in-None
 returns-in-None c =

@@ -13,13 +13,16 @@ abbrev pub decreases-node_worth : goal.decreases-node_worth
 decreases-node_worth l = 3 * tree_size (tree_over (tables_in l.around.now) l.node.now) + 1
 
 abbrev pub decreases-binary_worth : goal.decreases-binary_worth
-decreases-binary_worth l = 3 * (tree_size (part_over (tables_in l.around.now) l.left) + tree_size (part_over (tables_in l.around.now) l.right)) + 3
+decreases-binary_worth l = 3 * (tree_size (part_over (tables_in l.around.now) l.left)
+    + tree_size (part_over (tables_in l.around.now) l.right)) + 3
 
 abbrev pub decreases-decided_worth : goal.decreases-decided_worth
-decreases-decided_worth l = 3 * (tree_size (part_over (tables_in l.around.now) l.left) + tree_size (part_over (tables_in l.around.now) l.right)) + 3
+decreases-decided_worth l = 3 * (tree_size (part_over (tables_in l.around.now) l.left)
+    + tree_size (part_over (tables_in l.around.now) l.right)) + 3
 
 abbrev pub decreases-cons_worth : goal.decreases-cons_worth
-decreases-cons_worth l = 3 * (tree_size (part_over (tables_in l.around.now) l.first) + tree_size (part_over (tables_in l.around.now) l.rest)) + 3
+decreases-cons_worth l = 3 * (tree_size (part_over (tables_in l.around.now) l.first)
+    + tree_size (part_over (tables_in l.around.now) l.rest)) + 3
 
 abbrev pub decreases-negated_worth : goal.decreases-negated_worth
 decreases-negated_worth l = 3 * tree_size (part_over (tables_in l.around.now) l.part) + 3
@@ -36,4 +39,6 @@ decreases-all_worth l = 3 * size_in (parts_over (tables_in l.around.now) l.parts
 -- the values so far, before those of the tests that are left, are the values of all
 abbrev pub invariant-all_worth-loop-part : goal.invariant-all_worth-loop-part
 invariant-all_worth-loop-part l =
-    option_map (values_before (values_of l.items.items)) (all_worth_in l.around (parts_over (tables_in l.around) (drop l.part-index l.parts))) ≡ all_worth_in l.around (parts_over (tables_in l.around) l.parts)
+    option_map (values_before (values_of l.items.items))
+    (all_worth_in l.around (parts_over (tables_in l.around) (drop l.part-index l.parts))) ≡ all_worth_in l.around
+    (parts_over (tables_in l.around) l.parts)

@@ -9,5 +9,7 @@ use Rattle.pf_ops.proofs.guards.holds.Given as goal
 -- the alternatives so far don't hold
 abbrev pub invariant-loop-alternative : goal.invariant-loop-alternative
 invariant-loop-alternative l =
-    guard_holds (name_of l.code.atoms) l.own (sub_guard (activation l.env l.base) (alternatives_over l.code.tables (drop l.alternative-index l.alternative-items)))
-    ≡ guard_holds (name_of l.code.atoms) l.own (sub_guard (activation l.env l.base) (alternatives_over l.code.tables l.alternative-items))
+    guard_holds (name_of l.code.atoms) l.own (sub_guard (activation l.env l.base)
+    (alternatives_over l.code.tables (drop l.alternative-index l.alternative-items)))
+    ≡ guard_holds (name_of l.code.atoms) l.own
+    (sub_guard (activation l.env l.base) (alternatives_over l.code.tables l.alternative-items))

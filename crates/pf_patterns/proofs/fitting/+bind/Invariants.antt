@@ -11,7 +11,8 @@ abbrev pub decreases-bind_all : goal.decreases-bind_all
 decreases-bind_all l = 3 * patterns_size (patterns_at l.code.now.tables l.patterns.now) + 1
 
 abbrev pub decreases-bind_cons : goal.decreases-bind_cons
-decreases-bind_cons l = 3 * (pattern_size (pattern_at l.code.now.tables l.head.0) + pattern_size (pattern_at l.code.now.tables l.tail.0)) + 1
+decreases-bind_cons l = 3 * (pattern_size (pattern_at l.code.now.tables l.head.0) + pattern_size
+    (pattern_at l.code.now.tables l.tail.0)) + 1
 
 abbrev pub decreases-bind_tuple : goal.decreases-bind_tuple
 decreases-bind_tuple l = 3 * patterns_size (patterns_at l.code.now.tables l.patterns.now) + 2

@@ -13,7 +13,8 @@ returns-then-refused-clause-slice c =
     let x = c.in-Some.run' in
     let r = c.sliced-run.result in
     let was : c.args.hand.now ≡ Some x = cc in
-    let goes : is_going x.progress ≡ true = subst (λ (h : Hand). IfSome h (λ r. is_going r.progress ≡ true)) was c.requires.going in
+    let goes : is_going x.progress ≡ true = subst (λ (h : Hand). IfSome h (λ r. is_going r.progress ≡ true)) was
+    c.requires.going in
     let out : is_out_of_memory r.progress ≡ true = sym c.is_out_of_memory-refused.ensures ∙ c.if-refused.true in
     subst (λ (h : Hand). SlicesHand c.args.turns h (Err (record {})) (Some r)) (sym was)
     (hand_refused x r c.args.turns goes out c.sliced-run.ensures.slice)

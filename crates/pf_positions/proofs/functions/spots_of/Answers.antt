@@ -17,6 +17,8 @@ loop-index-preserved c =
     let m = c.args.module.now in
     let i = c.loop-index.index in
     let g = function_over m.tables c.in-Some.function.now in
-    go_on (map (spot_seen m.tables) c.loop-index.spots.items) (map (spot_seen m.tables) c.put_function.new.spots.items) (function_spots i g)
+    go_on (map (spot_seen m.tables) c.loop-index.spots.items) (map (spot_seen m.tables) c.put_function.new.spots.items)
+    (function_spots i g)
     (program_spots i (drop i m.functions)) (program_spots (i + 1) (drop (i + 1) m.functions)) (spots_of m)
-    c.in_ok-put_function.ensures (ap (program_spots i) (drop_at_some m.functions i g c.in-Some.ensures)) c.loop-index.invariant
+    c.in_ok-put_function.ensures (ap (program_spots i) (drop_at_some m.functions i g c.in-Some.ensures))
+    c.loop-index.invariant

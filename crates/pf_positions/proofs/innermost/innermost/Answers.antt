@@ -12,7 +12,8 @@ loop-part-smaller c =
 pub loop-part-preserved : goal.loop-part-preserved
 loop-part-preserved c =
     let t = c.args.module.now.tables in
-    λ v h. c.loop-part.invariant v (within (tree_at t c.loop-part.at.0) (tree_at t c.in-Some.part.0) v c.loop-part.behind (sym c.in-Some.ensures) h)
+    λ v h. c.loop-part.invariant v (within (tree_at t c.loop-part.at.0) (tree_at t c.in-Some.part.0) v
+    c.loop-part.behind (sym c.in-Some.ensures) h)
 
 pub returns : goal.returns
 returns c =

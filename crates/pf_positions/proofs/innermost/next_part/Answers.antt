@@ -7,14 +7,16 @@ pub returns-in-Negate : goal.returns-in-Negate
 returns-in-Negate c =
     let t = c.args.module.now.tables in
     let n = c.in_ok-parts.field-0.now in
-    next_of t n _ c.behind.result.now c.args.done (tree_at t c.args.id.0) _ c.in_ok-parts.ensures.found (one_operand n c.in-Negate.a c.in-Negate.is)
+    next_of t n _ c.behind.result.now c.args.done (tree_at t c.args.id.0) _ c.in_ok-parts.ensures.found
+    (one_operand n c.in-Negate.a c.in-Negate.is)
     c.behind.ensures c.first_node.ensures
 
 pub returns-in-Cons : goal.returns-in-Cons
 returns-in-Cons c =
     let t = c.args.module.now.tables in
     let n = c.in_ok-parts.field-0.now in
-    next_of t n _ c.behind-in-Cons.result.now c.args.done (tree_at t c.args.id.0) _ c.in_ok-parts.ensures.found (two_operands n c.in-Cons.a c.in-Cons.b c.in-Cons.is)
+    next_of t n _ c.behind-in-Cons.result.now c.args.done (tree_at t c.args.id.0) _ c.in_ok-parts.ensures.found
+    (two_operands n c.in-Cons.a c.in-Cons.b c.in-Cons.is)
     c.behind-in-Cons.ensures c.first_node-in-Cons.ensures
 
 pub returns-in-Tuple : goal.returns-in-Tuple

@@ -10,12 +10,14 @@ use Rattle.pf_positions.proofs.Lines.{ends_behind, sooner}
 use Rattle.pf_positions.proofs.written.signs_of.Goals as goal
 
 -- what is in order is so by its first token
-in_order : (offset end : ℕ) (rest others : List Token) (first : Token) → rest ≡ first ∷ others → IsOrdered offset (map placed_of rest) end
+in_order : (offset end : ℕ) (rest others : List Token) (first : Token) → rest ≡ first ∷ others
+    → IsOrdered offset (map placed_of rest) end
     → IsOrdered offset (placed_of first ∷ map placed_of others) end
 in_order offset end rest others first is h = subst (λ (ts : List Token). IsOrdered offset (map placed_of ts) end) is h
 
 -- the signs are those at the first token, and those after it
-first_signs : (source : List ℕ) (rest others : List Token) (first : Token) (line : ℕ) (o : Option Sign) → rest ≡ first ∷ others → line ≡ line_at source first.start
+first_signs : (source : List ℕ) (rest others : List Token) (first : Token) (line : ℕ) (o : Option Sign)
+    → rest ≡ first ∷ others → line ≡ line_at source first.start
     → o ≡ token_sign (kind_of first.kind) (map placed_of others)
     → signs_of source (map placed_of rest) ≡ sign_at line o ++ signs_of source (map placed_of others)
 first_signs source rest others first line o is line_is sign_is =
@@ -28,7 +30,8 @@ pub line_on-line-requires-clause-within : goal.line_on-line-requires-clause-with
 line_on-line-requires-clause-within c =
     let end = length c.args.source.now in
     let others = c.in-Some.others.now in
-    let order = in_order c.loop-first.offset end c.loop-first.rest.now others c.in-Some.first.now c.in-Some.ensures.cases.0 c.loop-first.invariant.are_ordered in
+    let order = in_order c.loop-first.offset end c.loop-first.rest.now others c.in-Some.first.now
+    c.in-Some.ensures.cases.0 c.loop-first.invariant.are_ordered in
     let behind = ends_behind (map placed_of others) c.in-Some.first.now.end end order.2 in
     omega (arith, order.1)
 
@@ -39,14 +42,19 @@ loop-first-preserved-in_ok-push c =
     let others = c.in-Some.others.now in
     let line = c.line_on-line.result in
     let sign = c.in-Some-token_sign.sign in
-    let order = in_order c.loop-first.offset (length source) c.loop-first.rest.now others first c.in-Some.ensures.cases.0 c.loop-first.invariant.are_ordered in
+    let order = in_order c.loop-first.offset (length source) c.loop-first.rest.now others first
+    c.in-Some.ensures.cases.0 c.loop-first.invariant.are_ordered in
     record {
-      found_are = go_on c.loop-first.found.items c.push.new.self.items (sign_at line (Some sign)) (signs_of source (map placed_of c.loop-first.rest.now))
-          (signs_of source (map placed_of others)) (signs_of source (map placed_of c.args.tokens.now)) c.in_ok-push.ensures.items
-          (first_signs source c.loop-first.rest.now others first line (Some sign) c.in-Some.ensures.cases.0 c.line_on-line.ensures c.in-Some-token_sign.ensures)
+      found_are = go_on c.loop-first.found.items c.push.new.self.items (sign_at line (Some sign))
+          (signs_of source (map placed_of c.loop-first.rest.now))
+          (signs_of source (map placed_of others)) (signs_of source (map placed_of c.args.tokens.now))
+          c.in_ok-push.ensures.items
+          (first_signs source c.loop-first.rest.now others first line (Some sign) c.in-Some.ensures.cases.0
+          c.line_on-line.ensures c.in-Some-token_sign.ensures)
           c.loop-first.invariant.found_are;
       line_is = c.line_on-line.ensures;
-      are_ordered = sooner (map placed_of others) first.start first.end (length source) (omega (arith, order.1)) order.2;
+      are_ordered = sooner (map placed_of others) first.start first.end (length source)
+          (omega (arith, order.1)) order.2;
     }
 
 pub loop-first-preserved : goal.loop-first-preserved
@@ -55,10 +63,14 @@ loop-first-preserved c =
     let first = c.in-Some.first.now in
     let others = c.in-Some.others.now in
     let line = c.line_on-line.result in
-    let order = in_order c.loop-first.offset (length source) c.loop-first.rest.now others first c.in-Some.ensures.cases.0 c.loop-first.invariant.are_ordered in
-    let left = first_signs source c.loop-first.rest.now others first line None c.in-Some.ensures.cases.0 c.line_on-line.ensures c.in_default-token_sign.ensures in
+    let order = in_order c.loop-first.offset (length source) c.loop-first.rest.now others first
+    c.in-Some.ensures.cases.0 c.loop-first.invariant.are_ordered in
+    let left = first_signs source c.loop-first.rest.now others first line None c.in-Some.ensures.cases.0
+    c.line_on-line.ensures c.in_default-token_sign.ensures in
     record {
-      found_are = ap (λ (ws : List WrittenSign). c.loop-first.found.items ++ ws) (sym left) ∙ c.loop-first.invariant.found_are;
+      found_are = ap (λ (ws : List WrittenSign). c.loop-first.found.items ++ ws) (sym left)
+          ∙ c.loop-first.invariant.found_are;
       line_is = c.line_on-line.ensures;
-      are_ordered = sooner (map placed_of others) first.start first.end (length source) (omega (arith, order.1)) order.2;
+      are_ordered = sooner (map placed_of others) first.start first.end (length source)
+          (omega (arith, order.1)) order.2;
     }

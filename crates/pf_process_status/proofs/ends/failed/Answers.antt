@@ -9,7 +9,8 @@ returns-in-Failed c e ends who = subst (λ x. EndsSo c.args.ended.pid x e) c.in-
 
 pub returns-in-Normal : goal.returns-in-Normal
 returns-in-Normal c e ends who =
-    failed_so e c.args.ended.pid c.args.ended.end ends who (λ k. let never : end.Normal ≡ end.Failed = sym c.in-Normal.is ∙ k in absurd (cc))
+    failed_so e c.args.ended.pid c.args.ended.end ends who
+    (λ k. let never : end.Normal ≡ end.Failed = sym c.in-Normal.is ∙ k in absurd (cc))
 
 pub returns-in-Killed : goal.returns-in-Killed
 returns-in-Killed c e ends who =

@@ -8,7 +8,8 @@ use Rattle.pf_process_status.proofs.ends.failed_in.Goals as goal
 
 pub returns-in-None : goal.returns-in-None
 returns-in-None c =
-    none_failed (view_of_event c.args.event.now) (sym c.ended_in.ensures.who ∙ ap (option_map (λ (x : EndedProcess). x.pid)) c.in-None.is)
+    none_failed (view_of_event c.args.event.now)
+    (sym c.ended_in.ensures.who ∙ ap (option_map (λ (x : EndedProcess). x.pid)) c.in-None.is)
 
 pub returns-in-Some : goal.returns-in-Some
 returns-in-Some c =

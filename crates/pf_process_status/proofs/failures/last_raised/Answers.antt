@@ -7,7 +7,8 @@ use Rattle.pf_process_status.proofs.failures.last_raised.Goals as goal
 pub loop-failure-preserved : goal.loop-failure-preserved
 loop-failure-preserved c =
     let l = c.loop-failure in
-    last_next c.args.pid c.args.raised.now l.failure-index _ l.last _ c.loop-failure-test.true c.later-last.ensures l.invariant
+    last_next c.args.pid c.args.raised.now l.failure-index _ l.last _ c.loop-failure-test.true
+    c.later-last.ensures l.invariant
 
 pub returns : goal.returns
 returns c =

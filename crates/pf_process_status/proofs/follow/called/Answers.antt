@@ -9,7 +9,8 @@ pub returns-in-Some : goal.returns-in-Some
 returns-in-Some c d stands =
     let m = c.args.system.now.checked in
     let s = (of d.core c.args.pid).state in
-    let at = subst (λ o. MatchOption o (is_alive s ≡ false) (IsAtPoint m s)) c.in-Some.is (c.point_of.ensures d stands) in
+    let at = subst (λ o. MatchOption o (is_alive s ≡ false) (IsAtPoint m s)) c.in-Some.is
+    (c.point_of.ensures d stands) in
     called_of m s c.in-Some.point c.called_at.result c.called_at.ensures at
 
 pub returns-in-None : goal.returns-in-None

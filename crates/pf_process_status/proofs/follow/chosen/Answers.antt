@@ -6,7 +6,8 @@ use Rattle.pf_process_status.proofs.follow.chosen.Goals as goal
 
 pub returns-then-index-len-clause-may_go : goal.returns-then-index-len-clause-may_go
 returns-then-index-len-clause-may_go c =
-    may_go c.args.system.now.standing (noted_actors c.enabled-enabled.result) c.enabled-enabled.ensures.actors c.args.choice c.actor.result c.actor.ensures
+    may_go c.args.system.now.standing (noted_actors c.enabled-enabled.result) c.enabled-enabled.ensures.actors
+    c.args.choice c.actor.result c.actor.ensures
 
 pub returns-then-index-len-clause-chosen : goal.returns-then-index-len-clause-chosen
 returns-then-index-len-clause-chosen c d stands =

@@ -8,18 +8,22 @@ pub returns-then-contains : goal.returns-then-contains
 returns-then-contains c d stands alive =
     let q = c.args.pid in
     let s = (of d.core q).state in
-    let asks = c.contains.ensures.value ∙ ap (is_in q) (c.pids.ensures ∙ (c.enabled-enabled.ensures.both d stands).processes) ∙ is_in_ready q d.core.processes in (
+    let asks = c.contains.ensures.value ∙ ap (is_in q)
+    (c.pids.ensures ∙ (c.enabled-enabled.ensures.both d stands).processes) ∙ is_in_ready q d.core.processes in (
       sym asks ∙ c.if-contains.true,
       subst (IsAtPoint c.args.system.now.checked s) (sym c.unwrap_or-point.ensures)
-          (stands_there (IsAtPoint c.args.system.now.checked s) s c.point_of.result alive (c.point_of.ensures d stands)),
+          (stands_there (IsAtPoint c.args.system.now.checked s) s c.point_of.result alive
+          (c.point_of.ensures d stands)),
     )
 
 pub returns-else-contains : goal.returns-else-contains
 returns-else-contains c d stands alive =
     let q = c.args.pid in
     let s = (of d.core q).state in
-    let asks = c.contains.ensures.value ∙ ap (is_in q) (c.pids.ensures ∙ (c.enabled-enabled.ensures.both d stands).processes) ∙ is_in_ready q d.core.processes in (
+    let asks = c.contains.ensures.value ∙ ap (is_in q)
+    (c.pids.ensures ∙ (c.enabled-enabled.ensures.both d stands).processes) ∙ is_in_ready q d.core.processes in (
       or_waits s alive (sym asks ∙ c.if-contains.false),
       subst (IsAtPoint c.args.system.now.checked s) (sym c.unwrap_or-point.ensures)
-          (stands_there (IsAtPoint c.args.system.now.checked s) s c.point_of.result alive (c.point_of.ensures d stands)),
+          (stands_there (IsAtPoint c.args.system.now.checked s) s c.point_of.result alive
+          (c.point_of.ensures d stands)),
     )

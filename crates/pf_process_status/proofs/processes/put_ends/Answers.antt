@@ -29,7 +29,8 @@ loop-event-preserved c =
           let who = sym c.ended_in.ensures.who ∙ ap (option_map (λ (y : EndedProcess). y.pid)) w.in-Some.is in
           let how = subst (λ o. IfSome o (λ y. EndsSo y.pid y.end e)) w.in-Some.is c.ended_in.ensures.how in
           let has = w.fate_by.ensures es (e, at, how) in
-          let put = one_ended es i e at xs ys l.invariant w.put_fate.new.standings.items x.pid w.fate_by.result who has w.put_fate.ensures in
+          let put = one_ended es i e at xs ys l.invariant w.put_fate.new.standings.items x.pid w.fate_by.result who has
+          w.put_fate.ensures in
           subst (λ v. TellEnds es (suc i) xs v.items) (sym w.standings-is) put)
       | in_default w ↦ (
           let who = sym c.ended_in.ensures.who ∙ ap (option_map (λ (y : EndedProcess). y.pid)) w.in_default.is in

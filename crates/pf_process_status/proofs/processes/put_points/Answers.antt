@@ -9,10 +9,12 @@ loop-failure-preserved c =
     let l = c.loop-failure in
     record {
       placed = placed_next _ _ _ _ l.invariant.placed c.put_point.ensures;
-      points = points_next c.args.failures.now l.failure-index _ l.standings.items _ c.loop-failure-test.true l.invariant.points c.put_point.ensures;
+      points = points_next c.args.failures.now l.failure-index _ l.standings.items _ c.loop-failure-test.true
+          l.invariant.points c.put_point.ensures;
     }
 
 pub returns-clause-points : goal.returns-clause-points
 returns-clause-points c =
     let l = c.loop-failure in
-    subst (λ gs. TakePoints gs l.standings.items) (take_all l.failure-index c.args.failures.now c.loop-failure-test.false) l.invariant.points
+    subst (λ gs. TakePoints gs l.standings.items)
+    (take_all l.failure-index c.args.failures.now c.loop-failure-test.false) l.invariant.points

@@ -14,4 +14,5 @@ loop-begun-preserved c d stands pids =
     subst (λ n. AreStanding f.system.checked d f.begun.items n c.push.new.self.items) number
     (subst (AreStanding f.system.checked d f.begun.items (suc i)) (sym c.in_ok-push.ensures.items)
     (one_more f.system.checked d f.begun.items i (get_or items i _) l.standings.items _ pids (l.invariant d stands pids)
-    (item_at items f.begun.items i _ c.deref-begun-items.ensures.value c.loop-begun-test.true) refl refl (c.fate_in.ensures d stands)))
+    (item_at items f.begun.items i _ c.deref-begun-items.ensures.value c.loop-begun-test.true) refl refl
+    (c.fate_in.ensures d stands)))

@@ -8,7 +8,8 @@ use Rattle.pf_process_status.proofs.processes.standings.Goals as goal
 
 pub returns-clause-stand : goal.returns-clause-stand
 returns-clause-stand c d h =
-    stand c.args.run.now d h c.in_ok-standings.standings.items c.put_ends.new.standings.items c.put_points.new.standings.items (c.in_ok-standings.ensures d h)
+    stand c.args.run.now d h c.in_ok-standings.standings.items c.put_ends.new.standings.items
+    c.put_points.new.standings.items (c.in_ok-standings.ensures d h)
     c.put_ends.ensures c.put_points.ensures.placed
 
 pub returns-clause-points : goal.returns-clause-points
@@ -20,5 +21,6 @@ returns-clause-points c =
       notes = notes;
       made = made;
       noted = made_noted es (length es) notes made;
-      points = subst (λ fs. TakePoints fs c.put_points.new.standings.items) c.as_slice.ensures.value c.put_points.ensures.points;
+      points = subst (λ fs. TakePoints fs c.put_points.new.standings.items) c.as_slice.ensures.value
+          c.put_points.ensures.points;
     }

@@ -12,4 +12,6 @@ use Rattle.pf_reader.proofs.export.read_entries.Given as goal
 abbrev pub invariant-loop : goal.invariant-loop
 invariant-loop l =
     items (mark Comma) (entry (names_of l.fn.context)) (length (tokens_in l.tokens)) (tokens_in l.tokens)
-    ≡ with_front (map export_of l.found.items) (items (mark Comma) (entry (names_of l.fn.context)) (length (tokens_in l.tokens) - l.counter) (tokens_in l.rest))
+    ≡ with_front (map export_of l.found.items)
+    (items (mark Comma) (entry (names_of l.fn.context)) (length (tokens_in l.tokens) - l.counter)
+    (tokens_in l.rest))

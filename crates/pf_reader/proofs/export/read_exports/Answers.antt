@@ -22,20 +22,26 @@ pub returns-in_err-entries-clause-given : goal.returns-in_err-entries-clause-giv
 returns-in_err-entries-clause-given c =
     let p = err_from_is_err_and c.from_residual.result c.from_residual.ensures.1 in
     let n = length (tokens_in c.args.tokens) in
-    let turn : n - c.loop.counter ≡ suc (n - (c.loop.counter + 1)) = omega (arith, length-map c.args.tokens.list.now numbered_token_of) in
+    let turn : n - c.loop.counter ≡ suc (n - (c.loop.counter + 1)) =
+    omega (arith, length-map c.args.tokens.list.now numbered_token_of) in
     let form : after_kind (mark Minus) (tokens_in c.loop.rest) ≡ Some (tokens_in c.in-Some.form) = search rules in
-    rw (p.1, p.2) (fails_as _ _ _ (exports_fail (names_of c.args.context) _ _ _ _ c.loop.invariant.given _ _ turn form) c.in_err-entries.ensures)
+    rw (p.1, p.2) (fails_as _ _ _ (exports_fail (names_of c.args.context) _ _ _ _ c.loop.invariant.given _ _ turn form)
+    c.in_err-entries.ensures)
 
 pub loop-preserved : goal.loop-preserved
 loop-preserved c =
     let n = length (tokens_in c.args.tokens) in
-    let turn : n - c.loop.counter ≡ suc (n - (c.loop.counter + 1)) = omega (arith, length-map c.args.tokens.list.now numbered_token_of) in
+    let turn : n - c.loop.counter ≡ suc (n - (c.loop.counter + 1)) =
+    omega (arith, length-map c.args.tokens.list.now numbered_token_of) in
     let form : after_kind (mark Minus) (tokens_in c.loop.rest) ≡ Some (tokens_in c.in-Some.form) = search rules in
-    let whole = exports_go (names_of c.args.context) _ _ _ _ c.loop.invariant.given _ _ _ _ turn form c.in_ok-entries.ensures in
-    let added : c.add_exports.new.syntax.exports ≡ c.loop.syntax.exports ++ map export_of c.in_ok-entries.entries.items =
+    let whole = exports_go (names_of c.args.context) _ _ _ _ c.loop.invariant.given _ _ _ _ turn form
+    c.in_ok-entries.ensures in
+    let added : c.add_exports.new.syntax.exports ≡ c.loop.syntax.exports
+    ++ map export_of c.in_ok-entries.entries.items =
     c.in_ok-add_exports.ensures.added ∙ ap (λ es. c.loop.syntax.exports ++ map export_of es) c.deref.ensures.value in
     record {
-      given = whole ∙ ap (λ es. with_front es (exports (names_of c.args.context) (n - (c.loop.counter + 1)) (tokens_in c.in_ok-entries.after))) (sym added);
+      given = whole ∙ ap (λ es. with_front es
+          (exports (names_of c.args.context) (n - (c.loop.counter + 1)) (tokens_in c.in_ok-entries.after))) (sym added);
       name = c.in_ok-add_exports.ensures.name ∙ c.loop.invariant.name;
       functions = c.in_ok-add_exports.ensures.functions ∙ c.loop.invariant.functions;
     }

@@ -72,7 +72,8 @@ invariant-read_level-loop l = record {
   grown : Grown l.fn.syntax l.syntax;
   stands : ExprRepresents l.syntax.node_table l.left.expr;
   given : parse_expr (names_of l.fn.context) l.guard l.limit l.level (tokens_in l.tokens)
-      ≡ more (parse_expr (names_of l.fn.context) l.guard (l.limit - 1)) l.guard l.limit l.level (l.turns - l.counter) l.floor (expr_at l.syntax.node_table l.left.expr.0) (tokens_in l.left.rest);
+      ≡ more (parse_expr (names_of l.fn.context) l.guard (l.limit - 1)) l.guard l.limit l.level (l.turns - l.counter)
+      l.floor (expr_at l.syntax.node_table l.left.expr.0) (tokens_in l.left.rest);
 }
 
 -- the items so far, and what is left, give what the whole gives
@@ -80,8 +81,11 @@ abbrev pub invariant-read_items-loop : goal.invariant-read_items-loop
 invariant-read_items-loop l = record {
   grown : Grown l.fn.syntax l.syntax;
   stands : All (ExprRepresents l.syntax.node_table) l.found.items;
-  given : items (mark Comma) (item_at (names_of l.fn.context) l.item l.limit) (length (tokens_in l.tokens)) (tokens_in l.tokens)
-      ≡ with_front (map (expr_of l.syntax.node_table) l.found.items) (items (mark Comma) (item_at (names_of l.fn.context) l.item l.limit) (length (tokens_in l.tokens) - l.counter) (tokens_in l.rest));
+  given : items (mark Comma) (item_at (names_of l.fn.context) l.item l.limit) (length (tokens_in l.tokens))
+      (tokens_in l.tokens)
+      ≡ with_front (map (expr_of l.syntax.node_table) l.found.items)
+      (items (mark Comma) (item_at (names_of l.fn.context) l.item l.limit) (length (tokens_in l.tokens) - l.counter)
+      (tokens_in l.rest));
 }
 
 -- the alternatives so far, and what is left, give what the whole gives
@@ -89,8 +93,11 @@ abbrev pub invariant-read_guard-loop : goal.invariant-read_guard-loop
 invariant-read_guard-loop l = record {
   grown : Grown l.fn.syntax l.syntax;
   stands : All (TestsStand l.syntax.node_table) l.alternatives.items;
-  given : items (mark Semicolon) (guard_tests (parse_expr (names_of l.fn.context) true l.limit top)) (length (tokens_in l.tokens)) (tokens_in l.tokens)
-      ≡ with_front (map (view_of_tests l.syntax.node_table) l.alternatives.items) (items (mark Semicolon) (guard_tests (parse_expr (names_of l.fn.context) true l.limit top)) (length (tokens_in l.tokens) - l.counter) (tokens_in l.rest));
+  given : items (mark Semicolon) (guard_tests (parse_expr (names_of l.fn.context) true l.limit top))
+      (length (tokens_in l.tokens)) (tokens_in l.tokens)
+      ≡ with_front (map (view_of_tests l.syntax.node_table) l.alternatives.items)
+      (items (mark Semicolon) (guard_tests (parse_expr (names_of l.fn.context) true l.limit top))
+      (length (tokens_in l.tokens) - l.counter) (tokens_in l.rest));
 }
 
 -- the clauses so far, and what is left, give what the whole gives
@@ -98,6 +105,9 @@ abbrev pub invariant-read_clauses-loop : goal.invariant-read_clauses-loop
 invariant-read_clauses-loop l = record {
   grown : Grown l.fn.syntax l.syntax;
   stands : All (BranchRepresents l.syntax.node_table) l.found.items;
-  given : items (mark Semicolon) (clause (readers (names_of l.fn.context) l.limit) l.choice) (length (tokens_in l.tokens)) (tokens_in l.tokens)
-      ≡ with_front (map (clause_of l.syntax.node_table) l.found.items) (items (mark Semicolon) (clause (readers (names_of l.fn.context) l.limit) l.choice) (length (tokens_in l.tokens) - l.counter) (tokens_in l.rest));
+  given : items (mark Semicolon) (clause (readers (names_of l.fn.context) l.limit) l.choice)
+      (length (tokens_in l.tokens)) (tokens_in l.tokens)
+      ≡ with_front (map (clause_of l.syntax.node_table) l.found.items)
+      (items (mark Semicolon) (clause (readers (names_of l.fn.context) l.limit) l.choice)
+      (length (tokens_in l.tokens) - l.counter) (tokens_in l.rest));
 }

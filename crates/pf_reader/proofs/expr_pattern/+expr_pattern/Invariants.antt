@@ -32,6 +32,9 @@ abbrev pub invariant-read_expr_pattern_items-loop : goal.invariant-read_expr_pat
 invariant-read_expr_pattern_items-loop l = record {
   grown : Grown l.fn.syntax l.syntax;
   stands : All (ExprPatternRepresents l.syntax.node_table) l.found.items;
-  given : items (mark Comma) (pattern (names_of l.fn.context) l.limit) (length (tokens_in l.tokens)) (tokens_in l.tokens)
-      ≡ with_front (map (expr_pattern_of l.syntax.node_table) l.found.items) (items (mark Comma) (pattern (names_of l.fn.context) l.limit) (length (tokens_in l.tokens) - l.counter) (tokens_in l.rest));
+  given : items (mark Comma) (pattern (names_of l.fn.context) l.limit) (length (tokens_in l.tokens))
+      (tokens_in l.tokens)
+      ≡ with_front (map (expr_pattern_of l.syntax.node_table) l.found.items)
+      (items (mark Comma) (pattern (names_of l.fn.context) l.limit) (length (tokens_in l.tokens) - l.counter)
+      (tokens_in l.rest));
 }

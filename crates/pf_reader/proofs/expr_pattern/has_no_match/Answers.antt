@@ -15,5 +15,7 @@ returns-in-None c = λ h n limit.
 pub returns-in_default : goal.returns-in_default
 returns-in_default c = λ h n limit.
     let first : tokens_in c.args.tokens ≡ numbered_token_of c.in-Some.first ∷ tokens_in c.in-Some.rest = search rules in
-    let none = is_none_is tokens_in c.skip.result (after_kind (mark Match) (tokens_in c.in-Some.rest)) c.is_none.result c.skip.ensures c.is_none.ensures h in
-    rw first (no_match (tokens_in c.in-Some.rest) none n limit (numbered_token_of c.in-Some.first) (not_mark c.in-Some.first.kind c.in_default.not-Mark))
+    let none = is_none_is tokens_in c.skip.result (after_kind (mark Match) (tokens_in c.in-Some.rest)) c.is_none.result
+    c.skip.ensures c.is_none.ensures h in
+    rw first (no_match (tokens_in c.in-Some.rest) none n limit (numbered_token_of c.in-Some.first)
+    (not_mark c.in-Some.first.kind c.in_default.not-Mark))

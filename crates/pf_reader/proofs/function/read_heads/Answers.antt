@@ -16,8 +16,10 @@ pub returns-in_err-head-clause-given : goal.returns-in_err-head-clause-given
 returns-in_err-head-clause-given c =
     let p = err_from_is_err_and c.from_residual.result c.from_residual.ensures.1 in
     let n = length (tokens_in c.args.tokens) in
-    let turn : n - c.loop.counter ≡ suc (n - (c.loop.counter + 1)) = omega (arith, length-map c.args.tokens.list.now numbered_token_of) in
-    rw (p.1, p.2) (fails_as _ _ _ (λ f. loop_fails (mark Semicolon) _ _ _ _ _ _ turn c.loop.invariant.given f) c.in_err-head.ensures.given)
+    let turn : n - c.loop.counter ≡ suc (n - (c.loop.counter + 1)) =
+    omega (arith, length-map c.args.tokens.list.now numbered_token_of) in
+    rw (p.1, p.2) (fails_as _ _ _ (λ f. loop_fails (mark Semicolon) _ _ _ _ _ _ turn c.loop.invariant.given f)
+    c.in_err-head.ensures.given)
 
 pub returns-in_default-clause-given : goal.returns-in_default-clause-given
 returns-in_default-clause-given c =
@@ -25,11 +27,14 @@ returns-in_default-clause-given c =
     let b = c.loop.syntax.node_table in
     let d = c.read_head.new.syntax.node_table in
     let on = c.in_ok-head.ensures.grown.node_table in
-    let turn : n - c.loop.counter ≡ suc (n - (c.loop.counter + 1)) = omega (arith, length-map c.args.tokens.list.now numbered_token_of) in
+    let turn : n - c.loop.counter ≡ suc (n - (c.loop.counter + 1)) =
+    omega (arith, length-map c.args.tokens.list.now numbered_token_of) in
     let none : after_kind (mark Semicolon) (tokens_in c.in_ok-head.behind_it) ≡ None = search rules in
     let pushed : c.push.new.self.items ≡ c.loop.found.items ++ c.in_ok-head.head ∷ [] = search rules in
     let same = heads_alike b d on c.loop.found.items c.loop.invariant.stands in
-    loop_ends (mark Semicolon) (head_parse (names_of c.args.context)) (head_over d) (head_over b) c.loop.found.items c.push.new.self.items c.in_ok-head.head _ _ _ _ _ same pushed turn c.loop.invariant.given c.in_ok-head.ensures.given none
+    loop_ends (mark Semicolon) (head_parse (names_of c.args.context)) (head_over d) (head_over b) c.loop.found.items
+    c.push.new.self.items c.in_ok-head.head _ _ _ _ _ same pushed turn c.loop.invariant.given
+    c.in_ok-head.ensures.given none
 
 pub returns-in_default-clause-stands : goal.returns-in_default-clause-stands
 returns-in_default-clause-stands c =
@@ -38,7 +43,8 @@ returns-in_default-clause-stands c =
     let on = c.in_ok-head.ensures.grown.node_table in
     let pushed : c.push.new.self.items ≡ c.loop.found.items ++ c.in_ok-head.head ∷ [] = search rules in
     let kept = all_heads_stand b d on c.loop.found.items c.loop.invariant.stands in
-    pushed_stands (HeadRepresents d) c.loop.found.items c.push.new.self.items c.in_ok-head.head pushed kept c.in_ok-head.ensures.stands
+    pushed_stands (HeadRepresents d) c.loop.found.items c.push.new.self.items c.in_ok-head.head pushed kept
+    c.in_ok-head.ensures.stands
 
 pub loop-preserved : goal.loop-preserved
 loop-preserved c =
@@ -46,15 +52,20 @@ loop-preserved c =
     let b = c.loop.syntax.node_table in
     let d = c.read_head.new.syntax.node_table in
     let on = c.in_ok-head.ensures.grown.node_table in
-    let turn : n - c.loop.counter ≡ suc (n - (c.loop.counter + 1)) = omega (arith, length-map c.args.tokens.list.now numbered_token_of) in
-    let next : after_kind (mark Semicolon) (tokens_in c.in_ok-head.behind_it) ≡ Some (tokens_in c.in-Some.after) = search rules in
+    let turn : n - c.loop.counter ≡ suc (n - (c.loop.counter + 1)) =
+    omega (arith, length-map c.args.tokens.list.now numbered_token_of) in
+    let next : after_kind (mark Semicolon) (tokens_in c.in_ok-head.behind_it) ≡ Some (tokens_in c.in-Some.after) =
+    search rules in
     let pushed : c.push.new.self.items ≡ c.loop.found.items ++ c.in_ok-head.head ∷ [] = search rules in
     let same = heads_alike b d on c.loop.found.items c.loop.invariant.stands in
     let kept = all_heads_stand b d on c.loop.found.items c.loop.invariant.stands in
     record {
       grown = again _ _ _ c.loop.invariant.grown c.in_ok-head.ensures.grown;
-      stands = pushed_stands (HeadRepresents d) c.loop.found.items c.push.new.self.items c.in_ok-head.head pushed kept c.in_ok-head.ensures.stands;
-      given = loop_goes (mark Semicolon) (head_parse (names_of c.args.context)) (head_over d) (head_over b) c.loop.found.items c.push.new.self.items c.in_ok-head.head _ _ _ _ _ _ same pushed turn c.loop.invariant.given c.in_ok-head.ensures.given next;
+      stands = pushed_stands (HeadRepresents d) c.loop.found.items c.push.new.self.items c.in_ok-head.head pushed kept
+          c.in_ok-head.ensures.stands;
+      given = loop_goes (mark Semicolon) (head_parse (names_of c.args.context)) (head_over d) (head_over b)
+          c.loop.found.items c.push.new.self.items c.in_ok-head.head _ _ _ _ _ _ same pushed turn c.loop.invariant.given
+          c.in_ok-head.ensures.given next;
     }
 
 pub returns-clause-given : goal.returns-clause-given

@@ -30,7 +30,8 @@ returns-clause-only c = λ q d.
     let ts = map placed_of c.args.tokens.now in
     let names = c.args.atoms.now in
     let tokens : token_list c.deref.result.now ≡ numbered_after names ts = search rules in
-    let given : read_by c.in_ok-names.names (token_list c.deref.result.now) ≡ None = rw c.in-Err-Fault.field-0-is at c.in-Err-Fault.ensures.given in
+    let given : read_by c.in_ok-names.names (token_list c.deref.result.now) ≡ None =
+    rw c.in-Err-Fault.field-0-is at c.in-Err-Fault.ensures.given in
     let read = read_as _ _ _ _ _ c.in_ok-names.ensures.atoms tokens given in
     let whole = alone_complete names ts q d in
     absurd (cc)
@@ -42,7 +43,8 @@ returns-clause-fault c = (
       let ts = map placed_of c.args.tokens.now in
       let names = c.args.atoms.now in
       let tokens : token_list c.deref.result.now ≡ numbered_after names ts = search rules in
-      let given : read_by c.in_ok-names.names (token_list c.deref.result.now) ≡ None = rw c.in-Err-Fault.field-0-is at c.in-Err-Fault.ensures.given in
+      let given : read_by c.in_ok-names.names (token_list c.deref.result.now) ≡ None =
+      rw c.in-Err-Fault.field-0-is at c.in-Err-Fault.ensures.given in
       let read = read_as _ _ _ _ _ c.in_ok-names.ensures.atoms tokens given in
       let whole = alone_complete names ts q d in
       absurd (cc),

@@ -14,7 +14,9 @@ returns-in_default c =
 pub returns-in-Ok : goal.returns-in-Ok
 returns-in-Ok c =
     rw c.refusal-in-Ok.ensures (
-      has_head c.args.atoms.now (token_list c.args.tokens.now) _ c.first_form.result _ c.first_form.ensures c.in-Some.is,
-      λ m d. let some = tree_complete c.args.atoms.now (token_list c.args.tokens.now) m d in let none = c.requires in absurd (cc),
+      has_head c.args.atoms.now (token_list c.args.tokens.now) _ c.first_form.result _
+          c.first_form.ensures c.in-Some.is,
+      λ m d. let some = tree_complete c.args.atoms.now (token_list c.args.tokens.now) m d in
+          let none = c.requires in absurd (cc),
       c.in-Ok.ensures,
     )

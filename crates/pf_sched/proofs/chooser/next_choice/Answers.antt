@@ -8,7 +8,8 @@ next_of-requires c = omega (arith, c.requires, noted_count c.args.enabled.now, c
 
 pub returns-clause-chooses : goal.returns-clause-chooses
 returns-clause-chooses c d note =
-    chooses_among c.args.enabled.now d note c.args.choices.now c.next_of.new.self c.processes.result c.channels.result c.next_of.result
+    chooses_among c.args.enabled.now d note c.args.choices.now c.next_of.new.self c.processes.result c.channels.result
+    c.next_of.result
     c.processes.ensures c.channels.ensures c.next_of.ensures.chooses
 
 pub returns-clause-one : goal.returns-clause-one

@@ -13,7 +13,8 @@ returns-in_err-print_next-clause-fault g c =
     handed_on c.from_residual.result f _ c.from_residual.ensures
     (λ u first.
     let i = c.loop.invariant.printed u first in
-    subst (λ n. CutsShort f j u w0 (g.W.Write.contents c.print_next.new.writer.inner) n c.print_next.new.writer.failures.total) c.loop.invariant.kept
+    subst (λ n. CutsShort f j u w0 (g.W.Write.contents c.print_next.new.writer.inner) n
+    c.print_next.new.writer.failures.total) c.loop.invariant.kept
     (c.in_err-print_next.ensures.fault j u i.0 w0 c.requires.limit i.2))
 
 pub returns-then-not-branch-clause-printed : goal.returns-then-not-branch-clause-printed
@@ -22,7 +23,8 @@ returns-then-not-branch-clause-printed g c u first =
     let i = c.loop.invariant.printed u first in
     let w0 = g.W.Write.contents c.args.writer.now.inner in
     let on =
-    subst (λ b. PrintsOn j u i.0 c.print_next.new.execution c.print_next.new.printer w0 (g.W.Write.contents c.print_next.new.writer.inner) b)
+    subst (λ b. PrintsOn j u i.0 c.print_next.new.execution c.print_next.new.printer w0
+    (g.W.Write.contents c.print_next.new.writer.inner) b)
     c.if-not-branch.true (c.in_ok-print_next.ensures.printed j u i.0 w0 c.requires.limit i.2) in
     (i.0, on.0, on.1)
 
@@ -34,7 +36,8 @@ loop-preserved g c =
       printed = λ u first.
           let i = c.loop.invariant.printed u first in
           let on =
-          subst (λ b. PrintsOn j u i.0 c.print_next.new.execution c.print_next.new.printer w0 (g.W.Write.contents c.print_next.new.writer.inner) b)
+          subst (λ b. PrintsOn j u i.0 c.print_next.new.execution c.print_next.new.printer w0
+          (g.W.Write.contents c.print_next.new.writer.inner) b)
           c.if-not-branch.false (c.in_ok-print_next.ensures.printed j u i.0 w0 c.requires.limit i.2) in
           let count = i.1 in
           let more = length_last i.0 on.0 in

@@ -12,6 +12,7 @@ invariant-loop g l =
     record {
       printed :
           (u : Choosing) → Executes l.job u [] l.fn.execution
-          → (es : List Event) × (length es ≡ l.counter) × IsPrinted l.job u es l.execution l.printer (contents l.fn.writer.inner) (contents l.writer.inner);
+          → (es : List Event) × (length es ≡ l.counter) × IsPrinted l.job u es l.execution l.printer
+          (contents l.fn.writer.inner) (contents l.writer.inner);
       kept : l.writer.failures.total ≡ l.fn.writer.failures.total;
     }

@@ -11,23 +11,27 @@ use Rattle.pf_sched.proofs.printing.print_next.Goals as goal
 pub returns-in_err-chosen-clause-fault : goal.returns-in_err-chosen-clause-fault
 returns-in_err-chosen-clause-fault g c =
     handed_on c.from_residual.result NoMemory _ c.from_residual.ensures
-    (λ j cs es w0 same printed. cut NoMemory j cs es c.args.execution.now c.args.printer.now w0 _ _ _ _ printed (refl, refl))
+    (λ j cs es w0 same printed. cut NoMemory j cs es c.args.execution.now c.args.printer.now w0 _ _ _ _
+    printed (refl, refl))
 
 pub returns-in_default-clause-printed : goal.returns-in_default-clause-printed
 returns-in_default-clause-printed g c j cs es w0 same printed =
     let old = c.args.execution.now in
     let last = printed.run.run.last in
     let none =
-    subst (λ o. MayHavePassed (c.args.limit - old.system.steps) last old o (label_of c.pass_next.new.shown) c.pass_next.new.self) c.in_default.is
+    subst (λ o. MayHavePassed (c.args.limit - old.system.steps) last old o (label_of c.pass_next.new.shown)
+    c.pass_next.new.self) c.in_default.is
     (c.in_ok-chosen.ensures last printed.run.run.stands) in (
-      subst (λ x. IsPrinted j cs es x c.args.printer.now w0 (g.W.Write.contents c.args.writer.now.inner)) (sym none.1) printed,
+      subst (λ x. IsPrinted j cs es x c.args.printer.now w0 (g.W.Write.contents c.args.writer.now.inner))
+          (sym none.1) printed,
       (last, subst (λ x. x.system.standing ≡ Some last) (sym none.1) printed.run.run.stands, inl none.0),
     )
 
 pub returns-in_err-tell-clause-fault : goal.returns-in_err-tell-clause-fault
 returns-in_err-tell-clause-fault g c =
     handed_on c.from_residual-in_err-tell.result NoMemory _ c.from_residual-in_err-tell.ensures
-    (λ j cs es w0 same printed. cut NoMemory j cs es c.args.execution.now c.args.printer.now w0 _ _ _ _ printed (refl, refl))
+    (λ j cs es w0 same printed. cut NoMemory j cs es c.args.execution.now c.args.printer.now w0 _ _ _ _
+    printed (refl, refl))
 
 pub returns-in_err-print_full-clause-fault : goal.returns-in_err-print_full-clause-fault
 returns-in_err-print_full-clause-fault g c =
@@ -39,13 +43,16 @@ returns-in_err-print_full-clause-fault g c =
     handed_on c.from_residual-in_err-print_full.result f _ c.from_residual-in_err-print_full.ensures
     (λ j cs es w0 same printed.
     let went =
-    subst (λ o. MayHavePassed (c.args.limit - old.system.steps) printed.run.run.last old o l c.pass_next.new.self) c.in-Some.is
+    subst (λ o. MayHavePassed (c.args.limit - old.system.steps) printed.run.run.last old o l c.pass_next.new.self)
+    c.in-Some.is
     (c.in_ok-chosen.ensures printed.run.run.last printed.run.run.stands) in
     let more =
-    told_next j cs es e old c.pass_next.new.self c.args.printer.now c.tell.new.self w0 _ c.args.limit same c.requires printed went
+    told_next j cs es e old c.pass_next.new.self c.args.printer.now c.tell.new.self w0 _ c.args.limit same
+    c.requires printed went
     (c.in_ok-tell.ensures.told j.asked es) c.in_ok-tell.ensures.gone in
     cut f j cs (es ++ e ∷ []) c.pass_next.new.self c.tell.new.self w0 _ _ _ _ more
-    (c.in_err-print_full.ensures.fault (atom_names_of j) (waiting_written j cs (es ++ e ∷ []) c.pass_next.new.self c.tell.new.self w0 _ more)))
+    (c.in_err-print_full.ensures.fault (atom_names_of j)
+    (waiting_written j cs (es ++ e ∷ []) c.pass_next.new.self c.tell.new.self w0 _ more)))
 
 pub returns-clause-printed : goal.returns-clause-printed
 returns-clause-printed g c j cs es w0 same printed =
@@ -54,12 +61,15 @@ returns-clause-printed g c j cs es w0 same printed =
     let l = label_of c.pass_next.new.shown in
     let e = event n.index n.among n.actor l in
     let went =
-    subst (λ o. MayHavePassed (c.args.limit - old.system.steps) printed.run.run.last old o l c.pass_next.new.self) c.in-Some.is
+    subst (λ o. MayHavePassed (c.args.limit - old.system.steps) printed.run.run.last old o l c.pass_next.new.self)
+    c.in-Some.is
     (c.in_ok-chosen.ensures printed.run.run.last printed.run.run.stands) in
     let more =
-    told_next j cs es e old c.pass_next.new.self c.args.printer.now c.tell.new.self w0 _ c.args.limit same c.requires printed went
+    told_next j cs es e old c.pass_next.new.self c.args.printer.now c.tell.new.self w0 _ c.args.limit same
+    c.requires printed went
     (c.in_ok-tell.ensures.told j.asked es) c.in_ok-tell.ensures.gone in (
       e,
       printed_out j cs (es ++ e ∷ []) c.pass_next.new.self c.tell.new.self c.print_full.new.self w0 _ _ more
-          (c.in_ok-print_full.ensures.out (atom_names_of j) (waiting_written j cs (es ++ e ∷ []) c.pass_next.new.self c.tell.new.self w0 _ more)),
+          (c.in_ok-print_full.ensures.out (atom_names_of j)
+          (waiting_written j cs (es ++ e ∷ []) c.pass_next.new.self c.tell.new.self w0 _ more)),
     )

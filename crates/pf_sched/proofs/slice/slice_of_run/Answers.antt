@@ -13,8 +13,10 @@ pub invariant_of-result : goal.invariant_of-result
 invariant_of-result c =
     let j = c.args.job.value in
     let made = c.go_on.new.self in
-    let advanced = subst (λ k. RunAdvances k c.deref_mut.result.now made c.args.turns c.in-Ok-false.field-0) c.deref.ensures c.in-Ok-false.ensures.run in
-    let went = (subst (λ k. RunAdvances j k made c.args.turns c.in-Ok-false.field-0) c.deref_mut.ensures.value advanced) (choices j.asked.choices) c.requires.1 in
+    let advanced = subst (λ k. RunAdvances k c.deref_mut.result.now made c.args.turns c.in-Ok-false.field-0)
+    c.deref.ensures c.in-Ok-false.ensures.run in
+    let went = (subst (λ k. RunAdvances j k made c.args.turns c.in-Ok-false.field-0) c.deref_mut.ensures.value advanced)
+    (choices j.asked.choices) c.requires.1 in
     (c.requires.0, went.0)
 
 pub returns-in-Ok-false : goal.returns-in-Ok-false
@@ -22,10 +24,13 @@ returns-in-Ok-false c =
     let j = c.args.job.value in
     let old = c.args.run.value in
     let made = c.go_on.new.self in
-    let advanced = subst (λ k. RunAdvances k c.deref_mut.result.now made c.args.turns c.in-Ok-false.field-0) c.deref.ensures c.in-Ok-false.ensures.run in
-    let went = (subst (λ k. RunAdvances j k made c.args.turns c.in-Ok-false.field-0) c.deref_mut.ensures.value advanced) (choices j.asked.choices) c.requires.1 in
+    let advanced = subst (λ k. RunAdvances k c.deref_mut.result.now made c.args.turns c.in-Ok-false.field-0)
+    c.deref.ensures c.in-Ok-false.ensures.run in
+    let went = (subst (λ k. RunAdvances j k made c.args.turns c.in-Ok-false.field-0) c.deref_mut.ensures.value advanced)
+    (choices j.asked.choices) c.requires.1 in
     let valid : IsValid j = subst IsValid c.deref.ensures c.in-Ok-false.ensures.valid in
-    let g = goes_on j valid (length (events_in old)) c.args.turns made c.requires.0 went.0 c.in-Ok-false.field-0 c.in-Ok-false.field-0-test went.1 in
+    let g = goes_on j valid (length (events_in old)) c.args.turns made c.requires.0 went.0 c.in-Ok-false.field-0
+    c.in-Ok-false.field-0-test went.1 in
     (ap (view_of_parked j) g.0, g.1)
 
 pub finish-requires-clause-run : goal.finish-requires-clause-run
@@ -33,8 +38,10 @@ finish-requires-clause-run c =
     let j = c.args.job.value in
     let old = c.args.run.value in
     let made = c.go_on.new.self in
-    let advanced = subst (λ k. RunAdvances k c.deref_mut.result.now made c.args.turns c.in-Ok-true.field-0) c.deref.ensures c.in-Ok-true.ensures.run in
-    let went = (subst (λ k. RunAdvances j k made c.args.turns c.in-Ok-true.field-0) c.deref_mut.ensures.value advanced) (choices j.asked.choices) c.requires.1 in
+    let advanced = subst (λ k. RunAdvances k c.deref_mut.result.now made c.args.turns c.in-Ok-true.field-0)
+    c.deref.ensures c.in-Ok-true.ensures.run in
+    let went = (subst (λ k. RunAdvances j k made c.args.turns c.in-Ok-true.field-0) c.deref_mut.ensures.value advanced)
+    (choices j.asked.choices) c.requires.1 in
     subst (IsRunOf j) (sym c.into_inner.ensures) (c.requires.0, went.0)
 
 pub finish-requires-clause-over : goal.finish-requires-clause-over
@@ -42,18 +49,28 @@ finish-requires-clause-over c =
     let j = c.args.job.value in
     let old = c.args.run.value in
     let made = c.go_on.new.self in
-    let advanced = subst (λ k. RunAdvances k c.deref_mut.result.now made c.args.turns c.in-Ok-true.field-0) c.deref.ensures c.in-Ok-true.ensures.run in
-    let went = (subst (λ k. RunAdvances j k made c.args.turns c.in-Ok-true.field-0) c.deref_mut.ensures.value advanced) (choices j.asked.choices) c.requires.1 in
+    let advanced = subst (λ k. RunAdvances k c.deref_mut.result.now made c.args.turns c.in-Ok-true.field-0)
+    c.deref.ensures c.in-Ok-true.ensures.run in
+    let went = (subst (λ k. RunAdvances j k made c.args.turns c.in-Ok-true.field-0) c.deref_mut.ensures.value advanced)
+    (choices j.asked.choices) c.requires.1 in
     subst (λ (k : Run). IsRunOver j.asked.limit k.execution) (sym c.into_inner.ensures)
-    (is_over j (length (events_in old)) (length (events_in made)) c.args.turns j.asked.limit made.execution refl c.in-Ok-true.field-0 c.in-Ok-true.field-0-test went.1).0
+    (is_over j (length (events_in old)) (length (events_in made)) c.args.turns j.asked.limit made.execution refl
+    c.in-Ok-true.field-0 c.in-Ok-true.field-0-test went.1).0
 
 pub returns-in-Ok-true : goal.returns-in-Ok-true
 returns-in-Ok-true c =
     let j = c.args.job.value in
     let old = c.args.run.value in
     let made = c.go_on.new.self in
-    let advanced = subst (λ k. RunAdvances k c.deref_mut.result.now made c.args.turns c.in-Ok-true.field-0) c.deref.ensures c.in-Ok-true.ensures.run in
-    let went = (subst (λ k. RunAdvances j k made c.args.turns c.in-Ok-true.field-0) c.deref_mut.ensures.value advanced) (choices j.asked.choices) c.requires.1 in
-    let end = is_over j (length (events_in old)) (length (events_in made)) c.args.turns j.asked.limit made.execution refl c.in-Ok-true.field-0 c.in-Ok-true.field-0-test went.1 in
-    let result = subst (λ (k : Run). EndsBy j (length (events_in k)) c.finish.result.result ⊎ (c.finish.result.result ≡ without_memory)) c.into_inner.ensures c.finish.ensures.result in
-    (c.finish.ensures.job, ends_sooner j (length (events_in made)) (length (events_in old) + c.args.turns) c.finish.result.result end.1 result)
+    let advanced = subst (λ k. RunAdvances k c.deref_mut.result.now made c.args.turns c.in-Ok-true.field-0)
+    c.deref.ensures c.in-Ok-true.ensures.run in
+    let went = (subst (λ k. RunAdvances j k made c.args.turns c.in-Ok-true.field-0) c.deref_mut.ensures.value advanced)
+    (choices j.asked.choices) c.requires.1 in
+    let end = is_over j (length (events_in old)) (length (events_in made)) c.args.turns j.asked.limit made.execution
+    refl c.in-Ok-true.field-0 c.in-Ok-true.field-0-test went.1 in
+    let result = subst (λ (k : Run). EndsBy j (length (events_in k)) c.finish.result.result
+    ⊎ (c.finish.result.result ≡ without_memory)) c.into_inner.ensures c.finish.ensures.result in (
+      c.finish.ensures.job,
+      ends_sooner j (length (events_in made)) (length (events_in old) + c.args.turns)
+          c.finish.result.result end.1 result,
+    )

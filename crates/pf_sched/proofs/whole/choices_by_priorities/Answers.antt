@@ -21,7 +21,19 @@ returns c =
     let all = c.in_ok-complete.ensures w c.in_ok-execution.ensures in
     let last = all.1.run.last in
     let o = outcome_of last in
-    let r : Report = record { events = all.0; outcome = o; steps = x.system.steps; verdict = verdict j.asked.property (labels_in all.0) o } in
+    let r : Report = record {
+      events = all.0;
+      outcome = o;
+      steps = x.system.steps;
+      verdict =
+          verdict j.asked.property (labels_in all.0) o;
+    } in
     let closes : ClosesRun j all.0 x.system r =
-    record { events = refl; outcome = λ d stands. ap outcome_of (one_stands x.system.standing last d all.1.run.stands stands); steps = refl; verdict = refl } in
+    record {
+      events = refl;
+      outcome = λ d stands.
+          ap outcome_of (one_stands x.system.standing last d all.1.run.stands stands);
+      steps = refl;
+      verdict = refl;
+    } in
     (r, means j w all.0 x all.1 all.3 r closes, all.2)

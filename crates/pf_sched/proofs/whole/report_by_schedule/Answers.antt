@@ -17,5 +17,6 @@ returns c =
     let cs = schedule c.args.schedule.now in
     IfOk-weaker _ _ _ (λ r told.
     with_choices j.asked cs (view_of_report r)
-    (means_for j (choices cs) c.in_ok-execution.execution (c.in_ok-execution.ensures (choices cs) c.in_ok-of_schedule.ensures) r told))
+    (means_for j (choices cs) c.in_ok-execution.execution
+    (c.in_ok-execution.ensures (choices cs) c.in_ok-of_schedule.ensures) r told))
     c.report_to_end.ensures

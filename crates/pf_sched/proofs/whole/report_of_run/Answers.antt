@@ -9,4 +9,5 @@ report_to_end-requires c = (choosing_of c.args.priorities c.args.job.now.asked, 
 pub returns : goal.returns
 returns c =
     let j = c.args.job.now in
-    IfOk-weaker _ _ _ (means_for j (choosing_of c.args.priorities j.asked) c.in_ok-execution.execution c.in_ok-execution.ensures) c.report_to_end.ensures
+    IfOk-weaker _ _ _ (means_for j (choosing_of c.args.priorities j.asked) c.in_ok-execution.execution
+    c.in_ok-execution.ensures) c.report_to_end.ensures

@@ -10,12 +10,14 @@ pub returns-in-WithoutLast-2-clause-passed : goal.returns-in-WithoutLast-2-claus
 returns-in-WithoutLast-2-clause-passed c =
     let some = rw c.in-WithoutLast-2.is at c.requires in
     rw c.in-WithoutLast-2.is
-    (after_only c.args.numbers.now c.halved_from.new.numbers c.halved_from.result (omega arith) c.halved_from.ensures.schedule c.halved_from.ensures.left)
+    (after_only c.args.numbers.now c.halved_from.new.numbers c.halved_from.result (omega arith)
+    c.halved_from.ensures.schedule c.halved_from.ensures.left)
 
 pub returns-then-at-last-clause-passed : goal.returns-then-at-last-clause-passed
 returns-then-at-last-clause-passed c =
     let k = rw c.in-Without.is at c.requires in
-    rw (c.in-Without.is, c.swap.ensures.after) (after_without c.in-Without.at _ c.args.numbers.now (omega arith) (omega arith))
+    rw (c.in-Without.is, c.swap.ensures.after)
+    (after_without c.in-Without.at _ c.args.numbers.now (omega arith) (omega arith))
 
 pub returns-else-at-last-clause-passed : goal.returns-else-at-last-clause-passed
 returns-else-at-last-clause-passed c =

@@ -9,4 +9,6 @@ use Rattle.pf_static_check.proofs.unlike.note_unlike_to.Given as goal
 -- the faults of those that are left are still to be found
 abbrev pub invariant-loop-other : goal.invariant-loop-other
 invariant-loop-other l = (b : NodeTable) →
-    earliest (earliest_kept l.first) (flat_map (unlike_fault (head_over b l.head)) (map (head_over b) (drop l.other-index l.others))) ≡ earliest (earliest_kept l.fn.first) (flat_map (unlike_fault (head_over b l.head)) (map (head_over b) l.others))
+    earliest (earliest_kept l.first) (flat_map (unlike_fault (head_over b l.head))
+    (map (head_over b) (drop l.other-index l.others))) ≡ earliest (earliest_kept l.fn.first)
+    (flat_map (unlike_fault (head_over b l.head)) (map (head_over b) l.others))

@@ -9,4 +9,5 @@ use Rattle.pf_stepper.proofs.calls.call_builtin.Goals as goal
 pub returns-in_ok-new-in-Some : goal.returns-in_ok-new-in-Some
 returns-in_ok-new-in-Some c =
     let d = called c.args.own c.args.builtin (values_of c.args.arguments.now) in
-    ap (λ a. Asks (act_of a)) c.in_ok-new-in-Some.ensures.ok ∙ asks_it d (act_of c.in-Some.act) (subst (λ o. option_map act_of o ≡ act_asked_by d) c.in-Some.is (c.in_ok-act.ensures c.args.own))
+    ap (λ a. Asks (act_of a)) c.in_ok-new-in-Some.ensures.ok ∙ asks_it d (act_of c.in-Some.act)
+    (subst (λ o. option_map act_of o ≡ act_asked_by d) c.in-Some.is (c.in_ok-act.ensures c.args.own))

@@ -10,7 +10,8 @@ returns-then-binds_anything c =
     let one : length c.args.clauses.now ≡ 1 = search rules in
     let free : length x.guard.alternatives.items ≡ 0 = search rules in
     let many : length x.parameters.items ≡ c.args.count = search rules in
-    let new : patterns_at c.args.code.now.tables x.parameters.items ≡ all_new (length x.parameters.items) = search rules in
+    let new : patterns_at c.args.code.now.tables x.parameters.items ≡ all_new (length x.parameters.items) =
+    search rules in
     record {
       only = x;
       whole = single c.args.clauses.now x one c.index-clauses-0.is;

@@ -11,6 +11,7 @@ returns-after-left c =
           let x : FitsSigned w64 w.in-Int-Int.x = search rules in
           let y : FitsSigned w64 w.in-Int-Int.y = search rules in
           let same = simp to_z-of_z at (w.on_integers.ensures (name_of c.args.code.now.atoms)) in
-          rw (w.focus-is, c.in-Operator.is, w.in-Int-Int.is-0, w.in-Int-Int.is-1) (rw same at w.outcome-focus.ensures, refl)
+          rw (w.focus-is, c.in-Operator.is, w.in-Int-Int.is-0, w.in-Int-Int.is-1)
+          (rw same at w.outcome-focus.ensures, refl)
       | in_default+in_ok-focus-in_default w ↦ rw (w.focus-is, c.in-Operator.is) (w.in_ok-focus-in_default.ensures, refl)
     ]

@@ -9,4 +9,5 @@ returns-in-Some-get c =
     let tokens = c.args.tokens.now in
     let read = c.in-Some-get.ensures.lookup in
     let token = c.in-Some-get.token.now in
-    inr (stands_there tokens c.in-Some.index token (slice_get_read tokens (length tokens) c.in-Some.index token refl (ltb-true c.in-Some.index (length tokens) (sym read.0)) read.1))
+    inr (stands_there tokens c.in-Some.index token (slice_get_read tokens (length tokens) c.in-Some.index token refl
+    (ltb-true c.in-Some.index (length tokens) (sym read.0)) read.1))

@@ -30,10 +30,12 @@ pub returns-in_ok-ending_reason-in-None : goal.returns-in_ok-ending_reason-in-No
 returns-in_ok-ending_reason-in-None c =
     let m = c.args.module.now.value in
     let vs = elements_of c.args.arguments.now in
-    let n : c.len.result ≡ count vs = c.len.ensures.value ∙ length_count c.in_ok-items.items.items ∙ ap count c.in_ok-items.ensures.items in
+    let n : c.len.result ≡ count vs = c.len.ensures.value ∙ length_count c.in_ok-items.items.items
+    ∙ ap count c.in_ok-items.ensures.items in
     let none : Option ℕ = None in
     let o : none ≡ home_function (module_of m) c.args.home.0 c.args.name.0 c.len.result =
     ap (option_map {T = FunctionId} (λ i. i.0)) (sym c.in-None.is) ∙ c.exported.ensures
     ∙ ap (λ z. home_function (module_of z) c.args.home.0 c.args.name.0 c.len.result) c.deref.ensures in
-    begins_ending m c.args.pid c.in_ok-ending_reason-in-None.field-0 _ (start_at (module_of m) c.args.home.0 c.args.name.0 vs c.len.result none n o)
+    begins_ending m c.args.pid c.in_ok-ending_reason-in-None.field-0 _
+    (start_at (module_of m) c.args.home.0 c.args.name.0 vs c.len.result none n o)
     c.in_ok-ending_reason-in-None.ensures

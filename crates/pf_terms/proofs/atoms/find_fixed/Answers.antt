@@ -9,4 +9,5 @@ returns-in_err-index-clause-absent c =
     rw c.from_residual.ensures none
 
 pub returns-clause-found : goal.returns-clause-found
-returns-clause-found c = named (λ n. n) c.args.name.now fixed_names c.in_ok-index.index (sym c.in_ok-index.was ∙ c.index_of.ensures)
+returns-clause-found c = named (λ n. n) c.args.name.now fixed_names c.in_ok-index.index
+    (sym c.in_ok-index.was ∙ c.index_of.ensures)

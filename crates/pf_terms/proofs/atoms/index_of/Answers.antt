@@ -11,5 +11,6 @@ returns c =
     let names = c.args.names.now in
     let text = c.args.name.now in
     let index : c.position.result ≡ position (λ s. bytes_eq text s.now) names =
-    position_from_yields_List (λ s. bytes_eq text s.now) _ _ _ c.position.ensures.ran (YieldsList-from_slice names cc) (λ x b q k. search (rules, tests)) in
+    position_from_yields_List (λ s. bytes_eq text s.now) _ _ _ c.position.ensures.ran (YieldsList-from_slice names cc)
+    (λ x b q k. search (rules, tests)) in
     index ∙ sym (position-map (λ s. s.now) (bytes_eq text) names)

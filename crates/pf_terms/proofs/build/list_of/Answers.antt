@@ -12,10 +12,12 @@ loop-item-init c = record { whole = before-none c.args.items.items; within = sea
 
 pub loop-item-preserved : goal.loop-item-preserved
 loop-item-preserved c =
-    let longer : elements_of c.in_ok-list.list ≡ more (value_of c.in-Some.item) (elements_of c.loop-item.list) = search rules in
+    let longer : elements_of c.in_ok-list.list ≡ more (value_of c.in-Some.item) (elements_of c.loop-item.list) =
+    search rules in
     let w = c.in_ok-list.ensures.within in
     record {
-      whole = rw longer (sym (before-push c.pop.new.self.items c.in-Some.item (elements_of c.loop-item.list)) ∙ rw (sym c.in-Some.ensures.items) c.loop-item.invariant.whole);
+      whole = rw longer (sym (before-push c.pop.new.self.items c.in-Some.item (elements_of c.loop-item.list))
+          ∙ rw (sym c.in-Some.ensures.items) c.loop-item.invariant.whole);
       within = rw longer w;
     }
 
@@ -28,6 +30,7 @@ returns-in_err-list-clause-too_large c =
           let refused : Err c.in_err-list.field-0.0 ≡ Err past_limits = ap (λ f. Err f) (sym p.2) ∙ sym p.1 ∙ e in
           c.in_err-list.ensures.too_large.0 refused
           (front_within c.pop.new.self.items (value_of c.in-Some.item) (elements_of c.loop-item.list) c.args.items.items
-          (sym (before-push c.pop.new.self.items c.in-Some.item (elements_of c.loop-item.list)) ∙ rw (sym c.in-Some.ensures.items) c.loop-item.invariant.whole) w),
+          (sym (before-push c.pop.new.self.items c.in-Some.item (elements_of c.loop-item.list))
+          ∙ rw (sym c.in-Some.ensures.items) c.loop-item.invariant.whole) w),
       λ n. absurd (n w),
     )

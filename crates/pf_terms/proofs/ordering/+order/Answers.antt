@@ -8,7 +8,8 @@ use Rattle.pf_terms.specs.declared.term.Term.{Term}
 use Rattle.pf_terms.proofs.ordering.+order.Goals as goal
 
 -- no elements come before some elements
-shorter_first : (name : ℕ → List ℕ) (xs ys : List Term) → length xs < 1 → 1 ≤ length ys → Less ≡ compare_all name (values_of xs) (values_of ys)
+shorter_first : (name : ℕ → List ℕ) (xs ys : List Term) → length xs < 1 → 1 ≤ length ys
+    → Less ≡ compare_all name (values_of xs) (values_of ys)
 shorter_first name [] [] h k = absurd (omega arith)
 shorter_first name [] (y ∷ ys) h k = refl
 shorter_first name (x ∷ xs) ys h k = absurd (omega arith)
@@ -19,10 +20,12 @@ order_items-returns-in-len1-up-b t c =
 
 pub order_elements-returns-in-Equal : goal.order_elements-returns-in-Equal
 order_elements-returns-in-Equal t c =
-    by_elements (name_of c.args.atoms.now) c.as_slice-xs.result.now c.as_slice-ys.result.now c.args.a.now c.args.b.now c.cmp.result c.order_items.result
+    by_elements (name_of c.args.atoms.now) c.as_slice-xs.result.now c.as_slice-ys.result.now c.args.a.now c.args.b.now
+    c.cmp.result c.order_items.result
     c.as_slice-xs.ensures c.as_slice-ys.ensures c.cmp.ensures c.in-Equal.is c.order_items.ensures
 
 pub order_elements-returns-in_default : goal.order_elements-returns-in_default
 order_elements-returns-in_default t c =
-    by_size (name_of c.args.atoms.now) c.as_slice-xs.result.now c.as_slice-ys.result.now c.args.a.now c.args.b.now c.cmp.result
+    by_size (name_of c.args.atoms.now) c.as_slice-xs.result.now c.as_slice-ys.result.now c.args.a.now
+    c.args.b.now c.cmp.result
     c.as_slice-xs.ensures c.as_slice-ys.ensures c.cmp.ensures c.in_default.not-Equal

@@ -20,6 +20,7 @@ decreases-order_elements l = 3 * nodes_in l.a.now + 2
 -- what is left compares as the whole does, and is no larger
 abbrev pub invariant-order_lists-loop-first : goal.invariant-order_lists-loop-first
 invariant-order_lists-loop-first l = record {
-  order_is : compare_all (name_of l.atoms) (elements_of l.a) (elements_of l.b) ≡ compare_all (name_of l.atoms) (elements_of l.fn.a) (elements_of l.fn.b);
+  order_is : compare_all (name_of l.atoms) (elements_of l.a) (elements_of l.b) ≡ compare_all (name_of l.atoms)
+      (elements_of l.fn.a) (elements_of l.fn.b);
   nodes_fall : nodes_in (elements_of l.a) ≤ nodes_in (elements_of l.fn.a);
 }

@@ -10,7 +10,8 @@ use Rattle.pf_termtext.proofs.name.atom_of.Goals as goal
 pub returns : goal.returns
 returns c = by c.find.result c.find.ensures.found c.find.ensures.absent
   where
-    by : (o : Option AtomId) → IfSome o (λ a. slice_get c.args.atoms.now a.0 ≡ Some c.args.name.now) → IfNone o (list_any (bytes_eq c.args.name.now) c.args.atoms.now ≡ false)
+    by : (o : Option AtomId) → IfSome o (λ a. slice_get c.args.atoms.now a.0 ≡ Some c.args.name.now)
+        → IfNone o (list_any (bytes_eq c.args.name.now) c.args.atoms.now ≡ false)
         → option_map (λ a. a.0) o ≡ atom_of c.args.atoms.now c.args.name.now
     by (Some a) found absent = sym (atom_at c.args.atoms.now c.args.name.now a.0 c.len-names.ensures.distinct found)
     by None found absent = sym (atom_absent c.args.atoms.now c.args.name.now absent)

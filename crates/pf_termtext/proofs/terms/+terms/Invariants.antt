@@ -23,7 +23,8 @@ decreases-put_tail l = 4 * nodes_in (elements_of l.tail.now) + 2
 -- what went out and what is left make the text of the whole, and what is left is no larger
 abbrev pub invariant-put_others-loop-first : goal.invariant-put_others-loop-first
 invariant-put_others-loop-first l = record {
-  text_is : l.out.items ++ rest_text (name_of l.atoms) (values_of l.rest) ≡ l.fn.out.items ++ rest_text (name_of l.atoms) (values_of l.fn.others);
+  text_is : l.out.items ++ rest_text (name_of l.atoms) (values_of l.rest) ≡ l.fn.out.items
+      ++ rest_text (name_of l.atoms) (values_of l.fn.others);
   nodes_fall : nodes_in (values_of l.rest) ≤ nodes_in (values_of l.fn.others);
 }
 
@@ -32,7 +33,8 @@ decreases-put_others-loop-first l = length l.rest
 
 abbrev pub invariant-put_tail-loop-first : goal.invariant-put_tail-loop-first
 invariant-put_tail-loop-first l = record {
-  text_is : l.out.items ++ rest_text (name_of l.atoms) (elements_of l.rest) ≡ l.fn.out.items ++ rest_text (name_of l.atoms) (elements_of l.fn.tail);
+  text_is : l.out.items ++ rest_text (name_of l.atoms) (elements_of l.rest) ≡ l.fn.out.items
+      ++ rest_text (name_of l.atoms) (elements_of l.fn.tail);
   nodes_fall : nodes_in (elements_of l.rest) ≤ nodes_in (elements_of l.fn.tail);
 }
 

@@ -8,7 +8,8 @@ use Rattle.pf_tests_jobs.proofs.sharing.take_and_give_up.Goals as goal
 held_then : (source : List ℕ) (k k' : Kept) → HeldOnceMore source k k' → 1 ≤ holders k' source
 held_then source k k' more =
     let same : bytes_eq source source ≡ true = (bytes_eq-Decides source source).1 refl in
-    let one : holders k' source ≡ holders k source + 1 = more source ∙ ap (λ (b : Bool). holders k source + (if b then 1 else 0)) same in
+    let one : holders k' source ≡ holders k source + 1 =
+    more source ∙ ap (λ (b : Bool). holders k source + (if b then 1 else 0)) same in
     omega arith
 
 pub give_up-requires : goal.give_up-requires

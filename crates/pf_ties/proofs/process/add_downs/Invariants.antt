@@ -6,4 +6,5 @@ use Rattle.pf_ties.proofs.process.add_downs.Given as goal
 
 abbrev pub invariant-loop-reference : goal.invariant-loop-reference
 invariant-loop-reference l =
-    map sent_of l.signals.items ≡ map sent_of l.fn.signals.items ++ map (λ w. (w.1, down w.0 (value_of l.reason))) (take l.reference-index l.watchers)
+    map sent_of l.signals.items ≡ map sent_of l.fn.signals.items ++ map (λ w. (w.1, down w.0 (value_of l.reason)))
+    (take l.reference-index l.watchers)

@@ -6,4 +6,5 @@ use Rattle.pf_ties.proofs.process.add_exits.Given as goal
 
 abbrev pub invariant-loop-link : goal.invariant-loop-link
 invariant-loop-link l =
-    map sent_of l.signals.items ≡ map sent_of l.fn.signals.items ++ map (λ p. (p, exit true (value_of l.reason))) (take l.link-index l.links)
+    map sent_of l.signals.items ≡ map sent_of l.fn.signals.items ++ map (λ p. (p, exit true (value_of l.reason)))
+    (take l.link-index l.links)

@@ -17,12 +17,16 @@ loop-token-preserved c =
     let step = drop-cons ts i x (omega arith) in
     let is = c.token-item.is in
     let e : drop i ts ≡ x ∷ next = cc in
-    let a = names_go (drop i ts) next x e (λ t. atom_name t.kind) _ _ _ c.in_ok-kind.ensures.atoms c.loop-token.invariant.atoms in
-    let v = names_go (drop i ts) next x e (λ t. variable_name t.kind) _ _ _ c.in_ok-kind.ensures.variables c.loop-token.invariant.variables in
-    let s = c.in_ok-kind.ensures.kind (flat_map (λ t. atom_name t.kind) (map placed_of next)) (flat_map (λ t. variable_name t.kind) (map placed_of next)) in
+    let a = names_go (drop i ts) next x e (λ t. atom_name t.kind) _ _ _ c.in_ok-kind.ensures.atoms
+    c.loop-token.invariant.atoms in
+    let v = names_go (drop i ts) next x e (λ t. variable_name t.kind) _ _ _ c.in_ok-kind.ensures.variables
+    c.loop-token.invariant.variables in
+    let s = c.in_ok-kind.ensures.kind (flat_map (λ t. atom_name t.kind) (map placed_of next))
+    (flat_map (λ t. variable_name t.kind) (map placed_of next)) in
     let at = c.in_ok-at.ensures.same in
     let t : CodeNumberedToken = record { kind = c.in_ok-kind.kind; at = c.in_ok-at.at } in
-    let same : numbered_token_of t ≡ numbered_token_in (atoms_after c.args.atoms.now (map placed_of ts)) (variables_of (map placed_of ts)) (placed_of x) =
+    let same : numbered_token_of t ≡ numbered_token_in (atoms_after c.args.atoms.now (map placed_of ts))
+    (variables_of (map placed_of ts)) (placed_of x) =
     numbered_as c.in_ok-kind.kind c.in_ok-at.at x _ _ _ _ s a v at in
     let pushed : c.push.new.self.items ≡ c.loop-token.found.items ++ t ∷ [] = search rules in
     record {

@@ -8,6 +8,7 @@ use Rattle.pf_tokens.proofs.scan.scan.Given as goal
 -- the tokens so far, and those of what is left, are those of all
 abbrev pub invariant-loop : goal.invariant-loop
 invariant-loop l = record {
-  given : scan (length l.source) 0 l.source ≡ with_front (map placed_of l.found.items) (scan (length l.source - l.counter) l.offset l.rest);
+  given : scan (length l.source) 0 l.source ≡ with_front (map placed_of l.found.items)
+      (scan (length l.source - l.counter) l.offset l.rest);
   at : l.offset + length l.rest ≡ length l.source;
 }

@@ -16,11 +16,13 @@ Outcome = Result (Vec Token Global) (OrNoMemory SourceRefusal)
 abbrev IsRead : List ℕ → Outcome → Type 0
 IsRead text r = Gives (λ found. map placed_of found.items) r (tokens text)
 
-has_tokens : (text : List ℕ) (r : Outcome) → IsRead text r → IfOk r (λ found. HasTokens text (map placed_of found.items))
+has_tokens : (text : List ℕ) (r : Outcome) → IsRead text r
+    → IfOk r (λ found. HasTokens text (map placed_of found.items))
 has_tokens text (Ok v) is = subst (Tells text) is (tokens_tell text)
 has_tokens text (Err e) is = tt
 
-in_order : (text : List ℕ) (r : Outcome) → IsRead text r → IfOk r (λ found. IsOrdered 0 (map placed_of found.items) (length text))
+in_order : (text : List ℕ) (r : Outcome) → IsRead text r
+    → IfOk r (λ found. IsOrdered 0 (map placed_of found.items) (length text))
 in_order text (Ok v) is = ordered text (map placed_of v.items) (has_tokens text (Ok v) is)
 in_order text (Err e) is = tt
 
@@ -29,14 +31,17 @@ has_fault text (Ok v) is = tt
 has_fault text (Err NoMemory) is = tt
 has_fault text (Err (Fault r)) is = subst (Tells text) is (tokens_tell text)
 
-gives : (text : List ℕ) (r : Outcome) (read : Read (List PlacedToken)) → tokens text ≡ read → IsRead text r → Gives (λ found. map placed_of found.items) r read
+gives : (text : List ℕ) (r : Outcome) (read : Read (List PlacedToken)) → tokens text ≡ read → IsRead text r
+    → Gives (λ found. map placed_of found.items) r read
 gives text r read same is = subst (Gives (λ found. map placed_of found.items) r) same is
 
 pub returns-clause-only : goal.returns-clause-only
-returns-clause-only c ts h = gives c.args.source.now c.read.result (Ok ts) (tokens_again c.args.source.now ts h) c.read.ensures
+returns-clause-only c ts h = gives c.args.source.now c.read.result (Ok ts)
+    (tokens_again c.args.source.now ts h) c.read.ensures
 
 pub returns-clause-only_fault : goal.returns-clause-only_fault
-returns-clause-only_fault c fault offset h = gives c.args.source.now c.read.result (Err (fault, offset)) (tokens_fail c.args.source.now fault offset h) c.read.ensures
+returns-clause-only_fault c fault offset h = gives c.args.source.now c.read.result (Err (fault, offset))
+    (tokens_fail c.args.source.now fault offset h) c.read.ensures
 
 pub returns-clause-found : goal.returns-clause-found
 returns-clause-found c = has_tokens c.args.source.now c.read.result c.read.ensures

@@ -11,4 +11,5 @@ joined b0 b1 b2 t w o s v h1 same h2 =
 
 pub returns : goal.returns
 returns c =
-    on_ok_weaker c.put_end.result (λ last written. joined _ _ _ _ _ _ _ _ c.in_ok-put.ensures.ok (c.as_bytes.ensures ∙ written) last) c.put_end.ensures
+    on_ok_weaker c.put_end.result (λ last written. joined _ _ _ _ _ _ _ _ c.in_ok-put.ensures.ok
+    (c.as_bytes.ensures ∙ written) last) c.put_end.ensures

@@ -1,4 +1,5 @@
-use Rattle.std.proofs.Common.{◌≡◌, ◌<◌, ◌+◌, ℕ, List, [], ◌∷◌, ◌++◌, length, map, take, drop, get_or, refl, sym, ap, ◌∙◌, append_assoc, subst}
+use Rattle.std.proofs.Common.{◌≡◌, ◌<◌, ◌+◌, ℕ, List, [], ◌∷◌, ◌++◌, length, map, take, drop, get_or, refl, sym, ap}
+use Rattle.std.proofs.Common.{◌∙◌, append_assoc, subst}
 use Rattle.std.proofs.lemmas.List.{map-append, map_more, take-append-drop}
 use Rattle.std.specs.Io.KnownBytes.{Appends}
 use Rattle.pf_errors.specs.declared.fault.OrNoMemory.TheVariants.{NoMemory}
@@ -13,15 +14,20 @@ use Rattle.pf_trace.proofs.Fronts.{handed_on, lines_of_both, stops_among}
 use Rattle.pf_trace.proofs.printing.print_events.Goals as goal
 
 -- the events after those that were put
-rest_of : (es : List code.Event) (i : ℕ) (told : List Event) → map view_of_event (take i es) ≡ told → map view_of_event es ≡ told ++ map view_of_event (drop i es)
+rest_of : (es : List code.Event) (i : ℕ) (told : List Event) → map view_of_event (take i es) ≡ told
+    → map view_of_event es ≡ told ++ map view_of_event (drop i es)
 rest_of es i told e =
-    ap (map view_of_event) (sym (take-append-drop i es)) ∙ map-append view_of_event (take i es) (drop i es) ∙ ap (λ (t : List Event). t ++ map view_of_event (drop i es)) e
+    ap (map view_of_event) (sym (take-append-drop i es)) ∙ map-append view_of_event (take i es) (drop i es)
+    ∙ ap (λ (t : List Event). t ++ map view_of_event (drop i es)) e
 
 -- one event more was put
-one_more : (es : List code.Event) (i : ℕ) (x : code.Event) (gone waiting now : List Event) → i < length es → x ≡ get_or es i x
-    → map view_of_event (take i es) ≡ gone ++ waiting → now ≡ waiting ++ view_of_event x ∷ [] → map view_of_event (take (i + 1) es) ≡ gone ++ now
+one_more : (es : List code.Event) (i : ℕ) (x : code.Event) (gone waiting now : List Event) → i < length es
+    → x ≡ get_or es i x
+    → map view_of_event (take i es) ≡ gone ++ waiting → now ≡ waiting ++ view_of_event x ∷ []
+    → map view_of_event (take (i + 1) es) ≡ gone ++ now
 one_more es i x gone waiting now h is so_far e =
-    map_more view_of_event es i x h ∙ ap (λ z. map view_of_event (take i es) ++ view_of_event z ∷ []) (sym is) ∙ ap (λ (t : List Event). t ++ view_of_event x ∷ []) so_far
+    map_more view_of_event es i x h ∙ ap (λ z. map view_of_event (take i es) ++ view_of_event z ∷ []) (sym is)
+    ∙ ap (λ (t : List Event). t ++ view_of_event x ∷ []) so_far
     ∙ append_assoc gone waiting (view_of_event x ∷ []) ∙ ap (λ (t : List Event). gone ++ t) (sym e)
 
 pub returns-in_err-add-clause-fault : goal.returns-in_err-add-clause-fault
@@ -46,10 +52,12 @@ returns-in_err-print_full-clause-fault g c =
     let now = told_so_far p.lines in
     let f = c.in_err-print_full.field-0.0 in
     let told =
-    one_more es l.event-index c.event-item.result gone (told_so_far l.pieces.lines) now c.loop-event-test.true c.event-item.is l.invariant.out.0
+    one_more es l.event-index c.event-item.result gone (told_so_far l.pieces.lines) now c.loop-event-test.true
+    c.event-item.is l.invariant.out.0
     c.in_ok-add.ensures.event in
     let leaves =
-    subst (λ n. LeavesFront f (lines_text name now) (g.W.Write.contents l.writer.inner) (g.W.Write.contents c.print_full.new.writer.inner) n c.print_full.new.writer.failures.total)
+    subst (λ n. LeavesFront f (lines_text name now) (g.W.Write.contents l.writer.inner)
+    (g.W.Write.contents c.print_full.new.writer.inner) n c.print_full.new.writer.failures.total)
     l.invariant.kept (c.in_err-print_full.ensures.fault name (c.in_ok-add.ensures.line l.invariant.out.1)) in
     handed_on c.from_residual-in_err-print_full.result f _ c.from_residual-in_err-print_full.ensures
     (λ r same.
@@ -64,7 +72,8 @@ loop-event-preserved g c =
     let gone = gone_from l.pieces in
     let now = told_so_far c.add.new.self.lines in
     let told =
-    one_more es l.event-index c.event-item.result gone (told_so_far l.pieces.lines) now c.loop-event-test.true c.event-item.is l.invariant.out.0
+    one_more es l.event-index c.event-item.result gone (told_so_far l.pieces.lines) now c.loop-event-test.true
+    c.event-item.is l.invariant.out.0
     c.in_ok-add.ensures.event in
     let out = c.in_ok-print_full.ensures.out name (c.in_ok-add.ensures.line l.invariant.out.1) in
     record {
@@ -72,7 +81,8 @@ loop-event-preserved g c =
         told ∙ ap (λ v. map (λ s. view_of_event s.value) v.items ++ now) (sym c.in_ok-add.ensures.gone) ∙ sym out.2,
         out.3,
         subst (Appends (g.W.Write.contents c.args.writer.now.inner) (g.W.Write.contents c.print_full.new.writer.inner))
-            (sym (lines_of_both name gone out.0) ∙ ap (lines_text name) (sym (out.1 ∙ ap (λ v. map (λ s. view_of_event s.value) v.items ++ out.0) c.in_ok-add.ensures.gone)))
+            (sym (lines_of_both name gone out.0) ∙ ap (lines_text name)
+            (sym (out.1 ∙ ap (λ v. map (λ s. view_of_event s.value) v.items ++ out.0) c.in_ok-add.ensures.gone)))
             (appends_both _ _ _ (lines_text name gone) (lines_text name out.0) l.invariant.out.2 out.4),
       );
       short = c.in_ok-print_full.ensures.short;

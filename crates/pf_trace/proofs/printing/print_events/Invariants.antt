@@ -10,7 +10,8 @@ abbrev pub invariant-loop-event : goal.invariant-loop-event
 invariant-loop-event g l =
     let contents = g.W.Write.contents in
     record {
-      out : HasGoneOut (name_of l.atoms) (map view_of_event (take l.event-index l.events)) l.pieces (contents l.fn.writer.inner) (contents l.writer.inner);
+      out : HasGoneOut (name_of l.atoms) (map view_of_event (take l.event-index l.events)) l.pieces
+          (contents l.fn.writer.inner) (contents l.writer.inner);
       short : IsShort l.pieces;
       kept : l.writer.failures.total ≡ l.fn.writer.failures.total;
     }

@@ -14,10 +14,12 @@ returns-clause-fault g c =
     let p = c.in_ok-pieces.pieces in
     IfErr-weaker c.print_end.result _ _
     (λ e leaves.
-    stops_at_end name e r (gone_from p) (told_so_far p.lines) _ _ _ _ _ (ap (map view_of_event) (sym c.deref.ensures.value) ∙ c.in_ok-pieces.ensures.out.0)
+    stops_at_end name e r (gone_from p) (told_so_far p.lines) _ _ _ _ _
+    (ap (map view_of_event) (sym c.deref.ensures.value) ∙ c.in_ok-pieces.ensures.out.0)
     c.in_ok-pieces.ensures.out.2
     (subst
-    (λ n. LeavesFront e (lines_text name (told_so_far p.lines) ++ report_end_text name r) (g.W.Write.contents c.print_events.new.writer.inner) (g.W.Write.contents c.print_end.new.writer.inner) n
+    (λ n. LeavesFront e (lines_text name (told_so_far p.lines) ++ report_end_text name r)
+    (g.W.Write.contents c.print_events.new.writer.inner) (g.W.Write.contents c.print_end.new.writer.inner) n
     c.print_end.new.writer.failures.total)
     c.in_ok-pieces.ensures.kept leaves))
     c.print_end.ensures.fault

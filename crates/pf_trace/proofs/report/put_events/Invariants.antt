@@ -9,4 +9,5 @@ use Rattle.pf_trace.proofs.report.put_events.Given as goal
 -- the lines so far have gone out
 abbrev pub invariant-loop-event : goal.invariant-loop-event
 invariant-loop-event l =
-    l.out.items ≡ l.fn.out.items ++ flat_map (λ e. line (event_text (name_of l.atoms) (view_of_event e))) (take l.event-index l.events)
+    l.out.items ≡ l.fn.out.items ++ flat_map (λ e. line (event_text (name_of l.atoms) (view_of_event e)))
+    (take l.event-index l.events)

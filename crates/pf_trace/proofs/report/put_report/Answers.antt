@@ -21,5 +21,7 @@ pub returns : goal.returns
 returns c =
     let name = name_of c.args.atoms.now in
     let events = flat_map-map (λ (e : Event). line (event_text name e)) view_of_event c.args.report.now.events.items in
-    on_ok_weaker c.put_last_lines.result (λ last. joined _ _ _ _ _ _ _ _ c.in_ok-put_events.ensures (ap (λ es. flat_map (λ (e : code.Event). line (event_text name (view_of_event e))) es) c.deref.ensures.value ∙ sym events) last)
+    on_ok_weaker c.put_last_lines.result (λ last. joined _ _ _ _ _ _ _ _ c.in_ok-put_events.ensures
+    (ap (λ es. flat_map (λ (e : code.Event). line (event_text name (view_of_event e))) es) c.deref.ensures.value
+    ∙ sym events) last)
     c.put_last_lines.ensures

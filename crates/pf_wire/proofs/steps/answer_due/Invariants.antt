@@ -9,7 +9,8 @@ abbrev pub invariant-loop-alloc : goal.invariant-loop-alloc
 invariant-loop-alloc g l =
     let contents = g.W.Write.contents in
     record {
-      so_far : ForRight (λ p. AtHand p l.is_over l.input l.fn.world l.first l.gathered.text.items l.rest l.world l.number
+      so_far : ForRight (λ p. AtHand p l.is_over l.input l.fn.world l.first l.gathered.text.items l.rest
+          l.world l.number
           (contents l.fn.writer.inner) (contents l.writer.inner));
       leads : LeadsTo l.is_over l.input l.rest l.first l.number;
       untold : l.ending ≡ l.fn.ending;

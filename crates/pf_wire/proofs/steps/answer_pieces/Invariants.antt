@@ -11,9 +11,11 @@ invariant-loop-is_over g l =
     let contents = g.W.Write.contents in
     let remaining = g.R.Read.remaining in
     record {
-      stands : Stands l.is_over l.input.bytes.items l.world l.number l.input.taken (remaining l.fn.reader.inner) (remaining l.reader.inner)
+      stands : Stands l.is_over l.input.bytes.items l.world l.number l.input.taken (remaining l.fn.reader.inner)
+          (remaining l.reader.inner)
           (contents l.fn.writer.inner) (contents l.writer.inner);
-      leads : ReadsUpTo l.is_over l.input.bytes.items l.number l.input.taken (remaining l.fn.reader.inner) (remaining l.reader.inner);
+      leads : ReadsUpTo l.is_over l.input.bytes.items l.number l.input.taken (remaining l.fn.reader.inner)
+          (remaining l.reader.inner);
       untold : l.ending.refused ≡ l.fn.ending.refused;
       unfinished : is_due l.is_over l.input.bytes.items ≡ false;
       reads : l.reader.failures.total ≡ l.fn.reader.failures.total;

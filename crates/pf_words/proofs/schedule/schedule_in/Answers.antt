@@ -21,13 +21,15 @@ loop-line-preserved c =
 
 pub returns-in-Some-found : goal.returns-in-Some-found
 returns-in-Some-found c =
-    let all = YieldsList-end (YieldsList-from_lines c.args.text.now cc) c.loop-line.yielded _ c.loop-line.yielded_by _ _ c.in-None.is c.next.ensures.steps in
+    let all = YieldsList-end (YieldsList-from_lines c.args.text.now cc) c.loop-line.yielded _ c.loop-line.yielded_by _ _
+    c.in-None.is c.next.ensures.steps in
     sym (ap (λ o. unwrap_or (option_map (λ s. s.now) o) (trim_end c.args.text.now)) c.in-Some-found.is)
     ∙ in_text c.args.text.now c.loop-line.found c.loop-line.yielded c.loop-line.invariant all.0
 
 pub returns-in-None-found : goal.returns-in-None-found
 returns-in-None-found c =
-    let all = YieldsList-end (YieldsList-from_lines c.args.text.now cc) c.loop-line.yielded _ c.loop-line.yielded_by _ _ c.in-None.is c.next.ensures.steps in
+    let all = YieldsList-end (YieldsList-from_lines c.args.text.now cc) c.loop-line.yielded _ c.loop-line.yielded_by _ _
+    c.in-None.is c.next.ensures.steps in
     c.trim_end.ensures.trim
     ∙ sym (ap (λ o. unwrap_or (option_map (λ s. s.now) o) (trim_end c.args.text.now)) c.in-None-found.is)
     ∙ in_text c.args.text.now c.loop-line.found c.loop-line.yielded c.loop-line.invariant all.0

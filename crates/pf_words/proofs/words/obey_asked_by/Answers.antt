@@ -7,4 +7,5 @@ pub returns-then-is_none : goal.returns-then-is_none
 returns-then-is_none g c = inr ((refl, refl), inl refl)
 
 pub returns : goal.returns
-returns g c = or_refused (view_of_command c.args.asked) (named_file c.args.asked.args) _ _ c.obey_asked.result c.obey_asked.ensures
+returns g c = or_refused (view_of_command c.args.asked) (named_file c.args.asked.args) _ _ c.obey_asked.result
+    c.obey_asked.ensures

@@ -5,7 +5,8 @@ use Rattle.pf_words.proofs.words.obey_by.Goals as goal
 
 pub returns-in-Asked : goal.returns-in-Asked
 returns-in-Asked g c =
-    asked_obeys_by (map (λ w. w.now) c.args.words.now) c.args.schedule.now _ _ (view_of_command c.in-Asked.asked) (named_file c.in-Asked.asked.args)
+    asked_obeys_by (map (λ w. w.now) c.args.words.now) c.args.schedule.now _ _ (view_of_command c.in-Asked.asked)
+    (named_file c.in-Asked.asked.args)
     c.obey_asked_by.result (sym (ap view_of_reading c.in-Asked.is) ∙ c.in_ok-asked.ensures) c.obey_asked_by.ensures
 
 pub returns-in-Text : goal.returns-in-Text

@@ -8,7 +8,8 @@ use Rattle.pf_words.proofs.words.obey_text.Goals as goal
 pub returns-then-branch : goal.returns-then-branch
 returns-then-branch g c =
     in_contents (map (λ w. w.now) c.args.words.now) c.args.contents.now _ _ c.obey_by.result
-    (ap (λ t. is_some (schedule_of t)) (sym c.schedule_in-schedule.ensures) ∙ sym c.in_ok-is_schedule.ensures ∙ c.if-branch.true) (rw c.schedule_in-schedule.ensures at c.obey_by.ensures)
+    (ap (λ t. is_some (schedule_of t)) (sym c.schedule_in-schedule.ensures) ∙ sym c.in_ok-is_schedule.ensures
+    ∙ c.if-branch.true) (rw c.schedule_in-schedule.ensures at c.obey_by.ensures)
 
 pub returns-in_ok-no_schedule : goal.returns-in_ok-no_schedule
 returns-in_ok-no_schedule g c = inr ((refl, refl), inl c.in_ok-no_schedule.ensures)

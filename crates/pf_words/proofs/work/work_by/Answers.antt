@@ -10,10 +10,15 @@ returns-then-is_suite g c =
 
 pub returns-in-Some : goal.returns-in-Some
 returns-in-Some g c =
-    with_file (view_of_args c.args.asked.now.args) _ _ c.work_on_file.result (named_file c.args.asked.now.args) c.in-Some.name.now
+    with_file (view_of_args c.args.asked.now.args) _ _ c.work_on_file.result (named_file c.args.asked.now.args)
+    c.in-Some.name.now
     (sym c.file.ensures ∙ ap (option_map (λ s. s.now)) c.in-Some.is) (c.work_on_file.ensures _ _)
 
 pub returns-in-None : goal.returns-in-None
 returns-in-None g c =
     without_file (view_of_args c.args.asked.now.args) _ _ c.end-in-None.result (named_file c.args.asked.now.args)
-    (sym c.file.ensures ∙ ap (option_map (λ s. s.now)) c.in-None.is) (c.answer-answered.result, c.answer-answered.ensures, c.end-in-None.ensures)
+    (sym c.file.ensures ∙ ap (option_map (λ s. s.now)) c.in-None.is) (
+      c.answer-answered.result,
+      c.answer-answered.ensures,
+      c.end-in-None.ensures,
+    )

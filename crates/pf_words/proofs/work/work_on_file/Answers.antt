@@ -4,7 +4,8 @@ use Rattle.pf_words.proofs.work.work_on_file.Goals as goal
 
 pub returns-in-Ok : goal.returns-in-Ok
 returns-in-Ok g c unread failed =
-    from_file (view_of_args c.args.asked.now.args) unread _ c.answer_file-answered.ensures.0 _ _ failed c.answer_file-answered.ensures.1 0 _ _ c.end.result c.answer_file-answered.result
+    from_file (view_of_args c.args.asked.now.args) unread _ c.answer_file-answered.ensures.0 _ _ failed
+    c.answer_file-answered.ensures.1 0 _ _ c.end.result c.answer_file-answered.result
     c.answer_file-answered.ensures.2 c.end.ensures
 
 pub returns-in-Err : goal.returns-in-Err

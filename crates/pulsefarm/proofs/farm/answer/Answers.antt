@@ -10,7 +10,9 @@ returns-in_err-told-in-Err-Fault-Read g c =
     let len = c.deref.ensures.len in
     let ok = c.in-Some.files.ok in
     λ given h.
-    ended_by _ _ _ _ _ _ c.run_by-answered.result c.in-Err-Fault-Read.field-0 (length-map c.in-Some.files.items _ ∙ omega (arith, files, len, ok)) c.in-Err-Fault-Read.is c.run_by-answered.ensures given
+    ended_by _ _ _ _ _ _ c.run_by-answered.result c.in-Err-Fault-Read.field-0
+    (length-map c.in-Some.files.items _ ∙ omega (arith, files, len, ok)) c.in-Err-Fault-Read.is
+    c.run_by-answered.ensures given
     (of_fault _ given c.from_residual-in_err-told-in-Err-Fault-Read.ensures.0 h)
 
 pub returns-in-Err : goal.returns-in-Err
@@ -19,4 +21,6 @@ returns-in-Err g c =
     let len = c.deref.ensures.len in
     let ok = c.in-Some.files.ok in
     λ given fails.
-    ended_by _ _ _ _ _ _ c.run_by-answered.result c.in-Err.stop (length-map c.in-Some.files.items _ ∙ omega (arith, files, len, ok)) c.in-Err.is c.run_by-answered.ensures given fails
+    ended_by _ _ _ _ _ _ c.run_by-answered.result c.in-Err.stop
+    (length-map c.in-Some.files.items _ ∙ omega (arith, files, len, ok)) c.in-Err.is
+    c.run_by-answered.ensures given fails

@@ -35,7 +35,9 @@ let_pass-requires c =
     let d = c.index_mut.result.now in
     let d' = c.call-reply.new.self in
     let at = desk_at_index q es es c.in-Some.index d (sym c.in-Some.ensures.index) c.index_mut.ensures.value refl in
-    subst (QueuesAll c.call-reply.new.queue) (sym (at.put d')) (queues_put q c.self.inside.queue c.call-reply.new.queue es d d' at.here c.self.invariant.1 c.call-reply.ensures.queue)
+    subst (QueuesAll c.call-reply.new.queue) (sym (at.put d'))
+    (queues_put q c.self.inside.queue c.call-reply.new.queue es d d' at.here c.self.invariant.1
+    c.call-reply.ensures.queue)
 
 pub invariant_of-self : goal.invariant_of-self
 invariant_of-self c =
@@ -44,7 +46,9 @@ invariant_of-self c =
     let d = c.index_mut.result.now in
     let d' = c.call-reply.new.self in
     let at = desk_at_index q es es c.in-Some.index d (sym c.in-Some.ensures.index) c.index_mut.ensures.value refl in (
-      subst (CountsAll c.call-reply.new.store) (sym (at.put d')) (counts_put c.self.inside.store c.call-reply.new.store q es d d' at.here c.self.invariant.0 c.call-reply.ensures.store),
+      subst (CountsAll c.call-reply.new.store) (sym (at.put d'))
+          (counts_put c.self.inside.store c.call-reply.new.store q es d d' at.here c.self.invariant.0
+          c.call-reply.ensures.store),
       c.let_pass.ensures.queue,
     )
 
@@ -55,8 +59,12 @@ invariant_of-self-else-drops c =
     let d = c.index_mut.result.now in
     let d' = c.call-reply.new.self in
     let at = desk_at_index q es es c.in-Some.index d (sym c.in-Some.ensures.index) c.index_mut.ensures.value refl in (
-      subst (CountsAll c.call-reply.new.store) (sym (at.put d')) (counts_put c.self.inside.store c.call-reply.new.store q es d d' at.here c.self.invariant.0 c.call-reply.ensures.store),
-      subst (QueuesAll c.call-reply.new.queue) (sym (at.put d')) (queues_put q c.self.inside.queue c.call-reply.new.queue es d d' at.here c.self.invariant.1 c.call-reply.ensures.queue),
+      subst (CountsAll c.call-reply.new.store) (sym (at.put d'))
+          (counts_put c.self.inside.store c.call-reply.new.store q es d d' at.here c.self.invariant.0
+          c.call-reply.ensures.store),
+      subst (QueuesAll c.call-reply.new.queue) (sym (at.put d'))
+          (queues_put q c.self.inside.queue c.call-reply.new.queue es d d' at.here c.self.invariant.1
+          c.call-reply.ensures.queue),
     )
 
 pub returns-then-drops-clause-answer : goal.returns-then-drops-clause-answer
@@ -64,23 +72,28 @@ returns-then-drops-clause-answer c =
     let q = c.args.project in
     let d = c.index_mut.result.now in
     let d' = c.call-reply.new.self in
-    let at = desk_at_index q c.self.inside.desks.entries c.args.self.now c.in-Some.index d (sym c.in-Some.ensures.index) c.index_mut.ensures.value c.self.view_is in
-    answers_all q c.args.self.now (view_of_call c.args.call) d d' at.here _ (at.put d') at.same c.call-reply.result c.call-reply.ensures.answer
+    let at = desk_at_index q c.self.inside.desks.entries c.args.self.now c.in-Some.index d (sym c.in-Some.ensures.index)
+    c.index_mut.ensures.value c.self.view_is in
+    answers_all q c.args.self.now (view_of_call c.args.call) d d' at.here _ (at.put d') at.same c.call-reply.result
+    c.call-reply.ensures.answer
 
 pub returns-else-drops-clause-answer : goal.returns-else-drops-clause-answer
 returns-else-drops-clause-answer c =
     let q = c.args.project in
     let d = c.index_mut.result.now in
     let d' = c.call-reply.new.self in
-    let at = desk_at_index q c.self.inside.desks.entries c.args.self.now c.in-Some.index d (sym c.in-Some.ensures.index) c.index_mut.ensures.value c.self.view_is in
-    answers_all q c.args.self.now (view_of_call c.args.call) d d' at.here _ (at.put d') at.same c.call-reply.result c.call-reply.ensures.answer
+    let at = desk_at_index q c.self.inside.desks.entries c.args.self.now c.in-Some.index d (sym c.in-Some.ensures.index)
+    c.index_mut.ensures.value c.self.view_is in
+    answers_all q c.args.self.now (view_of_call c.args.call) d d' at.here _ (at.put d') at.same c.call-reply.result
+    c.call-reply.ensures.answer
 
 pub returns-then-drops-clause-tickets : goal.returns-then-drops-clause-tickets
 returns-then-drops-clause-tickets c =
     let q = c.args.project in
     let d = c.index_mut.result.now in
     let d' = c.call-reply.new.self in
-    let at = desk_at_index q c.self.inside.desks.entries c.args.self.now c.in-Some.index d (sym c.in-Some.ensures.index) c.index_mut.ensures.value c.self.view_is in
+    let at = desk_at_index q c.self.inside.desks.entries c.args.self.now c.in-Some.index d (sym c.in-Some.ensures.index)
+    c.index_mut.ensures.value c.self.view_is in
     put_tickets q c.args.self.now _ d d' at.here (at.put d') c.call-reply.ensures.tickets
 
 pub returns-else-drops-clause-tickets : goal.returns-else-drops-clause-tickets
@@ -88,7 +101,8 @@ returns-else-drops-clause-tickets c =
     let q = c.args.project in
     let d = c.index_mut.result.now in
     let d' = c.call-reply.new.self in
-    let at = desk_at_index q c.self.inside.desks.entries c.args.self.now c.in-Some.index d (sym c.in-Some.ensures.index) c.index_mut.ensures.value c.self.view_is in
+    let at = desk_at_index q c.self.inside.desks.entries c.args.self.now c.in-Some.index d (sym c.in-Some.ensures.index)
+    c.index_mut.ensures.value c.self.view_is in
     put_tickets q c.args.self.now _ d d' at.here (at.put d') c.call-reply.ensures.tickets
 
 -- ---- it has none yet
@@ -133,9 +147,11 @@ invariant_of-self-2 c =
     ∙ put_insert q es d' in
     let here : desk_at q es ≡ c.new-desk.result = no_desk_at q es es none refl ∙ sym c.new-desk.ensures in (
       subst (λ (w : Desks). CountsAll c.call-2.new.store w) (sym put)
-          (counts_put c.self.inside.store c.call-2.new.store q es c.new-desk.result d' here c.self.invariant.0 c.call-2.ensures.store),
+          (counts_put c.self.inside.store c.call-2.new.store q es c.new-desk.result d' here c.self.invariant.0
+          c.call-2.ensures.store),
       subst (λ (w : Desks). QueuesAll c.call-2.new.queue w) (sym put)
-          (queues_put q c.self.inside.queue c.call-2.new.queue es c.new-desk.result d' here c.self.invariant.1 c.call-2.ensures.queue),
+          (queues_put q c.self.inside.queue c.call-2.new.queue es c.new-desk.result d' here c.self.invariant.1
+          c.call-2.ensures.queue),
     )
 
 pub returns-clause-answer : goal.returns-clause-answer
@@ -153,7 +169,8 @@ returns-clause-answer c =
     ∙ put_insert q es d'
     ∙ ap (put_desk q d') seen in
     let made : DeskAnswers no_desk (view_of_call c.args.call) (Ok reply) d' =
-    subst (λ (k : Desk). DeskAnswers k (view_of_call c.args.call) (Ok reply) d') c.new-desk.ensures c.in_ok-reply.ensures.answer in
+    subst (λ (k : Desk). DeskAnswers k (view_of_call c.args.call) (Ok reply) d') c.new-desk.ensures
+    c.in_ok-reply.ensures.answer in
     answers q c.args.self.now (view_of_call c.args.call) no_desk d' here _ put reply made
 
 pub invariant_of-self-in_err-reply : goal.invariant_of-self-in_err-reply
@@ -170,7 +187,8 @@ invariant_of-self-in_err-reply c =
     λ source. omega (arith, c.self.invariant.0 source, c.call-2.ensures.store source, ap (modules_of source) stays) in (
       subst (λ (w : Desks). CountsAll c.call-2.new.store w) (sym entries) counts,
       subst (λ (w : Desks). QueuesAll c.call-2.new.queue w) (sym entries)
-          (queues_kept q c.self.inside.queue c.call-2.new.queue es d d' here stays c.self.invariant.1 c.call-2.ensures.queue),
+          (queues_kept q c.self.inside.queue c.call-2.new.queue es d d' here stays c.self.invariant.1
+          c.call-2.ensures.queue),
     )
 
 pub returns-clause-tickets : goal.returns-clause-tickets
@@ -184,5 +202,6 @@ returns-clause-tickets c =
     ∙ ap (λ (w : Desks). insert_entry nat_eq w q d') (c.reserve.ensures.entries)
     ∙ put_insert q es d'
     ∙ ap (put_desk q d') c.self.view_is in
-    let here : desk_at q c.args.self.now ≡ c.new-desk.result = no_desk_at q es c.args.self.now none c.self.view_is ∙ sym c.new-desk.ensures in
+    let here : desk_at q c.args.self.now ≡ c.new-desk.result = no_desk_at q es c.args.self.now none c.self.view_is
+    ∙ sym c.new-desk.ensures in
     put_tickets q c.args.self.now _ c.new-desk.result d' here put c.call-2.ensures.tickets

@@ -16,6 +16,7 @@ pub invariant_of-self-then-is_some : goal.invariant_of-self-then-is_some
 invariant_of-self-then-is_some c =
     let s = c.self.inside in
     let w' = c.claim_in.new.desks.entries in (
-      counts_claimed s.store c.args.project c.args.ticket s.desks.entries w' c.in_ok-claimed.claimed c.in_ok-claimed.ensures c.self.invariant.0,
+      counts_claimed s.store c.args.project c.args.ticket s.desks.entries w' c.in_ok-claimed.claimed
+          c.in_ok-claimed.ensures c.self.invariant.0,
       c.let_pass.ensures.queue,
     )

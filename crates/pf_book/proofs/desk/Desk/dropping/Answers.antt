@@ -16,9 +16,11 @@ refund-requires c =
     let d = c.args.self.now in
     let t = c.in-Some.trial.now in
     let found : held_at d.trials c.args.ticket ≡ Some t = search rules in
-    let covers : Covers (charged (usage_in d) charge.Call) (held.Trial (steps_of_trial t.job.asked.limit t.job.asked.runs)) = trial_covers d c.args.ticket t found in
+    let covers : Covers (charged (usage_in d) charge.Call)
+    (held.Trial (steps_of_trial t.job.asked.limit t.job.asked.runs)) = trial_covers d c.args.ticket t found in
     let here : Covers c.args.usage (held.Trial (steps_of_trial t.job.asked.limit t.job.asked.runs)) =
-    subst (λ (u : Usage). Covers u (held.Trial (steps_of_trial t.job.asked.limit t.job.asked.runs))) (sym c.requires.charged) covers in
+    subst (λ (u : Usage). Covers u (held.Trial (steps_of_trial t.job.asked.limit t.job.asked.runs)))
+    (sym c.requires.charged) covers in
     subst (λ (h : Holding). Covers c.args.usage h) (sym c.held.ensures) here
 
 pub returns-clause-plan : goal.returns-clause-plan

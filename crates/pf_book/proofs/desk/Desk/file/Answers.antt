@@ -17,7 +17,8 @@ use Rattle.pf_desks.specs.declared.mark.FileMark.{FileMark}
 
 pub file-requires : goal.file-requires
 file-requires c =
-    same_job_at c.deref.result.now c.self.inside.trials.items c.args.ticket c.deref-2.result.now c.args.finished.job c.deref.ensures.value (c.deref-2.ensures ∙ c.job.ensures) c.if-not-runs_job.ensures.1
+    same_job_at c.deref.result.now c.self.inside.trials.items c.args.ticket c.deref-2.result.now c.args.finished.job
+    c.deref.ensures.value (c.deref-2.ensures ∙ c.job.ensures) c.if-not-runs_job.ensures.1
 
 pub overflow_sub-self : goal.overflow_sub-self
 overflow_sub-self c =
@@ -42,20 +43,39 @@ invariant_of-self c =
     let m = c.mark_of-mark.result in
     let runs : is_running (held_at d.trials t) ≡ true = search rules in
     let own : JobAt d.trials t f.job =
-    same_job_at c.deref.result.now d.trials c.args.ticket c.deref-2.result.now c.args.finished.job c.deref.ensures.value (c.deref-2.ensures ∙ c.job.ensures) c.if-not-runs_job.ensures.1 in
+    same_job_at c.deref.result.now d.trials c.args.ticket c.deref-2.result.now c.args.finished.job c.deref.ensures.value
+    (c.deref-2.ensures ∙ c.job.ensures) c.if-not-runs_job.ensures.1 in
     let ran : b.running ≡ running_among d.trials = c.self.invariant.running in
     let some : 1 ≤ b.running = omega (arith, ran, some_run d.trials t runs) in
-    let b' : Inside = record { edition = b.edition; modules = b.modules; trials = c.file.new.trials; history = c.push_reserved.new.self; users = b.users; usage = b.usage; running = b.running - 1 } in
+    let b' : Inside = record {
+      edition = b.edition;
+      modules = b.modules;
+      trials = c.file.new.trials;
+      history =
+          c.push_reserved.new.self;
+      users = b.users;
+      usage = b.usage;
+      running = b.running - 1;
+    } in
     let history : map view_of_entry c.push_reserved.new.self.items ≡ d.history ++ filed t (mark_of f.result) ∷ [] =
     ap (map view_of_entry) c.push_reserved.ensures.items ∙ map_push view_of_entry b.history.items (Filed t m)
     ∙ ap (λ (k : FileMark). d.history ++ filed t k ∷ []) c.mark_of-mark.ensures.mark in
-    let is : desk_in b' ≡ with_result d t f.result = λ i. record { edition = d.edition; modules = d.modules; trials = c.file.ensures i; history = history i } in
+    let is : desk_in b' ≡ with_result d t f.result = λ i. record {
+      edition = d.edition;
+      modules = d.modules;
+      trials =
+          c.file.ensures i;
+      history = history i;
+    } in
     let as_many : b.running - 1 + 1 ≡ b.running + 0 = omega (arith, some) in
-    worked_valid b b' t running (done f.result) (filed t (mark_of f.result)) (running_at (held_at d.trials t) runs) (of_file t (mark_of f.result)) refl refl c.file.ensures history refl refl
+    worked_valid b b' t running (done f.result) (filed t (mark_of f.result)) (running_at (held_at d.trials t) runs)
+    (of_file t (mark_of f.result)) refl refl c.file.ensures history refl refl
     as_many
     (omega (arith, c.self.invariant.room, some, c.push_reserved.ensures.len, c.push_reserved.ensures.capacity))
     (λ p right. legal_work p d (desk_in b') (file t (mark_of f.result))
-    (file_is d (desk_in b') t p (mark_of f.result) f.result f.job runs own (ap (λ (k : FileMark). result_marked p k f.job) (sym c.mark_of-mark.ensures.mark) ∙ c.mark_of-mark.ensures.puts p right) is)
+    (file_is d (desk_in b') t p (mark_of f.result) f.result f.job runs own
+    (ap (λ (k : FileMark). result_marked p k f.job) (sym c.mark_of-mark.ensures.mark)
+    ∙ c.mark_of-mark.ensures.puts p right) is)
     (c.self.invariant.legal p right))
     c.self.invariant
 
@@ -68,19 +88,38 @@ returns-clause-file c =
     let m = c.mark_of-mark.result in
     let runs : is_running (held_at d.trials t) ≡ true = search rules in
     let own : JobAt d.trials t f.job =
-    same_job_at c.deref.result.now d.trials c.args.ticket c.deref-2.result.now c.args.finished.job c.deref.ensures.value (c.deref-2.ensures ∙ c.job.ensures) c.if-not-runs_job.ensures.1 in
+    same_job_at c.deref.result.now d.trials c.args.ticket c.deref-2.result.now c.args.finished.job c.deref.ensures.value
+    (c.deref-2.ensures ∙ c.job.ensures) c.if-not-runs_job.ensures.1 in
     let history : map view_of_entry c.push_reserved.new.self.items ≡ d.history ++ filed t (mark_of f.result) ∷ [] =
     ap (map view_of_entry) c.push_reserved.ensures.items ∙ map_push view_of_entry b.history.items (Filed t m)
     ∙ ap (λ (k : FileMark). d.history ++ filed t k ∷ []) c.mark_of-mark.ensures.mark in
-    let d' : Desk = record { edition = d.edition; modules = d.modules; trials = c.file.new.trials.items; history = map view_of_entry c.push_reserved.new.self.items } in
-    let is : d' ≡ with_result d t f.result = λ i. record { edition = d.edition; modules = d.modules; trials = c.file.ensures i; history = history i } in
-    let done_so : DeskFiles d t f true d' =
-    (runs, is, λ p right. file_is d d' t p (mark_of f.result) f.result f.job runs own (ap (λ (k : FileMark). result_marked p k f.job) (sym c.mark_of-mark.ensures.mark) ∙ c.mark_of-mark.ensures.puts p right) is) in
+    let d' : Desk = record {
+      edition = d.edition;
+      modules = d.modules;
+      trials = c.file.new.trials.items;
+      history =
+          map view_of_entry c.push_reserved.new.self.items;
+    } in
+    let is : d' ≡ with_result d t f.result = λ i. record {
+      edition = d.edition;
+      modules = d.modules;
+      trials =
+          c.file.ensures i;
+      history = history i;
+    } in
+    let done_so : DeskFiles d t f true d' = (
+      runs,
+      is,
+      λ p right. file_is d d' t p (mark_of f.result) f.result f.job runs own
+          (ap (λ (k : FileMark). result_marked p k f.job) (sym c.mark_of-mark.ensures.mark)
+          ∙ c.mark_of-mark.ensures.puts p right) is,
+    ) in
     subst (λ (k : Desk). DeskFiles k t f true d') c.self.view_is done_so
 
 pub returns-clause-own : goal.returns-clause-own
 returns-clause-own c =
     let d = desk_in c.self.inside in
     let own : JobAt d.trials c.args.ticket c.args.finished.job =
-    same_job_at c.deref.result.now d.trials c.args.ticket c.deref-2.result.now c.args.finished.job c.deref.ensures.value (c.deref-2.ensures ∙ c.job.ensures) c.if-not-runs_job.ensures.1 in
+    same_job_at c.deref.result.now d.trials c.args.ticket c.deref-2.result.now c.args.finished.job c.deref.ensures.value
+    (c.deref-2.ensures ∙ c.job.ensures) c.if-not-runs_job.ensures.1 in
     subst (λ (k : Desk). JobAt k.trials c.args.ticket c.args.finished.job) c.self.view_is own

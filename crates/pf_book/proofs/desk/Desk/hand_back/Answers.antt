@@ -41,15 +41,32 @@ invariant_of-self c =
     let runs : is_running (held_at d.trials t) ≡ true = search rules in
     let ran : b.running ≡ running_among d.trials = c.self.invariant.running in
     let some : 1 ≤ b.running = omega (arith, ran, some_run d.trials t runs) in
-    let b' : Inside = record { edition = b.edition; modules = b.modules; trials = c.set_running.new.trials; history = c.push_reserved.new.self; users = b.users; usage = b.usage; running = b.running - 1 } in
+    let b' : Inside = record {
+      edition = b.edition;
+      modules = b.modules;
+      trials = c.set_running.new.trials;
+      history =
+          c.push_reserved.new.self;
+      users = b.users;
+      usage = b.usage;
+      running = b.running - 1;
+    } in
     let history : map view_of_entry c.push_reserved.new.self.items ≡ d.history ++ handed_back t ∷ [] =
     ap (map view_of_entry) c.push_reserved.ensures.items ∙ map_push view_of_entry b.history.items (HandedBack t) in
-    let is : desk_in b' ≡ after_hand_back d t = λ i. record { edition = d.edition; modules = d.modules; trials = c.set_running.ensures i; history = history i } in
+    let is : desk_in b' ≡ after_hand_back d t = λ i. record {
+      edition = d.edition;
+      modules = d.modules;
+      trials =
+          c.set_running.ensures i;
+      history = history i;
+    } in
     let as_many : b.running - 1 + 1 ≡ b.running + 0 = omega (arith, some) in
-    worked_valid b b' t running queued (handed_back t) (running_at (held_at d.trials t) runs) (of_back t) refl refl c.set_running.ensures history refl refl
+    worked_valid b b' t running queued (handed_back t) (running_at (held_at d.trials t) runs) (of_back t) refl refl
+    c.set_running.ensures history refl refl
     as_many
     (omega (arith, c.self.invariant.room, some, c.push_reserved.ensures.len, c.push_reserved.ensures.capacity))
-    (λ p right. legal_work p d (desk_in b') (hand_back t) (back_is d (desk_in b') t runs is) (c.self.invariant.legal p right))
+    (λ p right. legal_work p d (desk_in b') (hand_back t) (back_is d (desk_in b') t runs is)
+    (c.self.invariant.legal p right))
     c.self.invariant
 
 pub returns-clause-back : goal.returns-clause-back
@@ -60,6 +77,17 @@ returns-clause-back c =
     let runs : is_running (held_at d.trials t) ≡ true = search rules in
     let history : map view_of_entry c.push_reserved.new.self.items ≡ d.history ++ handed_back t ∷ [] =
     ap (map view_of_entry) c.push_reserved.ensures.items ∙ map_push view_of_entry b.history.items (HandedBack t) in
-    let d' : Desk = record { edition = d.edition; modules = d.modules; trials = c.set_running.new.trials.items; history = map view_of_entry c.push_reserved.new.self.items } in
-    let is : d' ≡ after_hand_back d t = λ i. record { edition = d.edition; modules = d.modules; trials = c.set_running.ensures i; history = history i } in
+    let d' : Desk = record {
+      edition = d.edition;
+      modules = d.modules;
+      trials = c.set_running.new.trials.items;
+      history = map view_of_entry c.push_reserved.new.self.items;
+    } in
+    let is : d' ≡ after_hand_back d t = λ i. record {
+      edition = d.edition;
+      modules = d.modules;
+      trials =
+          c.set_running.ensures i;
+      history = history i;
+    } in
     ap (λ (k : Desk). hand_back_step k t) (sym c.self.view_is) ∙ back_is d d' t runs is

@@ -20,5 +20,7 @@ returns-clause-plan c =
     let within : refusal_of d.edition u (charge.Trial steps) ≡ None = search rules in
     let uses : c.charge.new.self ≡ charged u (charge.Trial steps) = search rules in
     let number : c.deref-3.result.now.module ≡ c.args.order.value.module = search rules in
-    order_planned d u c.requires.charged _ c.args.order.value j c.requires.asked within (ap (λ (n : ℕ). with_job d n j) number)
-    (ap (λ n. desk.ticket (n + 1)) many) uses (ap (λ n. desk.called (view_of_order c.args.order.value) (desk.ticket (n + 1))) many)
+    order_planned d u c.requires.charged _ c.args.order.value j c.requires.asked within
+    (ap (λ (n : ℕ). with_job d n j) number)
+    (ap (λ n. desk.ticket (n + 1)) many) uses
+    (ap (λ n. desk.called (view_of_order c.args.order.value) (desk.ticket (n + 1))) many)

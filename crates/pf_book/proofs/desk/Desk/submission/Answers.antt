@@ -31,6 +31,7 @@ returns-in_ok-source_held-in-Ok-clause-store c =
     let s = c.in-Ok.module in
     let same : c.source_held.new.store ≡ c.take_or_read.new.self = search rules in
     let held : HeldOnceMore s.source c.args.store.now c.take_or_read.new.self =
-    subst (λ (l : List ℕ). HeldOnceMore l c.args.store.now c.take_or_read.new.self) (sym c.in-Ok.ensures.read.0) c.in-Ok.ensures.held in
+    subst (λ (l : List ℕ). HeldOnceMore l c.args.store.now c.take_or_read.new.self) (sym c.in-Ok.ensures.read.0)
+    c.in-Ok.ensures.held in
     follows_module c.args.self.now c.args.store.now c.source_held.new.store s
     (subst (λ (k : Kept). HeldOnceMore s.source c.args.store.now k) (sym same) held)

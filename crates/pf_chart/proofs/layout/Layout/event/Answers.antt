@@ -8,7 +8,8 @@ use Rattle.pf_chart.proofs.layout.Layout.event.Goals as goal
 pub returns-in-Some-clause-laid : goal.returns-in-Some-clause-laid
 returns-in-Some-clause-laid c =
     let e = view_of_event c.args.event.now in
-    let column = subst (λ (cs : List Column). HasColumn cs c.in-Process.pid c.in-Some.a) c.deref.ensures.value c.in-Some.ensures.found in
+    let column = subst (λ (cs : List Column). HasColumn cs c.in-Process.pid c.in-Some.a) c.deref.ensures.value
+    c.in-Some.ensures.found in
     on_ok_weaker c.turn.result
     (λ sends es at laid. turn_laid c.args.row e c.args.self.now c.turn.new.self c.turn.ensures.processes es at laid
     c.in-Process.pid c.in-Some.a c.in-Process.is column sends)
@@ -24,10 +25,13 @@ returns-in-Some-Some-clause-laid c =
     let e = view_of_event c.args.event.now in
     let p = c.in-Channel.from in
     let q = c.in-Channel.to in
-    let sender = subst (λ (cs : List Column). HasColumn cs p c.in-Some-Some.a) c.deref-in-Channel.ensures.value c.in-Some-Some.ensures.found in
-    let receiver = subst (λ (cs : List Column). HasColumn cs q c.in-Some-Some.b) c.deref-in-Channel-2.ensures.value c.in-Some-Some.ensures'.found in
+    let sender = subst (λ (cs : List Column). HasColumn cs p c.in-Some-Some.a) c.deref-in-Channel.ensures.value
+    c.in-Some-Some.ensures.found in
+    let receiver = subst (λ (cs : List Column). HasColumn cs q c.in-Some-Some.b) c.deref-in-Channel-2.ensures.value
+    c.in-Some-Some.ensures'.found in
     on_ok_weaker c.delivery.result
-    (λ carried es at laid. carried_laid c.args.row e c.args.self.now c.delivery.new.self c.delivery.ensures.processes es at laid
+    (λ carried es at laid. carried_laid c.args.row e c.args.self.now c.delivery.new.self
+    c.delivery.ensures.processes es at laid
     p q c.in-Some-Some.a c.in-Some-Some.b c.in-Channel.is sender receiver carried)
     c.delivery.ensures.carried
 

@@ -18,8 +18,10 @@ returns-in_ok-push_back-in-Some-clause-others c =
 pub returns-in-None-clause-last : goal.returns-in-None-clause-last
 returns-in-None-clause-last c =
     on_ok_weaker c.open.result
-    (λ h. h ∙ ap (λ xs. xs ++ c.args.signal ∷ []) (ap (items_of (λ q. q.items)) c.in-None.ensures.value)) c.open.ensures.only
+    (λ h. h ∙ ap (λ xs. xs ++ c.args.signal ∷ []) (ap (items_of (λ q. q.items)) c.in-None.ensures.value))
+    c.open.ensures.only
 
 pub returns-in-None-clause-others : goal.returns-in-None-clause-others
 returns-in-None-clause-others c =
-    on_ok_weaker c.open.result (λ h. λ v n. h v n ∙ same_waiting c.args.self.now _ v c.get_mut.follows.holds-at-none) c.open.ensures.others
+    on_ok_weaker c.open.result (λ h. λ v n. h v n ∙ same_waiting c.args.self.now _ v c.get_mut.follows.holds-at-none)
+    c.open.ensures.others

@@ -10,7 +10,8 @@ returns-in-Some c =
     let t = c.reach.new.self in
     let a = untold c.args.row c.args.from c.args.to c.args.kind c.args.reach in
     subst (λ (n : ℕ). IsDelivered (c.args.from, c.args.to, n) a s t) c.number.ensures
-    (delivered (c.args.from, c.args.to, c.number.result) a s t (Some c.in-Some.index) c.take.new.self c.in-Some.ensures.first c.in-Some.ensures.others
+    (delivered (c.args.from, c.args.to, c.number.result) a s t (Some c.in-Some.index) c.take.new.self
+    c.in-Some.ensures.first c.in-Some.ensures.others
     c.reach.ensures.on_way c.reach.ensures.arrows)
 
 pub returns-in-None : goal.returns-in-None
@@ -20,5 +21,6 @@ returns-in-None c =
     let a = untold c.args.row c.args.from c.args.to c.args.kind c.args.reach in
     on_ok_weaker c.show.result
     (λ h. subst (λ (n : ℕ). IsDelivered (c.args.from, c.args.to, n) a s t) c.number.ensures
-    (delivered (c.args.from, c.args.to, c.number.result) a s t None c.take.new.self c.in-None.ensures.first c.in-None.ensures.others h.1 h.0))
+    (delivered (c.args.from, c.args.to, c.number.result) a s t None c.take.new.self c.in-None.ensures.first
+    c.in-None.ensures.others h.1 h.0))
     c.show.ensures

@@ -14,6 +14,8 @@ returns c =
     let a = c.args.from in
     let b = c.args.to in
     let delivered =
-    subst (λ (k : SignalKind). IsDelivered (way_of a b k) (untold n a b k (reach_of (suffix_of c.args.suffix.now) n)) s t) c.of.ensures
-    (subst (λ (r : ArrowEnd). IsDelivered (way_of a b c.of.result) (untold n a b c.of.result r) s t) c.reach_of.ensures c.in_ok-arrive.ensures) in
+    subst (λ (k : SignalKind). IsDelivered (way_of a b k) (untold n a b k (reach_of (suffix_of c.args.suffix.now) n)) s
+    t) c.of.ensures
+    (subst (λ (r : ArrowEnd). IsDelivered (way_of a b c.of.result) (untold n a b c.of.result r) s t) c.reach_of.ensures
+    c.in_ok-arrive.ensures) in
     both_ok_then c.settle.result (λ h k. (t, delivered, h, k)) c.settle.ensures.answered c.settle.ensures.sends

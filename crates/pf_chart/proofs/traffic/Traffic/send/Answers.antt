@@ -11,14 +11,17 @@ returns-clause-last c =
     let a = c.args.from in
     let b = c.args.to in
     let w = way_of a b c.args.kind in
-    let index : c.len-index.result ≡ length c.args.self.now.arrows.items = omega (arith, c.len-index.ensures, c.args.self.now.arrows.ok.0) in
+    let index : c.len-index.result ≡ length c.args.self.now.arrows.items =
+    omega (arith, c.len-index.ensures, c.args.self.now.arrows.ok.0) in
     subst (λ (i : ℕ). OnOk c.put.result (waiting_signals p w ≡ waiting_signals o w ++ i ∷ [])) index
-    (subst (λ (n : ℕ). OnOk c.put.result (waiting_signals p (a, b, n) ≡ waiting_signals o (a, b, n) ++ c.len-index.result ∷ [])) c.number.ensures c.put.ensures.last)
+    (subst (λ (n : ℕ). OnOk c.put.result (waiting_signals p (a, b, n) ≡ waiting_signals o (a, b, n)
+    ++ c.len-index.result ∷ [])) c.number.ensures c.put.ensures.last)
 
 pub returns-clause-others : goal.returns-clause-others
 returns-clause-others c =
     let o = c.args.self.now.on_way in
-    subst (λ (n : ℕ). OnOk c.put.result (KeepsOthers (c.args.from, c.args.to, n) o c.put.new.self)) c.number.ensures c.put.ensures.others
+    subst (λ (n : ℕ). OnOk c.put.result (KeepsOthers (c.args.from, c.args.to, n) o c.put.new.self)) c.number.ensures
+    c.put.ensures.others
 
 pub returns-clause-arrow : goal.returns-clause-arrow
 returns-clause-arrow c = search rules

@@ -11,7 +11,8 @@ returns-in-Some c =
     let xs = c.args.self.now.arrows.items in
     record {
       answered = on_ok_weaker c.send.result
-          (λ h. h ∙ ap (λ (o : Option SignalKind). with_return_arrow c.args.row c.args.to c.args.from o xs) (sym c.in-Some.is ∙ c.answer_to.ensures)) c.send.ensures.arrow;
+          (λ h. h ∙ ap (λ (o : Option SignalKind). with_return_arrow c.args.row c.args.to c.args.from o xs)
+          (sym c.in-Some.is ∙ c.answer_to.ensures)) c.send.ensures.arrow;
       sends = c.send.ensures.sends;
     }
 
@@ -19,6 +20,7 @@ pub returns-in_ok-settle-in-None : goal.returns-in_ok-settle-in-None
 returns-in_ok-settle-in-None c =
     let xs = c.args.self.now.arrows.items in
     record {
-      answered = sym (append-nil xs) ∙ ap (λ (o : Option SignalKind). with_return_arrow c.args.row c.args.to c.args.from o xs) (sym c.in-None.is ∙ c.answer_to.ensures);
+      answered = sym (append-nil xs) ∙ ap (λ (o : Option SignalKind). with_return_arrow c.args.row c.args.to c.args.from
+          o xs) (sym c.in-None.is ∙ c.answer_to.ensures);
       sends = sends_none c.args.row c.args.to c.args.self.now _ refl refl;
     }

@@ -13,7 +13,8 @@ returns-in_err-told-clause-err g c =
     let seat = c.call-outcome.new.seat in
     let e = c.call-outcome.ensures in
     let comes = call_comes_to c.args.call c.call-outcome.result was.seat seat e.receipt e.full e.err in
-    at_err c.from_residual.result (call_cut c.args.call c.call-outcome.result was.seat seat (told_text was.told.items) (told_text was.told.items) comes refl)
+    at_err c.from_residual.result (call_cut c.args.call c.call-outcome.result was.seat seat (told_text was.told.items)
+    (told_text was.told.items) comes refl)
 
 pub returns-clause-answered : goal.returns-clause-answered
 returns-clause-answered g c =
@@ -23,7 +24,8 @@ returns-clause-answered g c =
     let comes = call_comes_to c.args.call c.call-outcome.result was.seat seat e.receipt e.full e.err in
     let text = c.in_ok-told.ensures ∙ ap (λ q. call_text q c.call-outcome.result) c.project-project.ensures in
     on_ok_weaker c.add.result
-    (λ h. call_answered c.args.call c.call-outcome.result was.seat seat (told_text was.told.items) (told_text c.add.new.all.items) (whole_text c.in_ok-told.told) comes text h)
+    (λ h. call_answered c.args.call c.call-outcome.result was.seat seat (told_text was.told.items)
+    (told_text c.add.new.all.items) (whole_text c.in_ok-told.told) comes text h)
     c.add.ensures.added
 
 pub returns-clause-err : goal.returns-clause-err
@@ -33,4 +35,5 @@ returns-clause-err g c =
     let e = c.call-outcome.ensures in
     let comes = call_comes_to c.args.call c.call-outcome.result was.seat seat e.receipt e.full e.err in
     on_err_weaker c.add.result
-    (λ h. call_cut c.args.call c.call-outcome.result was.seat seat (told_text was.told.items) (told_text c.add.new.all.items) comes h) c.add.ensures.err
+    (λ h. call_cut c.args.call c.call-outcome.result was.seat seat (told_text was.told.items)
+    (told_text c.add.new.all.items) comes h) c.add.ensures.err

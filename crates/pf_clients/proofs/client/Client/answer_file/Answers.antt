@@ -9,13 +9,17 @@ returns-in-Ok g c =
     let was = c.args.self.now in
     let is = c.answer_lines.new.self in
     let remaining = g.R.Read.remaining in
-    subst (λ o. IsServed remaining o was.seat.project is.seat is.told.items c.answer_lines.result) c.in-Some.ensures.value
-    (file_answered was.seat.project (remaining c.in-Some.file) was.seat (told_text was.told.items) c.requires.0 (ap told_text c.requires.1) c.in-Ok.bytes.items is.seat
-    (told_text is.told.items) c.answer_lines.result c.in-Ok.ensures.read (rw c.deref.ensures.value at c.answer_lines.ensures))
+    subst (λ o. IsServed remaining o was.seat.project is.seat is.told.items c.answer_lines.result)
+    c.in-Some.ensures.value
+    (file_answered was.seat.project (remaining c.in-Some.file) was.seat (told_text was.told.items) c.requires.0
+    (ap told_text c.requires.1) c.in-Ok.bytes.items is.seat
+    (told_text is.told.items) c.answer_lines.result c.in-Ok.ensures.read
+    (rw c.deref.ensures.value at c.answer_lines.ensures))
 
 pub returns-in-Err : goal.returns-in-Err
 returns-in-Err g c =
     let was = c.args.self.now in
     let remaining = g.R.Read.remaining in
     subst (λ o. IsServed remaining o was.seat.project was.seat was.told.items c.stopped.result) c.in-Some.ensures.value
-    (file_unread was.seat.project (remaining c.in-Some.file) was.seat (told_text was.told.items) c.requires.0 (ap told_text c.requires.1) c.stopped.result c.in-Err.stop c.stopped.ensures)
+    (file_unread was.seat.project (remaining c.in-Some.file) was.seat (told_text was.told.items) c.requires.0
+    (ap told_text c.requires.1) c.stopped.result c.in-Err.stop c.stopped.ensures)

@@ -12,7 +12,8 @@ returns-in_err-answer_line-in-Ok-clause-err g c =
     let is = c.answer_line.new.self in
     let at = ap (λ q. client_line_at q c.args.bytes.now) (sym c.project.ensures) ∙ c.in-Ok.ensures.line in
     at_err c.from_residual.result
-    (front_cut c.args.bytes.now c.in-Ok.rest.now (view_of_client_line c.in-Ok.line) was.seat is.seat (told_text was.told.items) (told_text is.told.items) at
+    (front_cut c.args.bytes.now c.in-Ok.rest.now (view_of_client_line c.in-Ok.line) was.seat is.seat
+    (told_text was.told.items) (told_text is.told.items) at
     c.in_err-answer_line-in-Ok.ensures.err)
 
 pub returns-in_ok-answer_line-in-Ok-clause-answered : goal.returns-in_ok-answer_line-in-Ok-clause-answered
@@ -20,5 +21,6 @@ returns-in_ok-answer_line-in-Ok-clause-answered g c =
     let was = c.args.self.now in
     let is = c.answer_line.new.self in
     let at = ap (λ q. client_line_at q c.args.bytes.now) (sym c.project.ensures) ∙ c.in-Ok.ensures.line in
-    front_answered c.args.bytes.now c.in-Ok.rest.now c.args.number (view_of_client_line c.in-Ok.line) was.seat is.seat (told_text was.told.items) (told_text is.told.items) at
+    front_answered c.args.bytes.now c.in-Ok.rest.now c.args.number (view_of_client_line c.in-Ok.line) was.seat is.seat
+    (told_text was.told.items) (told_text is.told.items) at
     c.in_ok-answer_line-in-Ok.ensures.answered

@@ -5,5 +5,9 @@ use Rattle.pf_clients.specs.Texts.{told_text}
 use Rattle.pf_clients.proofs.client.Client.answer_line.Goals as goal
 
 pub returns-in-Await-clause-answered : goal.returns-in-Await-clause-answered
-returns-in-Await-clause-answered g c =
-    (waited c.in-Await.ticket, sym (ap view_of_client_line c.in-Await.is), refl, sym (append-nil (told_text c.args.self.now.told.items)))
+returns-in-Await-clause-answered g c = (
+  waited c.in-Await.ticket,
+  sym (ap view_of_client_line c.in-Await.is),
+  refl,
+  sym (append-nil (told_text c.args.self.now.told.items)),
+)

@@ -5,7 +5,8 @@ use Rattle.pf_clients.proofs.client.Client.answer_lines.Given as goal
 
 abbrev pub invariant-lines : goal.invariant-lines
 invariant-lines g l = record {
-  so_far : SoFar l.bytes l.fn.self.seat l.self.seat (told_text l.fn.self.told.items) (told_text l.self.told.items) l.rest l.number;
+  so_far : SoFar l.bytes l.fn.self.seat l.self.seat (told_text l.fn.self.told.items) (told_text l.self.told.items)
+      l.rest l.number;
   within : l.number + length l.rest ≤ length l.bytes + 1;
 }
 

@@ -7,5 +7,11 @@ pub returns-clause-once : goal.returns-clause-once
 returns-clause-once g c =
     let k = c.self.inside.register in
     let whole : c.self.inside.all.parts ≡ g.N.FarmNames.seats = search rules in
-    let once : EachOnce (standing_at k.1 k.0) k.0 = each_once k.1 k.0 c.self.invariant.2 (omega (arith, c.audit.ensures.whole whole, c.self.invariant.0, c.self.invariant.1)) in
+    let once : EachOnce (standing_at k.1 k.0) k.0 =
+    each_once k.1 k.0 c.self.invariant.2 (omega (
+      arith,
+      c.audit.ensures.whole whole,
+      c.self.invariant.0,
+      c.self.invariant.1,
+    )) in
     rw (← c.self.view_is) once

@@ -9,6 +9,7 @@ invariant_of-seat g c =
     let log = c.self.inside.register.0 in (
       c.seat.invariant.0,
       c.seat.invariant.1,
-      subst (λ t. IsSeat t.0 t.1 s.project s.receipts.items) (sym c.show.ensures.token) (shown s.token.0 s.token.1 log s.project s.receipts.items c.show.ensures.seen c.seat.invariant.2),
+      subst (λ t. IsSeat t.0 t.1 s.project s.receipts.items) (sym c.show.ensures.token)
+          (shown s.token.0 s.token.1 log s.project s.receipts.items c.show.ensures.seen c.seat.invariant.2),
       c.seat.invariant.3,
     )

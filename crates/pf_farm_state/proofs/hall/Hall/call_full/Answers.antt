@@ -17,7 +17,8 @@ abbrev IsPast : ClientView → Hall → Type 0
 IsPast s h = (s.is_full ≡ true) ⊎ (MOST_CALLS ≤ calls_in (desk_at s.project h.desks).history)
 
 -- then the log has as many calls as it may hold
-most_logged : (rows : List (ClaimRow Job)) (log seen : List ClientReplies) (w : Desks) (q : ℕ) (b : Bool) → IsSound rows log w → StartsWith log seen → (b ≡ true → HasMost q seen)
+most_logged : (rows : List (ClaimRow Job)) (log seen : List ClientReplies) (w : Desks) (q : ℕ) (b : Bool)
+    → IsSound rows log w → StartsWith log seen → (b ≡ true → HasMost q seen)
     → (b ≡ true) ⊎ (MOST_CALLS ≤ calls_in (desk_at q w).history) → HasMost q log
 most_logged rows log seen w q b s starts known (inl full) = still_most q log seen starts (known full)
 most_logged rows log seen w q b s starts known (inr full) = omega (arith, as_many rows log w s q, full)
@@ -28,7 +29,8 @@ invariant_of-seat g c =
     let s = c.seat.inside.seat in
     let Q : ClientView × Hall → Type 0 = λ x. IsPast x.0 x.1 in
     let past = subst Q (λ i. (sym c.seat.view_is i, sym c.self.view_is i)) c.requires in
-    let most : HasMost s.project h.calls = most_logged h.ledger.0 h.calls s.seen h.book s.project c.seat.inside.is_full c.self.invariant c.show.ensures.before c.seat.invariant past in
+    let most : HasMost s.project h.calls = most_logged h.ledger.0 h.calls s.seen h.book s.project c.seat.inside.is_full
+    c.self.invariant c.show.ensures.before c.seat.invariant past in
     let P : ℕ × List ClientReplies → Type 0 = λ x. HasMost x.0 x.1 in
     λ _. subst P (λ i. (sym c.show.ensures.project i, sym c.show.ensures.seen i)) most
 
@@ -39,12 +41,15 @@ invariant_of-self g c =
     let q = c.project-project.result in
     let Q : ClientView × Hall → Type 0 = λ x. IsPast x.0 x.1 in
     let past = subst Q (λ i. (sym c.seat.view_is i, sym c.self.view_is i)) c.requires in
-    let most : HasMost s.project h.calls = most_logged h.ledger.0 h.calls s.seen h.book s.project c.seat.inside.is_full c.self.invariant c.show.ensures.before c.seat.invariant past in
+    let most : HasMost s.project h.calls = most_logged h.ledger.0 h.calls s.seen h.book s.project c.seat.inside.is_full
+    c.self.invariant c.show.ensures.before c.seat.invariant past in
     let own : s.project ≡ q = search rules in
     let full : MOST_CALLS ≤ calls_in (desk_at q h.book).history =
-    subst (λ n. MOST_CALLS ≤ calls_in (desk_at n h.book).history) own (omega (arith, as_many h.ledger.0 h.calls h.book c.self.invariant s.project, most)) in
+    subst (λ n. MOST_CALLS ≤ calls_in (desk_at n h.book).history) own
+    (omega (arith, as_many h.ledger.0 h.calls h.book c.self.invariant s.project, most)) in
     subst (λ (l : List ClientReplies). IsSound h.ledger.0 l c.call.new.self) (sym c.show.ensures.same)
-    (sound_past h.ledger.0 h.calls h.book c.call.new.self q c.args.call c.self.invariant full c.call.result c.call.ensures.answer c.call.ensures.tickets)
+    (sound_past h.ledger.0 h.calls h.book c.call.new.self q c.args.call c.self.invariant full c.call.result
+    c.call.ensures.answer c.call.ensures.tickets)
 
 pub returns-clause-reply : goal.returns-clause-reply
 returns-clause-reply g c =
@@ -53,8 +58,11 @@ returns-clause-reply g c =
     let q = c.project-project.result in
     let Q : ClientView × Hall → Type 0 = λ x. IsPast x.0 x.1 in
     let past = subst Q (λ i. (sym c.seat.view_is i, sym c.self.view_is i)) c.requires in
-    let most : HasMost s.project h.calls = most_logged h.ledger.0 h.calls s.seen h.book s.project c.seat.inside.is_full c.self.invariant c.show.ensures.before c.seat.invariant past in
+    let most : HasMost s.project h.calls = most_logged h.ledger.0 h.calls s.seen h.book s.project c.seat.inside.is_full
+    c.self.invariant c.show.ensures.before c.seat.invariant past in
     let own : s.project ≡ q = search rules in
     let full : MOST_CALLS ≤ calls_in (desk_at q h.book).history =
-    subst (λ n. MOST_CALLS ≤ calls_in (desk_at n h.book).history) own (omega (arith, as_many h.ledger.0 h.calls h.book c.self.invariant s.project, most)) in
-    refused_past h.ledger.0 h.calls h.book c.call.new.self q c.args.call c.self.invariant full c.call.result c.call.ensures.answer
+    subst (λ n. MOST_CALLS ≤ calls_in (desk_at n h.book).history) own
+    (omega (arith, as_many h.ledger.0 h.calls h.book c.self.invariant s.project, most)) in
+    refused_past h.ledger.0 h.calls h.book c.call.new.self q c.args.call c.self.invariant full c.call.result
+    c.call.ensures.answer

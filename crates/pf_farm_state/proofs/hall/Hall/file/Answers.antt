@@ -15,12 +15,20 @@ invariant_of-self g c =
     let rows = c.self.inside.ledger.0 in
     let k = c.args.claim in
     let at = c.end.ensures.was in
-    let now : c.end.new.self.0 ≡ slice_set rows k.0 (row_of k.1 (Some (end_or_stray c.file-filed.result Filed))) = ap (λ x. x.0) c.end.ensures.now ∙ ap (λ (e : ClaimEnd). slice_set rows k.0 (row_of k.1 (Some e))) c.end_or_stray.ensures in
-    let does : SimulatesFile c.self.inside.book k.1.project k.1.ticket c.args.finished c.file-filed.result c.file-filed.new.self = search rules in
-    subst (λ (r : List (ClaimRow Job)). IsSound r c.self.inside.calls c.file-filed.new.self) (sym now) (sound_filed rows c.self.inside.calls c.self.inside.book k.0 k.1 at c.self.invariant c.file-filed.new.self c.args.finished c.file-filed.result c.requires.job does c.file-filed.ensures.tickets)
+    let now : c.end.new.self.0 ≡ slice_set rows k.0 (row_of k.1 (Some (end_or_stray c.file-filed.result Filed))) =
+    ap (λ x. x.0) c.end.ensures.now ∙ ap (λ (e : ClaimEnd). slice_set rows k.0 (row_of k.1 (Some e)))
+    c.end_or_stray.ensures in
+    let does : SimulatesFile c.self.inside.book k.1.project k.1.ticket c.args.finished c.file-filed.result
+    c.file-filed.new.self = search rules in
+    subst (λ (r : List (ClaimRow Job)). IsSound r c.self.inside.calls c.file-filed.new.self) (sym now)
+    (sound_filed rows c.self.inside.calls c.self.inside.book k.0 k.1 at c.self.invariant c.file-filed.new.self
+    c.args.finished c.file-filed.result c.requires.job does c.file-filed.ensures.tickets)
 
 pub returns-clause-gone : goal.returns-clause-gone
 returns-clause-gone g c =
     let k = c.args.claim in
-    let does : SimulatesFile c.self.inside.book k.1.project k.1.ticket c.args.finished c.file-filed.result c.file-filed.new.self = search rules in
-    rw (← c.self.view_is) (filed_gone c.self.inside.ledger.0 c.self.inside.calls c.self.inside.book k.0 k.1 c.end.ensures.was c.self.invariant c.file-filed.new.self c.args.finished c.file-filed.result c.requires.job does)
+    let does : SimulatesFile c.self.inside.book k.1.project k.1.ticket c.args.finished c.file-filed.result
+    c.file-filed.new.self = search rules in
+    rw (← c.self.view_is) (filed_gone c.self.inside.ledger.0 c.self.inside.calls c.self.inside.book k.0 k.1
+    c.end.ensures.was c.self.invariant c.file-filed.new.self c.args.finished c.file-filed.result
+    c.requires.job does)

@@ -15,12 +15,19 @@ invariant_of-self g c =
     let rows = c.self.inside.ledger.0 in
     let k = c.args.claim in
     let at = c.end.ensures.was in
-    let now : c.end.new.self.0 ≡ slice_set rows k.0 (row_of k.1 (Some (end_or_stray c.hand_back-taken.result HandedBack))) = ap (λ x. x.0) c.end.ensures.now ∙ ap (λ (e : ClaimEnd). slice_set rows k.0 (row_of k.1 (Some e))) c.end_or_stray.ensures in
-    let does : SimulatesHandBack c.self.inside.book k.1.project k.1.ticket c.hand_back-taken.result c.hand_back-taken.new.self = search rules in
-    subst (λ (r : List (ClaimRow Job)). IsSound r c.self.inside.calls c.hand_back-taken.new.self) (sym now) (sound_back rows c.self.inside.calls c.self.inside.book k.0 k.1 at c.self.invariant c.hand_back-taken.new.self c.hand_back-taken.result does)
+    let now : c.end.new.self.0 ≡ slice_set rows k.0
+    (row_of k.1 (Some (end_or_stray c.hand_back-taken.result HandedBack))) = ap (λ x. x.0) c.end.ensures.now
+    ∙ ap (λ (e : ClaimEnd). slice_set rows k.0 (row_of k.1 (Some e))) c.end_or_stray.ensures in
+    let does : SimulatesHandBack c.self.inside.book k.1.project k.1.ticket c.hand_back-taken.result
+    c.hand_back-taken.new.self = search rules in
+    subst (λ (r : List (ClaimRow Job)). IsSound r c.self.inside.calls c.hand_back-taken.new.self) (sym now)
+    (sound_back rows c.self.inside.calls c.self.inside.book k.0 k.1 at c.self.invariant c.hand_back-taken.new.self
+    c.hand_back-taken.result does)
 
 pub returns-clause-gone : goal.returns-clause-gone
 returns-clause-gone g c =
     let k = c.args.claim in
-    let does : SimulatesHandBack c.self.inside.book k.1.project k.1.ticket c.hand_back-taken.result c.hand_back-taken.new.self = search rules in
-    rw (← c.self.view_is) (back_gone c.self.inside.ledger.0 c.self.inside.calls c.self.inside.book k.0 k.1 c.end.ensures.was c.self.invariant c.hand_back-taken.new.self c.hand_back-taken.result does)
+    let does : SimulatesHandBack c.self.inside.book k.1.project k.1.ticket c.hand_back-taken.result
+    c.hand_back-taken.new.self = search rules in
+    rw (← c.self.view_is) (back_gone c.self.inside.ledger.0 c.self.inside.calls c.self.inside.book k.0 k.1
+    c.end.ensures.was c.self.invariant c.hand_back-taken.new.self c.hand_back-taken.result does)

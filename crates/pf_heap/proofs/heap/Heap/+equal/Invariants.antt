@@ -16,7 +16,8 @@ decreases-equal_lists l = 3 * nodes_in (elements (word_value l.self.now l.first)
 -- what is left compares as the whole does, and is no larger
 abbrev pub invariant-equal_lists-cells : goal.invariant-equal_lists-cells
 invariant-equal_lists-cells l = record {
-  same_is : same_all (elements (word_value l.self l.a)) (elements (word_value l.self l.b)) ≡ same_all (elements (word_value l.self l.fn.first)) (elements (word_value l.self l.fn.second));
+  same_is : same_all (elements (word_value l.self l.a)) (elements (word_value l.self l.b))
+      ≡ same_all (elements (word_value l.self l.fn.first)) (elements (word_value l.self l.fn.second));
   nodes_fall : nodes_in (elements (word_value l.self l.a)) ≤ nodes_in (elements (word_value l.self l.fn.first));
   first : IsWordOf l.self l.a × IsList l.a;
   second : IsWordOf l.self l.b × IsList l.b;
@@ -27,7 +28,8 @@ decreases-equal_lists-cells l = nodes_in (elements (word_value l.self l.a))
 
 abbrev pub invariant-equal_items-items : goal.invariant-equal_items-items
 invariant-equal_items-items l = record {
-  same_is : same_all (word_values l.self l.xs) (word_values l.self l.ys) ≡ same_all (word_values l.self l.fn.first) (word_values l.self l.fn.second);
+  same_is : same_all (word_values l.self l.xs) (word_values l.self l.ys) ≡ same_all (word_values l.self l.fn.first)
+      (word_values l.self l.fn.second);
   nodes_fall : nodes_in (word_values l.self l.xs) ≤ nodes_in (word_values l.self l.fn.first);
   first : All (IsWordOf l.self) l.xs;
   second : All (IsWordOf l.self) l.ys;

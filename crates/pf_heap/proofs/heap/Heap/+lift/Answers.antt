@@ -23,7 +23,8 @@ lift_tuple-loop-first-preserved t c =
     let made : value_of u ≡ word_value h first = c.in_ok-lift.ensures in
     let split : c.loop-first.rest.now ≡ first ∷ others = first_of (search rules, grind (arith, common_steps)) in
     record {
-      whole = ap (λ (xs : List Term). values_before xs vs) items ∙ before-push ts u vs ∙ ap (λ (v : Value). values_before ts (more v vs)) made
+      whole = ap (λ (xs : List Term). values_before xs vs) items ∙ before-push ts u vs
+          ∙ ap (λ (v : Value). values_before ts (more v vs)) made
           ∙ ap (λ (ws : List Word). values_before ts (word_values h ws)) (sym split) ∙ inv.whole;
       nodes_fall = omega (arith, ap (λ (ws : List Word). nodes_in (word_values h ws)) split, inv.nodes_fall);
       words = All-rest (IsWordOf h) first others c.loop-first.rest.now split inv.words;
@@ -34,7 +35,8 @@ lift_tuple-returns-in-Ok t c =
     let h = c.args.self.now in
     let ts = c.loop-first.items.items in
     let none_left : c.loop-first.rest.now ≡ [] = first_of (search rules, grind (arith, common_steps)) in
-    c.in-Ok.ensures.made ∙ ap tuple (sym (before-none ts) ∙ ap (λ (ws : List Word). values_before ts (word_values h ws)) (sym none_left) ∙ c.loop-first.invariant.whole)
+    c.in-Ok.ensures.made ∙ ap tuple (sym (before-none ts) ∙ ap (λ (ws : List Word). values_before ts (word_values h ws))
+    (sym none_left) ∙ c.loop-first.invariant.whole)
 
 pub lift_list-cells-preserved : goal.lift_list-cells-preserved
 lift_list-cells-preserved t c =
@@ -49,7 +51,8 @@ lift_list-cells-preserved t c =
     let made : value_of u ≡ word_value h head = c.in_ok-lift.ensures in
     let split : IsSplit h c.cells.rest head tail = c.in-Some.ensures.value in
     record {
-      whole = ap (λ (xs : List Term). values_before xs vs) items ∙ before-push ts u vs ∙ ap (λ (v : Value). values_before ts (more v vs)) made
+      whole = ap (λ (xs : List Term). values_before xs vs) items ∙ before-push ts u vs
+          ∙ ap (λ (v : Value). values_before ts (more v vs)) made
           ∙ ap (values_before ts) (sym split) ∙ inv.whole;
       nodes_fall = omega (arith, ap nodes_in split, inv.nodes_fall);
       word = c.in-Some.ensures.words.1;
@@ -61,5 +64,6 @@ lift_list-returns-in-Ok t c =
     let h = c.args.self.now in
     let ts = c.cells.items.items in
     let none_left : elements (word_value h c.cells.rest) ≡ none = c.in_default.ensures.value in
-    ap list (c.in-Ok.ensures.made ∙ sym (before-none ts) ∙ ap (values_before ts) (sym none_left) ∙ c.cells.invariant.whole)
+    ap list (c.in-Ok.ensures.made ∙ sym (before-none ts) ∙ ap (values_before ts) (sym none_left)
+    ∙ c.cells.invariant.whole)
     ∙ sym (list_is_list h c.args.word c.is_in_order.ensures c.requires.word c.requires.list)

@@ -20,7 +20,8 @@ lower_elements-loop-first-preserved t c =
     let kept = c.in_ok-word.ensures.keeps in
     let inv = c.loop-first.invariant in
     let items : c.push.new.self.items ≡ ws ++ w ∷ [] = c.in_ok-push.ensures.items in
-    let split : elements_of c.loop-first.rest.now ≡ more (value_of c.in-Some.first.now) others = first_of (search rules, grind (arith, common_steps)) in
+    let split : elements_of c.loop-first.rest.now ≡ more (value_of c.in-Some.first.now) others =
+    first_of (search rules, grind (arith, common_steps)) in
     let words = All-push (IsWordOf f) ws w (words_kept g f ws kept inv.words) c.in_ok-word.ensures.word in
     record {
       whole = ap (λ (xs : List Word). joined (word_values f xs) others) items ∙ joined_push (cell_values f) ws w others
@@ -49,7 +50,8 @@ lower_items-loop-first-preserved t c =
     let kept = c.in_ok-word.ensures.keeps in
     let inv = c.loop-first.invariant in
     let items : c.push.new.self.items ≡ ws ++ w ∷ [] = c.in_ok-push.ensures.items in
-    let split : values_of c.loop-first.rest.now ≡ more (value_of c.in-Some.first.now) others = first_of (search rules, grind (arith, common_steps)) in
+    let split : values_of c.loop-first.rest.now ≡ more (value_of c.in-Some.first.now) others =
+    first_of (search rules, grind (arith, common_steps)) in
     let words = All-push (IsWordOf f) ws w (words_kept g f ws kept inv.words) c.in_ok-word.ensures.word in
     record {
       whole = ap (λ (xs : List Word). joined (word_values f xs) others) items ∙ joined_push (cell_values f) ws w others

@@ -10,6 +10,8 @@ returns-clause-marked c =
     let h = c.args.self.now in
     let ms = c.args.marks.now in
     let ws = c.args.words.now in
-    let near : All (λ (w : Word). reach w ≤ length ms) ws = subst (λ (n : ℕ). All (λ (w : Word). reach w ≤ n) ws) (sym c.requires.count) (all_below_reach h (length h) ws c.requires.words) in
-    let more : IsMarkedMore (with_marks ms ws) c.mark_reached.new.marks = subst (λ ns. IsMarkedMore ns c.mark_reached.new.marks) c.mark_all.ensures c.mark_reached.ensures.more in
+    let near : All (λ (w : Word). reach w ≤ length ms) ws = subst (λ (n : ℕ). All (λ (w : Word). reach w ≤ n) ws)
+    (sym c.requires.count) (all_below_reach h (length h) ws c.requires.words) in
+    let more : IsMarkedMore (with_marks ms ws) c.mark_reached.new.marks =
+    subst (λ ns. IsMarkedMore ns c.mark_reached.new.marks) c.mark_all.ensures c.mark_reached.ensures.more in
     all_still_marked (with_marks ms ws) c.mark_reached.new.marks ws more (marks_here ms ws near)

@@ -9,8 +9,10 @@ returns-in-Tuple-clause-parts c =
     let ws = c.parts.result.now in
     let names = c.in-Tuple.ensures.names in
     let cell : cell_at h c.args.at ≡ block ws = ap (cell_at h) (sym names) ∙ c.parts.ensures.cell in
-    let below : ArePartsBelow h c.args.at (block ws) = subst (λ (n : ℕ). ArePartsBelow h n (block ws)) names c.parts.ensures.parts in
-    (cell_marked h c.args.marks.now c.mark_all.new.marks c.args.at (block ws) cell below (omega arith) c.mark_all.ensures).parts
+    let below : ArePartsBelow h c.args.at (block ws) =
+    subst (λ (n : ℕ). ArePartsBelow h n (block ws)) names c.parts.ensures.parts in
+    (cell_marked h c.args.marks.now c.mark_all.new.marks c.args.at (block ws) cell below (omega arith)
+    c.mark_all.ensures).parts
 
 pub returns-in-Tuple-clause-more : goal.returns-in-Tuple-clause-more
 returns-in-Tuple-clause-more c =
@@ -18,8 +20,10 @@ returns-in-Tuple-clause-more c =
     let ws = c.parts.result.now in
     let names = c.in-Tuple.ensures.names in
     let cell : cell_at h c.args.at ≡ block ws = ap (cell_at h) (sym names) ∙ c.parts.ensures.cell in
-    let below : ArePartsBelow h c.args.at (block ws) = subst (λ (n : ℕ). ArePartsBelow h n (block ws)) names c.parts.ensures.parts in
-    (cell_marked h c.args.marks.now c.mark_all.new.marks c.args.at (block ws) cell below (omega arith) c.mark_all.ensures).more
+    let below : ArePartsBelow h c.args.at (block ws) =
+    subst (λ (n : ℕ). ArePartsBelow h n (block ws)) names c.parts.ensures.parts in
+    (cell_marked h c.args.marks.now c.mark_all.new.marks c.args.at (block ws) cell below (omega arith)
+    c.mark_all.ensures).more
 
 pub returns-in-Tuple-clause-above : goal.returns-in-Tuple-clause-above
 returns-in-Tuple-clause-above c =
@@ -27,5 +31,7 @@ returns-in-Tuple-clause-above c =
     let ws = c.parts.result.now in
     let names = c.in-Tuple.ensures.names in
     let cell : cell_at h c.args.at ≡ block ws = ap (cell_at h) (sym names) ∙ c.parts.ensures.cell in
-    let below : ArePartsBelow h c.args.at (block ws) = subst (λ (n : ℕ). ArePartsBelow h n (block ws)) names c.parts.ensures.parts in
-    (cell_marked h c.args.marks.now c.mark_all.new.marks c.args.at (block ws) cell below (omega arith) c.mark_all.ensures).above
+    let below : ArePartsBelow h c.args.at (block ws) =
+    subst (λ (n : ℕ). ArePartsBelow h n (block ws)) names c.parts.ensures.parts in
+    (cell_marked h c.args.marks.now c.mark_all.new.marks c.args.at (block ws) cell below (omega arith)
+    c.mark_all.ensures).above

@@ -10,5 +10,8 @@ invariant_of-self-2 c =
     let a = c.self.inside in
     let cell = pair c.args.head c.args.tail in
     let below = subst (λ (h : List Cell). ArePartsBelow h (length h) cell) (sym c.self.view_is) c.requires.parts in
-    let size = subst (λ (h : List Cell). IsSizeOf c.args.size (cell_value (cell_values h) cell)) (sym c.self.view_is) c.requires.size in
-    pushed_sound a.items.items a.items.items a.entries.items (record { parts = parts.Pair c.args.head c.args.tail; size = c.args.size }) c.push.new.self.items c.in_ok-push.ensures.items refl c.self.invariant c.self.invariant.spans tt below size
+    let size = subst (λ (h : List Cell). IsSizeOf c.args.size (cell_value (cell_values h) cell)) (sym c.self.view_is)
+    c.requires.size in
+    pushed_sound a.items.items a.items.items a.entries.items
+    (record { parts = parts.Pair c.args.head c.args.tail; size = c.args.size }) c.push.new.self.items
+    c.in_ok-push.ensures.items refl c.self.invariant c.self.invariant.spans tt below size

@@ -26,13 +26,16 @@ loop-word-preserved c =
     let ws = c.pop.new.self.items in
     let w = c.in-Some.word in
     let kept = c.in-Ok.ensures.keeps in
-    let popped = All-pop (IsWordOf g) c.loop-word.words.items ws (Some w) c.in-Some.ensures.items c.loop-word.invariant.words in
+    let popped = All-pop (IsWordOf g) c.loop-word.words.items ws (Some w) c.in-Some.ensures.items
+    c.loop-word.invariant.words in
     let rest = elements (word_value g c.loop-word.made) in
     let longer = elements (word_value f c.in-Ok.longer) in
     record {
       whole = ap (λ (vs : Values). joined vs longer) (values_kept g f ws kept popped.0)
-          ∙ ap (λ (v : Value). joined (word_values g ws) (elements v)) c.in-Ok.ensures.made ∙ sym (joined_push (cell_values g) ws w rest)
-          ∙ ap (λ (xs : List Word). joined (word_values g xs) rest) (sym c.in-Some.ensures.items) ∙ c.loop-word.invariant.whole;
+          ∙ ap (λ (v : Value). joined (word_values g ws) (elements v)) c.in-Ok.ensures.made
+          ∙ sym (joined_push (cell_values g) ws w rest)
+          ∙ ap (λ (xs : List Word). joined (word_values g xs) rest) (sym c.in-Some.ensures.items)
+          ∙ c.loop-word.invariant.whole;
       words = words_kept g f ws kept popped.0;
       word = c.in-Ok.ensures.word.0;
       list = c.in-Ok.ensures.word.1;

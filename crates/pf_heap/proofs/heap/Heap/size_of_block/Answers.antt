@@ -13,10 +13,12 @@ loop-first-preserved c =
     let first = c.in-Some.first.now in
     let others = c.in-Some.others.now in
     let split : c.loop-first.rest.now ≡ first ∷ others = first_of (search rules, grind (arith, common_steps)) in
-    let fits : (c.loop-first.nodes + c.nodes-nodes.result < MOST_NODES) × (c.max-depth.result < MOST_DEPTH) = first_of (search rules, grind (arith, common_steps)) in
+    let fits : (c.loop-first.nodes + c.nodes-nodes.result < MOST_NODES) × (c.max-depth.result < MOST_DEPTH) =
+    first_of (search rules, grind (arith, common_steps)) in
     let nodes = ap (λ ws. nodes_in (word_values h ws)) split in
     let depth = ap (λ ws. depth_in (word_values h ws)) split in
-    let deeper : c.max-depth.result ≡ max c.loop-first.depth c.depth.result = first_of (search rules, grind (arith, common_steps)) in
+    let deeper : c.max-depth.result ≡ max c.loop-first.depth c.depth.result =
+    first_of (search rules, grind (arith, common_steps)) in
     record {
       nodes_is = omega (arith, nodes, inv.nodes_is, c.nodes-nodes.ensures.value);
       depth_is = omega (arith, deeper, depth, inv.depth_is, c.depth.ensures.value);

@@ -11,5 +11,6 @@ invariant_of-self-2 c =
     let items : c.push.new.self.items ≡ ps ++ place ∷ [] = search rules in
     let behind : c.len.result ≡ length ps = search rules in
     subst (λ all. ArePlaced all c.insert.new.self) (sym items)
-    (placed_more ps c.self.inside.lasts c.insert.new.self c.args.number c.len.result c.in_ok-before.before c.self.invariant behind
+    (placed_more ps c.self.inside.lasts c.insert.new.self c.args.number c.len.result c.in_ok-before.before
+    c.self.invariant behind
     c.in_ok-before.ensures.old c.in_ok-before.ensures.updates.0)

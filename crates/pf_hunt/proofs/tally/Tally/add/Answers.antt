@@ -30,7 +30,8 @@ returns-in-Some c =
     let rows = c.args.self.now.rows.items in
     let like = c.in-Some.ensures in
     let same = c.index_mut.ensures.value ∙ get_or_from_slice_get rows c.in-Some.index like.1.0 _ like.1.1 in
-    is_added c.args.row rows c.in-Some.index like.1.0 _ like.0 like.1.1 like.1.2 (ap (λ x. more_often (row_of x) c.args.row.count) same)
+    is_added c.args.row rows c.in-Some.index like.1.0 _ like.0 like.1.1 like.1.2
+    (ap (λ x. more_often (row_of x) c.args.row.count) same)
 
 pub returns-in-None : goal.returns-in-None
 returns-in-None c =

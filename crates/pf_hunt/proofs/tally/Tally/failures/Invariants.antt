@@ -6,4 +6,5 @@ use Rattle.pf_hunt.proofs.tally.Tally.failures.Given as goal
 
 -- with those of the rows that are left they are all
 abbrev pub invariant-loop-row : goal.invariant-loop-row
-invariant-loop-row l = l.count + failures_in (rows_in (drop l.row-index l.row-items)) ≡ failures_in (rows_in l.row-items)
+invariant-loop-row l = l.count + failures_in (rows_in (drop l.row-index l.row-items)) ≡ failures_in
+    (rows_in l.row-items)

@@ -14,4 +14,5 @@ returns c = λ f a.
     (c.in_ok-insert.ensures.updates.0 (f, a)
     ∙ ap (λ t. cond t (Some c.in-Ok.short) (get key_order old (f, a))) (same_in_order c.args.name.0 c.args.arity f a)
     ∙ ap (λ n. cond (same_key k (f, a)) (Some n) (get key_order old (f, a))) short)
-    (λ e. let s = same_is c.args.name.0 c.args.arity f a e in ap (λ x. get key_order old (x, a)) (sym s.0) ∙ ap (λ y. get key_order old (c.args.name.0, y)) (sym s.1) ∙ none)
+    (λ e. let s = same_is c.args.name.0 c.args.arity f a e in ap (λ x. get key_order old (x, a)) (sym s.0)
+    ∙ ap (λ y. get key_order old (c.args.name.0, y)) (sym s.1) ∙ none)

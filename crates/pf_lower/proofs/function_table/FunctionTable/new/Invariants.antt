@@ -5,4 +5,5 @@ use Rattle.pf_lower.specs.Knows.{key_order}
 use Rattle.pf_lower.proofs.function_table.FunctionTable.new.Given as goal
 
 abbrev pub invariant-loop-number : goal.invariant-loop-number
-invariant-loop-number l = (f arity : ℕ) → get key_order l.table.numbers (f, arity) ≡ own_in (take l.number l.syntax.functions) f arity
+invariant-loop-number l = (f arity : ℕ) → get key_order l.table.numbers (f, arity)
+    ≡ own_in (take l.number l.syntax.functions) f arity

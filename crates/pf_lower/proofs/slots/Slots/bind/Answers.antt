@@ -14,8 +14,10 @@ invariant_of-self-2 c =
     let x = c.args.name.0 in
     let ks = c.self.inside.names.items in
     let no : is_some c.slot.result ≡ false = search rules in
-    let new : has ks x ≡ false = ap (λ names. has names x) c.self.view_is ∙ new_where_missing c.args.self.now x c.slot.result c.slot.ensures no in
-    let placed = lengthened ks c.self.inside.slots.items c.reach.new.slots.items c.self.invariant c.reach.ensures.same in
+    let new : has ks x ≡ false = ap (λ names. has names x) c.self.view_is ∙ new_where_missing c.args.self.now x
+    c.slot.result c.slot.ensures no in
+    let placed = lengthened ks c.self.inside.slots.items c.reach.new.slots.items c.self.invariant
+    c.reach.ensures.same in
     let count : c.in-Ok.after ≡ length ks + 1 = search rules in
     let room : length ks + 1 < 2 ^ 32 = search rules in
     let more = bound ks c.reach.new.slots.items x placed new room c.in_ok-reach.ensures.past in

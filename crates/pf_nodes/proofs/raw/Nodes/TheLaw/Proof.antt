@@ -16,6 +16,13 @@ use Rattle.pf_nodes.proofs.raw.Nodes.TheLaw.Statement.{statement}
 
 pub shares : (T : RattleType) (L : Laws T) → statement T L
 shares T L =
-    of_Lends (nodes.struct T) (nodes.the_codes T.Denot T.coded (marker.the_row RawPtr).coded) (nodes.the_heap T) (nodes.the_lent T)
-    (λ d p. nodes_lent_laws T L d.items) (copy_shared (marker.the_field RawPtr) (field_copy (marker.the_type RawPtr) tt), tt)
-    (λ M 𝓤 𝓛 d p. Lends-nodes T L 𝓛 (nodes.the_row T).lives (node_laws.the_within T (nodes.the_row T).lives (Incl-trans (meet_⊑_left (T.lives ++ []) []) (meet_⊑_left T.lives []))) d.items)
+    of_Lends (nodes.struct T) (nodes.the_codes T.Denot T.coded (marker.the_row RawPtr).coded) (nodes.the_heap T)
+    (nodes.the_lent T)
+    (λ d p. nodes_lent_laws T L d.items) (
+      copy_shared (marker.the_field RawPtr)
+          (field_copy (marker.the_type RawPtr) tt),
+      tt,
+    )
+    (λ M 𝓤 𝓛 d p. Lends-nodes T L 𝓛 (nodes.the_row T).lives
+    (node_laws.the_within T (nodes.the_row T).lives
+    (Incl-trans (meet_⊑_left (T.lives ++ []) []) (meet_⊑_left T.lives []))) d.items)

@@ -7,4 +7,5 @@ use Rattle.pf_nodes.proofs.raw.Nodes.join.Goals as goal
 pub lead_back-requires : goal.lead_back-requires
 lead_back-requires g c =
     let after = c.args.after in let items = c.args.self.now.items in
-    subst (λ l. MatchOption after ⊤ (IsNodeRef l)) (sym c.lead_on.ensures) (still_placed after c.args.before after items c.requires.after)
+    subst (λ l. MatchOption after ⊤ (IsNodeRef l)) (sym c.lead_on.ensures)
+    (still_placed after c.args.before after items c.requires.after)

@@ -10,7 +10,9 @@ returns-clause-slice c =
     let n = c.args.turns in
     let g = c.match-progress.progress in
     elim c.match-progress.branch [
-      | in-Going+in-More w ↦ after_more r s n g c.self.view_is w.in-Going.parked w.in-More.parked w.in-Going.is w.progress-is w.in-More.ensures
-      | in-Going+in-Done w ↦ after_done r s n g c.self.view_is w.in-Going.parked w.in-Done.finished w.in-Going.is w.progress-is w.in-Done.ensures
+      | in-Going+in-More w ↦ after_more r s n g c.self.view_is w.in-Going.parked w.in-More.parked w.in-Going.is
+          w.progress-is w.in-More.ensures
+      | in-Going+in-Done w ↦ after_done r s n g c.self.view_is w.in-Going.parked w.in-Done.finished w.in-Going.is
+          w.progress-is w.in-Done.ensures
       | in-Over w ↦ after_over r s n g c.self.view_is w.in-Over.finished w.in-Over.is w.progress-is
     ]

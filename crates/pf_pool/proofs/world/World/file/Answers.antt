@@ -25,5 +25,7 @@ returns c =
     let rs = deque_there s w (Some taken.0) c.self.invariant.workers taken.1 in
     let k : World = record { desks = c.file.new.self; hands = c.take_finished.new.hands.items; deques = s.deques } in
     seen s c.args.self.now k (worker_does w q t File) (Ok c.emptied.result) c.self.view_is
-    (file_responds s w q t rs.0 rs.1 c.in-Some.finished c.file.result c.emptied.result c.take_finished.new.hands.items c.file.new.self taken
-    (job_taken s w q t c.in-Some.finished c.take_finished.new.hands.items c.self.invariant taken) c.emptied.ensures c.file.ensures.file)
+    (file_responds s w q t rs.0 rs.1 c.in-Some.finished c.file.result c.emptied.result c.take_finished.new.hands.items
+    c.file.new.self taken
+    (job_taken s w q t c.in-Some.finished c.take_finished.new.hands.items c.self.invariant taken) c.emptied.ensures
+    c.file.ensures.file)

@@ -14,7 +14,8 @@ pub invariant_of-self : goal.invariant_of-self
 invariant_of-self c =
     let s = world_in c.self.inside in
     let w' = c.hand_back.new.self in
-    hand_sound s w' (back_keeps s.desks w' c.args.project c.args.ticket c.hand_back.result c.hand_back.ensures) c.self.invariant c.args.worker None tt
+    hand_sound s w' (back_keeps s.desks w' c.args.project c.args.ticket c.hand_back.result c.hand_back.ensures)
+    c.self.invariant c.args.worker None tt
 
 pub returns : goal.returns
 returns c =
@@ -24,9 +25,11 @@ returns c =
     let t = c.args.ticket in
     let w' = c.hand_back.new.self in
     let test : hand_holds q t (held_of_worker s.hands w) ≡ true =
-    ap (λ (l : List Hand). hand_holds q t (held_of_worker l w)) (sym c.deref.ensures.value) ∙ sym c.holds.ensures ∙ c.if-not-holds.false in
+    ap (λ (l : List Hand). hand_holds q t (held_of_worker l w)) (sym c.deref.ensures.value) ∙ sym c.holds.ensures
+    ∙ c.if-not-holds.false in
     let x = held_so q t (slice_get s.hands w) test in
     let rs = deque_there s w (Some x.0) c.self.invariant.workers x.1 in
     let k : World = record { desks = w'; hands = slice_set s.hands w None; deques = s.deques } in
     seen s c.args.self.now k (worker_does w q t HandBack) (Ok c.emptied.result) c.self.view_is
-    (back_responds s w q t (Some x.0) rs.0 x.1 rs.1 c.hand_back.result c.emptied.result w' x.2 c.emptied.ensures c.hand_back.ensures)
+    (back_responds s w q t (Some x.0) rs.0 x.1 rs.1 c.hand_back.result c.emptied.result w' x.2 c.emptied.ensures
+    c.hand_back.ensures)

@@ -11,5 +11,6 @@ returns c =
       are_spots = c.in_ok-spots.ensures;
       written = written;
       are_written = c.in_ok-written.ensures;
-      are_among = all_signs c.loop-number.number spots written c.loop-number.places (omega arith) c.loop-number.invariant;
+      are_among = all_signs c.loop-number.number spots written c.loop-number.places (omega arith)
+          c.loop-number.invariant;
     }

@@ -2,7 +2,8 @@ use Rattle.std.proofs.Common.{◌≡◌, ◌<◌, ◌∙◌, List, ap, length, g
 use Rattle.pf_syntax.specs.Over.{parts_over}
 use Rattle.pf_syntax.specs.declared.node.Alternative.{Alternative}
 use Rattle.pf_syntax.specs.declared.node.Operand.{Operand}
-use Rattle.pf_positions.proofs.Weights.{alternative_lighter, clause_lighter, clause_weight, guard_of_some, guard_weight, tree_lighter, weights}
+use Rattle.pf_positions.proofs.Weights.{alternative_lighter, clause_lighter, clause_weight, guard_of_some, guard_weight}
+use Rattle.pf_positions.proofs.Weights.{tree_lighter, weights}
 use Rattle.pf_positions.proofs.spot.Home.+tree.Goals as goal
 
 pub put_clauses-put_clause-requires : goal.put_clauses-put_clause-requires
@@ -15,7 +16,8 @@ put_clauses-put_clause-requires t c =
 pub put_trees-put_tree-requires : goal.put_trees-put_tree-requires
 put_trees-put_tree-requires t c =
     let lt : c.loop-operand.operand-index < length c.args.operands.now = omega arith in
-    let h = λ (d : Operand). tree_lighter c.args.self.module.now.tables c.args.operands.now c.loop-operand.operand-index d lt in
+    let h = λ (d : Operand). tree_lighter c.args.self.module.now.tables c.args.operands.now
+    c.loop-operand.operand-index d lt in
     (omega (arith, h, c.decreases), tt)
 
 pub put_guard-put_trees-requires : goal.put_guard-put_trees-requires
@@ -25,7 +27,8 @@ put_guard-put_trees-requires t c =
     let i = c.loop-alternative.alternative-index in
     let value = c.deref-alternative-items.ensures.value in
     let lt : i < length gs = omega (arith, ap length value) in
-    let at : c.alternative-item.result ≡ get_or gs i c.alternative-item.result = c.alternative-item.is ∙ ap (λ (l : List Alternative). get_or l i c.alternative-item.result) value in
+    let at : c.alternative-item.result ≡ get_or gs i c.alternative-item.result =
+    c.alternative-item.is ∙ ap (λ (l : List Alternative). get_or l i c.alternative-item.result) value in
     let h = alternative_lighter tables gs i c.alternative-item.result lt in
     let e = ap (λ (g : Alternative). weights (parts_over tables g.tests.items)) at in
     let f = ap (λ (l : List Operand). weights (parts_over tables l)) c.as_slice.ensures.value in

@@ -12,7 +12,8 @@ abbrev pub decreases-put_front : goal.decreases-put_front
 decreases-put_front l = 4 * weight (tree_over l.self.module.now.tables l.node.now)
 
 abbrev pub decreases-put_infix : goal.decreases-put_infix
-decreases-put_infix l = 4 * (weight (part_over l.self.module.now.tables l.left) + weight (part_over l.self.module.now.tables l.right)) + 2
+decreases-put_infix l = 4 * (weight (part_over l.self.module.now.tables l.left)
+    + weight (part_over l.self.module.now.tables l.right)) + 2
 
 abbrev pub decreases-put_trees : goal.decreases-put_trees
 decreases-put_trees l = 4 * weights (parts_over l.self.module.now.tables l.operands.now)
@@ -48,8 +49,10 @@ invariant-put_trees-loop-operand l =
 abbrev pub invariant-put_guard-loop-alternative : goal.invariant-put_guard-loop-alternative
 invariant-put_guard-loop-alternative l =
     let t = l.self.module.now.tables in
-    map (spot_seen t) l.spots.items ++ guard_spots l.self.function.0 (alternatives_over t (drop l.alternative-index l.guard.alternatives.items))
-    ≡ map (spot_seen t) l.fn.spots.items ++ guard_spots l.self.function.0 (alternatives_over t l.guard.alternatives.items)
+    map (spot_seen t) l.spots.items ++ guard_spots l.self.function.0
+    (alternatives_over t (drop l.alternative-index l.guard.alternatives.items))
+    ≡ map (spot_seen t) l.fn.spots.items ++ guard_spots l.self.function.0
+    (alternatives_over t l.guard.alternatives.items)
 
 abbrev pub invariant-put_clauses-loop-clause : goal.invariant-put_clauses-loop-clause
 invariant-put_clauses-loop-clause l =

@@ -16,4 +16,5 @@ loop-event-preserved c =
     let item = c.index-run-event.result in
     let number : suc i ≡ i + 1 = omega arith in
     subst (λ n. AreMade (events_of c.args.run.now) n c.make.new.self) number
-    (one_more i (view_of_event (get_or es i item)) l.self c.make.new.self (event_in es i item c.loop-event-test.true) l.invariant c.in_ok-make.ensures)
+    (one_more i (view_of_event (get_or es i item)) l.self c.make.new.self (event_in es i item c.loop-event-test.true)
+    l.invariant c.in_ok-make.ensures)

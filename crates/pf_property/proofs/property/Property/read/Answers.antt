@@ -10,5 +10,6 @@ returns-in_err-pattern-in-Some-clause-fault c =
     let text = c.in-Some.text.now in
     let fault = c.in_err-pattern-in-Some.field-0.0 in
     let behind : bytes ≡ codes "never:" ++ text = search rules in
-    let told : IsNoPropertyText c.args.atoms.now bytes fault = refused_behind c.args.atoms.now bytes text behind fault c.in_err-pattern-in-Some.ensures.fault in
+    let told : IsNoPropertyText c.args.atoms.now bytes fault =
+    refused_behind c.args.atoms.now bytes text behind fault c.in_err-pattern-in-Some.ensures.fault in
     search rules

@@ -20,7 +20,8 @@ returns-clause-added c = λ f a.
     let q : Signature = record { name = f; arity = a } in
     let is : Signature → Bool = λ k. is_eq (ordering_then (nat_cmp f k.name) (nat_cmp a k.arity)) in
     let here : Bool = is_eq (ordering_then (nat_cmp c.args.name.0 f) (nat_cmp c.args.arity a)) in
-    let new : list_any is c.insert.new.self.keys ≡ lists (record { signatures = c.insert.new.self }) f a = search rules in
+    let new : list_any is c.insert.new.self.keys ≡ lists (record { signatures = c.insert.new.self }) f a =
+    search rules in
     let old : list_any is c.args.self.now.signatures.keys ≡ lists c.args.self.now f a = search rules in
     sym new
     ∙ c.in_ok-fresh.ensures.updates.0 q

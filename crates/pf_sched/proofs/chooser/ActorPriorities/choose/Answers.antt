@@ -29,4 +29,5 @@ pub returns-clause-one : goal.returns-clause-one
 returns-clause-one c =
     let pids = ap length c.pids.ensures in
     let channels = ap length (c.as_slice.ensures.value ∙ c.in_ok-put_channels.ensures) in
-    IfOk-weaker _ _ _ (λ i below. omega (arith, below, noted_count c.args.enabled.now, pids, channels)) c.choose.ensures.one
+    IfOk-weaker _ _ _ (λ i below. omega (arith, below, noted_count c.args.enabled.now, pids, channels))
+    c.choose.ensures.one

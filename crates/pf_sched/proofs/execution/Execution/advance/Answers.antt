@@ -17,13 +17,22 @@ returns-then-not-branch g c j cs es e run told =
     let i = c.loop.invariant j cs es e run told in
     let x = c.loop.self in
     let w =
-    subst (λ o. MayHaveGone g.T.Trace.Told (c.args.limit - x.system.steps) i.1.run.last x c.loop.trace o c.go.new.self c.go.new.trace) c.if-not-branch.true
+    subst (λ o. MayHaveGone g.T.Trace.Told (c.args.limit - x.system.steps) i.1.run.last x c.loop.trace o c.go.new.self
+    c.go.new.trace) c.if-not-branch.true
     (c.in_ok-go.ensures i.1.run.last i.1.run.stands) in
     let count : length i.0 ≤ length es + c.args.turns = omega arith in (
       i.0,
       subst (Executes j cs i.0) (sym w.1) i.1,
       subst (λ t. g.T.Trace.Told t j.asked i.0) (sym w.2) i.2,
-      (omega arith, count, (i.1.run.last, subst (λ z. z.system.standing ≡ Some i.1.run.last) (sym w.1) i.1.run.stands, inl w.0)),
+      (
+        omega arith,
+        count,
+        (
+          i.1.run.last,
+          subst (λ z. z.system.standing ≡ Some i.1.run.last) (sym w.1) i.1.run.stands,
+          inl w.0,
+        ),
+      ),
     )
 
 pub loop-preserved : goal.loop-preserved
@@ -31,7 +40,8 @@ loop-preserved g c j cs es e run told =
     let i = c.loop.invariant j cs es e run told in
     let x = c.loop.self in
     let w =
-    subst (λ o. MayHaveGone g.T.Trace.Told (c.args.limit - x.system.steps) i.1.run.last x c.loop.trace o c.go.new.self c.go.new.trace) c.if-not-branch.false
+    subst (λ o. MayHaveGone g.T.Trace.Told (c.args.limit - x.system.steps) i.1.run.last x c.loop.trace o c.go.new.self
+    c.go.new.trace) c.if-not-branch.false
     (c.in_ok-go.ensures i.1.run.last i.1.run.stands) in
     let left : c.args.limit - x.system.steps ≡ j.asked.limit - x.system.steps = omega arith in
     let some : x.system.steps < j.asked.limit = omega arith in
@@ -43,5 +53,10 @@ loop-preserved g c j cs es e run told =
 pub returns : goal.returns
 returns g c j cs es e run told =
     let i = c.loop.invariant j cs es e run told in
-    let count : length i.0 ≡ length es + c.args.turns = omega arith in
-    (i.0, i.1, i.2, ended c.args.limit (length es) (length i.0) c.args.turns c.loop.self i.1.run.last i.1.run.stands count c.is_over.result (c.is_over.ensures i.1.run.last i.1.run.stands))
+    let count : length i.0 ≡ length es + c.args.turns = omega arith in (
+      i.0,
+      i.1,
+      i.2,
+      ended c.args.limit (length es) (length i.0) c.args.turns c.loop.self i.1.run.last i.1.run.stands
+          count c.is_over.result (c.is_over.ensures i.1.run.last i.1.run.stands),
+    )

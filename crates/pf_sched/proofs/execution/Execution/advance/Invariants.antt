@@ -8,5 +8,7 @@ use Rattle.pf_sched.proofs.execution.Execution.advance.Given as goal
 -- the run of the same job where the same chooses, and its trace received one event more for each turn that was made
 abbrev pub invariant-loop : goal.invariant-loop
 invariant-loop g l =
-    (j : Job) (w : Choosing) (es : List Event) → j.asked.limit ≡ l.limit → Executes j w es l.fn.self → g.T.Trace.Told l.fn.trace j.asked es
-    → (now : List Event) × Executes j w now l.self × g.T.Trace.Told l.trace j.asked now × (length now ≡ length es + l.counter)
+    (j : Job) (w : Choosing) (es : List Event) → j.asked.limit ≡ l.limit → Executes j w es l.fn.self
+    → g.T.Trace.Told l.fn.trace j.asked es
+    → (now : List Event) × Executes j w now l.self × g.T.Trace.Told l.trace j.asked now
+    × (length now ≡ length es + l.counter)

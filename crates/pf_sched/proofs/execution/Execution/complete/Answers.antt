@@ -15,5 +15,6 @@ pub returns : goal.returns
 returns g c cs first =
     let j = c.args.job.now in
     let went = c.in_ok-advance.ensures j cs [] (sym c.limit.ensures.limit) first c.requires.told in
-    let over = is_over j 0 (length went.0) c.limit-2.result c.limit.result c.advance.new.self c.limit.ensures.limit c.in_ok-advance.field-0 c.if-not-branch.false went.3 in
+    let over = is_over j 0 (length went.0) c.limit-2.result c.limit.result c.advance.new.self c.limit.ensures.limit
+    c.in_ok-advance.field-0 c.if-not-branch.false went.3 in
     (went.0, went.1, went.2, over.0)

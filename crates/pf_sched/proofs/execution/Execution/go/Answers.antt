@@ -9,7 +9,8 @@ returns g c d stands =
     let old = c.args.self.now in
     let n = c.in-Some.chosen in (
       event n.index n.among n.actor (label_of c.pass_next.new.shown),
-      subst (λ o. MayHavePassed (c.args.limit - old.system.steps) d old o (label_of c.pass_next.new.shown) c.pass_next.new.self) c.in-Some.is (c.in_ok-chosen.ensures d stands),
+      subst (λ o. MayHavePassed (c.args.limit - old.system.steps) d old o (label_of c.pass_next.new.shown)
+          c.pass_next.new.self) c.in-Some.is (c.in_ok-chosen.ensures d stands),
       c.in_ok-tell.ensures,
     )
 
@@ -17,5 +18,6 @@ pub returns-in_default : goal.returns-in_default
 returns-in_default g c d stands =
     let old = c.args.self.now in
     let none =
-    subst (λ o. MayHavePassed (c.args.limit - old.system.steps) d old o (label_of c.pass_next.new.shown) c.pass_next.new.self) c.in_default.is (c.in_ok-chosen.ensures d stands) in
+    subst (λ o. MayHavePassed (c.args.limit - old.system.steps) d old o (label_of c.pass_next.new.shown)
+    c.pass_next.new.self) c.in_default.is (c.in_ok-chosen.ensures d stands) in
     (none.0, none.1, refl)

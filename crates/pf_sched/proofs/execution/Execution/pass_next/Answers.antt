@@ -6,7 +6,8 @@ use Rattle.pf_sched.proofs.execution.Execution.pass_next.Goals as goal
 
 pub pass-requires-clause-enabled : goal.pass-requires-clause-enabled
 pass-requires-clause-enabled c =
-    may_go c.args.self.now.system.standing (noted_actors c.enabled-enabled.result) c.enabled-enabled.ensures.actors c.in_ok-index.index (actor_of c.actor-actor.result)
+    may_go c.args.self.now.system.standing (noted_actors c.enabled-enabled.result) c.enabled-enabled.ensures.actors
+    c.in_ok-index.index (actor_of c.actor-actor.result)
     c.actor-actor.ensures
 
 pub returns : goal.returns
@@ -17,7 +18,8 @@ returns c d stands w s is =
         used = c.in_ok-pass.field-0;
         counts = c.len-among.ensures.count ∙ ap length (c.enabled-enabled.ensures.actors d stands);
         chooses = chosen.1;
-        chosen = ap (λ xs. slice_get xs c.in_ok-index.index) (sym (c.enabled-enabled.ensures.actors d stands)) ∙ c.actor-actor.ensures;
+        chosen = ap (λ xs. slice_get xs c.in_ok-index.index) (sym (c.enabled-enabled.ensures.actors d stands))
+            ∙ c.actor-actor.ensures;
         passes = c.in_ok-pass.ensures;
       },
       chosen.2,

@@ -14,7 +14,8 @@ use Rattle.pf_sched.proofs.guided.Guided.go.Goals as goal
 
 pub pass-requires-clause-enabled : goal.pass-requires-clause-enabled
 pass-requires-clause-enabled g c =
-    may_go c.args.self.now.system.standing (noted_actors c.enabled-enabled.result) c.enabled-enabled.ensures.actors c.in_ok-index.index c.actor-actor.result
+    may_go c.args.self.now.system.standing (noted_actors c.enabled-enabled.result) c.enabled-enabled.ensures.actors
+    c.in_ok-index.index c.actor-actor.result
     c.actor-actor.ensures
 
 pub returns : goal.returns
@@ -28,7 +29,8 @@ returns g c d stands =
         used = c.in_ok-pass.field-0;
         counts = c.len-among.ensures.count ∙ ap length (c.enabled-enabled.ensures.actors d stands);
         chooses = ap (choice pcg32 (priorities_in c.args.self.now)) (sym keys) ∙ c.in_ok-index.ensures.choice;
-        chosen = ap (λ xs. slice_get xs c.in_ok-index.index) (sym (c.enabled-enabled.ensures.actors d stands)) ∙ c.actor-actor.ensures;
+        chosen = ap (λ xs. slice_get xs c.in_ok-index.index) (sym (c.enabled-enabled.ensures.actors d stands))
+            ∙ c.actor-actor.ensures;
         passes = c.in_ok-pass.ensures;
       },
       c.in_ok-tell.ensures,

@@ -8,7 +8,10 @@ both_none xs ys a b = rw (a, b) refl
 
 pub returns-clause-told : goal.returns-clause-told
 returns-clause-told c = (
-  ((ap (λ k. k.asked.property) c.job.view_is, (c.new-2.ensures c.args.job.now.asked).0.1), (c.new-2.ensures c.args.job.now.asked).1),
+  (
+    (ap (λ k. k.asked.property) c.job.view_is, (c.new-2.ensures c.args.job.now.asked).0.1),
+    (c.new-2.ensures c.args.job.now.asked).1,
+  ),
   c.atoms.ensures ∙ ap (λ m. m.atoms) c.deref.ensures ∙ ap (λ m. m.atoms) c.module.ensures,
   both_none _ _ c.new.ensures.gone c.new.ensures.waiting,
   c.new.ensures.written (name_of c.atoms.result.now),

@@ -14,5 +14,6 @@ returns-clause-run c cs makes =
     record {
       run = subst (λ es. Executes j cs es c.in_ok-execution.execution) (sym none) (c.in_ok-execution.ensures cs makes);
       written = c.new-written.ensures.written (name_of j.asked.code.atoms);
-      ruled_out = c.new-written.ensures.clear ∙ ap (λ es. some_label (rules_out j.asked.property) (labels_in es)) (sym none);
+      ruled_out = c.new-written.ensures.clear
+          ∙ ap (λ es. some_label (rules_out j.asked.property) (labels_in es)) (sym none);
     }

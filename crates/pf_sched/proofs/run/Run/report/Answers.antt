@@ -19,10 +19,22 @@ returns c cs run over =
     let o = view_of_outcome c.in_ok-outcome.outcome in
     let same = ap (λ k. k.asked.property) c.job.view_is in
     let told : c.judge-verdict.result ≡ verdict j.asked.property ls o =
-    c.judge-verdict.ensures ls (subst (λ p. c.args.self.written.ruled_out ≡ some_label (rules_out p) ls) (sym same) run.ruled_out) ∙ ap (λ p. verdict p ls o) same in
-    let r : WrittenReport = record { lines = c.finish.result; outcome = c.in_ok-outcome.outcome; steps = c.steps-steps.result; verdict = c.judge-verdict.result } in
+    c.judge-verdict.ensures ls (subst (λ p. c.args.self.written.ruled_out ≡ some_label (rules_out p) ls)
+    (sym same) run.ruled_out) ∙ ap (λ p. verdict p ls o) same in
+    let r : WrittenReport = record {
+      lines = c.finish.result;
+      outcome = c.in_ok-outcome.outcome;
+      steps =
+          c.steps-steps.result;
+      verdict = c.judge-verdict.result;
+    } in
     let closes : ClosesRun j es c.args.self.execution.system (report_in r) =
-    record { events = c.finish.ensures.events; outcome = c.in_ok-outcome.ensures.outcome; steps = c.steps-steps.ensures; verdict = told } in (
+    record {
+      events = c.finish.ensures.events;
+      outcome = c.in_ok-outcome.ensures.outcome;
+      steps = c.steps-steps.ensures;
+      verdict = told;
+    } in (
       (
         means j cs es c.args.self.execution run.run over (report_in r) closes,
         c.finish.ensures.written (name_of j.asked.code.atoms) run.written,

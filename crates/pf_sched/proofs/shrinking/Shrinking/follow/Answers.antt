@@ -28,14 +28,17 @@ begin-requires-clause-hunt c =
     let x = c.requires.shrinking in
     let told = c.in_ok-ended.ensures (choices (schedule x.next)) x.run c.requires.over in
     let count : s.before + c.len.result ≡ s.before + length (events_in s.run) = omega (arith, c.len.ensures) in
-    hunt_goes_on c.args.job.now s x c.in_ok-ended.ended (with_choices c.args.job.now.asked (schedule x.next) _ told.0.0) told.1 c.tell-kept.new.hunt c.tell-kept.ensures.told (s.before + c.len.result) count
+    hunt_goes_on c.args.job.now s x c.in_ok-ended.ended (with_choices c.args.job.now.asked (schedule x.next) _ told.0.0)
+    told.1 c.tell-kept.new.hunt c.tell-kept.ensures.told (s.before + c.len.result) count
 
 pub begin-requires-clause-report : goal.begin-requires-clause-report
 begin-requires-clause-report c =
     let s = c.args.self in
     let x = c.requires.shrinking in
     let told = c.in_ok-ended.ensures (choices (schedule x.next)) x.run c.requires.over in
-    report_goes_on c.args.job.now s x c.in_ok-ended.ended (with_choices c.args.job.now.asked (schedule x.next) _ told.0.0) told.0.1 c.tell-kept.new.hunt c.tell-kept.ensures.told c.tell-kept.result c.tell-kept.ensures.kept
+    report_goes_on c.args.job.now s x c.in_ok-ended.ended
+    (with_choices c.args.job.now.asked (schedule x.next) _ told.0.0) told.0.1 c.tell-kept.new.hunt
+    c.tell-kept.ensures.told c.tell-kept.result c.tell-kept.ensures.kept
 
 pub returns : goal.returns
 returns c =
@@ -43,5 +46,7 @@ returns c =
     let x = c.requires.shrinking in
     let count : s.before + c.len.result ≡ s.before + length (events_in s.run) = omega (arith, c.len.ensures) in
     let fewer = fewer_runs s.hunt x.next x.is_next (is_failure c.in_ok-ended.ended.verdict) in
-    let left : runs_left c.tell-kept.new.hunt ≤ runs_left s.hunt - 1 = subst (λ h. runs_left h ≤ runs_left s.hunt - 1) (sym c.tell-kept.ensures.told) fewer in
-    IfOk-weaker _ _ _ (follows_so c.args.job.now (s.before + c.len.result) (events_so_far s) (runs_left c.tell-kept.new.hunt) (runs_left s.hunt - 1) count left) c.begin.ensures
+    let left : runs_left c.tell-kept.new.hunt ≤ runs_left s.hunt - 1 = subst (λ h. runs_left h ≤ runs_left s.hunt - 1)
+    (sym c.tell-kept.ensures.told) fewer in
+    IfOk-weaker _ _ _ (follows_so c.args.job.now (s.before + c.len.result) (events_so_far s)
+    (runs_left c.tell-kept.new.hunt) (runs_left s.hunt - 1) count left) c.begin.ensures

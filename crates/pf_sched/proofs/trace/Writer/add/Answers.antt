@@ -14,9 +14,14 @@ returns c j es told =
     let e = view_of_event c.args.told.now in
     let by_now = old.written.ruled_out || rules_out (property_of old.property.now) e.label in
     let ruled_out : by_now ≡ some_label (rules_out j.property) (labels_in (es ++ e ∷ [])) =
-    ap (λ p. old.written.ruled_out || rules_out p e.label) told.0.0 ∙ ap (λ b. b || rules_out j.property e.label) told.0.1
+    ap (λ p. old.written.ruled_out || rules_out p e.label) told.0.0
+    ∙ ap (λ b. b || rules_out j.property e.label) told.0.1
     ∙ sym (one_event_more (rules_out j.property) es e) in
     let written : WrittenEvents = record { lines = c.add.new.self; ruled_out = by_now } in
-    let all : WritesEvents (record old { written = written }) j (es ++ e ∷ []) =
-    ((told.0.0, ruled_out), told.1, c.in_ok-add.ensures.event ∙ ap (λ xs. xs ++ e ∷ []) told.2, c.in_ok-add.ensures.line told.3) in
+    let all : WritesEvents (record old { written = written }) j (es ++ e ∷ []) = (
+      (told.0.0, ruled_out),
+      told.1,
+      c.in_ok-add.ensures.event ∙ ap (λ xs. xs ++ e ∷ []) told.2,
+      c.in_ok-add.ensures.line told.3,
+    ) in
     subst (λ w. WritesEvents (record old { written = w }) j (es ++ e ∷ [])) (sym c.see.ensures) all

@@ -4,18 +4,21 @@ use Rattle.pf_sorted.proofs.Maps.{got_there, got_gap, without_there, without_gap
 use Rattle.pf_sorted.proofs.map.SortedMap.remove.Goals as goal
 
 pub invariant_of-self : goal.invariant_of-self
-invariant_of-self g c = rw c.remove.ensures.items (rises_remove (λ e. e.0) 0 c.self.inside.entries.items c.in-Ok.at c.self.invariant)
+invariant_of-self g c = rw c.remove.ensures.items
+    (rises_remove (λ e. e.0) 0 c.self.inside.entries.items c.in-Ok.at c.self.invariant)
 
 pub returns-in-Ok-clause-was : goal.returns-in-Ok-clause-was
 returns-in-Ok-clause-was g c =
     let h = rw (← c.self.view_is) at c.in-Ok.ensures.found in
     rw (← c.self.view_is)
-    (ap (λ e. Some e.1) c.remove.ensures.value ∙ sym (got_there c.args.key c.self.inside.entries.items c.in-Ok.at c.remove.result h.1))
+    (ap (λ e. Some e.1) c.remove.ensures.value
+    ∙ sym (got_there c.args.key c.self.inside.entries.items c.in-Ok.at c.remove.result h.1))
 
 pub returns-in-Ok-clause-removed : goal.returns-in-Ok-clause-removed
 returns-in-Ok-clause-removed g c =
     let h = rw (← c.self.view_is) at c.in-Ok.ensures.found in
-    rw (c.remove.ensures.items, ← c.self.view_is) (without_there c.args.key 0 c.self.inside.entries.items c.in-Ok.at c.self.invariant h.1)
+    rw (c.remove.ensures.items, ← c.self.view_is)
+    (without_there c.args.key 0 c.self.inside.entries.items c.in-Ok.at c.self.invariant h.1)
 
 pub returns-in-Err-clause-was : goal.returns-in-Err-clause-was
 returns-in-Err-clause-was g c =

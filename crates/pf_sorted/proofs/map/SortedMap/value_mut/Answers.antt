@@ -13,5 +13,9 @@ returns g c =
     let read = c.index_mut-entry.ensures.value in
     let xs = c.self.inside.entries.items in (
       (refl, λ w. rw (← c.self.view_is) (set_entry xs c.args.at w c.index_mut-entry.result.now read)),
-      record { writes_back = tt; value = rw (← c.self.view_is) (value_at xs c.args.at c.index_mut-entry.result.now l read) },
+      record {
+        writes_back = tt;
+        value = rw (← c.self.view_is)
+            (value_at xs c.args.at c.index_mut-entry.result.now l read);
+      },
     )

@@ -8,4 +8,5 @@ returns-clause-found c =
     let facts = c.binary_search_by_key.ensures in
     let by_key = facts.position (λ item. item) (answers_always _ _ _ (λ f a r g called. search rules)) in
     rw (← c.self.view_is, ← c.deref.ensures.value)
-    (searched (λ x. x) c.args.number c.deref.result.now (rw c.deref.ensures.value c.self.invariant) _ facts.bound by_key)
+    (searched (λ x. x) c.args.number c.deref.result.now (rw c.deref.ensures.value c.self.invariant) _
+    facts.bound by_key)

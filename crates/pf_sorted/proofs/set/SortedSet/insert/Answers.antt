@@ -15,4 +15,5 @@ returns-in-Ok-clause-inserted c = sym (with_there c.args.number c.args.self.now 
 pub returns-in_ok-insert-in-Err-clause-inserted : goal.returns-in_ok-insert-in-Err-clause-inserted
 returns-in_ok-insert-in-Err-clause-inserted c =
     let g = rw (← c.self.view_is) at c.in-Err.ensures.found in
-    rw (c.in_ok-insert-in-Err.ensures.items, ← c.self.view_is) (with_gap c.args.number c.self.inside.items.items c.in-Err.at g.1)
+    rw (c.in_ok-insert-in-Err.ensures.items, ← c.self.view_is)
+    (with_gap c.args.number c.self.inside.items.items c.in-Err.at g.1)

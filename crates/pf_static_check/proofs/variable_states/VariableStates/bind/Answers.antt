@@ -13,7 +13,9 @@ pub returns-in_ok-push : goal.returns-in_ok-push
 returns-in_ok-push c =
     let old = c.args.self.now in
     let set = c.set.new.self in
-    let is_new : status_of old c.args.name.0 ≡ New = sym c.status.ensures ∙ same_true status.the_type (search rules) _ _ (sym c.eq.ensures ∙ c.if-eq.true) in
+    let is_new : status_of old c.args.name.0 ≡ New = sym c.status.ensures ∙ same_true status.the_type (search rules) _ _
+    (sym c.eq.ensures ∙ c.if-eq.true) in
     let longer : map (λ a. a.0) c.push.new.self.items ≡ trail_of old ++ c.args.name.0 ∷ [] =
-    ap (map (λ (a : AtomId). a.0)) c.in_ok-push.ensures.items ∙ map-append (λ (a : AtomId). a.0) set.trail.items (c.args.name ∷ []) ∙ ap (λ (l : List ℕ). l ++ c.args.name.0 ∷ []) c.in_ok-set.ensures.trail in
+    ap (map (λ (a : AtomId). a.0)) c.in_ok-push.ensures.items ∙ map-append (λ (a : AtomId). a.0) set.trail.items
+    (c.args.name ∷ []) ∙ ap (λ (l : List ℕ). l ++ c.args.name.0 ∷ []) c.in_ok-set.ensures.trail in
     bound_new old _ c.args.name.0 is_new c.in_ok-set.ensures.set longer

@@ -9,13 +9,17 @@ loop-index-preserved c =
     let items = s.trail.items in
     let i = c.loop-index.index in
     let name = c.index-name.result.now in
-    let same : length items ≡ length c.args.self.now.trail.items = same_length items c.args.self.now.trail.items c.loop-index.invariant.trail in
+    let same : length items ≡ length c.args.self.now.trail.items =
+    same_length items c.args.self.now.trail.items c.loop-index.invariant.trail in
     let within : i < length items = omega (arith, c.args.self.now.trail.ok.0) in
     let kept = c.in_ok-set.ensures.trail in
-    let rest : drop (i + 1) (trail_of c.set.new.self) ≡ drop (suc i) (trail_of s) = rw add-one (ap (drop (suc i)) kept) in
-    let split : drop i (trail_of s) ≡ name.0 ∷ drop (i + 1) (trail_of c.set.new.self) = dropped_item items i name within c.index-name.ensures ∙ ap (λ (ns : List ℕ). name.0 ∷ ns) (sym rest) in
+    let rest : drop (i + 1) (trail_of c.set.new.self) ≡ drop (suc i) (trail_of s) =
+    rw add-one (ap (drop (suc i)) kept) in
+    let split : drop i (trail_of s) ≡ name.0 ∷ drop (i + 1) (trail_of c.set.new.self) =
+    dropped_item items i name within c.index-name.ensures ∙ ap (λ (ns : List ℕ). name.0 ∷ ns) (sym rest) in
     record {
       trail = kept ∙ c.loop-index.invariant.trail;
       states = λ x.
-          one_set x name.0 (drop i (trail_of s)) (drop (i + 1) (trail_of c.set.new.self)) c.args.status (status_of s x) (status_of c.set.new.self x) _ split (c.in_ok-set.ensures.set x) (c.loop-index.invariant.states x);
+          one_set x name.0 (drop i (trail_of s)) (drop (i + 1) (trail_of c.set.new.self)) c.args.status (status_of s x)
+          (status_of c.set.new.self x) _ split (c.in_ok-set.ensures.set x) (c.loop-index.invariant.states x);
     }

@@ -16,9 +16,14 @@ expr_patterns-loop-part-preserved t c =
     let parts = c.args.parts.now in
     let i = c.loop-part.part-index in
     let d : ExprPatternId = record { 0 = 0 } in
-    let split : expr_patterns_at node_table (drop i parts) ≡ expr_pattern (expr_pattern_at node_table (get_or parts i d).0) (expr_patterns_at node_table (drop (i + 1) parts)) = at_drop_more (λ qs. expr_patterns_at node_table qs) parts i d c.loop-part-test.true in
+    let split : expr_patterns_at node_table (drop i parts) ≡ expr_pattern
+    (expr_pattern_at node_table (get_or parts i d).0) (expr_patterns_at node_table (drop (i + 1) parts)) =
+    at_drop_more (λ qs. expr_patterns_at node_table qs) parts i d c.loop-part-test.true in
     record {
-      underway = expr_patterns_more c.args.self.now c.loop-part.self c.expr_pattern.new.self (expr_patterns_at node_table parts) (expr_patterns_at node_table (drop i parts)) (expr_patterns_at node_table (drop (i + 1) parts)) _ split c.loop-part.invariant.underway c.in_ok-expr_pattern.ensures;
+      underway = expr_patterns_more c.args.self.now c.loop-part.self c.expr_pattern.new.self
+          (expr_patterns_at node_table parts) (expr_patterns_at node_table (drop i parts))
+          (expr_patterns_at node_table (drop (i + 1) parts)) _ split c.loop-part.invariant.underway
+          c.in_ok-expr_pattern.ensures;
       shallow = omega (arith, c.loop-part.invariant.shallow, ap expr_patterns_depth split);
     }
 
@@ -26,5 +31,7 @@ pub expr_patterns-returns : goal.expr_patterns-returns
 expr_patterns-returns t c =
     let node_table = c.args.syntax.now.node_table in
     let parts = c.args.parts.now in
-    expr_patterns_all c.args.self.now c.loop-part.self (expr_patterns_at node_table parts) (expr_patterns_at node_table (drop c.loop-part.part-index parts))
-    (at_drop_all (λ qs. expr_patterns_at node_table qs) parts c.loop-part.part-index c.loop-part-test.false) c.loop-part.invariant.underway
+    expr_patterns_all c.args.self.now c.loop-part.self (expr_patterns_at node_table parts)
+    (expr_patterns_at node_table (drop c.loop-part.part-index parts))
+    (at_drop_all (λ qs. expr_patterns_at node_table qs) parts c.loop-part.part-index c.loop-part-test.false)
+    c.loop-part.invariant.underway

@@ -17,6 +17,8 @@ decreases-expr_patterns l = 3 * expr_patterns_depth (expr_patterns_at l.syntax.n
 -- what was walked and what is left are the whole
 abbrev pub invariant-expr_patterns-loop-part : goal.invariant-expr_patterns-loop-part
 invariant-expr_patterns-loop-part l = record {
-  underway : ExprPatternsUnderway l.fn.self l.self (expr_patterns_at l.syntax.node_table l.parts) (expr_patterns_at l.syntax.node_table (drop l.part-index l.parts));
-  shallow : expr_patterns_depth (expr_patterns_at l.syntax.node_table (drop l.part-index l.parts)) ≤ expr_patterns_depth (expr_patterns_at l.syntax.node_table l.parts);
+  underway : ExprPatternsUnderway l.fn.self l.self (expr_patterns_at l.syntax.node_table l.parts)
+      (expr_patterns_at l.syntax.node_table (drop l.part-index l.parts));
+  shallow : expr_patterns_depth (expr_patterns_at l.syntax.node_table (drop l.part-index l.parts)) ≤ expr_patterns_depth
+      (expr_patterns_at l.syntax.node_table l.parts);
 }

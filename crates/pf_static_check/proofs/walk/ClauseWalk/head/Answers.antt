@@ -16,8 +16,12 @@ returns c =
     let n = names_of_module c.args.atoms.now c.args.syntax.now.functions in
     let node_table = c.args.syntax.now.node_table in
     let now = c.exprs.new.self in
-    let front = subst (λ (ids : List ExprPatternId). ExprPatternsWalked c.args.self.now c.expr_patterns.new.self (expr_patterns_at node_table ids)) c.deref.ensures.value c.in_ok-expr_patterns.ensures in
-    let body = subst (λ (ids : List ExprId). ExprsWalked n c.condition.new.self now (exprs_at node_table ids)) c.deref-2.ensures.value c.in_ok-exprs.ensures in
-    begins_anew n c.args.self.now c.expr_patterns.new.self c.condition.new.self now _ (head_over node_table c.args.head.now) front c.in_ok-condition.ensures body refl
-    (λ x. c.in_ok-forget.ensures.set x ∙ ap (λ (k : ℕ). if has (drop k (trail_of now.variables)) x then New else status_of now.variables x) c.trail_len-start.ensures)
+    let front = subst (λ (ids : List ExprPatternId). ExprPatternsWalked c.args.self.now c.expr_patterns.new.self
+    (expr_patterns_at node_table ids)) c.deref.ensures.value c.in_ok-expr_patterns.ensures in
+    let body = subst (λ (ids : List ExprId). ExprsWalked n c.condition.new.self now (exprs_at node_table ids))
+    c.deref-2.ensures.value c.in_ok-exprs.ensures in
+    begins_anew n c.args.self.now c.expr_patterns.new.self c.condition.new.self now _
+    (head_over node_table c.args.head.now) front c.in_ok-condition.ensures body refl
+    (λ x. c.in_ok-forget.ensures.set x ∙ ap (λ (k : ℕ). if has (drop k (trail_of now.variables)) x then New
+    else status_of now.variables x) c.trail_len-start.ensures)
     (c.in_ok-forget.ensures.trail ∙ ap (λ (k : ℕ). take k (trail_of now.variables)) c.trail_len-start.ensures)

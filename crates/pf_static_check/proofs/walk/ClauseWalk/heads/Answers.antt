@@ -17,13 +17,17 @@ loop-head-preserved c =
     let i = c.loop-head.head-index in
     let x = c.head-item.result in
     let rest = map (head_over node_table) (drop (i + 1) hs) in
-    let split : map (head_over node_table) (drop i hs) ≡ head_over node_table x ∷ rest = next_item (map (head_over node_table)) hs i x c.loop-head-test.true c.head-item.is in
-    onward_more (head_faults (names_of_module c.args.atoms.now c.args.syntax.now.functions)) c.args.self.now c.loop-head.self c.head.new.self _ rest (head_over node_table x) _ split c.loop-head.invariant c.in_ok-head.ensures
+    let split : map (head_over node_table) (drop i hs) ≡ head_over node_table x ∷ rest =
+    next_item (map (head_over node_table)) hs i x c.loop-head-test.true c.head-item.is in
+    onward_more (head_faults (names_of_module c.args.atoms.now c.args.syntax.now.functions)) c.args.self.now
+    c.loop-head.self c.head.new.self _ rest (head_over node_table x) _ split c.loop-head.invariant
+    c.in_ok-head.ensures
 
 pub returns : goal.returns
 returns c =
     let node_table = c.args.syntax.now.node_table in
     let hs = c.args.heads.now in
     let i = c.loop-head.head-index in
-    onward_all (head_faults (names_of_module c.args.atoms.now c.args.syntax.now.functions)) c.args.self.now c.loop-head.self (map (head_over node_table) (drop i hs)) _
+    onward_all (head_faults (names_of_module c.args.atoms.now c.args.syntax.now.functions)) c.args.self.now
+    c.loop-head.self (map (head_over node_table) (drop i hs)) _
     (at_drop_all (map (head_over node_table)) hs i c.loop-head-test.false) c.loop-head.invariant

@@ -8,5 +8,6 @@ invariant-loop-at l =
     record {
       same : l.self.messages.items ≡ l.fn.self.messages.items;
       slots : l.env.items ≡ l.fn.env.items;
-      passed : Passed l.code l.own l.base l.fn.env.items (clauses_over l.code.tables l.clauses) (take l.at l.self.messages.items);
+      passed : Passed l.code l.own l.base l.fn.env.items (clauses_over l.code.tables l.clauses)
+          (take l.at l.self.messages.items);
     }

@@ -16,7 +16,9 @@ returns-in-Awaits c =
     let s = c.micro_step.new.self in
     let m = c.args.code.now in
     let e = a.process ∙ c.loop-next.invariant.process in (
-      subst (λ p. Contracts (module_of m) c.args.own p (awaits (holes_of m.tables s.env.items s.operands.items s.frames.items) (sub_clauses (activation s.env.items s.base) (clauses_in (tree_at m.tables c.in-Awaits.id.0))))) e
+      subst (λ p. Contracts (module_of m) c.args.own p
+          (awaits (holes_of m.tables s.env.items s.operands.items s.frames.items)
+          (sub_clauses (activation s.env.items s.base) (clauses_in (tree_at m.tables c.in-Awaits.id.0))))) e
           (awaits_at m c.args.own s.env.items s.operands.items s.base s.frames.items c.in-Awaits.id a.receives),
       e,
       a.sound,

@@ -6,21 +6,25 @@ use Rattle.pf_stepper.proofs.Matched.{bind_done, bind_fails_as, bind_more_as}
 use Rattle.pf_stepper.proofs.stack.Stack.bind_one.Goals as goal
 
 pub bind-requires : goal.bind-requires
-bind-requires c = rw c.resume.ensures.env (inside_cut c.args.code.now c.args.own _ _ 0 _ c.args.frame c.args.value c.requires.sound)
+bind-requires c = rw c.resume.ensures.env (inside_cut c.args.code.now c.args.own _ _ 0 _ c.args.frame c.args.value
+    c.requires.sound)
 
 pub returns-in-None : goal.returns-in-None
 returns-in-None c =
     let r = c.resume.ensures in
     rw (r.env, r.operands, r.frames, r.base)
-    (bind_done _ c.args.own _ _ _ _ c.args.frame c.args.value c.requires.sound c.args.id c.args.done _ c.requires.kind c.rest.ensures
-    (ap (patterns_after c.args.done) (sym c.patterns.ensures) ∙ patterns_none c.args.code.now.tables c.patterns.result.now c.args.done c.in-None.ensures.lookup.0))
+    (bind_done _ c.args.own _ _ _ _ c.args.frame c.args.value c.requires.sound c.args.id c.args.done _
+    c.requires.kind c.rest.ensures
+    (ap (patterns_after c.args.done) (sym c.patterns.ensures) ∙ patterns_none c.args.code.now.tables
+    c.patterns.result.now c.args.done c.in-None.ensures.lookup.0))
 
 pub returns-then-not-branch : goal.returns-then-not-branch
 returns-then-not-branch c =
     let r = c.resume.ensures in
     rw (r.operands, r.frames, r.base)
     (bind_fails_as _ c.args.own _ _ _ _ c.args.frame c.args.value c.requires.sound c.args.id c.args.done _ _
-    (ap (patterns_after c.args.done) (sym c.patterns.ensures) ∙ patterns_some c.args.code.now.tables c.patterns.result.now c.args.done c.in-Some.pattern.now c.in-Some.ensures.lookup.0 c.in-Some.ensures.lookup.1)
+    (ap (patterns_after c.args.done) (sym c.patterns.ensures) ∙ patterns_some c.args.code.now.tables
+    c.patterns.result.now c.args.done c.in-Some.pattern.now c.in-Some.ensures.lookup.0 c.in-Some.ensures.lookup.1)
     _ _ r.env _ c.in_ok-bind-in-Some.ensures _ c.requires.kind (search rules) c.in_ok-reason-in-Some.ensures)
 
 pub returns-in_ok-wait-in-Some : goal.returns-in_ok-wait-in-Some
@@ -29,5 +33,6 @@ returns-in_ok-wait-in-Some c =
     let r = c.resume.ensures in
     rw (w.ok, w.env, w.operands, w.base, r.operands, r.frames, r.base)
     (bind_more_as _ c.args.own _ _ _ _ c.args.frame c.args.value c.requires.sound c.args.id c.args.done _ _
-    (ap (patterns_after c.args.done) (sym c.patterns.ensures) ∙ patterns_some c.args.code.now.tables c.patterns.result.now c.args.done c.in-Some.pattern.now c.in-Some.ensures.lookup.0 c.in-Some.ensures.lookup.1)
+    (ap (patterns_after c.args.done) (sym c.patterns.ensures) ∙ patterns_some c.args.code.now.tables
+    c.patterns.result.now c.args.done c.in-Some.pattern.now c.in-Some.ensures.lookup.0 c.in-Some.ensures.lookup.1)
     _ _ r.env _ c.in_ok-bind-in-Some.ensures c.requires.kind (search rules))

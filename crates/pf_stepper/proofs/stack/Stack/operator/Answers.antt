@@ -13,5 +13,6 @@ returns-in-Some-Some c =
     let x : FitsSigned w64 w.x = search rules in
     let y : FitsSigned w64 w.y = search rules in
     let same = simp to_z-of_z at (c.on_integers.ensures (name_of c.args.code.now.atoms)) in
-    at_once c.args.code.now c.args.own c.args.self.now c.args.id (binary.Operator c.args.operator) c.args.left c.args.right (term.Int w.x) (term.Int w.y) (t.Contracted c.outcome.result) c.requires.sound c.requires.found
+    at_once c.args.code.now c.args.own c.args.self.now c.args.id (binary.Operator c.args.operator) c.args.left
+    c.args.right (term.Int w.x) (term.Int w.y) (t.Contracted c.outcome.result) c.requires.sound c.requires.found
     (w.ensures c.args.code.now.tables) (w.ensures' c.args.code.now.tables) (rw same at c.outcome.ensures)

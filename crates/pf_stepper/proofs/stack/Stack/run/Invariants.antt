@@ -5,7 +5,8 @@ use Rattle.pf_stepper.proofs.stack.Stack.run.Given as goal
 
 abbrev pub invariant-loop-used : goal.invariant-loop-used
 invariant-loop-used l = record {
-  steps : Steps (module_of l.code) l.own l.used (stack_process l.code l.fn.self l.fn.first) (stack_process l.code l.self l.focus);
+  steps : Steps (module_of l.code) l.own l.used (stack_process l.code l.fn.self l.fn.first)
+      (stack_process l.code l.self l.focus);
   sound : IsSound l.self l.focus;
   within : l.used ≤ l.left;
 }

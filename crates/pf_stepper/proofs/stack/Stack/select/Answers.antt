@@ -3,7 +3,8 @@ use Rattle.pf_stepper.proofs.Matched.{selects}
 use Rattle.pf_stepper.proofs.stack.Stack.select.Goals as goal
 
 pub choose-requires : goal.choose-requires
-choose-requires c = rw c.resume.ensures.env (inside_cut c.args.code.now c.args.own _ _ 0 _ c.args.frame c.args.value c.requires.sound)
+choose-requires c = rw c.resume.ensures.env (inside_cut c.args.code.now c.args.own _ _ 0 _ c.args.frame c.args.value
+    c.requires.sound)
 
 pub returns : goal.returns
 returns c =

@@ -33,10 +33,13 @@ loop-at-preserved c =
       holders = c.in_ok-priority.ensures.holders;
     } in
     let rest = all_given pcg32 (drop (at + 1) keys) c.give.new.generator (drop (at + 1) ns) in
-    let highest : highest_from at best most (all_given pcg32 (drop at keys) g (drop at hs)).held ≡ highest_from (at + 1) best_now most_now rest.held =
+    let highest : highest_from at best most (all_given pcg32 (drop at keys) g (drop at hs)).held ≡ highest_from
+    (at + 1) best_now most_now rest.held =
     elim c.if-priority-highest.branch [
-      | then-priority-highest b ↦ higher pcg32 keys g c.give.new.generator hs ns at k p w best most best_now most_now (omega (arith, b.if-priority-highest.true)) b.best-is b.highest-is
-      | else-priority-highest b ↦ no_higher pcg32 keys g c.give.new.generator hs ns at k p w best most best_now most_now (omega (arith, b.if-priority-highest.false)) b.best-is b.highest-is
+      | then-priority-highest b ↦ higher pcg32 keys g c.give.new.generator hs ns at k p w best most best_now most_now
+          (omega (arith, b.if-priority-highest.true)) b.best-is b.highest-is
+      | else-priority-highest b ↦ no_higher pcg32 keys g c.give.new.generator hs ns at k p w best most best_now most_now
+          (omega (arith, b.if-priority-highest.false)) b.best-is b.highest-is
     ] in
     let one : best_now ≤ at + 1 - 1 =
     elim c.if-priority-highest.branch [
@@ -47,7 +50,8 @@ loop-at-preserved c =
       within = long pcg32 keys g c.give.new.generator hs ns at k p w;
       given = i.given ∙ one_given pcg32 keys g c.give.new.generator hs ns at k p w;
       best = one;
-      highest = ap (highest_from 0 0 0) (sym (same_list pcg32 keys g c.give.new.generator hs ns at k p w)) ∙ i.highest ∙ highest;
+      highest = ap (highest_from 0 0 0) (sym (same_list pcg32 keys g c.give.new.generator hs ns at k p w))
+          ∙ i.highest ∙ highest;
     }
 
 pub returns-clause-choice : goal.returns-clause-choice
@@ -60,8 +64,13 @@ returns-clause-choice c =
     let hs = c.loop-at.self.held.items in
     let best = c.loop-at.best in
     let end : at ≡ count = omega (arith, c.loop-at-test.false, c.loop-at.auto.at-end) in
-    let few : length keys ≤ at = omega (arith, c.loop-at-test.false, count_of_keys c.args.pids.now c.args.channels.now) in
+    let few : length keys ≤ at = omega (
+      arith,
+      c.loop-at-test.false,
+      count_of_keys c.args.pids.now c.args.channels.now,
+    ) in
     let left : remove (take at hs) best ≡ c.remove.new.self.items =
-    ap (λ n. remove (take n hs) best) end ∙ ap (λ xs. remove xs best) (sym c.truncate.ensures.items) ∙ sym c.remove.ensures.items in
+    ap (λ n. remove (take n hs) best) end ∙ ap (λ xs. remove xs best) (sym c.truncate.ensures.items)
+    ∙ sym c.remove.ensures.items in
     all_gone pcg32 keys g hs at (state_of c.args.self.now) best c.loop-at.highest few i.given i.highest
     ∙ ap (λ xs. (best, record { generator = g; held = xs })) left

@@ -13,9 +13,13 @@ invariant-loop-at l = record {
   within : l.at ≤ length l.self.held.items;
   given :
       all_given pcg32 (keys_among l.pids l.channels) l.fn.self.generator l.fn.self.held.items
-      ≡ behind (take l.at l.self.held.items) (all_given pcg32 (drop l.at (keys_among l.pids l.channels)) l.self.generator (drop l.at l.self.held.items));
+      ≡ behind (take l.at l.self.held.items) (all_given pcg32 (drop l.at (keys_among l.pids l.channels))
+      l.self.generator (drop l.at l.self.held.items));
   best : l.best ≤ l.at - 1;
   highest :
-      highest_from 0 0 0 (take l.at l.self.held.items ++ (all_given pcg32 (drop l.at (keys_among l.pids l.channels)) l.self.generator (drop l.at l.self.held.items)).held)
-      ≡ highest_from l.at l.best l.highest (all_given pcg32 (drop l.at (keys_among l.pids l.channels)) l.self.generator (drop l.at l.self.held.items)).held;
+      highest_from 0 0 0 (take l.at l.self.held.items
+      ++ (all_given pcg32 (drop l.at (keys_among l.pids l.channels)) l.self.generator
+      (drop l.at l.self.held.items)).held)
+      ≡ highest_from l.at l.best l.highest (all_given pcg32 (drop l.at (keys_among l.pids l.channels)) l.self.generator
+      (drop l.at l.self.held.items)).held;
 }

@@ -8,6 +8,10 @@ loop-rest-preserved g c =
     let n = c.in-Ok.n in
     let rest = c.loop-rest.rest.now in
     record {
-      wrote = (w.0 ++ take n rest, rw c.split_at.ensures.back (split_more _ w.0 rest n w.1), appends_both _ _ _ w.0 (take n rest) w.2 c.in-Ok.ensures.bytes);
+      wrote = (
+        w.0 ++ take n rest,
+        rw c.split_at.ensures.back (split_more _ w.0 rest n w.1),
+        appends_both _ _ _ w.0 (take n rest) w.2 c.in-Ok.ensures.bytes,
+      );
       same = search rules;
     }

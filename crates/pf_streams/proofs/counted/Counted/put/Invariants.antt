@@ -7,7 +7,8 @@ abbrev pub invariant-loop-rest : goal.invariant-loop-rest
 invariant-loop-rest g l =
     let contents = g.W.Write.contents in
     record {
-      wrote : (front : List ℕ) × (l.text ≡ front ++ l.rest) × Appends (contents l.fn.self.inner) (contents l.self.inner) front;
+      wrote : (front : List ℕ) × (l.text ≡ front ++ l.rest) × Appends (contents l.fn.self.inner)
+          (contents l.self.inner) front;
       same : l.self.failures.total ≡ l.fn.self.failures.total;
     }
 

@@ -8,4 +8,5 @@ pub returns-clause-drawn : goal.returns-clause-drawn
 returns-clause-drawn g c =
     let parts = c.args.parts.now in
     on_ok_weaker c.put_parts.result
-    (λ e p. drawn parts (e ∙ ap (λ (t : List ℕ). t ++ flat_map part_text parts) c.self.view_is) c.requires refl refl) c.put_parts.ensures
+    (λ e p. drawn parts (e ∙ ap (λ (t : List ℕ). t ++ flat_map part_text parts) c.self.view_is) c.requires refl refl)
+    c.put_parts.ensures

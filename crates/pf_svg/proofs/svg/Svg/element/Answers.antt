@@ -8,5 +8,6 @@ pub returns : goal.returns
 returns g c =
     on_ok_weaker c.add-3.result
     (λ h p. (let begun = read p c.args.start.now in
-    follow (c.in_ok-add.ensures.drawn p) (follow_plainly (c.in_ok-add-2.ensures.drawn begun) (h (behind_all begun c.args.content.now)))))
+    follow (c.in_ok-add.ensures.drawn p) (follow_plainly (c.in_ok-add-2.ensures.drawn begun)
+    (h (behind_all begun c.args.content.now)))))
     c.add-3.ensures.drawn

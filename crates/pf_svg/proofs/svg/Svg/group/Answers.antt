@@ -16,6 +16,9 @@ returns g c =
     let class = c.args.class.now in
     let attributes = c.args.attributes.now in
     on_ok_weaker c.add-2.result
-    (λ h os. follow (led (ap (λ (p : DocumentPlace). read p (codes "\"")) (stays_quoted g.W.Vocabulary.words os (codes "g") class c.requires.class)) (c.in_ok-element.ensures (outside os)))
-    (follow_plainly (led (stays_inside g.W.Vocabulary.words os (codes "g") attributes c.requires.attributes) (c.in_ok-add.ensures.drawn (inside os (codes "g")))) (h (inside os (codes "g")))))
+    (λ h os. follow (led (ap (λ (p : DocumentPlace). read p (codes "\""))
+    (stays_quoted g.W.Vocabulary.words os (codes "g") class c.requires.class))
+    (c.in_ok-element.ensures (outside os)))
+    (follow_plainly (led (stays_inside g.W.Vocabulary.words os (codes "g") attributes c.requires.attributes)
+    (c.in_ok-add.ensures.drawn (inside os (codes "g")))) (h (inside os (codes "g")))))
     c.add-2.ensures.drawn

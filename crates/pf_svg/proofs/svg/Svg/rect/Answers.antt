@@ -11,5 +11,6 @@ element-requires-clause-content g c = all_attributes g.W.Vocabulary.words c.args
 pub returns : goal.returns
 returns g c =
     on_ok_weaker c.element.result
-    (λ h os. led (closed_behind g.W.Vocabulary.words os 114 (codes "ect") c.args.attributes.now c.requires (λ (p : DocumentPlace). read p (codes "/>")) (outside os) refl refl) (h (outside os)))
+    (λ h os. led (closed_behind g.W.Vocabulary.words os 114 (codes "ect") c.args.attributes.now c.requires
+    (λ (p : DocumentPlace). read p (codes "/>")) (outside os) refl refl) (h (outside os)))
     c.element.ensures

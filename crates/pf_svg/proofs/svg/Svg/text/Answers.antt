@@ -11,6 +11,7 @@ element-requires-clause-content g c = all_said g.W.Vocabulary.words c.args.conte
 pub returns : goal.returns
 returns g c =
     on_ok_weaker c.element.result
-    (λ h os. led (ap (λ (p : DocumentPlace). read p (codes "</text>")) (stays_outside g.W.Vocabulary.words (codes "text" ∷ os) c.args.content.now c.requires.content))
+    (λ h os. led (ap (λ (p : DocumentPlace). read p (codes "</text>"))
+    (stays_outside g.W.Vocabulary.words (codes "text" ∷ os) c.args.content.now c.requires.content))
     (follow (c.in_ok-add.ensures.drawn (outside os)) (h (inside os (codes "text")))))
     c.element.ensures

@@ -11,5 +11,6 @@ element-requires-clause-content g c = all_said g.W.Vocabulary.words c.args.conte
 pub returns : goal.returns
 returns g c =
     on_ok_weaker c.element.result
-    (λ h os. led (ap (λ (p : DocumentPlace). read p (codes "</title>")) (stays_outside g.W.Vocabulary.words (codes "title" ∷ os) c.args.content.now c.requires)) (h (outside os)))
+    (λ h os. led (ap (λ (p : DocumentPlace). read p (codes "</title>"))
+    (stays_outside g.W.Vocabulary.words (codes "title" ∷ os) c.args.content.now c.requires)) (h (outside os)))
     c.element.ensures

@@ -7,7 +7,8 @@ use Rattle.pf_syntax.proofs.Grown.{with_literal_sound, with_literal_view}
 use Rattle.pf_syntax.proofs.module.Module.add_literal.Goals as goal
 
 pub invariant_of-self-2 : goal.invariant_of-self-2
-invariant_of-self-2 c = with_literal_sound c.self.inside c.args.literal c.push.new.self c.in_ok-push.ensures.items c.self.invariant
+invariant_of-self-2 c = with_literal_sound c.self.inside c.args.literal c.push.new.self c.in_ok-push.ensures.items
+    c.self.invariant
 
 pub returns-clause-id : goal.returns-clause-id
 returns-clause-id c =

@@ -12,12 +12,15 @@ returns-clause-found c =
     let a = c.self.inside in
     let t = tables_of a in
     let i = c.args.id.0 in
-    let at_entry = by_entry c.entry.result _ a.literals.items i (literal_at t i ≡ list none) (λ x. value_of x ≡ literal_at t i) c.deref.ensures.value c.entry.ensures
+    let at_entry = by_entry c.entry.result _ a.literals.items i (literal_at t i ≡ list none)
+    (λ x. value_of x ≡ literal_at t i) c.deref.ensures.value c.entry.ensures
     (literal_past a i) (literal_of_term a i) in
-    subst (λ (m : Checked). MatchOption c.entry.result (literal_at m.tables i ≡ list none) (λ x. value_of x.now ≡ literal_at m.tables i)) c.self.view_is at_entry
+    subst (λ (m : Checked). MatchOption c.entry.result (literal_at m.tables i ≡ list none)
+    (λ x. value_of x.now ≡ literal_at m.tables i)) c.self.view_is at_entry
 
 pub returns-clause-absent : goal.returns-clause-absent
 returns-clause-absent c =
     let a = c.self.inside in
     let past = past_entry c.entry.result _ a.literals.items c.args.id.0 c.deref.ensures.value c.entry.ensures in
-    subst (λ n. IfNone c.entry.result (n ≤ c.args.id.0)) (sym (count-literals a) ∙ ap (λ (m : Checked). length m.tables.literals) c.self.view_is) past
+    subst (λ n. IfNone c.entry.result (n ≤ c.args.id.0))
+    (sym (count-literals a) ∙ ap (λ (m : Checked). length m.tables.literals) c.self.view_is) past

@@ -14,12 +14,15 @@ returns-clause-found c =
     let t = tables_of a in
     let n = count-patterns a in
     let i = c.args.id.0 in
-    let at_entry = by_entry c.entry.result _ a.patterns.items i (pattern_at t i ≡ any) (λ x. pattern_over t x ≡ pattern_at t i) c.deref.ensures.value c.entry.ensures
+    let at_entry = by_entry c.entry.result _ a.patterns.items i (pattern_at t i ≡ any)
+    (λ x. pattern_over t x ≡ pattern_at t i) c.deref.ensures.value c.entry.ensures
     (λ h. get_or_past t.patterns i any (omega arith)) (λ x e. pattern_of_node a c.self.invariant i x e) in
-    subst (λ (m : Checked). MatchOption c.entry.result (pattern_at m.tables i ≡ any) (λ x. pattern_over m.tables x.now ≡ pattern_at m.tables i)) c.self.view_is at_entry
+    subst (λ (m : Checked). MatchOption c.entry.result (pattern_at m.tables i ≡ any)
+    (λ x. pattern_over m.tables x.now ≡ pattern_at m.tables i)) c.self.view_is at_entry
 
 pub returns-clause-absent : goal.returns-clause-absent
 returns-clause-absent c =
     let a = c.self.inside in
     let past = past_entry c.entry.result _ a.patterns.items c.args.id.0 c.deref.ensures.value c.entry.ensures in
-    subst (λ n. IfNone c.entry.result (n ≤ c.args.id.0)) (sym (count-patterns a) ∙ ap (λ (m : Checked). length m.tables.patterns) c.self.view_is) past
+    subst (λ n. IfNone c.entry.result (n ≤ c.args.id.0))
+    (sym (count-patterns a) ∙ ap (λ (m : Checked). length m.tables.patterns) c.self.view_is) past

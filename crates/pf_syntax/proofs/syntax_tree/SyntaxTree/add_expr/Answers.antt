@@ -16,11 +16,15 @@ pub invariant_of-self-2 : goal.invariant_of-self-2
 invariant_of-self-2 c =
     let node = c.args.node in
     let tree = expr_over c.args.self.now.node_table node in
-    let exact = exact_measure c.expr_node_measure.result (expr_size tree) (expr_depth tree) c.expr_node_measure.ensures (expr_depth-size tree) c.in_ok-measure.ensures.small in
-    let kept = subst (λ (m : Measure). IsMeasure m (expr_size tree) (expr_depth tree)) (sym c.in_ok-measure.ensures.same) exact in
-    let measured = subst (λ (m : ExprArena). IsMeasure c.in_ok-measure.measure (expr_size (expr_over m.node_table node)) (expr_depth (expr_over m.node_table node))) (sym c.self.view_is) kept in
+    let exact = exact_measure c.expr_node_measure.result (expr_size tree) (expr_depth tree) c.expr_node_measure.ensures
+    (expr_depth-size tree) c.in_ok-measure.ensures.small in
+    let kept = subst (λ (m : Measure). IsMeasure m (expr_size tree) (expr_depth tree))
+    (sym c.in_ok-measure.ensures.same) exact in
+    let measured = subst (λ (m : ExprArena). IsMeasure c.in_ok-measure.measure (expr_size (expr_over m.node_table node))
+    (expr_depth (expr_over m.node_table node))) (sym c.self.view_is) kept in
     let stands = subst (λ (m : ExprArena). ExprPartsStand m.node_table node) (sym c.self.view_is) c.requires in
-    with_expr_sound c.self.inside (record { node = node; measure = c.in_ok-measure.measure }) c.push.new.self c.in_ok-push.ensures.items c.self.invariant stands measured
+    with_expr_sound c.self.inside (record { node = node; measure = c.in_ok-measure.measure }) c.push.new.self
+    c.in_ok-push.ensures.items c.self.invariant stands measured
 
 pub returns-clause-id : goal.returns-clause-id
 returns-clause-id c =
@@ -29,5 +33,6 @@ returns-clause-id c =
 
 pub returns-clause-added : goal.returns-clause-added
 returns-clause-added c =
-    with_expr_view c.self.inside (record { node = c.args.node; measure = c.in_ok-measure.measure }) c.push.new.self c.in_ok-push.ensures.items c.self.invariant
+    with_expr_view c.self.inside (record { node = c.args.node; measure = c.in_ok-measure.measure }) c.push.new.self
+    c.in_ok-push.ensures.items c.self.invariant
     ∙ ap (λ (m : ExprArena). with_node_table m (with_expr m.node_table c.args.node)) c.self.view_is

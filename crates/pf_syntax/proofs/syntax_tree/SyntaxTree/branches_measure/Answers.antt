@@ -10,6 +10,8 @@ returns c =
     let i = c.loop-branch.invariant in
     let done = c.loop-branch-test.false in
     nothing_left c.loop-branch.total _ _ _ _
-    (at_drop_all (λ ps. branches_size (branches_over node_table ps)) c.args.branches.now c.loop-branch.branch-index done)
-    (at_drop_all (λ ps. branches_depth (branches_over node_table ps)) c.args.branches.now c.loop-branch.branch-index done)
+    (at_drop_all (λ ps. branches_size (branches_over node_table ps)) c.args.branches.now
+    c.loop-branch.branch-index done)
+    (at_drop_all (λ ps. branches_depth (branches_over node_table ps)) c.args.branches.now
+    c.loop-branch.branch-index done)
     i.small i.shallow i.size_is i.depth_is

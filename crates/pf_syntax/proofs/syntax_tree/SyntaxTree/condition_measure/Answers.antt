@@ -10,8 +10,11 @@ returns c =
     let node_table = c.args.self.now.node_table in
     let i = c.loop-alternative.invariant in
     let read = ap length c.deref-alternative-items.ensures.value in
-    let done : length c.args.condition.now.alternatives.items ≤ c.loop-alternative.alternative-index = omega (arith, c.loop-alternative-test.false) in
+    let done : length c.args.condition.now.alternatives.items ≤ c.loop-alternative.alternative-index =
+    omega (arith, c.loop-alternative-test.false) in
     nothing_left c.loop-alternative.total _ _ _ _
-    (at_drop_all (λ ps. condition_size (alternatives_at node_table ps)) c.args.condition.now.alternatives.items c.loop-alternative.alternative-index done)
-    (at_drop_all (λ ps. condition_depth (alternatives_at node_table ps)) c.args.condition.now.alternatives.items c.loop-alternative.alternative-index done)
+    (at_drop_all (λ ps. condition_size (alternatives_at node_table ps)) c.args.condition.now.alternatives.items
+    c.loop-alternative.alternative-index done)
+    (at_drop_all (λ ps. condition_depth (alternatives_at node_table ps)) c.args.condition.now.alternatives.items
+    c.loop-alternative.alternative-index done)
     i.small i.shallow i.size_is i.depth_is

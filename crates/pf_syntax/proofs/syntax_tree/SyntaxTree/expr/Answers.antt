@@ -14,7 +14,8 @@ returns-in-Some-clause-found c =
     let a = c.self.inside in
     let i = c.args.id.0 in
     let e = c.in-Some.expr.now in
-    let at : slice_get a.exprs.items i ≡ Some e = ap (λ (es : List _). slice_get es i) (sym c.deref.ensures.value) ∙ c.in-Some.ensures in
+    let at : slice_get a.exprs.items i ≡ Some e = ap (λ (es : List _). slice_get es i) (sym c.deref.ensures.value)
+    ∙ c.in-Some.ensures in
     let formed = expr_of_entry a c.self.invariant i e at in
     subst (λ (m : ExprArena). expr_over m.node_table e.node ≡ expr_at m.node_table i) c.self.view_is formed.over
 
@@ -22,16 +23,19 @@ pub returns-in-None-clause-found : goal.returns-in-None-clause-found
 returns-in-None-clause-found c =
     let a = c.self.inside in
     let i = c.args.id.0 in
-    let at : slice_get a.exprs.items i ≡ None = ap (λ (es : List _). slice_get es i) (sym c.deref.ensures.value) ∙ c.in-None.ensures in
+    let at : slice_get a.exprs.items i ≡ None = ap (λ (es : List _). slice_get es i) (sym c.deref.ensures.value)
+    ∙ c.in-None.ensures in
     let past = get_none a.exprs.items i at in
     let n = count-exprs a in
-    subst (λ (m : ExprArena). expr_at m.node_table i ≡ list no_exprs) c.self.view_is (get_or_past (node_table_of a).exprs i (list no_exprs) (omega arith))
+    subst (λ (m : ExprArena). expr_at m.node_table i ≡ list no_exprs) c.self.view_is
+    (get_or_past (node_table_of a).exprs i (list no_exprs) (omega arith))
 
 pub returns-in-None-clause-absent : goal.returns-in-None-clause-absent
 returns-in-None-clause-absent c =
     let a = c.self.inside in
     let i = c.args.id.0 in
-    let at : slice_get a.exprs.items i ≡ None = ap (λ (es : List _). slice_get es i) (sym c.deref.ensures.value) ∙ c.in-None.ensures in
+    let at : slice_get a.exprs.items i ≡ None = ap (λ (es : List _). slice_get es i) (sym c.deref.ensures.value)
+    ∙ c.in-None.ensures in
     let past = get_none a.exprs.items i at in
     let n = count-exprs a in
     let e = ap (λ (m : ExprArena). length m.node_table.exprs) c.self.view_is in

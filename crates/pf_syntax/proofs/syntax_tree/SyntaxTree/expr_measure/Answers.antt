@@ -14,17 +14,21 @@ returns-in-Some c =
     let a = c.self.inside in
     let i = c.args.id.0 in
     let e = c.in-Some.expr.now in
-    let at : slice_get a.exprs.items i ≡ Some e = ap (λ (es : List _). slice_get es i) (sym c.deref.ensures.value) ∙ c.in-Some.ensures in
+    let at : slice_get a.exprs.items i ≡ Some e = ap (λ (es : List _). slice_get es i) (sym c.deref.ensures.value)
+    ∙ c.in-Some.ensures in
     let formed = expr_of_entry a c.self.invariant i e at in
-    subst (λ (m : ExprArena). IsMeasure e.measure (expr_size (expr_at m.node_table i)) (expr_depth (expr_at m.node_table i))) c.self.view_is formed.measured
+    subst (λ (m : ExprArena). IsMeasure e.measure (expr_size (expr_at m.node_table i))
+    (expr_depth (expr_at m.node_table i))) c.self.view_is formed.measured
 
 pub returns-in-None : goal.returns-in-None
 returns-in-None c =
     let a = c.self.inside in
     let i = c.args.id.0 in
-    let at : slice_get a.exprs.items i ≡ None = ap (λ (es : List _). slice_get es i) (sym c.deref.ensures.value) ∙ c.in-None.ensures in
+    let at : slice_get a.exprs.items i ≡ None = ap (λ (es : List _). slice_get es i) (sym c.deref.ensures.value)
+    ∙ c.in-None.ensures in
     let past = get_none a.exprs.items i at in
     let n = count-exprs a in
-    let leaf : expr_at (node_table_of a) i ≡ list no_exprs = get_or_past (node_table_of a).exprs i (list no_exprs) (omega arith) in
+    let leaf : expr_at (node_table_of a) i ≡ list no_exprs = get_or_past (node_table_of a).exprs i (list no_exprs)
+    (omega arith) in
     let there = ap (λ (m : ExprArena). expr_at m.node_table i) (sym c.self.view_is) ∙ leaf in
     rw there (refl, refl)

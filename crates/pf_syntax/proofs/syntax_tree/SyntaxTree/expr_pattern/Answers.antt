@@ -14,24 +14,29 @@ returns-in-Some-clause-found c =
     let a = c.self.inside in
     let i = c.args.id.0 in
     let e = c.in-Some.expr_pattern.now in
-    let at : slice_get a.expr_patterns.items i ≡ Some e = ap (λ (es : List _). slice_get es i) (sym c.deref.ensures.value) ∙ c.in-Some.ensures in
+    let at : slice_get a.expr_patterns.items i ≡ Some e =
+    ap (λ (es : List _). slice_get es i) (sym c.deref.ensures.value) ∙ c.in-Some.ensures in
     let formed = expr_pattern_of_entry a c.self.invariant i e at in
-    subst (λ (m : ExprArena). expr_pattern_over m.node_table e.node ≡ expr_pattern_at m.node_table i) c.self.view_is formed.over
+    subst (λ (m : ExprArena). expr_pattern_over m.node_table e.node ≡ expr_pattern_at m.node_table i)
+    c.self.view_is formed.over
 
 pub returns-in-None-clause-found : goal.returns-in-None-clause-found
 returns-in-None-clause-found c =
     let a = c.self.inside in
     let i = c.args.id.0 in
-    let at : slice_get a.expr_patterns.items i ≡ None = ap (λ (es : List _). slice_get es i) (sym c.deref.ensures.value) ∙ c.in-None.ensures in
+    let at : slice_get a.expr_patterns.items i ≡ None = ap (λ (es : List _). slice_get es i) (sym c.deref.ensures.value)
+    ∙ c.in-None.ensures in
     let past = get_none a.expr_patterns.items i at in
     let n = count-expr_patterns a in
-    subst (λ (m : ExprArena). expr_pattern_at m.node_table i ≡ anything) c.self.view_is (get_or_past (node_table_of a).expr_patterns i anything (omega arith))
+    subst (λ (m : ExprArena). expr_pattern_at m.node_table i ≡ anything) c.self.view_is
+    (get_or_past (node_table_of a).expr_patterns i anything (omega arith))
 
 pub returns-in-None-clause-absent : goal.returns-in-None-clause-absent
 returns-in-None-clause-absent c =
     let a = c.self.inside in
     let i = c.args.id.0 in
-    let at : slice_get a.expr_patterns.items i ≡ None = ap (λ (es : List _). slice_get es i) (sym c.deref.ensures.value) ∙ c.in-None.ensures in
+    let at : slice_get a.expr_patterns.items i ≡ None = ap (λ (es : List _). slice_get es i) (sym c.deref.ensures.value)
+    ∙ c.in-None.ensures in
     let past = get_none a.expr_patterns.items i at in
     let n = count-expr_patterns a in
     let e = ap (λ (m : ExprArena). length m.node_table.expr_patterns) c.self.view_is in

@@ -14,17 +14,21 @@ returns-in-Some c =
     let a = c.self.inside in
     let i = c.args.id.0 in
     let e = c.in-Some.expr_pattern.now in
-    let at : slice_get a.expr_patterns.items i ≡ Some e = ap (λ (es : List _). slice_get es i) (sym c.deref.ensures.value) ∙ c.in-Some.ensures in
+    let at : slice_get a.expr_patterns.items i ≡ Some e =
+    ap (λ (es : List _). slice_get es i) (sym c.deref.ensures.value) ∙ c.in-Some.ensures in
     let formed = expr_pattern_of_entry a c.self.invariant i e at in
-    subst (λ (m : ExprArena). IsMeasure e.measure (expr_pattern_size (expr_pattern_at m.node_table i)) (expr_pattern_depth (expr_pattern_at m.node_table i))) c.self.view_is formed.measured
+    subst (λ (m : ExprArena). IsMeasure e.measure (expr_pattern_size (expr_pattern_at m.node_table i))
+    (expr_pattern_depth (expr_pattern_at m.node_table i))) c.self.view_is formed.measured
 
 pub returns-in-None : goal.returns-in-None
 returns-in-None c =
     let a = c.self.inside in
     let i = c.args.id.0 in
-    let at : slice_get a.expr_patterns.items i ≡ None = ap (λ (es : List _). slice_get es i) (sym c.deref.ensures.value) ∙ c.in-None.ensures in
+    let at : slice_get a.expr_patterns.items i ≡ None = ap (λ (es : List _). slice_get es i) (sym c.deref.ensures.value)
+    ∙ c.in-None.ensures in
     let past = get_none a.expr_patterns.items i at in
     let n = count-expr_patterns a in
-    let leaf : expr_pattern_at (node_table_of a) i ≡ anything = get_or_past (node_table_of a).expr_patterns i anything (omega arith) in
+    let leaf : expr_pattern_at (node_table_of a) i ≡ anything = get_or_past (node_table_of a).expr_patterns i anything
+    (omega arith) in
     let there = ap (λ (m : ExprArena). expr_pattern_at m.node_table i) (sym c.self.view_is) ∙ leaf in
     rw there (refl, refl)

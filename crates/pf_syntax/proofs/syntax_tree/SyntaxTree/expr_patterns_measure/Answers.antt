@@ -10,6 +10,8 @@ returns c =
     let i = c.loop-part.invariant in
     let done = c.loop-part-test.false in
     nothing_left c.loop-part.total _ _ _ _
-    (at_drop_all (λ ps. expr_patterns_size (expr_patterns_at node_table ps)) c.args.parts.now c.loop-part.part-index done)
-    (at_drop_all (λ ps. expr_patterns_depth (expr_patterns_at node_table ps)) c.args.parts.now c.loop-part.part-index done)
+    (at_drop_all (λ ps. expr_patterns_size (expr_patterns_at node_table ps)) c.args.parts.now
+    c.loop-part.part-index done)
+    (at_drop_all (λ ps. expr_patterns_depth (expr_patterns_at node_table ps)) c.args.parts.now
+    c.loop-part.part-index done)
     i.small i.shallow i.size_is i.depth_is

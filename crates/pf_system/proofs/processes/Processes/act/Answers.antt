@@ -19,4 +19,5 @@ returns c =
     let l = get_within c.args.pid w1.slots.items k.0 k.1 in
     let w2 : Processes = record w1 { slots = with_item w1.slots c.args.pid c.answer.new.self } in
     shows_act c.args.pid (act_of c.args.act) w w1 w2 r s c.answer.new.self h.acts h.keeps
-    (slice_get_read w1.slots.items _ c.args.pid s refl l c.index_mut-slot.ensures.value) c.answer.ensures refl refl refl refl
+    (slice_get_read w1.slots.items _ c.args.pid s refl l c.index_mut-slot.ensures.value) c.answer.ensures
+    refl refl refl refl

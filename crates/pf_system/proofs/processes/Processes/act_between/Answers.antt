@@ -6,4 +6,5 @@ use Rattle.pf_system.proofs.processes.Processes.act_between.Goals as goal
 
 pub returns-clause-acts : goal.returns-clause-acts
 returns-clause-acts c =
-    IfOk-weaker c.act.result _ _ (λ v h. acts_between c.args.pid c.args.act c.args.self.now _ (answer v c.act.new.shown) c.requires.between h refl refl refl) c.act.ensures
+    IfOk-weaker c.act.result _ _ (λ v h. acts_between c.args.pid c.args.act c.args.self.now _ (answer v c.act.new.shown)
+    c.requires.between h refl refl refl) c.act.ensures

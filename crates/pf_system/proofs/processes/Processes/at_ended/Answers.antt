@@ -17,5 +17,6 @@ returns c k h =
       | in-Link e ↦ link_answered w w1 k c.args.from c.args.to c.args.signal c.match-signal.reply h refl refl refl
           c.reply.ensures.ties c.in_ok-reply.ensures.sent e.in-Link.is (ap signal_of e.reply-is)
       | in-Monitor e ↦ monitor_answered w w1 k c.args.from c.args.to c.args.signal c.match-signal.reply h refl refl refl
-          c.reply.ensures.ties c.in_ok-reply.ensures.sent e.in-Monitor.reference e.in-Monitor.is (ap signal_of e.reply-is)
+          c.reply.ensures.ties c.in_ok-reply.ensures.sent e.in-Monitor.reference e.in-Monitor.is
+          (ap signal_of e.reply-is)
     ]

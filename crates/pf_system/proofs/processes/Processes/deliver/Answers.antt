@@ -10,13 +10,16 @@ use Rattle.pf_system.proofs.Delivering.{shaped, ties_here, delivered_so, by_life
 use Rattle.pf_system.proofs.processes.Processes.deliver.Goals as goal
 
 -- the process lives where its ties say so
-alive_by : (w : Processes) (c : Core) (b : _) (t : Bool) → Represents w c → t ≡ (ties.of w.shared.ties b).lives → t ≡ is_alive (of c b).state
+alive_by : (w : Processes) (c : Core) (b : _) (t : Bool) → Represents w c → t ≡ (ties.of w.shared.ties b).lives
+    → t ≡ is_alive (of c b).state
 alive_by w c b t h e = e ∙ ap (λ z. z.lives) (ties_here w c b h)
 
-taken_so : (w w1 : Processes) (c : Core) → w1 ≡ record w { shared = record w.shared { channels = w1.shared.channels } } → length w1.shared.channels ≡ length w.shared.channels
+taken_so : (w w1 : Processes) (c : Core) → w1 ≡ record w { shared = record w.shared { channels = w1.shared.channels } }
+    → length w1.shared.channels ≡ length w.shared.channels
     → Represents w c → Represents w1 c
 taken_so w w1 c e n h =
-    rows_more w w1 c (ap (λ z. z.slots.items) e) (ap (λ z. z.ready) e) (ap (λ z. z.basis) e) h (h.ties ∙ sym (ap (λ z. z.shared.ties) e)) (omega arith)
+    rows_more w w1 c (ap (λ z. z.slots.items) e) (ap (λ z. z.ready) e) (ap (λ z. z.basis) e) h
+    (h.ties ∙ sym (ap (λ z. z.shared.ties) e)) (omega arith)
 
 pub at_living-requires : goal.at_living-requires
 at_living-requires c =

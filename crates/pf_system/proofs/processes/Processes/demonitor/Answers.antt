@@ -6,7 +6,8 @@ use Rattle.pf_model.specs.Actions.{demonitored_so}
 use Rattle.pf_system.specs.Acts.{CarriesOut, answer}
 use Rattle.pf_system.specs.declared.processes.Processes.{Processes}
 use Rattle.pf_system.proofs.Acting.{not_reference}
-use Rattle.pf_system.proofs.Flushes.{demonitors_in, keeps_flushed, not_flushed, options_refused, reference_refused, was_flushed}
+use Rattle.pf_system.proofs.Flushes.{demonitors_in, keeps_flushed, not_flushed, options_refused, reference_refused}
+use Rattle.pf_system.proofs.Flushes.{was_flushed}
 use Rattle.pf_system.proofs.Settling.{keeps_slot}
 use Rattle.pf_system.proofs.processes.Processes.demonitor.Goals as goal
 
@@ -14,7 +15,8 @@ pub returns-in_default : goal.returns-in_default
 returns-in_default c =
     let x = c.args in
     record {
-      acts = reference_refused x.pid x.self.now _ (value_of x.reference) (value_of x.options) (not_reference x.reference c.in_default.not-Ref)
+      acts = reference_refused x.pid x.self.now _ (value_of x.reference) (value_of x.options)
+          (not_reference x.reference c.in_default.not-Ref)
           c.raising.ensures;
       keeps = keeps_slot x.pid x.self.now x.self.now refl;
     }
@@ -36,7 +38,8 @@ returns-then-not-flushes-clause-acts c =
     demonitors_in x.pid w r (value_of x.reference) (value_of x.options) k false w1 (ap value_of c.in-Ref.is)
     (sym c.flushes.ensures ∙ c.in-Some.is ∙ ap Some flag)
     (λ d but. not_flushed x.pid k w w1 w1 r d refl refl refl but
-    (subst (λ b. CarriesOut (demonitored_so d x.pid k b) x.pid w.shared r w1.shared) flag (c.in_ok-value.ensures d but.ties)))
+    (subst (λ b. CarriesOut (demonitored_so d x.pid k b) x.pid w.shared r w1.shared) flag
+    (c.in_ok-value.ensures d but.ties)))
 
 pub returns : goal.returns
 returns c =
@@ -47,13 +50,18 @@ returns c =
     let s = c.index_mut-slot.result.now in
     let s' = c.flush.new.self in
     let w1 : Processes = record w { shared = c.demonitor.new.self } in
-    let w2 : Processes = record w1 { slots = with_item w.slots x.pid s'; spare = record w.spare { pool = c.flush.new.pool } } in
+    let w2 : Processes = record w1 {
+      slots = with_item w.slots x.pid s';
+      spare =
+          record w.spare { pool = c.flush.new.pool };
+    } in
     let at = slice_get_read w.slots.items _ x.pid s refl c.requires.there c.index_mut-slot.ensures.value in
     let flag : c.in-Some.flushes ≡ true = c.if-not-flushes.false in
     record {
       acts = demonitors_in x.pid w r (value_of x.reference) (value_of x.options) k true w2 (ap value_of c.in-Ref.is)
           (sym c.flushes.ensures ∙ c.in-Some.is ∙ ap Some flag)
           (λ d but. was_flushed x.pid k w w1 w2 r d refl refl refl but s s' at refl refl refl refl c.flush.ensures
-          (subst (λ b. CarriesOut (demonitored_so d x.pid k b) x.pid w.shared r w1.shared) flag (c.in_ok-value.ensures d but.ties)));
+          (subst (λ b. CarriesOut (demonitored_so d x.pid k b) x.pid w.shared r w1.shared) flag
+          (c.in_ok-value.ensures d but.ties)));
       keeps = keeps_flushed x.pid k w w2 s s' at refl c.flush.ensures;
     }

@@ -26,26 +26,33 @@ record Untied (w w1 : Processes) (a : ℕ) (e : Result Term Term) (ss : List (�
   rest : w1 ≡ record w { shared = record w.shared { ties = ties.ended w.shared.ties a } }
   last : ss ≡ ties.last_signals_of (ties.of w.shared.ties a) (reason_of (end_of e))
 
-untied : (c : goal.After-post) → Untied c.args.self.now c.match-end.self c.args.pid c.args.end (map sent_of c.match-end.signals.items)
+untied : (c : goal.After-post) → Untied c.args.self.now c.match-end.self c.args.pid c.args.end
+    (map sent_of c.match-end.signals.items)
 untied c =
     let w1 = c.args.self.now in
     let by = λ (t : ties.AllTies). record w1 { shared = record w1.shared { ties = t } } in
-    let last = λ (e : Result Term Term). ties.last_signals_of (ties.of w1.shared.ties c.args.pid) (reason_of (end_of e)) in
+    let last = λ (e : Result Term Term). ties.last_signals_of (ties.of w1.shared.ties c.args.pid)
+    (reason_of (end_of e)) in
     elim c.match-end.branch [
       | in-Ok+in_ok-signals-in-Ok w ↦ record {
         rest = w.self-is ∙ ap by w.in_ok-signals-in-Ok.ensures.ended;
-        last = ap (λ s. map sent_of s.items) w.signals-is ∙ w.in_ok-signals-in-Ok.ensures.last ∙ ap last (sym w.in-Ok.is);
+        last = ap (λ s. map sent_of s.items) w.signals-is ∙ w.in_ok-signals-in-Ok.ensures.last
+            ∙ ap last (sym w.in-Ok.is);
       }
       | in-Err+in_ok-signals-in-Err w ↦ record {
         rest = w.self-is ∙ ap by w.in_ok-signals-in-Err.ensures.ended;
-        last = ap (λ s. map sent_of s.items) w.signals-is ∙ w.in_ok-signals-in-Err.ensures.last ∙ ap last (sym w.in-Err.is);
+        last = ap (λ s. map sent_of s.items) w.signals-is ∙ w.in_ok-signals-in-Err.ensures.last
+            ∙ ap last (sym w.in-Err.is);
       }
     ]
 
-ended_so : {E : Type 0} (r : Result (Unit {0}) E) (w w1 w' : Processes) (a : ℕ) (e : Result Term Term) (m : MailView) (ss : List (ℕ × Signal)) → Untied w w1 a e ss
-    → m ≡ empty → w'.slots.items ≡ slice_set w1.slots.items a (record { life = life.Ended e; mailbox = m }) → w'.shared.ties ≡ w1.shared.ties
+ended_so : {E : Type 0} (r : Result (Unit {0}) E) (w w1 w' : Processes) (a : ℕ) (e : Result Term Term) (m : MailView)
+    (ss : List (ℕ × Signal)) → Untied w w1 a e ss
+    → m ≡ empty → w'.slots.items ≡ slice_set w1.slots.items a (record { life = life.Ended e; mailbox = m })
+    → w'.shared.ties ≡ w1.shared.ties
     → w'.ready ≡ without_number a w1.ready → w'.basis ≡ w1.basis → length w.slots.items ≡ length w.shared.ties.processes
-    → OnOk r (w'.shared.channels ≡ posted a ss w1.shared.channels) → OnOk r ((c : Core) → RepresentsBut w c a → EndsProcess c a e w w')
+    → OnOk r (w'.shared.channels ≡ posted a ss w1.shared.channels)
+    → OnOk r ((c : Core) → RepresentsBut w c a → EndsProcess c a e w w')
 ended_so r w w1 w' a e m ss u none slots t k code even =
     let s' : Slot = record { life = life.Ended e; mailbox = m } in
     on_ok_weaker r
@@ -64,6 +71,14 @@ pub returns : goal.returns
 returns c =
     let w1 = c.match-end.self in
     let w' : Processes =
-    record w1 { slots = with_item w1.slots c.args.pid c.replace-before.new.dest; shared = c.post.new.self; ready = c.remove.new.self; spare = c.keep.new.self } in
-    ended_so c.post.result c.args.self.now w1 w' c.args.pid c.args.end c.new.result (map sent_of c.match-end.signals.items) (untied c)
-    c.new.ensures.empty (ap (slice_set w1.slots.items c.args.pid) c.replace-before.ensures.after) c.post.ensures.ties c.remove.ensures.removed refl (sym c.requires.ties) c.post.ensures.posted
+    record w1 {
+      slots = with_item w1.slots c.args.pid c.replace-before.new.dest;
+      shared = c.post.new.self;
+      ready =
+          c.remove.new.self;
+      spare = c.keep.new.self;
+    } in
+    ended_so c.post.result c.args.self.now w1 w' c.args.pid c.args.end c.new.result
+    (map sent_of c.match-end.signals.items) (untied c)
+    c.new.ensures.empty (ap (slice_set w1.slots.items c.args.pid) c.replace-before.ensures.after) c.post.ensures.ties
+    c.remove.ensures.removed refl (sym c.requires.ties) c.post.ensures.posted

@@ -18,7 +18,8 @@ returns-in-Drop c k h alive =
     let r = value_of c.args.reason.now in
     exit_dropped w w1 w1 k c.args.from c.args.to c.args.by_link r suffix.Dropped h c.requires.there refl refl refl
     c.in-Drop.ensures.placed refl refl refl
-    (c.in-Drop.ensures.fate ∙ ap (fate_at (ties.of w.shared.ties c.args.to) c.args.from c.args.to c.args.by_link) c.in_ok-given.ensures)
+    (c.in-Drop.ensures.fate ∙ ap (fate_at (ties.of w.shared.ties c.args.to) c.args.from c.args.to c.args.by_link)
+    c.in_ok-given.ensures)
 
 pub returns-in_ok-index-in-Message : goal.returns-in_ok-index-in-Message
 returns-in_ok-index-in-Message c k h alive =
@@ -28,7 +29,8 @@ returns-in_ok-index-in-Message c k h alive =
     let r = value_of c.args.reason.now in
     exit_placed w w1 w2 k c.args.from c.args.to c.args.by_link r suffix.AsMessage h c.requires.there refl refl refl
     c.in-Message.ensures.placed refl alive refl
-    (c.in-Message.ensures.fate ∙ ap (fate_at (ties.of w.shared.ties c.args.to) c.args.from c.args.to c.args.by_link) c.in_ok-given.ensures)
+    (c.in-Message.ensures.fate ∙ ap (fate_at (ties.of w.shared.ties c.args.to) c.args.from c.args.to c.args.by_link)
+    c.in_ok-given.ensures)
     (subst (λ v. PlacesOf c.args.to v w1 w2) c.in_ok-message-in-Message.ensures c.in_ok-index-in-Message.ensures)
 
 pub returns-in_ok-end-in-End : goal.returns-in_ok-end-in-End
@@ -40,8 +42,10 @@ returns-in_ok-end-in-End c k h alive =
     let x = suffix.EndingWith c.in_ok-shown-in-End.shown in
     let d = without_link k c.args.from c.args.to c.args.by_link in
     let stands =
-    unlinked_stands w w1 w2 k c.args.from c.args.to c.args.by_link r x h c.requires.there refl refl refl c.in-End.ensures.placed refl in
+    unlinked_stands w w1 w2 k c.args.from c.args.to c.args.by_link r x h c.requires.there refl refl refl
+    c.in-End.ensures.placed refl in
     exit_ends w w1 w2 k c.args.from c.args.to c.args.by_link r x h c.requires.there refl refl refl
     c.in-End.ensures.placed refl (value_of c.in-End.last) (ap label.ending_with c.in_ok-shown-in-End.ensures)
-    (c.in-End.ensures.fate ∙ ap (fate_at (ties.of w.shared.ties c.args.to) c.args.from c.args.to c.args.by_link) c.in_ok-given.ensures)
+    (c.in-End.ensures.fate ∙ ap (fate_at (ties.of w.shared.ties c.args.to) c.args.from c.args.to c.args.by_link)
+    c.in_ok-given.ensures)
     (c.in_ok-end-in-End.ensures d (stands_but w1 d c.args.to stands c.requires.there))

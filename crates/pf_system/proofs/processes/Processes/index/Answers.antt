@@ -12,7 +12,8 @@ returns-in_ok-insert c =
     placed w _ c.args.to (value_of c.args.message) s c.index.new.self c.in_ok-index.field-0
     (slice_get_read w.slots.items _ c.args.to s refl c.requires c.index_mut-slot.ensures.value)
     c.in_ok-index.ensures.placed c.in_ok-index.ensures.woken refl refl refl
-    (c.in_ok-insert.ensures.inserted ∙ sym (ap (λ t. if t then with_number c.args.to w.ready else w.ready) c.if-branch.true))
+    (c.in_ok-insert.ensures.inserted ∙ sym (ap (λ t. if t then with_number c.args.to w.ready else w.ready)
+    c.if-branch.true))
 
 pub returns-else-branch : goal.returns-else-branch
 returns-else-branch c =

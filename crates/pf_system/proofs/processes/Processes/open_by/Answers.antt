@@ -10,7 +10,11 @@ returns-in_ok-open-in-Unbound c =
     let n : c.len-pid.result ≡ length w.slots.items = omega (arith, c.len-pid.ensures) in
     let told = answer c.told.result c.told.new.shown in
     subst (λ b. OpensProcess b c.args.other w c.args.life told c.open.new.self) (sym c.in-Unbound.is)
-    (record { opens = c.in_ok-open-in-Unbound.ensures; tells = subst (λ z. ReportsSpawn bonds.Unbound z r told) n (c.told.ensures r) })
+    (record {
+      opens = c.in_ok-open-in-Unbound.ensures;
+      tells = subst (λ z. ReportsSpawn bonds.Unbound z r told) n
+          (c.told.ensures r);
+    })
 
 pub returns-in_ok-open-in-Linking : goal.returns-in_ok-open-in-Linking
 returns-in_ok-open-in-Linking c =
@@ -19,10 +23,15 @@ returns-in_ok-open-in-Linking c =
     let n : c.len-pid.result ≡ length w.slots.items = omega (arith, c.len-pid.ensures) in
     let told = answer c.told-in-Linking.result c.told-in-Linking.new.shown in
     subst (λ b. OpensProcess b c.args.other w c.args.life told c.open-in-Linking.new.self) (sym c.in-Linking.is)
-    (record { opens = c.in_ok-open-in-Linking.ensures; tells = subst (λ z. ReportsSpawn bonds.Linking z r told) n (c.told-in-Linking.ensures r) })
+    (record {
+      opens = c.in_ok-open-in-Linking.ensures;
+      tells = subst (λ z. ReportsSpawn bonds.Linking z r told) n
+          (c.told-in-Linking.ensures r);
+    })
 
 pub returns-in-Watching : goal.returns-in-Watching
 returns-in-Watching c =
     let w = c.args.self.now in
-    subst (λ b. IfOk c.open_watched.result (λ v. OpensProcess b c.args.other w c.args.life (answer v c.open_watched.new.shown) c.open_watched.new.self))
+    subst (λ b. IfOk c.open_watched.result (λ v. OpensProcess b c.args.other w c.args.life
+    (answer v c.open_watched.new.shown) c.open_watched.new.self))
     (sym c.in-Watching.is) c.open_watched.ensures

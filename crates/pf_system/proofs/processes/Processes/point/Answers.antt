@@ -16,7 +16,8 @@ returns-in-Some-clause-own c =
     let w : Processes = c.args.self.now in
     let s = c.in-Some.slot.now in
     let at : slice_get w.slots.items c.args.pid ≡ Some s = search (rules, slice_get_read) in
-    let sound = subst (λ m. SlotIsSound m c.args.pid s) (sym c.deref-in-Some.ensures) (slot_sound w (core_of w) c.args.pid s c.requires at) in
+    let sound = subst (λ m. SlotIsSound m c.args.pid s) (sym c.deref-in-Some.ensures)
+    (slot_sound w (core_of w) c.args.pid s c.requires at) in
     subst (λ m. IfSome c.point.result (λ x. x.0.now ≡ m)) c.deref-in-Some.ensures (c.point.ensures.own c.args.pid sound)
 
 pub returns-in-Some-clause-point : goal.returns-in-Some-clause-point
@@ -24,9 +25,12 @@ returns-in-Some-clause-point c =
     let w : Processes = c.args.self.now in
     let s = c.in-Some.slot.now in
     let at : slice_get w.slots.items c.args.pid ≡ Some s = search (rules, slice_get_read) in
-    let sound = subst (λ m. SlotIsSound m c.args.pid s) (sym c.deref-in-Some.ensures) (slot_sound w (core_of w) c.args.pid s c.requires at) in
-    subst (λ y. MatchOption c.point.result (is_alive y ≡ false) (λ x. IsPointOf (checked_in w).tables (woken y) x.1)) (sym (state_there w c.args.pid s c.requires at))
-    (subst (λ m. MatchOption c.point.result (is_alive (state_of s.life) ≡ false) (λ x. IsPointOf m.tables (woken (state_of s.life)) x.1)) c.deref-in-Some.ensures
+    let sound = subst (λ m. SlotIsSound m c.args.pid s) (sym c.deref-in-Some.ensures)
+    (slot_sound w (core_of w) c.args.pid s c.requires at) in
+    subst (λ y. MatchOption c.point.result (is_alive y ≡ false) (λ x. IsPointOf (checked_in w).tables (woken y) x.1))
+    (sym (state_there w c.args.pid s c.requires at))
+    (subst (λ m. MatchOption c.point.result (is_alive (state_of s.life) ≡ false)
+    (λ x. IsPointOf m.tables (woken (state_of s.life)) x.1)) c.deref-in-Some.ensures
     (c.point.ensures.point c.args.pid sound))
 
 pub returns-in-None-clause-point : goal.returns-in-None-clause-point

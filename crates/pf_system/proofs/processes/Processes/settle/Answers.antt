@@ -6,7 +6,8 @@ use Rattle.pf_system.proofs.Lasts.{settles_cut, settles_take, settles_act, settl
 use Rattle.pf_system.proofs.processes.Processes.settle.Goals as goal
 
 pub returns-in-Pure : goal.returns-in-Pure
-returns-in-Pure c = subst (λ x. SettlesAs c.args.pid x c.args.self.now shown.Cut c.args.self.now) (sym c.in-Pure.is) (settles_cut c.args.pid c.args.self.now shown.Cut refl)
+returns-in-Pure c = subst (λ x. SettlesAs c.args.pid x c.args.self.now shown.Cut c.args.self.now) (sym c.in-Pure.is)
+    (settles_cut c.args.pid c.args.self.now shown.Cut refl)
 
 pub returns-in-Action : goal.returns-in-Action
 returns-in-Action c =
@@ -18,15 +19,18 @@ returns-in-Action c =
 
 pub returns-in-Take : goal.returns-in-Take
 returns-in-Take c =
-    subst (λ x. SettlesAs c.args.pid x c.args.self.now (shown.Takes c.in-Take.message) c.args.self.now) (sym c.in-Take.is)
+    subst (λ x. SettlesAs c.args.pid x c.args.self.now (shown.Takes c.in-Take.message) c.args.self.now)
+    (sym c.in-Take.is)
     (settles_take c.args.pid c.in-Take.message c.args.self.now (shown.Takes c.in-Take.message) refl)
 
 pub returns-in-Wait : goal.returns-in-Wait
 returns-in-Wait c =
     let w = c.args.self.now in
-    subst (λ x. SettlesAs c.args.pid x w shown.Waits c.wait.new.self) (sym c.in-Wait.is) (settles_wait c.args.pid w c.wait.new.self shown.Waits refl c.wait.ensures)
+    subst (λ x. SettlesAs c.args.pid x w shown.Waits c.wait.new.self) (sym c.in-Wait.is)
+    (settles_wait c.args.pid w c.wait.new.self shown.Waits refl c.wait.ensures)
 
 pub returns-in-End : goal.returns-in-End
 returns-in-End c =
     let w = c.args.self.now in
-    subst (λ x. OnOk c.finish.result (SettlesAs c.args.pid x w c.finish.new.shown c.finish.new.self)) (sym c.in-End.is) c.finish.ensures
+    subst (λ x. OnOk c.finish.result (SettlesAs c.args.pid x w c.finish.new.shown c.finish.new.self)) (sym c.in-End.is)
+    c.finish.ensures

@@ -1,4 +1,5 @@
-use Rattle.std.proofs.Common.{◌≡◌, ◌<◌, ◌+◌, zero, length, map, take, get_or, [], ◌∷◌, ◌++◌, if◌then◌else◌, sym, ap, ◌∙◌, arith}
+use Rattle.std.proofs.Common.{◌≡◌, ◌<◌, ◌+◌, zero, length, map, take, get_or, [], ◌∷◌, ◌++◌, if◌then◌else◌, sym, ap}
+use Rattle.std.proofs.Common.{◌∙◌, arith}
 use Rattle.std.proofs.lemmas.List.{take_all}
 use Rattle.pf_model.specs.Runs.{is_waiting}
 use Rattle.pf_system.specs.Slots.{slot_body}
@@ -14,10 +15,12 @@ loop-pid-preserved c =
     let ss = w.slots.items in
     let i = c.loop-pid.pid in
     let s = c.slot-item.result in
-    let within : i < length ss = let l = ap length c.deref-slot-items.ensures.value in omega (arith, c.loop-pid-test.true) in
+    let within : i < length ss = let l = ap length c.deref-slot-items.ensures.value in
+    omega (arith, c.loop-pid-test.true) in
     let same : get_or ss i s ≡ s = ap (λ l. get_or l i s) (sym c.deref-slot-items.ensures.value) ∙ sym c.slot-item.is in
     let sound = sound_at (checked_in w) zero ss i s c.requires.slots within same in
-    let more = waiting_more ss i s within same c.is_waiting.result (c.is_waiting.ensures (checked_in w) (zero + i) sound) in
+    let more = waiting_more ss i s within same c.is_waiting.result
+    (c.is_waiting.ensures (checked_in w) (zero + i) sound) in
     let before = numbers_in is_waiting zero (map slot_body (take i ss)) in
     elim c.if-is_waiting.branch [
       | then-is_waiting+in_ok-push b ↦
@@ -32,5 +35,7 @@ pub returns : goal.returns
 returns c =
     let w = c.args.self.now in
     let l = ap length c.deref-slot-items.ensures.value in
-    let all : take c.loop-pid.pid w.slots.items ≡ w.slots.items = take_all c.loop-pid.pid w.slots.items (omega (arith, c.loop-pid-test.false)) in
-    c.loop-pid.invariant ∙ ap (λ ss. numbers_in is_waiting zero (map slot_body ss)) all ∙ numbers_of_processes w c.requires
+    let all : take c.loop-pid.pid w.slots.items ≡ w.slots.items =
+    take_all c.loop-pid.pid w.slots.items (omega (arith, c.loop-pid-test.false)) in
+    c.loop-pid.invariant ∙ ap (λ ss. numbers_in is_waiting zero (map slot_body ss)) all
+    ∙ numbers_of_processes w c.requires

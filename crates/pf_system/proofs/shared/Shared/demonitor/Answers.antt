@@ -11,11 +11,13 @@ returns c =
     let h = c.demonitor.ensures in
     let o = c.demonitor.result in
     let b' = c.match-demonitor.self in
-    let done = demonitors_so c.args.pid b b' (answer c.giving_true.result c.giving_true.new.shown) k c.args.flushes o h.was in
+    let done = demonitors_so c.args.pid b b' (answer c.giving_true.result c.giving_true.new.shown) k
+    c.args.flushes o h.was in
     elim c.match-demonitor.branch [
       | in-Some+in_ok-send w ↦
           done (ap (λ z. z.ties) w.self-is ∙ h.demonitored)
-          (sent_to c.args.pid k w.in-Some.other o b.channels b'.channels w.in-Some.is (ap (λ z. z.channels) w.self-is ∙ w.in_ok-send.ensures.sent))
+          (sent_to c.args.pid k w.in-Some.other o b.channels b'.channels w.in-Some.is
+          (ap (λ z. z.channels) w.self-is ∙ w.in_ok-send.ensures.sent))
           (λ d ss. c.giving_true.ensures d ss)
       | in_default w ↦
           done (ap (λ z. z.ties) w.self-is ∙ h.demonitored)

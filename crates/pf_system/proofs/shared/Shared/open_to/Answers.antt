@@ -9,7 +9,8 @@ loop-alloc-preserved c =
     let n = c.senders.ensures in
     let l = c.loop-alloc-test.true in
     record {
-      leads = ap (with_senders (c.args.last + 1)) c.in_ok-open.ensures.opened ∙ one_more c.args.last cs (omega arith) ∙ c.loop-alloc.invariant.leads;
+      leads = ap (with_senders (c.args.last + 1)) c.in_ok-open.ensures.opened ∙ one_more c.args.last cs (omega arith)
+          ∙ c.loop-alloc.invariant.leads;
       ties = c.loop-alloc.invariant.ties;
     }
 

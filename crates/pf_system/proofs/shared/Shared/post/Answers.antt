@@ -21,8 +21,10 @@ loop-to-preserved c =
     let x : ℕ × Program = (c.in-Some.to, c.in-Some.signal) in
     let steps : into_iter_items at.to-iterator ≡ x ∷ into_iter_items c.next.new.self = c.in-Some.ensures.steps.0 in
     record {
-      posted = one_more c.args.from at.yielded x c.args.self.now.channels at.self.channels c.send.new.self at.invariant.posted c.in_ok-send.ensures.sent;
+      posted = one_more c.args.from at.yielded x c.args.self.now.channels at.self.channels c.send.new.self
+          at.invariant.posted c.in_ok-send.ensures.sent;
       ties = at.invariant.ties;
       senders = c.send.ensures.senders ∙ at.invariant.senders;
-      rest = at.invariant.rest ∙ ap (λ l. at.yielded ++ l) steps ∙ sym (append_assoc at.yielded (x ∷ []) (into_iter_items c.next.new.self));
+      rest = at.invariant.rest ∙ ap (λ l. at.yielded ++ l) steps
+          ∙ sym (append_assoc at.yielded (x ∷ []) (into_iter_items c.next.new.self));
     }

@@ -9,7 +9,8 @@ use Rattle.pf_system.proofs.shared.Shared.register.Goals as goal
 pub returns-in_default : goal.returns-in_default
 returns-in_default c =
     let b = c.args.self.now in
-    name_refused c.args.pid b b _ (value_of c.args.name) (value_of c.args.other) (not_atom c.args.name c.in_default.not-Atom)
+    name_refused c.args.pid b b _ (value_of c.args.name) (value_of c.args.other)
+    (not_atom c.args.name c.in_default.not-Atom)
     c.raising.ensures refl
 
 pub returns-in_default-other : goal.returns-in_default-other
@@ -23,7 +24,8 @@ returns-in-Ok c =
     let b = c.args.self.now in
     let h = c.in-Ok.ensures in
     registers_so c.args.pid b (record { ties = c.register.new.self; channels = b.channels }) _ (value_of c.args.name)
-    (value_of c.args.other) c.in-Atom.name.0 c.in-Pid.other (ap value_of c.in-Atom.is) (ap value_of c.in-Pid.is) h.allowed h.registered refl
+    (value_of c.args.other) c.in-Atom.name.0 c.in-Pid.other (ap value_of c.in-Atom.is) (ap value_of c.in-Pid.is)
+    h.allowed h.registered refl
     (λ d ss. c.giving_true.ensures d ss)
 
 pub returns-in-Err-Fault : goal.returns-in-Err-Fault
@@ -32,5 +34,6 @@ returns-in-Err-Fault c =
     let h = c.in-Err-Fault.ensures in
     not_registered c.args.pid b (record { ties = c.register.new.self; channels = b.channels }) _ (value_of c.args.name)
     (value_of c.args.other) c.in-Atom.name.0 c.in-Pid.other (ap value_of c.in-Atom.is) (ap value_of c.in-Pid.is)
-    (subst (IsRefusedOnlyIf (may_register b.ties c.in-Atom.name.0 c.in-Pid.other ≡ false)) c.in-Err-Fault.field-0-is h.refused)
+    (subst (IsRefusedOnlyIf (may_register b.ties c.in-Atom.name.0 c.in-Pid.other ≡ false))
+    c.in-Err-Fault.field-0-is h.refused)
     c.raising-in-Err-Fault.ensures (ap {B = Shared} (λ t. record { ties = t; channels = b.channels }) h.err)

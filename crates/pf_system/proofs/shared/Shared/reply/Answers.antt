@@ -17,4 +17,5 @@ returns-clause-sent c =
     let cs = c.args.self.now.channels in
     let s = signal_of c.args.signal in
     on_ok_weaker c.send.result
-    (λ e. e ∙ ap (sent c.args.from c.args.to s) c.in_ok-open_to.ensures.opened ∙ sent_padded c.args.from c.args.to s cs) c.send.ensures.sent
+    (λ e. e ∙ ap (sent c.args.from c.args.to s) c.in_ok-open_to.ensures.opened ∙ sent_padded c.args.from c.args.to s cs)
+    c.send.ensures.sent

@@ -6,5 +6,6 @@ pub returns : goal.returns
 returns c =
     record {
       keeps = record { life = refl; ahead = λ k h. c.flush-told.ensures.ahead k };
-      mail = ap (λ z. z.messages) c.flush-told.ensures.flushed ∙ ap (λ z. flushed c.args.reference z.messages) c.reset_mark.ensures.unmarked;
+      mail = ap (λ z. z.messages) c.flush-told.ensures.flushed ∙ ap (λ z. flushed c.args.reference z.messages)
+          c.reset_mark.ensures.unmarked;
     }

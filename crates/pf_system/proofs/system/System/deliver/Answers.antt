@@ -13,7 +13,8 @@ deliver-requires-clause-there c =
     let f = c.self.inside in
     let d = configuration_of f.processes in
     let v = unspent c.args.self.now f.module.value f.steps f.spent d c.self.view_is c.if-self.false in
-    has_signal c.args.from c.args.to d (subst (λ s. MayGo (Channel c.args.from c.args.to) s.standing) v c.requires.enabled)
+    has_signal c.args.from c.args.to d (subst (λ s. MayGo (Channel c.args.from c.args.to) s.standing) v
+    c.requires.enabled)
 
 pub overflow_add-self : goal.overflow_add-self
 overflow_add-self c =
@@ -22,7 +23,8 @@ overflow_add-self c =
 
 pub invariant_of-self-2 : goal.invariant_of-self-2
 invariant_of-self-2 c e =
-    still_kept c.self.inside.module.value c.self.inside.processes c.deliver.new.self c.args.from c.args.to c.deliver.new.shown
+    still_kept c.self.inside.module.value c.self.inside.processes c.deliver.new.self c.args.from c.args.to
+    c.deliver.new.shown
     (c.self.invariant c.if-self.false) c.in_ok-deliver.ensures
 
 pub returns-clause-passed : goal.returns-clause-passed
@@ -35,4 +37,5 @@ returns-clause-passed c =
     let l = label_of c.deliver.new.shown in
     subst (λ s. SimulatesTransition 1 s x l 1 (view_of_system m (f.steps + 1) (Some e)))
     (sym (unspent c.args.self.now m f.steps f.spent d c.self.view_is c.if-self.false))
-    (delivery_passes m f.processes c.deliver.new.self f.steps c.args.from c.args.to c.deliver.new.shown c.in_ok-deliver.ensures)
+    (delivery_passes m f.processes c.deliver.new.self f.steps c.args.from c.args.to c.deliver.new.shown
+    c.in_ok-deliver.ensures)

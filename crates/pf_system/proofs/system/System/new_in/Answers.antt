@@ -9,7 +9,8 @@ use Rattle.pf_system.specs.View.{view_of_system}
 use Rattle.pf_system.proofs.Systems.{begins_kept, begins_so}
 use Rattle.pf_system.proofs.system.System.new_in.Goals as goal
 
-at_root : (k : MachineView) (m m1 m2 : Checked) (root : _) (ts : List Term) → k ≡ at_call zero m1 root (values_of ts) → m1 ≡ m → m2 ≡ m → ts ≡ []
+at_root : (k : MachineView) (m m1 m2 : Checked) (root : _) (ts : List Term) → k ≡ at_call zero m1 root (values_of ts)
+    → m1 ≡ m → m2 ≡ m → ts ≡ []
     → k ≡ at_call zero m2 root none
 at_root k m m1 m2 root ts e p q t =
     e ∙ ap (λ z. at_call zero z root (values_of ts)) (p ∙ sym q) ∙ ap (λ z. at_call zero m2 root (values_of z)) t
@@ -17,14 +18,30 @@ at_root k m m1 m2 root ts e p q t =
 pub invariant_of-result : goal.invariant_of-result
 invariant_of-result c _ =
     begins_kept _ c.open.new.self c.in_ok-machine.machine c.args.root.0
-    (record { slots = c.take_slots.ensures; ties = c.new-3.ensures; channels = c.new-4.ensures; ready = c.take_ready.ensures })
-    (at_root _ c.args.module.now.value _ _ c.args.root.0 _ c.in_ok-machine.ensures c.in_ok-shared.ensures c.in_ok-try_clone.ensures c.new.ensures.items)
-    c.in_ok-open.ensures c.args.edition c.most_processes.ensures _ (c.in_ok-try_clone.ensures ∙ sym c.in_ok-try_clone-2.ensures)
+    (record {
+      slots = c.take_slots.ensures;
+      ties = c.new-3.ensures;
+      channels = c.new-4.ensures;
+      ready =
+          c.take_ready.ensures;
+    })
+    (at_root _ c.args.module.now.value _ _ c.args.root.0 _ c.in_ok-machine.ensures c.in_ok-shared.ensures
+    c.in_ok-try_clone.ensures c.new.ensures.items)
+    c.in_ok-open.ensures c.args.edition c.most_processes.ensures _
+    (c.in_ok-try_clone.ensures ∙ sym c.in_ok-try_clone-2.ensures)
 
 pub returns : goal.returns
 returns c =
     let k = c.in_ok-try_clone-2.field-0.value in
     begins_so _ c.open.new.self c.in_ok-machine.machine c.args.root.0
-    (record { slots = c.take_slots.ensures; ties = c.new-3.ensures; channels = c.new-4.ensures; ready = c.take_ready.ensures })
-    (at_root _ c.args.module.now.value _ _ c.args.root.0 _ c.in_ok-machine.ensures c.in_ok-shared.ensures c.in_ok-try_clone.ensures c.new.ensures.items)
-    c.in_ok-open.ensures c.args.edition c.most_processes.ensures k ∙ ap (λ z. view_of_system z 0 (Some (start c.args.root.0 c.args.edition))) c.in_ok-try_clone-2.ensures
+    (record {
+      slots = c.take_slots.ensures;
+      ties = c.new-3.ensures;
+      channels = c.new-4.ensures;
+      ready =
+          c.take_ready.ensures;
+    })
+    (at_root _ c.args.module.now.value _ _ c.args.root.0 _ c.in_ok-machine.ensures c.in_ok-shared.ensures
+    c.in_ok-try_clone.ensures c.new.ensures.items)
+    c.in_ok-open.ensures c.args.edition c.most_processes.ensures k
+    ∙ ap (λ z. view_of_system z 0 (Some (start c.args.root.0 c.args.edition))) c.in_ok-try_clone-2.ensures

@@ -16,7 +16,8 @@ turn-requires-clause-enabled c =
     let m = c.self.inside.module.value in
     let w : Processes = c.self.inside.processes in
     let v : c.args.self.now ≡ view_of_system m c.self.inside.steps (Some (configuration_of w)) =
-    sym c.self.view_is ∙ ap (λ t. view_of_system m c.self.inside.steps (unless_spent t (configuration_of w))) c.if-self.false in
+    sym c.self.view_is ∙ ap (λ t. view_of_system m c.self.inside.steps (unless_spent t (configuration_of w)))
+    c.if-self.false in
     can_go_of c.args.pid (configuration_of w) (subst (λ s. MayGo (Process c.args.pid) s.standing) v c.requires.enabled)
 
 pub turn-requires-clause-left : goal.turn-requires-clause-left
@@ -29,8 +30,10 @@ overflow_add-self c =
 
 pub invariant_of-self-2 : goal.invariant_of-self-2
 invariant_of-self-2 c e =
-    turn_kept c.self.inside.module.value c.self.inside.processes c.turn.new.self (core_of c.self.inside.processes) c.args.pid
-    (c.args.limit - c.self.inside.steps) c.in_ok-used.used c.turn.new.shown (c.self.invariant c.if-self.false) c.in_ok-used.ensures
+    turn_kept c.self.inside.module.value c.self.inside.processes c.turn.new.self
+    (core_of c.self.inside.processes) c.args.pid
+    (c.args.limit - c.self.inside.steps) c.in_ok-used.used c.turn.new.shown (c.self.invariant c.if-self.false)
+    c.in_ok-used.ensures
 
 pub returns-clause-passed : goal.returns-clause-passed
 returns-clause-passed c =
@@ -44,5 +47,6 @@ returns-clause-passed c =
     let l = label_of c.turn.new.shown in
     let v : c.args.self.now ≡ view_of_system m k (Some (configuration_of w)) =
     sym c.self.view_is ∙ ap (λ t. view_of_system m k (unless_spent t (configuration_of w))) c.if-self.false in
-    subst (λ s. SimulatesTransition (n - s.steps) s x l u (view_of_system m (k + u) (Some (configuration_of w')))) (sym v)
+    subst (λ s. SimulatesTransition (n - s.steps) s x l u (view_of_system m (k + u) (Some (configuration_of w'))))
+    (sym v)
     (turn_passes m w w' k c.args.pid (n - k) u c.turn.new.shown (c.self.invariant c.if-self.false) c.in_ok-used.ensures)

@@ -15,4 +15,5 @@ invariant_of-self-2 c =
     ap (λ names. names ++ c.args.name.now ∷ []) (sym c.self.view_is)
     ∙ append_assoc fixed_names c.self.inside.entered (c.args.name.now ∷ [])
     ∙ ap (λ names. fixed_names ++ names) (sym c.in_ok-push.ensures.pushed) in
-    subst HasNumbers more (one_more c.args.self.now c.args.name.now (subst HasNumbers c.self.view_is c.self.invariant) c.requires.room c.requires.new)
+    subst HasNumbers more (one_more c.args.self.now c.args.name.now (subst HasNumbers c.self.view_is c.self.invariant)
+    c.requires.room c.requires.new)

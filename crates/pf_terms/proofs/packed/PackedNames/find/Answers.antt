@@ -11,7 +11,8 @@ returns-then-eq-clause-found c =
     let names = c.args.self.now in
     let i = c.loop-index.index in
     let same : bytes_eq c.args.name.now (get_or names i []) ≡ true = cc in
-    slice_get-get_or names i [] (omega arith) ∙ ap (λ n. Some n) (sym ((bytes_eq-Decides c.args.name.now (get_or names i [])).0 same))
+    slice_get-get_or names i [] (omega arith) ∙ ap (λ n. Some n)
+    (sym ((bytes_eq-Decides c.args.name.now (get_or names i [])).0 same))
 
 pub loop-index-preserved : goal.loop-index-preserved
 loop-index-preserved c =

@@ -9,7 +9,8 @@ pub returns-then-index-len : goal.returns-then-index-len
 returns-then-index-len c =
     let bytes = c.self.inside.bytes.items in
     let ends = c.self.inside.ends.items in
-    sym (get_or_past _ c.args.index [] (omega (arith, length-cut bytes 0 ends))) ∙ ap (λ all. name_of all c.args.index) c.self.view_is
+    sym (get_or_past _ c.args.index [] (omega (arith, length-cut bytes 0 ends)))
+    ∙ ap (λ all. name_of all c.args.index) c.self.view_is
 
 pub slice_bounds-result-count : goal.slice_bounds-result-count
 slice_bounds-result-count c =
@@ -43,7 +44,8 @@ returns c =
     let i = c.args.index in
     let t = stands bytes 0 ends i c.self.invariant (omega arith) in
     let start : c.start_of-start.result ≡ get_or (0 ∷ ends) i 0 = cc in
-    let end : c.index.result.now ≡ get_or ends i 0 = omega (arith, get_or_default ends i c.index.result.now 0 (omega arith)) in
+    let end : c.index.result.now ≡ get_or ends i 0 =
+    omega (arith, get_or_default ends i c.index.result.now 0 (omega arith)) in
     let held : c.deref-2.result.now ≡ bytes = cc in
     ap (λ n. slice_range c.deref-2.result.now c.start_of-start.result n) end
     ∙ ap (λ n. slice_range c.deref-2.result.now n (get_or ends i 0)) start

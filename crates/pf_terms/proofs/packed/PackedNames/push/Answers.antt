@@ -9,9 +9,11 @@ invariant_of-self-2 c =
     let ends = c.self.inside.ends.items in
     let name = c.args.name.now in
     let new_bytes : c.extend_from_slice.new.self.items ≡ bytes ++ name = search rules in
-    let end : c.in_ok-end.end ≡ length c.extend_from_slice.new.self.items = omega (arith, ap length new_bytes, length-append bytes name) in
+    let end : c.in_ok-end.end ≡ length c.extend_from_slice.new.self.items =
+    omega (arith, ap length new_bytes, length-append bytes name) in
     let new_ends : c.push.new.self.items ≡ ends ++ length c.extend_from_slice.new.self.items ∷ [] = search rules in
-    rw new_ends (ascends_more (length bytes) _ 0 ends (omega (arith, ap length new_bytes, length-append bytes name)) c.self.invariant)
+    rw new_ends (ascends_more (length bytes) _ 0 ends (omega (arith, ap length new_bytes, length-append bytes name))
+    c.self.invariant)
 
 pub returns-clause-pushed : goal.returns-clause-pushed
 returns-clause-pushed c =

@@ -13,7 +13,13 @@ invariant_of-self-in-Ok c =
 pub invariant_of-self-in-Err : goal.invariant_of-self-in-Err
 invariant_of-self-in-Err c =
     let e = rw (← c.self.view_is) at c.requires.new in
-    rw (c.remove.ensures.removed, c.in_ok-insert.ensures.inserted, c.from-key.ensures, without_put c.args.name.0 c.args.pid c.self.inside.by_name e, c.in-Err.ensures.refused)
+    rw (
+      c.remove.ensures.removed,
+      c.in_ok-insert.ensures.inserted,
+      c.from-key.ensures,
+      without_put c.args.name.0 c.args.pid c.self.inside.by_name e,
+      c.in-Err.ensures.refused,
+    )
     c.self.invariant
 
 pub returns-in-Err-clause-refused : goal.returns-in-Err-clause-refused

@@ -12,7 +12,8 @@ invariant_of-self c =
 
 pub invariant_of-self-in_default : goal.invariant_of-self-in_default
 invariant_of-self-in_default c =
-    rw (c.remove.ensures.removed, without_none c.from.result c.self.inside.by_process (sym c.in_default.ensures.was)) c.self.invariant
+    rw (c.remove.ensures.removed, without_none c.from.result c.self.inside.by_process (sym c.in_default.ensures.was))
+    c.self.invariant
 
 pub returns-in-Some : goal.returns-in-Some
 returns-in-Some c =

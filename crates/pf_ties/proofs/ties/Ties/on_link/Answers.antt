@@ -4,5 +4,6 @@ use Rattle.pf_ties.proofs.ties.Ties.on_link.Goals as goal
 
 pub returns-clause-placed : goal.returns-clause-placed
 returns-clause-placed c =
-    let e = at_index c.args.to c.self.inside.processes.items c.index_mut-process.result.now (rw (← c.self.view_is) at c.requires) c.index_mut-process.ensures.value in
+    let e = at_index c.args.to c.self.inside.processes.items c.index_mut-process.result.now
+    (rw (← c.self.view_is) at c.requires) c.index_mut-process.ensures.value in
     on_ok c.link.result c.link.ensures.linked (λ h. rw (h, ← e, ← c.self.view_is) refl)

@@ -4,11 +4,18 @@ use Rattle.pf_ties.proofs.ties.Ties.unlink.Goals as goal
 
 pub returns-clause-was : goal.returns-clause-was
 returns-clause-was c =
-    let e = at_index c.args.from c.self.inside.processes.items c.index_mut-process.result.now (rw (← c.self.view_is) at c.requires) c.index_mut-process.ensures.value in
+    let e = at_index c.args.from c.self.inside.processes.items c.index_mut-process.result.now
+    (rw (← c.self.view_is) at c.requires) c.index_mut-process.ensures.value in
     rw (← c.self.view_is, e) c.unlink.ensures.was
 
 pub returns-clause-unlinked : goal.returns-clause-unlinked
 returns-clause-unlinked c =
-    let e = at_index c.args.from c.self.inside.processes.items c.index_mut-process.result.now (rw (← c.self.view_is) at c.requires) c.index_mut-process.ensures.value in
-    let s : AllTies = record { processes = c.self.inside.processes.items; names = c.self.inside.names; next_reference = c.self.inside.next_reference } in
+    let e = at_index c.args.from c.self.inside.processes.items c.index_mut-process.result.now
+    (rw (← c.self.view_is) at c.requires) c.index_mut-process.ensures.value in
+    let s : AllTies = record {
+      processes = c.self.inside.processes.items;
+      names = c.self.inside.names;
+      next_reference =
+          c.self.inside.next_reference;
+    } in
     rw (c.unlink.ensures.unlinked, ← e, ← c.self.view_is) (unlinked_is s c.args.from c.args.to)

@@ -12,5 +12,8 @@ returns-in_err-put-clause-fault g c =
     let name = name_of c.args.atoms.now in
     let end = last_lines name (view_of_outcome c.args.outcome.now) c.args.steps c.args.verdict in
     let text = c.deref.ensures.value ∙ c.in_ok-put_last_lines.ensures ∙ ap (λ ls. ls ++ end) c.requires in
-    handed_on c.from_residual-in_err-put.result (Fault c.in_err-put.field-0.0) _ c.from_residual-in_err-put.ensures
-    (subst (AppendsFront (g.W.Write.contents c.args.writer.now.inner) (g.W.Write.contents c.put.new.self.inner)) text c.in_err-put.ensures.front, c.in_err-put.ensures.counted)
+    handed_on c.from_residual-in_err-put.result (Fault c.in_err-put.field-0.0) _ c.from_residual-in_err-put.ensures (
+      subst (AppendsFront (g.W.Write.contents c.args.writer.now.inner) (g.W.Write.contents c.put.new.self.inner)) text
+          c.in_err-put.ensures.front,
+      c.in_err-put.ensures.counted,
+    )

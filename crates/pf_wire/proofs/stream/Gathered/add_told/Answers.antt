@@ -6,14 +6,16 @@ use Rattle.pf_wire.proofs.stream.Gathered.add_told.Goals as goal
 pub returns-in_err-add-clause-front : goal.returns-in_err-add-clause-front
 returns-in_err-add-clause-front g c =
     at_err c.from_residual.result
-    (front_of_put c.args.self.now.text.items c.args.told.now.text.items c.args.told.now.report _ _ (rw c.deref.ensures.value at c.in_err-add.ensures.front))
+    (front_of_put c.args.self.now.text.items c.args.told.now.text.items c.args.told.now.report _ _
+    (rw c.deref.ensures.value at c.in_err-add.ensures.front))
 
 pub returns-in-Some-clause-added : goal.returns-in-Some-clause-added
 returns-in-Some-clause-added g c =
     let put = c.deref.result.now in
     let both = told_with put c.args.told.now c.in-Some.report c.deref.ensures.value c.in-Some.is in
     on_ok_weaker c.add_report.result
-    (λ h. added_both c.args.self.now.text.items c.add.new.self.text.items _ put (report_lines c.in-Some.report) _ _ _ _ both c.in_ok-add.ensures.added h)
+    (λ h. added_both c.args.self.now.text.items c.add.new.self.text.items _ put (report_lines c.in-Some.report) _ _ _ _
+    both c.in_ok-add.ensures.added h)
     c.add_report.ensures.added
 
 pub returns-in-Some-clause-front : goal.returns-in-Some-clause-front
@@ -21,5 +23,6 @@ returns-in-Some-clause-front g c =
     let put = c.deref.result.now in
     let both = told_with put c.args.told.now c.in-Some.report c.deref.ensures.value c.in-Some.is in
     on_err_weaker c.add_report.result
-    (λ h. front_of_second c.args.self.now.text.items c.add.new.self.text.items put (report_lines c.in-Some.report) _ _ _ _ both c.in_ok-add.ensures.added h)
+    (λ h. front_of_second c.args.self.now.text.items c.add.new.self.text.items put (report_lines c.in-Some.report) _ _ _
+    _ both c.in_ok-add.ensures.added h)
     c.add_report.ensures.front

@@ -18,7 +18,8 @@ invariant_of-self-2 g c = record {
     | then-self w ↦ λ o.
         let none = not_true _ (sym w.is_open-is ∙ o) in
         rw c.in_ok-extend_from_slice.ensures.items
-        (open_stays c.args.self.now.bytes.items _ (c.args.self.now.open w.if-self.true) (sym (ap (λ (l : Line). l.is_ended) w.first_line.ensures) ∙ none))
+        (open_stays c.args.self.now.bytes.items _ (c.args.self.now.open w.if-self.true)
+        (sym (ap (λ (l : Line). l.is_ended) w.first_line.ensures) ∙ none))
     | else-self w ↦ λ o. differ (sym w.if-self.false ∙ sym w.is_open-is ∙ o)
   ];
 }
