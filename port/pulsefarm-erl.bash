@@ -6,12 +6,13 @@ _pulsefarm_erl_words() {
   case $1 in
     translate) echo "$all -o" ;;
     check) echo "$all --explain --format" ;;
-    run) echo "$all --property --limit --seed --schedule --strategy --weights --edition --verbose --explain --format" ;;
-    hunt) echo "$all --property --limit --seeds --for --strategy --weights --edition --workers --shrink --all --leaks --all-roots --fail-fast --verbose --format" ;;
+    run) echo "$all --property --limit --seed --schedule --strategy --weights --edition --verbose --explain --one-node --format" ;;
+    hunt) echo "$all --property --limit --seeds --for --strategy --weights --edition --workers --shrink --all --leaks --all-roots --fail-fast --one-node --verbose --format" ;;
     shrink) echo "$all --property --limit --schedule --runs --edition --verbose --format" ;;
     chart) echo "$all --property --limit --seed --schedule --strategy --weights --edition --page --compact" ;;
-    eunit) echo "$all --property --limit --seeds --for --strategy --weights --edition --workers --test --junit" ;;
-    *) echo 'translate check run hunt shrink chart eunit --help --version' ;;
+    eunit) echo "$all --property --limit --seeds --for --strategy --weights --edition --workers --test --one-node --junit" ;;
+    prop) echo "$all --limit --seeds --tests --seed --strategy --weights --edition --workers --shrink" ;;
+    *) echo 'translate check run hunt shrink chart eunit prop --help --version' ;;
   esac
 }
 

@@ -19,7 +19,7 @@ handle_call(reset, _From, S) -> {reply, ok, stop_timer(S#b{state = closed, fails
 handle_call(state, _From, #b{state = St, fails = N} = S) -> {reply, {St, N}, S}.
 handle_cast({failed, _}, #b{fails = N, limit = L} = S) when N + 1 >= L -> {noreply, open(S#b{fails = N + 1})};
 handle_cast({failed, _}, #b{fails = N} = S) -> {noreply, S#b{fails = N + 1}}.
--ifdef(MENDED).
+-ifdef(FIXED).
 open(S) -> S#b{state = open, timer = erlang:start_timer(20, self(), close)}.
 stop_timer(#b{timer = undefined} = S) -> S;
 stop_timer(#b{timer = T} = S) -> erlang:cancel_timer(T), S#b{timer = undefined}.

@@ -9,7 +9,7 @@ where(Name) ->
         [{_, Pid, _}] -> Pid;
         [] -> undefined
     end.
--ifdef(MENDED).
+-ifdef(FIXED).
 reg(Name, Pid) ->
     case where(Name) of
         undefined -> gen_server:call(?MODULE, {reg, Name, Pid});

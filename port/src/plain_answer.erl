@@ -2,12 +2,12 @@
 %% each crash with file, line and function.
 -module(plain_answer).
 -export([lines/3, text/1, why/1, report/1, ends/1, orderly/1, replayed/3, role/2, where/5, reason/2, event_place/2, last_places/2, starts_report/1]).
--export_type([told/0]).
+-export_type([reported/0]).
 
 -type asked() :: plain_words:asked().
 -type translation() :: plain_translation:translation().
 %% The places of a run, or that they can't be told.
--type told() :: {ok, plain_replay:told(), translation()} | unknown.
+-type reported() :: {ok, plain_replay:reported(), translation()} | unknown.
 
 %% @doc An answer, line by line.
 -spec lines(binary(), asked(), translation()) -> [plain_json:line()].
@@ -18,10 +18,10 @@ lines(Answer, Asked, #{names := Names} = Translation) ->
     case plain_report:read(Report) of
         #{events := []} -> [Own(Line) || Line <- Lines];
         #{events := Events, rest := Rest} ->
-            Told = replayed(Asked, Translation, Events),
+            Reported = replayed(Asked, Translation, Events),
             Verbose = maps:get(verbose, Asked, false),
-            [{Line, plain_json:of_line(Line)} || Line <- Before] ++ events(Events, Told, Names, Verbose) ++ [Own(Line) || Line <- Rest]
-                ++ processes(Events, Told, #{verbose => Verbose}) ++ waits(Events, Rest, Told, Asked) ++ crashes(Events, Told, Translation)
+            [{Line, plain_json:of_line(Line)} || Line <- Before] ++ events(Events, Reported, Names, Verbose) ++ [Own(Line) || Line <- Rest]
+                ++ processes(Events, Reported, #{verbose => Verbose}) ++ waits(Events, Rest, Reported, Asked) ++ crashes(Events, Reported, Translation)
     end.
 
 %% @doc Lines as one text.
@@ -48,19 +48,27 @@ report(Answer) ->
 starts_report(Line) -> re:run(Line, <<"^[0-9]+/[0-9]+ <">>) =/= nomatch.
 
 %% @doc The run once more, with its places.
--spec replayed(asked(), translation(), [plain_report:event()]) -> told().
+-spec replayed(asked(), translation(), [plain_report:event()]) -> reported().
 replayed(#{files := Files, options := Options}, #{roots := [Root | _]}, Events) ->
     plain_replay:places(Files, Options, atom_to_list(Root), Events).
 
 %% All events with their places where that was asked for, or where places can't be told; else the story.
--spec events([plain_report:event()], told(), #{atom() => plain_translation:place()}, boolean()) -> [plain_json:line()].
+-spec events([plain_report:event()], reported(), #{atom() => plain_translation:place()}, boolean()) -> [plain_json:line()].
 events(Events, unknown, Names, _) -> [event(Event, none, Names) || Event <- Events];
-events(Events, {ok, #{events := Known}, #{marks := Places}} = Told, Names, Verbose) ->
-    Marks = [place_of(Mark, Places) || Mark <- Known],
+events(Events, {ok, #{events := Known}, #{marks := Places}} = Reported, Names, Verbose) ->
+    Marks = waited(Events, [place_of(Mark, Places) || Mark <- Known], #{}),
     case Verbose of
         true -> [event(Event, Place, Names) || {Event, Place} <- lists:zip(Events, Marks)];
-        false -> plain_story:tell(Events, Marks, {Told, Names})
+        false -> plain_story:tell(Events, Marks, {Reported, Names})
     end.
+
+%% What is received after a wait is received where the process waited.
+-spec waited([plain_report:event()], [plain_translation:place() | none], #{non_neg_integer() => plain_translation:place() | none}) ->
+    [plain_translation:place() | none].
+waited([#{subject := {turn, P}, label := <<"wait">>} | Events], [Place | Places], Waits) -> [Place | waited(Events, Places, Waits#{P => Place})];
+waited([#{subject := {turn, P}, label := <<"receive ", _/binary>>} | Events], [none | Places], Waits) -> [maps:get(P, Waits, none) | waited(Events, Places, Waits)];
+waited([_ | Events], [Place | Places], Waits) -> [Place | waited(Events, Places, Waits)];
+waited([], [], _) -> [].
 
 -spec event(plain_report:event(), plain_translation:place() | none, #{atom() => plain_translation:place()}) -> plain_json:line().
 event(#{choice := Choice, among := Among, subject := Subject, label := Label}, Place, Names) ->
@@ -81,24 +89,24 @@ place_of(<<"'@", Rest/binary>>, Places) ->
     end;
 place_of(_, _) -> none.
 
--spec processes([plain_report:event()], told(), #{verbose := boolean()}) -> [plain_json:line()].
+-spec processes([plain_report:event()], reported(), #{verbose := boolean()}) -> [plain_json:line()].
 processes(_, unknown, _) -> [{"the places of this run can't be told", [{places, false}]}];
-processes(Events, Told, #{verbose := Verbose}) ->
+processes(Events, Reported, #{verbose := Verbose}) ->
     Pids = lists:usort([P || #{subject := {turn, P}} <- Events]),
-    Roles = [{P, lists:flatten(io_lib:format("~ts", [role(P, Told)]))} || P <- Pids],
+    Roles = [{P, lists:flatten(io_lib:format("~ts", [role(P, Reported)]))} || P <- Pids],
     [{io_lib:format("<~w> ~ts", [P, Role]), [{process, pid(P)}, {runs, Role}]} || {P, Role} <- Roles, Verbose orelse not lists:prefix("the service", Role)].
 
 -spec pid(non_neg_integer()) -> string().
 pid(P) -> lists:flatten(io_lib:format("<~w>", [P])).
 
 %% @doc What a process runs.
--spec role(non_neg_integer() | none, told()) -> iodata() | unknown.
+-spec role(non_neg_integer() | none, reported()) -> iodata() | unknown.
 role(_, unknown) -> unknown;
 role(0, {ok, _, #{roots := [Root | _], main := Main}}) -> io_lib:format("~w:~w/0", [Main, Root]);
 role(Process, {ok, #{begins := Begins}, Traced}) -> begun(maps:get(Process, Begins, none), Traced).
 
 %% @doc The place of an event, counted from 1.
--spec event_place(pos_integer() | none, told()) -> plain_translation:place() | none.
+-spec event_place(pos_integer() | none, reported()) -> plain_translation:place() | none.
 event_place(Number, {ok, #{events := Marks}, #{marks := Places}}) when is_integer(Number), Number =< length(Marks) ->
     place_of(lists:nth(Number, Marks), Places);
 event_place(_, _) -> none.
@@ -138,55 +146,55 @@ ending(Number, #{subject := {delivery, A, B}, label := <<"deliver exit ends ", R
 ending(_, _) -> [].
 
 %% Where the processes of a deadlock wait, and, where leaks are looked for, those that the root left.
--spec waits([plain_report:event()], [binary()], told(), asked()) -> [plain_json:line()].
-waits(Events, [<<"deadlock ", Pids/binary>> | _], Told, _) ->
-    waiting([P || Pid <- binary:split(Pids, <<" ">>, [global, trim]), {P, _} <- [string:to_integer(binary:part(Pid, 1, byte_size(Pid) - 2))]], Events, Told);
-waits(Events, Rest, Told, #{words := Words}) ->
-    waiting(case lists:member("--leaks", Words) of true -> plain_verdict:left(Events, Rest); false -> [] end, Events, Told).
+-spec waits([plain_report:event()], [binary()], reported(), asked()) -> [plain_json:line()].
+waits(Events, [<<"deadlock ", Pids/binary>> | _], Reported, _) ->
+    waiting([P || Pid <- binary:split(Pids, <<" ">>, [global, trim]), {P, _} <- [string:to_integer(binary:part(Pid, 1, byte_size(Pid) - 2))]], Events, Reported);
+waits(Events, Rest, Reported, #{words := Words}) ->
+    waiting(case lists:member("--leaks", Words) of true -> plain_verdict:left(Events, Rest); false -> [] end, Events, Reported).
 
--spec waiting([non_neg_integer()], [plain_report:event()], told()) -> [plain_json:line()].
+-spec waiting([non_neg_integer()], [plain_report:event()], reported()) -> [plain_json:line()].
 waiting(_, _, unknown) -> [];
-waiting(Pids, Events, Told) ->
-    Last = last_places(Events, Told),
-    [wait(P, maps:get(P, Last, none), Told) || P <- Pids].
+waiting(Pids, Events, Reported) ->
+    Last = last_places(Events, Reported),
+    [wait(P, maps:get(P, Last, none), Reported) || P <- Pids].
 
 %% @doc The place at which each process waited last.
--spec last_places([plain_report:event()], told()) -> #{non_neg_integer() => plain_translation:place() | none}.
+-spec last_places([plain_report:event()], reported()) -> #{non_neg_integer() => plain_translation:place() | none}.
 last_places(_, unknown) -> #{};
 last_places(Events, {ok, #{events := Marks}, #{marks := Places}}) ->
     maps:from_list([{P, place_of(Mark, Places)} || {#{subject := {turn, P}, label := <<"wait">>}, Mark} <- lists:zip(Events, Marks), Mark =/= none]).
 
--spec wait(non_neg_integer(), plain_translation:place() | none, told()) -> plain_json:line().
-wait(P, {user, _, _, _} = Place, _) -> {io_lib:format("waits <~w> at ~ts", [P, plain_words_back:place(Place)]), [{waits, pid(P)} | plain_json:place(Place)]};
-wait(P, _, Told) -> {io_lib:format("waits <~w> in ~ts", [P, role(P, Told)]), [{waits, pid(P)}, {runs, role(P, Told)}]}.
+-spec wait(non_neg_integer(), plain_translation:place() | none, reported()) -> plain_json:line().
+wait(P, {Kind, _, _, _} = Place, _) when Kind =:= user; Kind =:= called -> {io_lib:format("waits <~w> at ~ts", [P, plain_words_back:place(Place)]), [{waits, pid(P)} | plain_json:place(Place)]};
+wait(P, _, Reported) -> {io_lib:format("waits <~w> in ~ts", [P, role(P, Reported)]), [{waits, pid(P)}, {runs, role(P, Reported)}]}.
 
--spec crashes([plain_report:event()], told(), translation()) -> [plain_json:line()].
-crashes(Events, Told, #{names := Names}) ->
-    [crash(End, Events, Told, Names) || {_, _, Reason, _} = End <- ends(Events), Reason =/= <<"normal">>].
+-spec crashes([plain_report:event()], reported(), translation()) -> [plain_json:line()].
+crashes(Events, Reported, #{names := Names}) ->
+    [crash(End, Events, Reported, Names) || {_, _, Reason, _} = End <- ends(Events), Reason =/= <<"normal">>].
 
--spec crash({non_neg_integer(), non_neg_integer(), binary(), own | {by, non_neg_integer()}}, [plain_report:event()], told(), map()) -> plain_json:line().
+-spec crash({non_neg_integer(), non_neg_integer(), binary(), own | {by, non_neg_integer()}}, [plain_report:event()], reported(), map()) -> plain_json:line().
 crash({_, P, Reason, {by, A}}, _, _, Names) ->
     Said = plain_words_back:line(Reason, Names),
     {io_lib:format("ended <~w> by a signal of <~w>: ~ts", [P, A, Said]), [{ended, pid(P)}, {by, pid(A)}, {reason, Said}]};
-crash({Number, P, Reason, own}, Events, Told, Names) ->
-    {Where, Keys} = standing(Number, P, Reason, Events, Told),
+crash({Number, P, Reason, own}, Events, Reported, Names) ->
+    {Where, Keys} = standing(Number, P, Reason, Events, Reported),
     {Class, Said} = reason(Reason, Names),
     case {[Lacked || {N, _, Lacked} <- plain_verdict:gaps(Events), N =:= Number], orderly(Reason)} of
-        {[Lacked], _} -> {io_lib:format("refused <~w> ~ts~ts ~s", [P, Where, Lacked, cure(Lacked, Told)]), [{refused, pid(P)} | Keys] ++ [{lacks, Lacked}, {cure, cure(Lacked, Told)}]};
+        {[Lacked], _} -> {io_lib:format("refused <~w> ~ts~ts ~s", [P, Where, Lacked, cure(Lacked, Reported)]), [{refused, pid(P)} | Keys] ++ [{lacks, Lacked}, {cure, cure(Lacked, Reported)}]};
         {[], true} -> {io_lib:format("ended <~w> ~ts~s ~ts", [P, Where, Class, Said]), [{ended, pid(P)} | Keys] ++ [{class, Class}, {reason, Said}]};
         {[], false} ->
-            Given = arguments(Number, Told, Names),
+            Given = arguments(Number, Reported, Names),
             {[io_lib:format("crash <~w> ~ts~s ~ts", [P, Where, Class, Said]), [[" for (", A, ")"] || A <- Given]],
              [{crash, pid(P)} | Keys] ++ [{class, Class}, {reason, Said}] ++ [{arguments, A} || A <- Given]}
     end.
 
 %% The arguments for which a function had no clause, where the run tells them.
--spec arguments(pos_integer(), told(), map()) -> [binary()].
+-spec arguments(pos_integer(), reported(), map()) -> [binary()].
 arguments(Number, {ok, #{arguments := #{} = Known}, _}, Names) when is_map_key(Number, Known) -> [plain_words_back:line(maps:get(Number, Known), Names)];
 arguments(_, _, _) -> [].
 
 %% What to do about what is lacking.
--spec cure(binary(), told()) -> string().
+-spec cure(binary(), reported()) -> string().
 cure(Lacked, {ok, _, #{exports := Exports}}) ->
     case binary:split(Lacked, <<":">>) of
         [Module, Function] ->
@@ -206,21 +214,21 @@ orderly(<<"{shutdown,", _/binary>> = Reason) -> plain_words_back:size(Reason) =:
 orderly(_) -> false.
 
 %% @doc The place of an end: its own mark; or that of the action that raised; else the last place of the source that the process came by.
--spec where(pos_integer(), non_neg_integer(), binary(), [plain_report:event()], told()) -> iodata().
-where(Number, P, Reason, Events, Told) -> element(1, standing(Number, P, Reason, Events, Told)).
+-spec where(pos_integer(), non_neg_integer(), binary(), [plain_report:event()], reported()) -> iodata().
+where(Number, P, Reason, Events, Reported) -> element(1, standing(Number, P, Reason, Events, Reported)).
 
 %% The place of an end as text, and as the keys of an object.
--spec standing(pos_integer(), non_neg_integer(), binary(), [plain_report:event()], told()) -> plain_json:line().
+-spec standing(pos_integer(), non_neg_integer(), binary(), [plain_report:event()], reported()) -> plain_json:line().
 standing(_, _, _, _, unknown) -> {"", []};
-standing(Number, P, Reason, Events, {ok, #{events := Marks}, #{marks := Places, atoms := Atoms}} = Told) ->
+standing(Number, P, Reason, Events, {ok, #{events := Marks}, #{marks := Places, atoms := Atoms}} = Reported) ->
     Own = [{N, Label, place_of(Mark, Places)} || {N, {#{subject := {turn, Q}, label := Label}, Mark}} <- lists:zip(lists:seq(1, length(Events)), lists:zip(Events, Marks)),
                                                  Q =:= P, N =< Number],
-    Placed = [{N, Label, Place} || {N, Label, {user, _, _, _} = Place} <- lists:reverse(Own)],
+    Placed = [{N, Label, Place} || {N, Label, {Kind, _, _, _} = Place} <- lists:reverse(Own), Kind =:= user orelse Kind =:= called],
     Raised = case lists:reverse(Own) of [_, {N1, <<"raise ", _/binary>>, _} | _] -> N1; _ -> Number end,
     case Placed of
         [{N, _, Place} | _] when N =:= Number; N =:= Raised -> {["at ", plain_words_back:place(Place), ": "], plain_json:place(Place)};
         [{_, _, Place} | _] -> {["behind ", plain_words_back:place(Place), ": "], plain_json:place(Place) ++ [{behind, true}]};
-        [] -> {["in ", role(P, Told), stands(Reason, Atoms), ": "], [{runs, role(P, Told)}]}
+        [] -> {["in ", role(P, Reported), stands(Reason, Atoms), ": "], [{runs, role(P, Reported)}]}
     end.
 
 %% Where the first word of a reason stands in the sources, which a callback returned.

@@ -77,9 +77,9 @@ applications([]) -> {ok, []};
 applications([Folder | Folders]) ->
     [Description | _] = descriptions(Folder),
     case {file:consult(Description), applications(Folders)} of
-        {{ok, [{application, Name, Told} | _]}, {ok, Others}} ->
-            First = #{name => Name, folder => Folder, mod => proplists:get_value(mod, Told, none),
-                      env => proplists:get_value(env, Told, []), needs => proplists:get_value(applications, Told, [])},
+        {{ok, [{application, Name, Reported} | _]}, {ok, Others}} ->
+            First = #{name => Name, folder => Folder, mod => proplists:get_value(mod, Reported, none),
+                      env => proplists:get_value(env, Reported, []), needs => proplists:get_value(applications, Reported, [])},
             {ok, [First | Others]};
         {{ok, [{application, _, _} | _]}, Error} -> Error;
         {{ok, _}, _} -> {error, [Description, ": there is no {application, Name, ..} in it"]};

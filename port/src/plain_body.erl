@@ -14,6 +14,11 @@ returned(Value, _) -> {tuple, [{atom, v}, Value]}.
 
 %% @doc An error in a mode.
 -spec failure(error | exit | throw, plain_text:expression(), mode()) -> plain_text:expression().
+failure(error, {tuple, [{atom, Kind}, Value]} = Reason, plain) ->
+    case plain_trace:ended(Kind, Value) of
+        none -> plain_trace:action(exit, [{tuple, [Reason, nil]}]);
+        Call -> Call
+    end;
 failure(error, Reason, plain) -> plain_trace:action(exit, [{tuple, [Reason, nil]}]);
 failure(exit, Reason, plain) -> plain_trace:action(exit, [Reason]);
 failure(throw, Reason, plain) -> plain_trace:action(exit, [{tuple, [{tuple, [{atom, nocatch}, Reason]}, nil]}]);
@@ -162,7 +167,7 @@ primitive(build_stacktrace, [Raw], _, Env, Mode) ->
     plain_refusal:note_once(stacktrace, "a stack trace is [] here"),
     {_, Stack} = plain_trace:raw_parts(plain_value:value(Raw, Env)),
     [returned(Stack, Mode)];
-primitive(bs_init_writable, _, Line, _, _) -> plain_refusal:refuse(Line, "a binary comprehension is not translated; take a list comprehension", []);
+primitive(bs_init_writable, _, _, _, Mode) -> [returned({tuple, [{atom, '#bin'}, nil]}, Mode)];
 primitive(Name, _, Line, _, _) -> plain_refusal:refuse(Line, "the primitive ~w has no translation; write it by other constructs", [Name]).
 
 -spec at(plain_tree:line()) -> ok.
@@ -199,8 +204,8 @@ note_limits(Body) ->
     note_limits(Body),
     Elements = body(Body, Env, checked),
     [Value, Reason, Stack] = [plain_names:new(), plain_names:new(), plain_names:new()],
-    Caught = fun(Class, Told) -> {plain_trace:caught({atom, Class}, Reason, Stack), [], [returned(Told, Mode)]} end,
-    Exit = fun(Told) -> {tuple, [{atom, 'EXIT'}, Told]} end,
+    Caught = fun(Class, Reported) -> {plain_trace:caught({atom, Class}, Reason, Stack), [], [returned(Reported, Mode)]} end,
+    Exit = fun(Reported) -> {tuple, [{atom, 'EXIT'}, Reported]} end,
     lists:droplast(Elements) ++
         [{'case', lists:last(Elements),
           [{{tuple, [{atom, v}, Value]}, [], [returned(Value, Mode)]}, Caught(throw, Reason), Caught(exit, Exit(Reason)),

@@ -11,8 +11,8 @@ call(Function, Arguments, Env, Mode) ->
     Floats = [X || {lit, X, _} <- Arguments, is_float(X)],
     case plain_state:get(kind) =/= user andalso Floats of
         [Float | _] ->
-            plain_refusal:note("the float ~w; a process that comes here ends with {refused,float}", [Float]),
-            [plain_body:failure(error, {tuple, [{atom, refused}, {atom, float}]}, Mode)];
+            plain_refusal:note("the float ~w; a process that comes here ends with {refused,..}", [Float]),
+            [plain_call:gap(erlang, float, 1)];
         _ -> call(Function, length(Arguments), Arguments, Env, Mode)
     end.
 
@@ -32,10 +32,9 @@ call(Function, _, Arguments, Env, Mode) when Function =:= spawn; Function =:= sp
     plain_spawn:process(Function, Arguments, Env, Mode);
 call(apply, _, Arguments, Env, Mode) -> applied(Arguments, Env, Mode);
 call(Function, 1, [Argument], Env, Mode) when Function =:= atom_to_list; Function =:= list_to_atom; Function =:= list_to_existing_atom ->
-    Table = case Function of atom_to_list -> atom_to_list; _ -> list_to_atom end,
-    plain_refusal:note_once(atoms, "atoms and their texts are those that stand in the program; others are badarg"),
-    plain_reach:use({atoms, Table, Mode}),
-    [{call, plain_reach:in_mode(list_to_atom(atom_to_list(Table) ++ "@"), Mode), [plain_value:value(Argument, Env)]}];
+    plain_refusal:note_once(atoms, "atoms and their texts are those of the program; list_to_atom of others is refused"),
+    plain_reach:use({atoms, Function, Mode}),
+    [{call, plain_reach:in_mode(list_to_atom(atom_to_list(Function) ++ "@"), Mode), [plain_value:value(Argument, Env)]}];
 call(make_fun, 3, [{lit, Module, _}, {lit, Function, _}, {lit, Arity, _}], _, Mode) ->
     [plain_body:returned(plain_value:external_fun(Module, Function, Arity), Mode)];
 call(make_fun, 3, [Module, Function, {lit, Arity, _}], Env, Mode) ->

@@ -63,7 +63,8 @@ apply({apply, {fref, Function, Arity}, Arguments, Line}, Env, Mode) ->
 apply({apply, {lref, _} = Function, Arguments, _}, Env, Mode) ->
     {Name, Free} = maps:get(Function, Env),
     plain_reach:need({lifted, Name, Mode}),
-    [{call, plain_reach:in_mode(Name, Mode), plain_value:values(Free ++ Arguments, Env)}];
+    Line = plain_trace:line(plain_state:get(kind), Mode),
+    [{call, plain_reach:in_mode(Name, Mode), Line ++ plain_value:values(Free ++ Arguments, Env)}];
 apply({apply, Fun, Arguments, Line}, Env, Mode) ->
     Line > 0 andalso plain_state:put(line, Line),
     [placed({call, plain_reach:dispatcher(length(Arguments), Mode), plain_value:values([Fun | Arguments], Env)}, Mode)].
@@ -75,7 +76,8 @@ function(Module, Function, Arity, Arguments, Mode) ->
         none -> plain_refusal:refuse("there is no function ~w:~w/~w; write it, or name its file", [Module, Function, Arity]);
         {Kind, _, _} ->
             plain_reach:need({function, Module, Function, Arity, Mode}),
-            Call = {call, plain_reach:in_mode(plain_reach:name(Module, Function, Arity), Mode), Arguments},
+            Line = plain_trace:line_of_call(Kind, Mode),
+            Call = {call, plain_reach:in_mode(plain_reach:name(Module, Function, Arity), Mode), Line ++ Arguments},
             case Kind of
                 user -> Call;
                 _ -> placed(Call, Mode)

@@ -152,7 +152,7 @@ known_whole({var, _} = Whole, {tuple, Elements} = Written) ->
     end;
 known_whole(_, _) -> ok.
 
-%% Clauses with maps, or with guards that the profile lacks, are tried one after the other.
+%% Clauses with maps or binaries of parts, or with guards that the profile lacks, are tried one after the other.
 -spec step_by_step(plain_text:expression(), plain_text:expression() | none, clauses(), plain_tree:line(), environment(), mode()) -> plain_text:body().
 step_by_step(Value, Whole, Clauses, Line, Env, Mode) ->
     case lists:splitwith(fun(Clause) -> plain_pattern:is_plain(Clause, Env) end, Clauses) of
@@ -166,7 +166,7 @@ step_by_step(Value, Whole, Clauses, Line, Env, Mode) ->
 -spec one_step(plain_tree:clause(), clauses(), {plain_text:expression(), plain_text:expression() | none}, plain_tree:line(), environment(), mode()) ->
     plain_text:body().
 one_step({[Pattern], Guard, Body}, More, {Value, Whole}, Line, Env, Mode) ->
-    {Outer, Conditions} = plain_pattern:without_maps(Pattern),
+    {Outer, Conditions} = plain_pattern:with_conditions(Pattern),
     Used = plain_tree:occurring(Body),
     Variables = [V || {v, _} = V <- lists:sort(sets:to_list(plain_tree:occurring(Pattern))), sets:is_element(V, Used), not maps:is_key(V, Env)],
     Selection = selected([{Outer, Value, Whole} | Conditions], Guard, Variables, Env),
@@ -184,9 +184,9 @@ selected([{Pattern, Value, Whole} | Rest], Guard, Variables, Env) ->
     {[Written], Inside, Before, InGuard} = plain_pattern:patterns([Pattern], Env, [Whole], {{Rest, Guard}, {Variables, Rest, Guard}}),
     {Tests, Then} = case Rest of
         [] -> last_test(Guard, InGuard, {tuple, [{atom, m} | plain_value:values(Variables, Inside)]}, Inside);
-        [{Key, Map, Inner} | More] ->
-            plain_reach:need({function, maps, lookup, 2, plain}),
-            Lookup = {call, plain_reach:name(maps, lookup, 2), plain_value:values([Key, Map], Inside)},
+        [{{Module, Function, Arguments}, Inner} | More] ->
+            plain_reach:need({function, Module, Function, length(Arguments), plain}),
+            Lookup = {call, plain_reach:name(Module, Function, length(Arguments)), plain_value:values(Arguments, Inside)},
             {[], selected([{{tup, [{lit, ok, 0}, Inner]}, Lookup, none} | More], Guard, Variables, Inside)}
     end,
     [{'case', Value, [{Written, Tests, Before ++ Then}, {{var, "_"}, [], [{atom, false}]}]}].

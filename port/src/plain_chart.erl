@@ -6,23 +6,23 @@
 -define(LONGEST_HEAD, 34).
 
 %% @doc A chart of pulsefarm, told anew. The report is that of the same run.
--spec tell(binary(), plain_answer:told(), plain_translation:translation()) -> iodata().
-tell(Chart, Told, #{names := Names}) ->
-    [[line(Line, Told, Names), "\n"] || Line <- binary:split(Chart, <<"\n">>, [global, trim])].
+-spec tell(binary(), plain_answer:reported(), plain_translation:translation()) -> iodata().
+tell(Chart, Reported, #{names := Names}) ->
+    [[line(Line, Reported, Names), "\n"] || Line <- binary:split(Chart, <<"\n">>, [global, trim])].
 
--spec line(binary(), plain_answer:told(), map()) -> iodata().
-line(<<"<g class=\"process", _/binary>> = Line, Told, _) ->
+-spec line(binary(), plain_answer:reported(), map()) -> iodata().
+line(<<"<g class=\"process", _/binary>> = Line, Reported, _) ->
     Pid = attribute(Line, <<"data-pid">>),
-    case plain_answer:role(Pid, Told) of
+    case plain_answer:role(Pid, Reported) of
         unknown -> Line;
         Role ->
             Text = escaped(iolist_to_binary(Role)),
             Titled = re:replace(Line, <<"<title>([^<]*)</title>">>, ["<title>\\1, ", quoted(Text), "</title>"]),
             re:replace(Titled, <<"(<text class=\"of\"[^>]*>)[^<]*</text>">>, ["\\1", quoted(escaped(shortened(iolist_to_binary(Role)))), "</text>"])
     end;
-line(<<"<g class=\"event", _/binary>> = Line, Told, Names) ->
+line(<<"<g class=\"event", _/binary>> = Line, Reported, Names) ->
     Turned = texts(Line, Names),
-    case plain_answer:event_place(attribute(Line, <<"data-event">>), Told) of
+    case plain_answer:event_place(attribute(Line, <<"data-event">>), Reported) of
         none -> Turned;
         Place ->
             Text = quoted(escaped(iolist_to_binary(plain_words_back:place(Place)))),

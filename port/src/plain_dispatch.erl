@@ -35,7 +35,7 @@ of_funs({apply_function, Mode}) ->
     Name = plain_text:atom(plain_reach:in_mode('applym@', Mode)),
     Clause = fun({Module, Function, Arity}) ->
         [Name, "(", plain_text:atom(Module), ",", plain_text:atom(Function), ",[", comma(variables("A", Arity)), "])->",
-         target(Module, Function, Arity, Mode), "(", comma(variables("A", Arity)), ");\n"]
+         target(Module, Function, Arity, Mode), "(", comma(line(Module, Function, Arity, Mode) ++ variables("A", Arity)), ");\n"]
     end,
     [[Clause(Target) || Target <- plain_reach:exported_functions()], Name, "(M,F,A) when is_list(A)->", gap(Mode), "(M,F,length(A));\n",
      Name, "(_,_,_)->", failing(Mode, "badarg"), ".\n"];
@@ -72,13 +72,24 @@ target(Module, Function, Arity, Mode) ->
     end,
     plain_text:atom(plain_reach:in_mode(Name, Mode)).
 
+%% The mark of a call that a dispatcher doesn't know.
+-spec line(module(), atom(), arity(), plain_reach:mode()) -> [string()].
+line(Module, Function, Arity, Mode) ->
+    Kind = case plain_reach:target(Module, Function, Arity, Mode) of
+        {lifted, Wrapper, _} ->
+            {ok, #{where := #{kind := Where}}} = plain_state:find_in(lifted, Wrapper),
+            Where;
+        {function, _, _, _, _} -> element(1, plain_modules:find(Module, Function, Arity))
+    end,
+    ["'@0'" || _ <- plain_trace:line(Kind, Mode)].
+
 -spec of_modules({module() | any, atom() | any, arity(), plain_reach:mode()}) -> iodata().
 of_modules({Of, Wanted, Arity, Mode}) ->
     Name = plain_text:atom(plain_reach:in_mode(plain_reach:remote_name(Of, Wanted, Arity), Mode)),
     Arguments = variables("A", Arity),
     Clause = fun({Module, Function}) ->
         Own = plain_reach:target_mode(Module, Mode),
-        Call = [target(Module, Function, Arity, Own), "(", comma(Arguments), ")"],
+        Call = [target(Module, Function, Arity, Own), "(", comma(line(Module, Function, Arity, Own) ++ Arguments), ")"],
         [Name, "(", comma([plain_text:atom(Module) || Of =:= any] ++ [plain_text:atom(Function) || Wanted =:= any] ++ Arguments), ")->",
          case Own of Mode -> Call; plain -> ["{v,", Call, "}"] end, ";\n"]
     end,

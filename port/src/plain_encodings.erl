@@ -21,11 +21,11 @@ note(Module, _, _) ->
 %% @doc A note on times.
 -spec times() -> ok.
 times() ->
-    plain_refusal:note_once(clock, "times are told by a clock of the run, which may be fast or slow beside the processes; "
-                                   "so a timeout may come before a message that in practice would be there long before").
+    plain_refusal:note_once(clock, "time is virtual: it passes where nobody else can go, in the order of the deadlines; "
+                                   "a run that fails where it passes earlier is left out of a hunt, and --patience early counts it").
 
 -spec sentence(module()) -> {atom(), string()} | none.
-sentence(ets) -> {ets, "a table is kept by a process, and each call is a message and its answer; a table outlives its owner until that process is told"};
+sentence(ets) -> {ets, "a table is kept by a process, and each call is a message and its answer; a table outlives its owner until that process gets the message"};
 sentence(Module) when Module =:= atomics; Module =:= counters; Module =:= persistent_term ->
     {cells, "shared cells are kept by a process; each operation is one piece, at one place between call and answer"};
 sentence(rand) -> {rand, "a number by chance is a race of two messages, so it is a choice of the schedule and no even chance"};
@@ -33,7 +33,7 @@ sentence(Module) when Module =:= dict; Module =:= sets -> {hash, "dict and sets 
 sentence(Module) when Module =:= logger; Module =:= error_logger; Module =:= io -> {output, "what is logged or printed is left out; a crash in formatting it isn't seen"};
 sentence(global) -> {global, "global names are names of the one node"};
 sentence(gen_server) -> {calls, "a call without a time of its own never times out; -D CALL_TIMEOUTS lets it"};
-sentence(io_lib) -> {formats, "~p, ~w, ~s, ~b, ~c and ~n are formatted without widths, and pids and references without numbers"};
+sentence(io_lib) -> {formats, "pids, references and funs are formatted without numbers, and ~p breaks no lines"};
 sentence(string) -> {text, "a character is a code point, upper and lower case are those of ASCII, and a text is a flat list or a binary"};
 sentence(gen_statem) -> {statem, "gen_statem is a library after OTP 25, without hibernation, code change, repeat_state and change of the callback module"};
 sentence(supervisor) -> {supervisor, "supervisor is a library after OTP 25, without sys, code change and auto_shutdown; its restarts are counted by the clock of the run"};

@@ -1,7 +1,7 @@
 %% @doc The tests of an application: each `_test' and each test of a `_test_' is a root of its own, hunted in turn. The tests of a generator
 %% are listed by a run of it, within their fixtures, and each is then run alone, within the same.
 -module(plain_eunit).
--export([run/1]).
+-export([run/1, with_room/1, with_roots/2]).
 
 -define(SEEDS, "0..200").
 %% How many seeds of a test are hunted in a round, where a time is set.
@@ -32,7 +32,7 @@ complained(Sentence) ->
 with(#{includes := Includes, defines := Defines}, #{options := #{includes := Own, defines := Given} = Options} = Asked) ->
     Asked#{options := Options#{includes := Own ++ Includes, defines := Given ++ Defines}}.
 
-%% A folder of its own for the modules that are made here, taken away behind it.
+%% @doc A folder of its own for the modules that are made here, taken away after it.
 -spec with_room(fun((file:filename()) -> Status)) -> Status.
 with_room(Use) ->
     Below = case os:getenv("TMPDIR") of false -> "/tmp"; Named -> Named end,
@@ -57,7 +57,7 @@ tests(#{sources := Sources, tests := Tests, compiled := Compiled} = Project, Roo
         end,
         case Wanted of
             [] -> complained("there is no such test");
-            _ -> told(hunted(Wanted, Files, Room, Asked), Asked)
+            _ -> reported(hunted(Wanted, Files, Room, Asked), Asked)
         end
     catch throw:{refuse, File, Line, Sentence} ->
         plain_command:complain(io_lib:format("~ts: ~ts~n", [plain_refusal:place(File, Line), Sentence])),
@@ -78,8 +78,8 @@ functions(File, #{options := #{includes := Includes, defines := Defines}}) ->
 -spec listed([{module(), atom()}], [file:filename()], file:filename(), asked()) -> [test()].
 listed(Functions, Files, Room, Asked) ->
     Generators = [listing(MF) || MF <- Functions, is_generator(MF)],
-    Told = [{Name, Listed} || Group <- [translated(Generators, Files, Room, Asked) || Generators =/= []], Part <- Group, {Name, Listed} <- lists_of(Part, Asked)],
-    lists:append([case proplists:get_value(named(MF), Told, no) of
+    Reported = [{Name, Listed} || Group <- [translated(Generators, Files, Room, Asked) || Generators =/= []], Part <- Group, {Name, Listed} <- lists_of(Part, Asked)],
+    lists:append([case proplists:get_value(named(MF), Reported, no) of
         no -> [whole(MF)];
         {ok, Found} -> [of_set(MF, Path, Title) || {Path, Title} <- Found]
     end || MF <- Functions]).
@@ -153,8 +153,8 @@ translated(Tests, Files, Room, #{options := Options} = Asked) ->
 parts(Tests, true) -> tuple_to_list(lists:split(length(Tests) div 2, Tests));
 parts(Tests, false) -> [[Test] || Test <- Tests].
 
-%% A module with a root for each test.
--spec with_roots([test()], file:filename()) -> {file:filename(), [atom()]}.
+%% @doc A module with a root for each test, which has a body.
+-spec with_roots([#{body := iodata(), atom() => term()}], file:filename()) -> {file:filename(), [atom()]}.
 with_roots(Tests, Room) ->
     Module = lists:concat(["pf_tests_", erlang:unique_integer([positive])]),
     File = filename:join(Room, Module ++ ".erl"),
@@ -225,8 +225,8 @@ line({#{name := Name}, Result} = Whole) ->
     end, "\n"]),
     Whole.
 
--spec told([result()], asked()) -> 0..2.
-told(Results, #{words := Words}) ->
+-spec reported([result()], asked()) -> 0..2.
+reported(Results, #{words := Words}) ->
     Failing = [Result || {_, {fails, _, _, _}} = Result <- Results],
     Refused = [Result || {_, {refused, _}} = Result <- Results],
     [plain_out:put(["\n", Report]) || {_, {fails, _, _, Report}} <- Failing, plain_words:value("--test", Words, none) =/= none],

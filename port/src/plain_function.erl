@@ -69,7 +69,7 @@ write(Name, Free, {Variables, Body, Line}, Env, Mode) ->
         true -> entered(Name, Arity);
         false -> clauses(Written, Free, {Variables, Body, Line}, Env, Mode)
     end,
-    keep(Line, Written, Arity, [Text, ".\n"]).
+    keep(Line, Written, Arity + length(plain_trace:line(plain_state:get(kind), Mode)), [Text, ".\n"]).
 
 -spec keep(plain_tree:line(), atom(), arity(), iodata()) -> ok.
 keep(Line, Name, Arity, Text) ->
@@ -94,7 +94,8 @@ entered(Name, Parameters) ->
 clauses(Name, Free, {Variables, Body, Line}, Env, Mode) ->
     plain_state:put(names, #{}),
     plain_state:put(shapes, #{}),
-    {Kept, Inside} = named(Free, Env),
+    {Named, Inside} = named(Free, Env),
+    Kept = plain_trace:line(plain_state:get(kind), Mode) ++ Named,
     Clauses = case heads(Variables, Body, Inside, Mode) of
         {ok, Heads} -> Heads;
         no ->
@@ -107,7 +108,7 @@ clauses(Name, Free, {Variables, Body, Line}, Env, Mode) ->
         [plain_text:atom(Name), "(", lists:join(",", [plain_text:expression(P) || P <- Kept ++ Patterns]), ")",
          plain_text:guarded(Guard), "->", plain_text:body(Split)]
     end,
-    lists:join(";\n", [Text(Clause) || Clause <- Clauses]).
+    lists:join(";\n", [Text(Clause) || Clause <- plain_pattern:uncovered(Clauses)]).
 
 -spec named([plain_tree:tree()], environment()) -> {[plain_text:expression()], environment()}.
 named(Variables, Env) ->
@@ -124,13 +125,16 @@ heads(Variables, {'case', Variables, Clauses, _}, Env, Mode) ->
     Possible = not lists:any(fun(V) -> sets:is_element(V, Used) end, Variables)
         andalso lists:all(fun(Clause) -> plain_pattern:is_plain(Clause, Env) end, Wanted),
     case Possible of
-        true -> {ok, [head(Clause, Env, Mode) || Clause <- Wanted]};
+        true -> {ok, [head(Clause, Env, Mode, Named) || Named <- [{plain_state:get(names), plain_state:get(shapes)}], Clause <- Wanted]};
         false -> no
     end;
 heads(_, _, _, _) -> no.
 
--spec head(plain_tree:clause(), environment(), plain_reach:mode()) -> {[plain_text:expression()], plain_text:guard(), plain_text:body()}.
-head({Patterns, Guard, Body}, Env, Mode) ->
+%% One clause; each has names of its own.
+-spec head(plain_tree:clause(), environment(), plain_reach:mode(), {map(), map()}) -> {[plain_text:expression()], plain_text:guard(), plain_text:body()}.
+head({Patterns, Guard, Body}, Env, Mode, {Names, Shapes}) ->
+    plain_state:put(names, Names),
+    plain_state:put(shapes, Shapes),
     {Written, InBody, Before, InGuard} = plain_pattern:patterns(Patterns, Env, [], {Guard, Body}),
     {ok, Tests} = plain_guard:guard(Guard, InGuard),
     {Written, Tests, Before ++ plain_body:body(Body, InBody, Mode)}.

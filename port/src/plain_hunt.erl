@@ -2,27 +2,58 @@
 %% strategy that it is given; each run that it finds is judged, and where it holds, or fails by a time that passes early, the hunt goes on after
 %% its seed.
 -module(plain_hunt).
--export([hunt/2, judge/2, least/5, within/1, search/4, left_out/2, seeds/1, time/1, complained/1]).
+-export([hunt/2, mixed/2, judge/2, least/5, within/1, search/4, left_out/2, seeds/1, time/1, complained/1]).
 
 %% How many seeds are hunted at once where a time is set.
 -define(BLOCK, 250).
 -define(DEFAULT, "0..1000").
 -type asked() :: plain_words:asked().
 -type translation() :: plain_translation:translation().
+%% Seeds that are left out, each with the reason: a time passes early, or signals crossed as one node doesn't show it.
+-type left_out() :: [{early | crossed, non_neg_integer()}].
 %% A run that fails: its seed, and what the farm said of it; or none, and the seeds that are left out.
--type found() :: {found, non_neg_integer(), binary(), plain_verdict:verdict()} | {none, [non_neg_integer()]} | {answer, {binary(), 0..255} | missing}.
+-type found() :: {found, non_neg_integer(), binary(), plain_verdict:verdict()} | {none, left_out()} | {answer, {binary(), 0..255} | missing}.
 
 %% The seeds of a hunt, the last left out, and when it stops.
 -type within() :: {non_neg_integer(), pos_integer(), integer() | never}.
 -type searched() :: {found(), non_neg_integer(), whole | stopped}.
--export_type([searched/0]).
+-export_type([searched/0, within/0]).
 
 %% @doc Hunts for the least seed whose run fails the property, and tells it.
 -spec hunt(asked(), translation()) -> 0..255.
 hunt(Asked, #{text := Text} = Translation) ->
     case within(Asked) of
         {no, Sentence} -> complained(Sentence);
-        Within -> plain_farm:with_file(Text, fun(File) -> told(search(Within, File, Asked, Translation), File, Asked, Translation) end)
+        Within -> plain_farm:with_file(Text, fun(File) -> reported(search(Within, File, Asked, Translation), File, Asked, Translation) end)
+    end.
+
+%% @doc Hunts the first half of the seeds, or of the time, in virtual time; and where nothing is found the second by times that pass at any
+%% moment. The second half has a translation of its own, which the function makes.
+-spec mixed(asked(), fun((asked()) -> 0..255)) -> 0..255.
+mixed(Asked, Hunt) ->
+    case halves(Asked) of
+        {no, Sentence} -> complained(Sentence);
+        {First, Second} ->
+            case Hunt(First) of
+                0 ->
+                    plain_command:complain("pulsefarm-erl: the second half, by --patience early:\n"),
+                    Hunt(Second);
+                Status -> Status
+            end
+    end.
+
+-spec halves(asked()) -> {asked(), asked()} | {no, string()}.
+halves(#{words := Words, options := #{library_defines := Own} = Options} = Asked) ->
+    Early = fun(Half) -> Half#{options := Options#{library_defines := [{'PATIENCE', 0} | Own]}} end,
+    Half = fun(Word, Value) -> Asked#{words := [Word, lists:flatten(Value) | plain_words:without([Word], Words)]} end,
+    Seeds = fun(A, B) -> Half("--seeds", io_lib:format("~w..~w", [A, B])) end,
+    case {within(Asked), plain_words:value("--for", Words, none)} of
+        {{no, Sentence}, _} -> {no, Sentence};
+        {{From, To, never}, none} when To - From < 2 -> {no, "--patience mixed wants two seeds or more"};
+        {{From, To, never}, none} -> {Seeds(From, (From + To) div 2), Early(Seeds((From + To) div 2, To))};
+        {_, Time} ->
+            Whole = Half("--for", io_lib:format("~ws", [max(1, time(Time) div 2000)])),
+            {Whole, Early(Whole)}
     end.
 
 %% @doc The seeds that are asked for, and the time in milliseconds at which the hunt stops.
@@ -39,8 +70,14 @@ within(#{words := Words}) ->
 
 %% @doc What a hunt finds, how many seeds it went over, and whether the time stopped it.
 -spec search(within(), file:filename(), asked(), translation()) -> searched().
-search({From, To, never}, File, Asked, Translation) -> {least(From, To, File, Asked, Translation), To - From, whole};
-search({From, To, End}, File, Asked, Translation) -> timed({From, []}, From, To, End, File, Asked, Translation).
+search({From, To, End}, File, Asked, Translation) ->
+    case End =:= never andalso not plain_progress:is_shown() of
+        true -> {least(From, To, File, Asked, Translation), To - From, whole};
+        false ->
+            Found = blocks({From, []}, From, To, End, File, Asked, Translation),
+            plain_progress:clear(),
+            Found
+    end.
 
 %% @doc Tells why something is refused.
 -spec complained(iodata()) -> 2.
@@ -68,22 +105,26 @@ time(Text) ->
         nomatch -> no
     end.
 
-%% @doc Says how many seeds are left out.
--spec left_out(iodata(), [non_neg_integer()]) -> ok.
-left_out(_, []) -> ok;
+%% @doc Says how many seeds are left out, and why.
+-spec left_out(iodata(), left_out()) -> ok.
 left_out(Hunted, Seeds) ->
-    plain_command:complain(["pulsefarm-erl: ", Hunted, io_lib:format("~w of these seeds fail by a time of a second or more that passes while others may go, "
-                                                                     "and are left out; --patience N counts such\n", [length(Seeds)])]).
+    Reasons = [{early, "by a time that passes while others may go, and are left out; --patience early counts such"},
+               {crossed, "by signals in an order that one node doesn't show, and are left out"}],
+    [plain_command:complain(["pulsefarm-erl: ", Hunted, io_lib:format("~w of these seeds fail ~s~n", [length(Own), Said])])
+     || {Reason, Said} <- Reasons, Own <- [[Seed || {Why, Seed} <- Seeds, Why =:= Reason]], Own =/= []],
+    ok.
 
-%% Blocks of seeds until the time is over.
--spec timed({non_neg_integer(), [non_neg_integer()]}, non_neg_integer(), pos_integer(), integer(), file:filename(), asked(), translation()) -> searched().
-timed({First, Early}, From, Last, End, File, Asked, Translation) ->
-    case From >= Last orelse (From > First andalso erlang:monotonic_time(millisecond) >= End) of
+%% Blocks of seeds until the time is over, or all are.
+-spec blocks({non_neg_integer(), left_out()}, non_neg_integer(), pos_integer(), integer() | never, file:filename(), asked(), translation()) -> searched().
+blocks({First, Early}, From, Last, End, File, Asked, Translation) ->
+    Over = From > First andalso is_integer(End) andalso erlang:monotonic_time(millisecond) >= End,
+    case From >= Last orelse Over of
         true -> {{none, Early}, From - First, case From < Last of true -> stopped; false -> whole end};
         false ->
             Next = min(From + ?BLOCK, Last),
+            plain_progress:seeds(From - First, case End of never -> Last - First; _ -> time end),
             case least(From, Next, File, Asked, Translation) of
-                {none, More} -> timed({First, Early ++ More}, Next, Last, End, File, Asked, Translation);
+                {none, More} -> blocks({First, Early ++ More}, Next, Last, End, File, Asked, Translation);
                 Found -> {Found, Next - First, whole}
             end
     end.
@@ -108,21 +149,21 @@ least(From, To, File, #{words := Words} = Asked, Translation) ->
     end.
 
 %% With more seeds that are left out.
--spec with([non_neg_integer()], found()) -> found().
+-spec with(left_out(), found()) -> found().
 with(Early, {none, More}) -> {none, lists:usort(Early ++ More)};
 with(_, Other) -> Other.
 
 -spec crashing(non_neg_integer(), pos_integer(), file:filename(), asked(), translation()) -> found().
 crashing(From, To, File, Asked, Translation) -> judged("nocrash", From, To, File, Asked, Translation).
 
-%% What the farm finds may hold here: an orderly end is no crash, and a service that waits is no leak; or a time passes early. The hunt goes on
+%% What the farm finds may hold here: an orderly end is no crash, and a service that waits is no leak; or it is left out. The hunt goes on
 %% behind it.
 -spec judged(string(), non_neg_integer(), pos_integer(), file:filename(), asked(), translation()) -> found().
 judged(_, From, To, _, _, _) when From >= To -> {none, []};
 judged(Property, From, To, File, Asked, Translation) ->
     case one(Property, From, To, File, Asked, Translation) of
         {found, Seed, _, holds} -> judged(Property, Seed + 1, To, File, Asked, Translation);
-        {found, Seed, _, early} -> with([Seed], judged(Property, Seed + 1, To, File, Asked, Translation));
+        {found, Seed, _, Verdict} when Verdict =:= early; Verdict =:= crossed -> with([{Verdict, Seed}], judged(Property, Seed + 1, To, File, Asked, Translation));
         Other -> Other
     end.
 
@@ -142,14 +183,14 @@ one(Property, From, To, File, #{words := Words} = Asked, Translation) ->
 -spec verdict(binary(), asked(), translation()) -> plain_verdict:verdict().
 verdict(Text, Asked, Translation) -> plain_verdict:of_run(plain_verdict:asked(Asked), plain_answer:report(Text), Asked, Translation).
 
--spec told(searched(), file:filename(), asked(), translation()) -> 0..255.
-told({{none, Early}, Number, How}, _, Asked, _) ->
+-spec reported(searched(), file:filename(), asked(), translation()) -> 0..255.
+reported({{none, Early}, Number, How}, _, Asked, _) ->
     left_out("", Early),
     Lines = [io_lib:format("stopped behind ~w seeds", [Number]) || How =:= stopped] ++ [io_lib:format("no failure in ~w seeds", [Number])],
     plain_json:put([{Line, plain_json:of_line(iolist_to_binary(Line))} || Line <- Lines], Asked),
     0;
-told({{answer, Answer}, _, _}, _, Asked, Translation) -> plain_command:told(Answer, Asked, Translation);
-told({{found, Seed, Text, Verdict}, _, _}, File, #{words := Words} = Asked, Translation) ->
+reported({{answer, Answer}, _, _}, _, Asked, Translation) -> plain_command:reported(Answer, Asked, Translation);
+reported({{found, Seed, Text, Verdict}, _, _}, File, #{words := Words} = Asked, Translation) ->
     case {Verdict, plain_words:value("--shrink", Words, none)} of
         {fails, Runs} when Runs =/= none -> plain_shrink:found(Text, File, Runs, Asked, Translation);
         _ ->
@@ -169,7 +210,7 @@ judge(#{command := run, words := Words} = Asked, #{text := Text} = Translation) 
                 passes_early(Report, Asked),
                 plain_standing:explain(Report, Asked, Translation),
                 Judged;
-            Answer -> plain_command:told(Answer, Asked, Translation)
+            Answer -> plain_command:reported(Answer, Asked, Translation)
         end
     end).
 
@@ -177,20 +218,19 @@ judge(#{command := run, words := Words} = Asked, #{text := Text} = Translation) 
 -spec passes_early(binary(), asked()) -> ok.
 passes_early(Report, Asked) ->
     #{events := Events} = plain_answer:report(Report),
-    case plain_verdict:early(Events, Asked) of
-        [] -> ok;
-        [{_, Time} | _] ->
-            plain_command:complain(io_lib:format("pulsefarm-erl: here a time of ~w ms passes while others may go; a hunt leaves such a run out where it fails~n", [Time]))
-    end.
+    Early = [io_lib:format("a time of ~w ms passes while others may go", [Time]) || {_, Time} <- lists:sublist(plain_verdict:early(Events, Asked), 1)],
+    Crossed = ["signals come in an order that one node doesn't show" || maps:get(one_node, Asked, false), plain_one_node:crossed(Events)],
+    [plain_command:complain(["pulsefarm-erl: here ", Said, "; a hunt leaves such a run out where it fails\n"]) || Said <- Early ++ Crossed],
+    ok.
 
 %% An answer whose last line is the verdict.
 -spec answered(binary(), plain_verdict:verdict(), asked(), translation()) -> 0..255.
 answered(Text, Verdict, Asked, Translation) ->
     {Line, Status} = case Verdict of
         holds -> {<<"property holds">>, 0};
-        Failing when Failing =:= fails; Failing =:= early -> {<<"property fails">>, 1};
+        Failing when Failing =:= fails; Failing =:= early; Failing =:= crossed -> {<<"property fails">>, 1};
         refused -> {<<"no verdict">>, 2}
     end,
-    Told = re:replace(Text, <<"^(property (holds|fails)|no verdict)$">>, Line, [multiline, {return, binary}]),
-    plain_json:put(plain_answer:lines(Told, Asked, Translation), Asked),
+    Reported = re:replace(Text, <<"^(property (holds|fails)|no verdict)$">>, Line, [multiline, {return, binary}]),
+    plain_json:put(plain_answer:lines(Reported, Asked, Translation), Asked),
     Status.

@@ -48,7 +48,7 @@ value(Text) ->
 
 %% @doc The keys of a place: in the library it is the module.
 -spec place(plain_translation:place() | none) -> object().
-place({user, File, Line, Function}) -> [{file, File}, {line, Line}, {function, plain_words_back:function(Function)}];
+place({Kind, File, Line, Function}) when Kind =:= user; Kind =:= called -> [{file, File}, {line, Line}, {function, plain_words_back:function(Function)}];
 place({_, _, _, {'fun', {Module, _, _}}}) -> [{library, atom_to_list(Module)}];
 place({_, _, _, {Module, _, _}}) -> [{library, atom_to_list(Module)}];
 place(none) -> [].

@@ -9,7 +9,7 @@
 -spec refuse(module(), atom(), cerl:cerl(), [tree()]) -> ok.
 refuse(Module, Function, Core, Arguments) ->
     #{lax := Lax} = plain_state:get(options),
-    case plain_state:get(kind) =:= user andalso lists:any(fun told/1, Arguments) andalso lacking(Core, Arguments) of
+    case plain_state:get(kind) =:= user andalso lists:any(fun reported/1, Arguments) andalso lacking(Core, Arguments) of
         true when not Lax ->
             plain_refusal:record(plain_state:get(file), plain_state:get(line),
                                  [call(Module, Function, Arguments), " is not translated, other arguments are (port/ENCODINGS.md); write what you need of it yourself"]);
@@ -28,9 +28,9 @@ shown({cons, Head, {lit, [], _}}) -> ["[", shown(Head), "]"];
 shown({cons, Head, _}) -> ["[", shown(Head), " | _]"];
 shown(_) -> "_".
 
--spec told(tree()) -> boolean().
-told({v, _}) -> false;
-told(_) -> true.
+-spec reported(tree()) -> boolean().
+reported({v, _}) -> false;
+reported(_) -> true.
 
 %% Whether the first clause that may fit is one that refuses.
 -spec lacking(cerl:cerl(), [tree()]) -> boolean().

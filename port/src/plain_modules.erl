@@ -63,9 +63,16 @@ load(Module, Kind, File) ->
     case filelib:is_regular(File) of
         true ->
             #{library_defines := Own} = plain_state:get(options),
-            keep(Module, Kind, File, plain_source:read_library(File, Own ++ lists:usort(plain_state:get(defines))));
+            keep(Module, Kind, File, without(Kind, Module, plain_source:read_library(File, Own ++ lists:usort(plain_state:get(defines)))));
         false -> ok
     end.
+
+%% OTP's functions of texts that go by the tables of Unicode are left out.
+-spec without(kind(), module(), plain_source:source()) -> plain_source:source().
+without(otp, string, #{functions := Functions} = Source) ->
+    Tables = [{titlecase, 1}, {casefold, 1}, {take, 2}, {take, 3}, {take, 4}, {nth_lexeme, 3}, {next_grapheme, 1}, {pad, 2}, {pad, 3}, {pad, 4}, {equal, 3}, {equal, 4}],
+    Source#{functions := maps:without(Tables, Functions)};
+without(_, _, Source) -> Source.
 
 -spec path(module(), kind()) -> file:filename() | none.
 path(Module, lib) -> filename:join(library(), atom_to_list(Module) ++ ".erl");

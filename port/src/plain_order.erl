@@ -4,7 +4,7 @@
 %% The choices of that order are worked out from the labels: who may go at each event is counted, and where the count isn't that of the report
 %% nothing is told.
 -module(plain_order).
--export([fewer_switches/1, switches/1]).
+-export([fewer_switches/1, switches/1, effects/1]).
 
 -type event() :: plain_report:event().
 -type numbered() :: #{pos_integer() => event()}.
@@ -33,7 +33,8 @@ fewer_switches(Events) ->
         unknown -> unknown
     end.
 
-%% The k-th signal of a kind that is taken from a channel is the k-th that was sent on it, as far as labels tell what may send.
+%% @doc What each event sends and starts. The k-th signal of a kind that is taken from a channel is the k-th that was sent on it, where
+%% labels say what may send.
 -spec effects([event()]) -> effects().
 effects(Events) ->
     Numbered = lists:zip(lists:seq(1, length(Events)), Events),

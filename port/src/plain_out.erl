@@ -1,16 +1,33 @@
 %% @doc The standard output, written to the descriptor that was given, so that what is written there before and behind keeps its place; and
 %% which tells where it can't be written: Erlang's own takes a text and learns of a reader that has gone only later.
 -module(plain_out).
--export([put/1]).
+-export([put/1, kept/1]).
 -compile({no_auto_import, [put/2, get/1]}).
 
 %% As many bytes as a pipe takes whole or not at all, since the virtual machine sets the descriptor not to wait.
 -define(PIECE, 4096).
 -define(PAUSE, 2).
+-define(KEPT, {?MODULE, kept}).
 
 %% @doc Puts a text there. Where nobody reads it any more the error is `terminated'; where it can't be written for another reason, `unwritten'.
 -spec put(iodata() | unicode:chardata()) -> ok.
-put(Text) -> pieces(output(), bytes(Text)).
+put(Text) ->
+    case erlang:get(?KEPT) of
+        undefined -> pieces(output(), bytes(Text));
+        Before ->
+            _ = erlang:put(?KEPT, [bytes(Text) | Before]),
+            ok
+    end.
+
+%% @doc What a function answers, and what it would put there.
+-spec kept(fun(() -> Answer)) -> {Answer, binary()}.
+kept(Call) ->
+    _ = erlang:put(?KEPT, []),
+    try
+        Answer = Call(),
+        {Answer, iolist_to_binary(lists:reverse(erlang:get(?KEPT)))}
+    after erlang:erase(?KEPT)
+    end.
 
 %% The handle of descriptor 1, which belongs to this process.
 -spec output() -> term().

@@ -1,6 +1,6 @@
 %% @doc Patterns. The profile has no name for a part of a pattern, so such a part is built again in the body.
 -module(plain_pattern).
--export([patterns/4, is_plain/2, without_maps/1, known_shape/2]).
+-export([uncovered/1, patterns/4, is_plain/2, with_conditions/1, known_shape/2]).
 
 -type environment() :: plain_tree:environment().
 -type aliases() :: [{plain_tree:tree(), plain_text:expression()}].
@@ -60,7 +60,8 @@ pattern({pbin, Bytes, {v, _} = Tail}, _, Used, Scope) ->
 pattern({pbin, Bytes, {lit, _, _}}, _, Used, Scope) ->
     {Written, After} = several(Bytes, Used, Scope),
     {bytes(Written, nil), After};
-pattern({pmap, _}, _, _, _) -> throw(complex).
+pattern({pmap, _}, _, _, _) -> throw(complex);
+pattern({pbits, _, _}, _, _, _) -> throw(complex).
 
 -spec several([plain_tree:tree()], sets:set(plain_tree:tree()), scope()) -> {[plain_text:expression()], scope()}.
 several(Patterns, Used, Scope) -> lists:mapfoldl(fun(P, S) -> pattern(P, none, Used, S) end, Scope, Patterns).
@@ -95,24 +96,49 @@ is_plain({Patterns, Guard, Body}, Env) ->
     plain_state:put(shapes, Shapes),
     Answer.
 
-%% @doc A pattern in which maps are variables, with conditions {Key, Map, Pattern}.
--spec without_maps(plain_tree:tree()) -> {plain_tree:tree(), [{plain_tree:tree(), plain_tree:variable(), plain_tree:tree()}]}.
-without_maps({pmap, Pairs}) ->
+%% @doc A pattern in which maps and binaries of parts are variables, with conditions {{Module, Function, Arguments}, Pattern}: the function
+%% of the library answers {ok, Value}, and the value fits the pattern.
+-spec with_conditions(plain_tree:tree()) -> {plain_tree:tree(), [{{module(), atom(), [plain_tree:tree()]}, plain_tree:tree()}]}.
+with_conditions({pmap, Pairs}) ->
     Map = {v, {'M', plain_state:fresh()}},
-    {Conditions, Deeper} = lists:unzip([begin {P, More} = without_maps(Pattern), {{Key, Map, P}, More} end || {Key, Pattern} <- Pairs]),
+    {Conditions, Deeper} = lists:unzip([begin {P, More} = with_conditions(Pattern), {{{maps, lookup, [Key, Map]}, P}, More} end || {Key, Pattern} <- Pairs]),
     Own = case Conditions of
-        [] -> [{{lit, '$ismap', 0}, Map, {v, {'_', plain_state:fresh()}}}];
+        [] -> [{{maps, lookup, [{lit, '$ismap', 0}, Map]}, {v, {'_', plain_state:fresh()}}}];
         _ -> Conditions
     end,
     {Map, Own ++ lists:append(Deeper)};
-without_maps({tup, Patterns}) ->
-    {Written, Conditions} = lists:unzip([without_maps(P) || P <- Patterns]),
+with_conditions({pbits, Parts, Patterns}) ->
+    Binary = {v, {'B', plain_state:fresh()}},
+    Values = lists:foldr(fun(Pattern, Rest) -> {cons, Pattern, Rest} end, {lit, [], 0}, Patterns),
+    {Binary, [{{pf_bits, match, [Binary, Parts]}, Values}]};
+with_conditions({tup, Patterns}) ->
+    {Written, Conditions} = lists:unzip([with_conditions(P) || P <- Patterns]),
     {{tup, Written}, lists:append(Conditions)};
-without_maps({cons, Head, Tail}) ->
-    {H, First} = without_maps(Head),
-    {T, Second} = without_maps(Tail),
+with_conditions({cons, Head, Tail}) ->
+    {H, First} = with_conditions(Head),
+    {T, Second} = with_conditions(Tail),
     {{cons, H, T}, First ++ Second};
-without_maps({alias, Variable, Pattern}) ->
-    {P, Conditions} = without_maps(Pattern),
+with_conditions({alias, Variable, Pattern}) ->
+    {P, Conditions} = with_conditions(Pattern),
     {{alias, Variable, P}, Conditions};
-without_maps(Pattern) -> {Pattern, []}.
+with_conditions(Pattern) -> {Pattern, []}.
+
+%% @doc The clauses but those that can't be chosen, since one before them takes all that they take.
+-spec uncovered([Clause]) -> [Clause] when Clause :: {[plain_text:expression()], plain_text:guard(), plain_text:body()}.
+uncovered([{Patterns, [], _} = First | Rest]) ->
+    Bound = [V || {var, _} = V <- plain_text:variables(Patterns)],
+    Linear = length(Bound) =:= length(lists:usort(Bound)),
+    [First | uncovered([Clause || {Later, _, _} = Clause <- Rest, not (Linear andalso cover(Patterns, Later))])];
+uncovered([First | Rest]) -> [First | uncovered(Rest)];
+uncovered([]) -> [].
+
+-spec cover([plain_text:expression()], [plain_text:expression()]) -> boolean().
+cover(Earlier, Later) -> lists:all(fun({A, B}) -> covers(A, B) end, lists:zip(Earlier, Later)).
+
+%% Whether a pattern takes all that another takes.
+-spec covers(plain_text:expression(), plain_text:expression()) -> boolean().
+covers({var, _}, _) -> true;
+covers({cons, H, T}, {cons, H2, T2}) -> covers(H, H2) andalso covers(T, T2);
+covers({tuple, A}, {tuple, B}) when length(A) =:= length(B) -> cover(A, B);
+covers(Same, Same) -> true;
+covers(_, _) -> false.

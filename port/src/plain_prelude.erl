@@ -73,6 +73,7 @@ text({checked, Function, 1}) when Function =:= link; Function =:= unlink ->
     two("c@" ++ Name, "P", [" when is_pid(P)->{v,", action(Name, ["P"]), "};\n"], "_");
 text({atoms, Table, Mode}) -> atoms(Table, Mode);
 text({gap, Mode}) -> gap(Mode);
+text({ended, Kind}) -> [plain_text:atom(plain_reach:short_name({ended, Kind})), "(V)->exit({{", plain_text:atom(Kind), ",V},[]}).\n"];
 text({error, e@f, 0}) -> "e@f()->{x,error,function_clause}.\n";
 text({error, e@b, 0}) -> "e@b()->{x,error,badarg}.\n";
 text({error, e@c, 1}) -> "e@c(V)->{x,error,{case_clause,V}}.\n";
@@ -83,7 +84,8 @@ text(flush) ->
     ["flush@(infinity,_)->ok;\nflush@(0,R)->", waiting(), "receive{'after',R}->ok end;\nflush@(_,R)->", action("!", ["'port@clock'", "{cancel,self(),R}"]), ",",
      waiting(), "receive{'after',R}->ok end.\n"];
 text(arm) ->
-    ["arm@(infinity,_)->ok;\narm@(0,R)->", action("!", ["self()", "{'after',R}"]), ";\narm@(T,R)->", action("!", ["'port@clock'", "{arm,self(),R,T}"]), ".\n"];
+    ["arm@(infinity,_)->ok;\narm@(0,R)->", action("!", ["self()", "{'after',R}"]), ";\narm@(T,R) when is_integer(T),T>0->", action("!", ["'port@clock'", "{arm,self(),R,T}"]),
+     ";\narm@(_,_)->", action("exit", ["{timeout_value,[]}"]), ".\n"];
 text(at) -> "at@(S,{x,C,R,[]})->{x,C,R,S};\nat@(_,V)->V.\n";
 text(enter) -> "enter@({v,V})->V;\nenter@({x,C,R,[P|S]})->whereis(P),raise@(C,R,[P|S]);\nenter@({x,C,R,S})->whereis('@0'),raise@(C,R,S).\n"
                "raise@(exit,R,_)->exit(R);\nraise@(throw,R,S)->exit({{nocatch,R},S});\nraise@(_,R,S)->exit({R,S}).\n".
@@ -111,15 +113,16 @@ raise() ->
     ["raise@(exit,R)->", Exit("R"), ";\nraise@(throw,R)->", Exit("{{nocatch,R},[]}"), ";\nraise@(_,R)->", Exit("{R,[]}"), ".\n"].
 
 %% The texts of all atoms that stand in the module.
--spec atoms(atom_to_list | list_to_atom, plain_reach:mode()) -> iodata().
+-spec atoms(atom_to_list | list_to_atom | list_to_existing_atom, plain_reach:mode()) -> iodata().
 atoms(Table, Mode) ->
     Name = plain_text:atom(plain_reach:in_mode(list_to_atom(atom_to_list(Table) ++ "@"), Mode)),
     {Open, Close} = case Mode of plain -> {"", ""}; _ -> {"{v,", "}"} end,
     Clause = fun(Atom) ->
         {From, To} = case Table of
             atom_to_list -> {plain_text:atom(Atom), plain_text:string(atom_to_list(Atom))};
-            list_to_atom -> {plain_text:string(atom_to_list(Atom)), plain_text:atom(Atom)}
+            _ -> {plain_text:string(atom_to_list(Atom)), plain_text:atom(Atom)}
         end,
         [Name, "(", From, ")->", Open, To, Close, ";\n"]
     end,
-    [[Clause(Atom) || Atom <- plain_state:keys(atoms), Atom =/= ''], Name, "(_)->", plain_dispatch:failing(Mode, "badarg"), ".\n"].
+    Unknown = [[Name, "([_|_])->", action("exit", ["{refused,erlang,list_to_atom,1}"]), ";\n"] || Table =:= list_to_atom],
+    [[Clause(Atom) || Atom <- plain_state:keys(atoms), Atom =/= ''], Unknown, Name, "(_)->", plain_dispatch:failing(Mode, "badarg"), ".\n"].

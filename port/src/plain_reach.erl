@@ -29,7 +29,7 @@ name(Module, Function, Arity) ->
     end.
 
 %% Where the text would be long, functions have names of a few letters, which nothing else in the text has.
--spec short_name({module(), atom(), arity()} | {'fun', term()} | {checked, atom()}) -> atom().
+-spec short_name({module(), atom(), arity()} | {'fun', term()} | {checked | ended, atom()}) -> atom().
 short_name(Key) ->
     case plain_state:find_in(short_names, Key) of
         {ok, Name} -> Name;

@@ -54,7 +54,7 @@ clauses([], _, _, _, _) -> [].
 
 -spec wide_clause(plain_tree:clause(), [plain_tree:clause()], plain_text:body(), plain_tree:line(), environment(), mode()) -> plain_text:clause().
 wide_clause({[Pattern], _, _} = Clause, Rest, Ahead, Line, Env, Mode) ->
-    Wide = plain_tree:renewed(element(1, plain_pattern:without_maps(Pattern))),
+    Wide = plain_tree:renewed(element(1, plain_pattern:with_conditions(Pattern))),
     Message = {v, {'M', plain_state:fresh()}},
     {[Written], Inside, Before, _} = plain_pattern:patterns([{alias, Message, Wide}], Env, [], {none, Message}),
     Full = lists:any(fun({[Other], Guard, _}) -> plain_tree:is_true(Guard) andalso plain_tree:wider(Other, Wide) end, Rest),

@@ -55,7 +55,7 @@ why(erlang, F) when F =:= halt -> "ends the node, which the profile can't; let t
 why(erlang, F) when F =:= open_port; F =:= port_command; F =:= port_close; F =:= port_connect ->
     "speaks with the world outside, which the profile can't; put a process of your own in its place";
 why(erlang, F) when F =:= monitor; F =:= alias; F =:= unalias -> "with an alias or other options is not translated; take a plain monitor(process, P)";
-why(erlang, F) when F =:= binary_to_term; F =:= term_to_binary; F =:= split_binary; F =:= bitstring_to_list; F =:= binary_part ->
+why(erlang, F) when F =:= binary_to_term; F =:= term_to_binary ->
     "works on binaries in a way that is not translated; keep the term, or a list of bytes";
 why(erlang, F) when F =:= phash2; F =:= phash; F =:= md5; F =:= crc32; F =:= adler32 -> "is a hash, and the profile has none; take the term itself as key";
 why(erlang, F) when F =:= pid_to_list; F =:= list_to_pid; F =:= ref_to_list; F =:= port_to_list -> "prints what has no fixed name; pass the term itself";

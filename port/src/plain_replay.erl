@@ -6,30 +6,30 @@
 
 -type place() :: plain_translation:place().
 %% For each event the mark before it; for each process the mark at its beginning; for ends of functions without a clause their arguments.
--type told() :: #{events := [binary() | none], begins := #{non_neg_integer() => binary()}, arguments := #{pos_integer() => binary()}}.
+-type reported() :: #{events := [binary() | none], begins := #{non_neg_integer() => binary()}, arguments := #{pos_integer() => binary()}}.
 -type step() :: {mark | start | event, plain_report:event(), boolean()}.
--export_type([told/0, place/0]).
+-export_type([reported/0, place/0]).
 
 %% @doc The marks of a run, by its events.
 -spec places([file:filename()], plain_translation:options(), string(), [plain_report:event()]) ->
-    {ok, told(), plain_translation:translation()} | unknown.
+    {ok, reported(), plain_translation:translation()} | unknown.
 places(Files, Options, Root, Events) ->
     case lists:any(fun(#{label := Label}) -> binary:match(Label, <<"end {function_clause,[]">>) =/= nomatch end, Events) of
         true ->
             case placed(Files, Options#{arguments := true}, Root, Events) of
                 unknown -> placed(Files, Options, Root, Events); % with their arguments values may be too large
-                Told -> Told
+                Reported -> Reported
             end;
         false -> placed(Files, Options, Root, Events)
     end.
 
 -spec placed([file:filename()], plain_translation:options(), string(), [plain_report:event()]) ->
-    {ok, told(), plain_translation:translation()} | unknown.
+    {ok, reported(), plain_translation:translation()} | unknown.
 placed(Files, Options, Root, Events) ->
     case traced(Files, Options) of
         {ok, #{text := Text} = Traced} ->
             case plain_farm:with_file(Text, fun(File) -> replay(File, Root, Events, [], 8) end) of
-                {ok, Told} -> {ok, Told, Traced};
+                {ok, Reported} -> {ok, Reported, Traced};
                 unknown -> unknown
             end;
         {refused, _} -> unknown
@@ -47,7 +47,7 @@ traced(Files, Options) ->
     end.
 
 %% An error that the library runs into has no mark before the end of its process; which ends have none is found by trying.
--spec replay(file:filename(), string(), [plain_report:event()], [non_neg_integer()], non_neg_integer()) -> {ok, told()} | unknown.
+-spec replay(file:filename(), string(), [plain_report:event()], [non_neg_integer()], non_neg_integer()) -> {ok, reported()} | unknown.
 replay(_, _, _, _, 0) -> unknown;
 replay(File, Root, Events, Unmarked, Tries) ->
     Steps = steps(Events, Unmarked),
@@ -55,8 +55,8 @@ replay(File, Root, Events, Unmarked, Tries) ->
     case run(File, Root, Schedule) of
         {ok, Seen, Limited} ->
             case compare(Steps, Seen, 0) of
-                {differ, _, end_of_run} when Limited -> {ok, told(Steps, Seen, nothing(), none)};
-                same -> {ok, told(Steps, Seen, nothing(), none)};
+                {differ, _, end_of_run} when Limited -> {ok, reported(Steps, Seen, nothing(), none)};
+                same -> {ok, reported(Steps, Seen, nothing(), none)};
                 {differ, Number, _} when is_integer(Number) ->
                     case lists:member(Number, Unmarked) of
                         true -> unknown;
@@ -151,16 +151,16 @@ without_arguments(Label) ->
         nomatch -> Label
     end.
 
--spec nothing() -> told().
+-spec nothing() -> reported().
 nothing() -> #{events => [], begins => #{}, arguments => #{}}.
 
--spec told([step()], [plain_report:event()], told(), binary() | none) -> told().
-told([], _, #{events := Events} = Told, _) -> Told#{events := lists:reverse(Events)};
-told(Steps, [], #{events := Events} = Told, _) -> Told#{events := lists:reverse(Events) ++ [none || {event, _, _} <- Steps]};
-told([{start, #{subject := {turn, Process}}, _} | Steps], [#{label := <<"whereis ", Mark/binary>>} | Seen], #{begins := Begins} = Told, Last) ->
-    told(Steps, Seen, Told#{begins := Begins#{Process => Mark}}, Last);
-told([{mark, _, _} | Steps], [#{label := <<"whereis ", Mark/binary>>} | Seen], Told, _) -> told(Steps, Seen, Told, Mark);
-told([{event, _, End} | Steps], [#{label := Label} | Seen], #{events := Events, arguments := Arguments} = Told, Last) ->
+-spec reported([step()], [plain_report:event()], reported(), binary() | none) -> reported().
+reported([], _, #{events := Events} = Reported, _) -> Reported#{events := lists:reverse(Events)};
+reported(Steps, [], #{events := Events} = Reported, _) -> Reported#{events := lists:reverse(Events) ++ [none || {event, _, _} <- Steps]};
+reported([{start, #{subject := {turn, Process}}, _} | Steps], [#{label := <<"whereis ", Mark/binary>>} | Seen], #{begins := Begins} = Reported, Last) ->
+    reported(Steps, Seen, Reported#{begins := Begins#{Process => Mark}}, Last);
+reported([{mark, _, _} | Steps], [#{label := <<"whereis ", Mark/binary>>} | Seen], Reported, _) -> reported(Steps, Seen, Reported, Mark);
+reported([{event, _, End} | Steps], [#{label := Label} | Seen], #{events := Events, arguments := Arguments} = Reported, Last) ->
     Mark = case End andalso re:run(Label, <<"\\[('@[0-9]+')[],]">>, [{capture, [1], binary}]) of
         {match, [Place]} -> Place;
         _ -> Last
@@ -169,4 +169,4 @@ told([{event, _, End} | Steps], [#{label := Label} | Seen], #{events := Events, 
         {match, [Found]} -> Arguments#{length(Events) + 1 => Found};
         _ -> Arguments
     end,
-    told(Steps, Seen, Told#{events := [Mark | Events], arguments := Known}, none).
+    reported(Steps, Seen, Reported#{events := [Mark | Events], arguments := Known}, none).

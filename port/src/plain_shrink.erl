@@ -19,14 +19,14 @@
 found(Text, File, Runs, Asked, Translation) ->
     #{events := Events} = plain_answer:report(Text),
     {match, [Head]} = re:run(Text, <<"^(seed [0-9]+\\n(?:strategy [a-z]+\\n)?)">>, [{capture, [1], binary}]),
-    told(Head, plain_report:choices(Events), Runs, {File, Asked, Translation}).
+    reported(Head, plain_report:choices(Events), Runs, {File, Asked, Translation}).
 
 %% @doc Shrinks the schedule that is given.
 -spec shrink(asked(), translation()) -> 0..255.
 shrink(#{words := Words} = Asked, #{text := Text} = Translation) ->
     case schedule(plain_words:value("--schedule", Words, none)) of
         {ok, Schedule} ->
-            plain_farm:with_file(Text, fun(File) -> told(<<>>, Schedule, plain_words:value("--runs", Words, "300"), {File, Asked, Translation}) end);
+            plain_farm:with_file(Text, fun(File) -> reported(<<>>, Schedule, plain_words:value("--runs", Words, "300"), {File, Asked, Translation}) end);
         {error, Sentence} -> complained(Sentence)
     end.
 
@@ -55,8 +55,8 @@ numbers(Text) ->
     catch error:badarg -> {error, "the schedule is numbers with commas between them, or none"}
     end.
 
--spec told(binary(), [non_neg_integer()], string(), place()) -> 0..255.
-told(Head, Schedule, Text, {_, Asked, Translation} = Place) ->
+-spec reported(binary(), [non_neg_integer()], string(), place()) -> 0..255.
+reported(Head, Schedule, Text, {_, Asked, Translation} = Place) ->
     case string:to_integer(Text) of
         {Runs, ""} when is_integer(Runs), Runs >= 1 ->
             case run(Schedule, Place) of
@@ -70,7 +70,7 @@ told(Head, Schedule, Text, {_, Asked, Translation} = Place) ->
                 {other, Report} ->
                     plain_json:put([{"S1", plain_json:of_line(<<"S1">>)} | plain_answer:lines(Report, Asked, Translation)], Asked),
                     2;
-                {answer, Answer} -> plain_command:told(Answer, Asked, Translation)
+                {answer, Answer} -> plain_command:reported(Answer, Asked, Translation)
             end;
         _ -> complained(["a number of runs from 1 on is wanted, and not ", Text])
     end.
@@ -96,8 +96,8 @@ run(Schedule, {File, #{words := Words} = Asked, Translation}) ->
             end,
             case Verdict of
                 Failing when Failing =:= fails; Failing =:= early ->
-                    Told = re:replace(Report, <<"^property (holds|fails)$">>, <<"property fails">>, [multiline, {return, binary}]),
-                    {fails, #{schedule => plain_report:choices(Events), text => Told, failure => failure(Read, Asked, Translation),
+                    Reported = re:replace(Report, <<"^property (holds|fails)$">>, <<"property fails">>, [multiline, {return, binary}]),
+                    {fails, #{schedule => plain_report:choices(Events), text => Reported, failure => failure(Read, Asked, Translation),
                               size => {plain_order:switches(Events), length(Events)}}};
                 _ -> {other, Report}
             end;

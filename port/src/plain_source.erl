@@ -23,8 +23,20 @@ readable(File) ->
     case {filelib:is_dir(File), filelib:is_regular(File), filename:extension(File)} of
         {true, _, _} -> {no, "this is a folder; name its files, or hunt its tests by pulsefarm-erl eunit"};
         {false, false, _} -> {no, "there is no such file"};
-        {false, true, ".beam"} -> {no, "this is compiled; name its source"};
+        {false, true, ".beam"} ->
+            case compiled_forms(File) of
+                {ok, _} -> yes;
+                none -> {no, "this is compiled without debug_info; name its source"}
+            end;
         _ -> yes
+    end.
+
+%% What a compiled file keeps of its source.
+-spec compiled_forms(file:filename()) -> {ok, [term()]} | none.
+compiled_forms(File) ->
+    case beam_lib:chunks(File, [abstract_code]) of
+        {ok, {_, [{abstract_code, {raw_abstract_v1, Forms}}]}} -> {ok, Forms};
+        _ -> none
     end.
 
 %% @doc A file of the library or of OTP, which doesn't change while this program runs, and so is read once for all passes.
@@ -41,6 +53,13 @@ read_library(File, Defines) ->
 
 -spec forms(file:filename(), [term()]) -> [term()].
 forms(File, Defines) ->
+    case filename:extension(File) =:= ".beam" andalso compiled_forms(File) of
+        {ok, Forms} -> Forms;
+        _ -> parsed(File, Defines)
+    end.
+
+-spec parsed(file:filename(), [term()]) -> [term()].
+parsed(File, Defines) ->
     #{includes := Includes} = plain_state:get(options),
     Path = Includes ++ [filename:dirname(File), code:lib_dir(kernel) ++ "/include", code:lib_dir(stdlib) ++ "/include"],
     case epp:parse_file(File, [{includes, Path}, {macros, Defines}]) of

@@ -26,35 +26,35 @@ explain(_, _, _) -> ok.
 -spec lines(binary(), asked(), plain_translation:translation()) -> [iodata()].
 lines(Text, Asked, #{names := Names} = Translation) ->
     #{events := Events} = plain_answer:report(Text),
-    Told = plain_answer:replayed(Asked, Translation, Events),
+    Reported = plain_answer:replayed(Asked, Translation, Events),
     Hidden = case maps:get(verbose, Asked, false) of true -> []; false -> plain_verdict:services(Events) end,
-    [[io_lib:format("<~w> ~ts", [P, role(P, Told)]), stands(P, Events, Told, Names)] || P <- [0 | plain_verdict:spawned(Events)] -- Hidden, of_source(P, Told, Asked)].
+    [[io_lib:format("<~w> ~ts", [P, role(P, Reported)]), stands(P, Events, Reported, Names)] || P <- [0 | plain_verdict:spawned(Events)] -- Hidden, of_source(P, Reported, Asked)].
 
 %% Whether a process is told: the helpers of services aren't.
--spec of_source(non_neg_integer(), plain_answer:told(), asked()) -> boolean().
-of_source(P, Told, Asked) -> maps:get(verbose, Asked, false) orelse not lists:prefix("the service", lists:flatten(io_lib:format("~ts", [role(P, Told)]))).
+-spec of_source(non_neg_integer(), plain_answer:reported(), asked()) -> boolean().
+of_source(P, Reported, Asked) -> maps:get(verbose, Asked, false) orelse not lists:prefix("the service", lists:flatten(io_lib:format("~ts", [role(P, Reported)]))).
 
--spec role(non_neg_integer(), plain_answer:told()) -> unicode:chardata().
-role(P, Told) ->
-    case plain_answer:role(P, Told) of
+-spec role(non_neg_integer(), plain_answer:reported()) -> unicode:chardata().
+role(P, Reported) ->
+    case plain_answer:role(P, Reported) of
         unknown -> "";
         "not begun" -> "";
         Role -> [Role, " "]
     end.
 
--spec stands(non_neg_integer(), [plain_report:event()], plain_answer:told(), map()) -> iodata().
-stands(P, Events, Told, Names) ->
+-spec stands(non_neg_integer(), [plain_report:event()], plain_answer:reported(), map()) -> iodata().
+stands(P, Events, Reported, Names) ->
     Own = [Label || #{subject := {turn, Q}, label := Label} <- Events, Q =:= P],
     case {[{Number, Reason, How} || {Number, Q, Reason, How} <- plain_answer:ends(Events), Q =:= P], Own} of
         {[{_, _, {by, A}} | _], _} -> io_lib:format("was ended by an exit signal of <~w>", [A]);
         {[{_, <<"normal">>, own} | _], _} -> "ended normally";
         {[{Number, Reason, own} | _], _} ->
             {Class, Said} = plain_answer:reason(Reason, Names),
-            [case plain_answer:orderly(Reason) of true -> "ended "; false -> "failed " end, plain_answer:where(Number, P, Reason, Events, Told), Class, " ", Said];
+            [case plain_answer:orderly(Reason) of true -> "ended "; false -> "failed " end, plain_answer:where(Number, P, Reason, Events, Reported), Class, " ", Said];
         {[], []} -> "has not begun";
         {[], _} ->
-            case {lists:last(Own), maps:get(P, plain_answer:last_places(Events, Told), none)} of
-                {<<"wait">>, {user, _, _, _} = Place} -> ["waits at ", plain_words_back:place(Place)];
+            case {lists:last(Own), maps:get(P, plain_answer:last_places(Events, Reported), none)} of
+                {<<"wait">>, {Kind, _, _, _} = Place} when Kind =:= user; Kind =:= called -> ["waits at ", plain_words_back:place(Place)];
                 {<<"wait">>, _} -> "waits in the library";
                 _ -> "could go on"
             end

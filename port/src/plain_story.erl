@@ -4,10 +4,10 @@
 -export([tell/3]).
 
 %% @doc The lines of a story, each with the number of its event.
--spec tell([plain_report:event()], [plain_translation:place() | none], {plain_answer:told(), #{atom() => plain_translation:place()}}) -> [plain_json:line()].
-tell(Events, Places, {Told, Names}) ->
+-spec tell([plain_report:event()], [plain_translation:place() | none], {plain_answer:reported(), #{atom() => plain_translation:place()}}) -> [plain_json:line()].
+tell(Events, Places, {Reported, Names}) ->
     Pids = lists:usort([P || #{subject := {turn, P}} <- Events]),
-    Services = [P || P <- Pids, is_service(plain_answer:role(P, Told))],
+    Services = [P || P <- Pids, is_service(plain_answer:role(P, Reported))],
     {Lines, _} = lists:mapfoldl(fun({Number, Event, Place}, Asking) ->
         case Event of
             #{subject := {turn, P}, label := <<"receive ", _/binary>>} when is_map_key(P, Asking) -> {[], maps:remove(P, Asking)};
@@ -37,7 +37,7 @@ line(Number, #{subject := {turn, P}, label := Label} = Event, Place, Services, N
         true -> [];
         false ->
             Said = plain_words_back:line(said(Label), Names),
-            [{io_lib:format("~w <~w> ~ts~ts", [Number, P, Said, stands(Place)]), object(Number, P, Said, Event) ++ place(Place)}]
+            [{io_lib:format("~w <~w> ~ts~ts", [Number, P, Said, placed(Place)]), object(Number, P, Said, Event) ++ place(Place)}]
     end;
 line(Number, #{subject := {delivery, A, B}, label := <<"deliver exit ends ", Reason/binary>>} = Event, _, _, Names) ->
     Said = io_lib:format("is ended by <~w>: ~ts", [A, plain_words_back:line(Reason, Names)]),
@@ -50,7 +50,7 @@ object(Number, P, Said, #{choice := Choice, among := Among}) ->
     [{event, Number}, {choice, Choice}, {count, Among}, {actor, io_lib:format("<~w>", [P])}, {label, Said}].
 
 -spec place(plain_translation:place() | none) -> plain_json:object().
-place({user, File, Line, _} = Place) -> plain_json:place(Place) ++ [{source, Text} || Text <- [source(File, Line)], Text =/= none];
+place({Kind, File, Line, _} = Place) when Kind =:= user; Kind =:= called -> plain_json:place(Place) ++ [{source, Text} || Text <- [source(File, Line)], Text =/= none];
 place(_) -> [].
 
 %% Whether an event is one of the story: what the source does itself, and of the library what goes between processes of the source.
@@ -96,19 +96,20 @@ said(Label) ->
                  {<<"^receive {#Ref<[0-9]+>,(.*)}$">>, <<"gets the reply: \\1">>}]).
 
 %% The place in the source, with its text.
--spec stands(plain_translation:place() | none) -> iodata().
-stands({user, File, Line, _} = Place) ->
+-spec placed(plain_translation:place() | none) -> iodata().
+placed({Kind, File, Line, _} = Place) when Kind =:= user; Kind =:= called ->
     case source(File, Line) of
         none -> ["  % ", plain_words_back:place(Place)];
         Text -> ["  % ", plain_words_back:place(Place), ": ", Text]
     end;
-stands(_) -> "".
+placed(_) -> "".
 
 -spec source(file:filename(), non_neg_integer()) -> binary() | none.
 source(File, Line) ->
     Lines = case get({?MODULE, File}) of
         undefined ->
-            Read = case file:read_file(File) of {ok, Text} -> binary:split(Text, <<"\n">>, [global]); {error, _} -> [] end,
+            Compiled = filename:extension(File) =:= ".beam",
+            Read = case file:read_file(File) of {ok, Text} when not Compiled -> binary:split(Text, <<"\n">>, [global]); _ -> [] end,
             _ = put({?MODULE, File}, Read),
             Read;
         Known -> Known

@@ -1,18 +1,16 @@
-%% @doc Times that pass too early. The clock of a run may be as fast as it likes, but a time of a second or more doesn't
-%% pass in practice while a process can still go on: so a run in which that happens shows no failure of the program.
+%% @doc Times that pass too early. Time is virtual: it passes only where nobody else can go. The clock of a run may be
+%% faster; what fails in a run in which that happens is no failure of the program.
 -module(plain_time).
 -export([early/1]).
 
-%% A time of at least so many milliseconds passes where nobody else can go.
--define(LONG, 1000).
 -type event() :: plain_report:event().
-%% The clock; whether it took a tick last, and whether nobody else could go then; the long times that are set, by the
+%% The clock; whether it took a tick last, and whether nobody else could go then; the times that are set, by the
 %% message that tells of each; what passed early and isn't received yet; and whose waiting is given up.
 -type state() :: #{clock := non_neg_integer(), ticks := boolean(), quiet := boolean(),
                    set := #{binary() => pos_integer()}, open := [binary()], given_up := [binary()],
                    early := [{pos_integer(), pos_integer()}]}.
 
-%% @doc The events at which a long time passed while somebody else could go, each with its milliseconds.
+%% @doc The events at which a time passed while somebody else could go, each with its milliseconds.
 -spec early([event()]) -> [{pos_integer(), pos_integer()}].
 early(Events) ->
     case [P || #{subject := {turn, _}, label := <<"register port@clock <", P/binary>>} <- Events] of
@@ -37,8 +35,8 @@ event(_, State) -> State.
 -spec clock(binary(), pos_integer(), pos_integer(), state()) -> state().
 clock(<<"receive tick">>, Among, _, State) -> State#{ticks := true, quiet := Among =:= 1};
 clock(<<"receive {", _/binary>> = Label, _, _, #{set := Set} = State) ->
-    case told(Label) of
-        {Message, Time} when Time >= ?LONG -> State#{ticks := false, set := Set#{Message => Time}};
+    case reported(Label) of
+        {Message, Time} when Time > 0 -> State#{ticks := false, set := Set#{Message => Time}};
         {Message, _} -> State#{ticks := false, set := maps:remove(Message, Set)};
         no -> State#{ticks := false}
     end;
@@ -53,8 +51,8 @@ clock(<<"send <", Rest/binary>>, _, Number, #{ticks := true, quiet := false, set
 clock(_, _, _, State) -> State.
 
 %% The message that tells of a time, and the time.
--spec told(binary()) -> {binary(), non_neg_integer()} | no.
-told(Label) ->
+-spec reported(binary()) -> {binary(), non_neg_integer()} | no.
+reported(Label) ->
     Parts = [{capture, all_but_first, binary}, dotall],
     case re:run(Label, <<"^receive \\{arm,<[0-9]+>,(#Ref<[0-9]+>),([0-9]+)\\}$">>, Parts) of
         {match, [Ref, Time]} -> {<<"{'after',", Ref/binary, "}">>, binary_to_integer(Time)};

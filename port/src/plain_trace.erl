@@ -3,7 +3,7 @@
 %% of its own; and an error carries its place as its stack trace. Where that is asked for, the error of a function that has no clause for its
 %% arguments carries them too.
 -module(plain_trace).
--export([traced/0, with_arguments/0, action/2, mark/0, marked/1, here/0, no_clause/1, thrown/2, thrown/3, is_thrown/1, caught/3, stack_of/1, raw/2, raw_parts/1, begin_clause/3, begun/3]).
+-export([line/2, line_of_call/2, ended/2, traced/0, with_arguments/0, action/2, mark/0, marked/1, here/0, no_clause/1, thrown/2, thrown/3, is_thrown/1, caught/3, stack_of/1, raw/2, raw_parts/1, begin_clause/3, begun/3]).
 
 %% @doc Whether the traced form is written.
 -spec traced() -> boolean().
@@ -32,10 +32,32 @@ action(Function, Arguments) ->
 helper('!') -> 'send@m';
 helper(Function) -> list_to_atom(atom_to_list(Function) ++ "@m").
 
-%% @doc The mark of the place where the translation stands.
+%% @doc The mark of the place where the translation is. A function of the library has that of the call in the source
+%% which it serves, as its first argument.
 -spec mark() -> plain_text:expression().
 mark() ->
-    Place = {plain_state:get(kind), plain_state:get(file), plain_state:get(line), plain_state:get(function)},
+    case line(plain_state:get(kind), plain_state:get(mode)) of
+        [Line] -> Line;
+        [] -> mark(plain_state:get(kind))
+    end.
+
+%% @doc The parameter of a function of this kind in this mode that has the mark of a call, where it has one.
+-spec line(plain_modules:kind(), plain_reach:mode()) -> [plain_text:expression()].
+line(Kind, traced) when Kind =/= user -> [{var, "Line@"}];
+line(_, _) -> [].
+
+%% @doc The argument for this parameter.
+-spec line_of_call(plain_modules:kind(), plain_reach:mode()) -> [plain_text:expression()].
+line_of_call(Kind, Mode) ->
+    case {line(Kind, Mode), plain_state:get(kind)} of
+        {[], _} -> [];
+        {[_], user} -> [mark(called)];
+        {[_], _} -> [mark()]
+    end.
+
+-spec mark(plain_modules:kind() | called) -> plain_text:expression().
+mark(Kind) ->
+    Place = {Kind, plain_state:get(file), plain_state:get(line), plain_state:get(function)},
     Number = case plain_state:find_in(marks, Place) of
         {ok, Known} -> Known;
         error ->
@@ -72,6 +94,16 @@ short_error(Reason) ->
         {true, {tuple, [{atom, case_clause}, Value]}} -> {e@c, [Value]};
         {true, {tuple, [{atom, badmatch}, Value]}} -> {e@m, [Value]};
         _ -> none
+    end.
+
+%% @doc The end by an error of a kind and a value, as a call of a function where names are short.
+-spec ended(atom(), plain_text:expression()) -> plain_text:expression() | none.
+ended(Kind, Value) ->
+    case plain_state:get(short) andalso not traced() of
+        true ->
+            plain_reach:use({ended, Kind}),
+            {call, plain_reach:short_name({ended, Kind}), [Value]};
+        false -> none
     end.
 
 %% @doc Whether an expression is such an error, which no value comes of.

@@ -15,7 +15,8 @@
   | {primop, atom(), [tree()], line()} | {'try', tree(), [variable()], tree(), [variable()], tree()} | {'catch', tree()}
   | {map, tree(), [{assoc | exact, tree(), tree()}], line()}
   | {recv, [clause()], tree(), tree(), line()}
-  | {alias, variable(), tree()} | {pmap, [{tree(), tree()}]} | {pbin, [tree()], tree()}.
+  | {alias, variable(), tree()} | {pmap, [{tree(), tree()}]} | {pbin, [tree()], tree()}
+  | {pbits, tree(), [tree()]}.                    % what the library is to take of a binary, and the pattern of each part
 -type environment() :: #{tree() => term()}.
 -export_type([tree/0, variable/0, clause/0, line/0, environment/0]).
 

@@ -3,6 +3,8 @@
 -export([function/1]).
 
 -type names() :: #{term() => plain_tree:tree()}.
+%% A part of a binary.
+-type segment() :: {b | t | r | u, cerl:cerl()} | {n, 0..3, cerl:cerl(), cerl:cerl(), pos_integer()} | {p, cerl:cerl(), cerl:cerl(), pos_integer()}.
 
 %% @doc The tree of a function of a module.
 -spec function(cerl:cerl()) -> plain_tree:tree().
@@ -92,32 +94,48 @@ call(Core, Names, Line) ->
 -spec literal(cerl:cerl()) -> term().
 literal(Core) -> cerl:type(Core) =:= literal andalso cerl:concrete(Core).
 
-%% Binaries: those that are known whole, and those of bytes and whole binaries.
+%% Binaries: those that are known whole, those of bytes and whole binaries, and those of other parts.
 -spec binary(cerl:cerl(), names(), plain_tree:line()) -> plain_tree:tree().
 binary(Core, Names, Line) ->
-    case whole(Core) of
-        {ok, Binary} -> {lit, Binary, Line};
-        no ->
-            case segments(Core) of
-                no -> {lit, refused_binary(Line), Line};
-                Segments ->
-                    plain_refusal:note_once(binaries, "a binary is a list of its bytes here, with a tag; each byte is a node of the 4,096 that a value may have"),
-                    List = lists:foldr(fun({Kind, Value}, Rest) -> {cons, {tup, [{lit, Kind, Line}, tree(Value, Names)]}, Rest} end, {lit, [], Line}, Segments),
-                    {call, {lit, erlang, Line}, {lit, bin_build, Line}, [List], Line}
-            end
+    case {whole(Core), segments(Core)} of
+        {{ok, Binary}, _} -> {lit, Binary, Line};
+        {no, no} -> {lit, refused_binary(Line), Line};
+        {no, Segments} ->
+            plain_refusal:note_once(binaries, "a binary is a list of its bytes here, with a tag; each byte is a node of the 4,096 that a value may have"),
+            List = lists:foldr(fun(Segment, Rest) -> {cons, built(Segment, Names, Line), Rest} end, {lit, [], Line}, Segments),
+            {Module, Build} = case lists:all(fun is_bytes/1, Segments) of true -> {erlang, bin_build}; false -> {pf_bits, build} end,
+            {call, {lit, Module, Line}, {lit, Build, Line}, [List], Line}
     end.
 
+-spec is_bytes(segment()) -> boolean().
+is_bytes({Kind, _}) -> Kind =/= u;
+is_bytes(_) -> false.
+
+%% A part as the library builds it.
+-spec built(segment(), names(), plain_tree:line()) -> plain_tree:tree().
+built({r, Value}, Names, Line) -> built({t, Value}, Names, Line);
+built({Kind, Value}, Names, Line) -> {tup, [{lit, Kind, Line}, tree(Value, Names)]};
+built({n, Code, Value, Size, Unit}, Names, Line) ->
+    {tup, [{lit, n, Line}, {lit, Code band 2, Line}, tree(Value, Names), tree(Size, Names), {lit, Unit, Line}]};
+built({p, Value, Size, Unit}, Names, Line) -> {tup, [{lit, p, Line}, tree(Value, Names), tree(Size, Names), {lit, Unit, Line}]}.
+
 -spec refused_binary(plain_tree:line()) -> tuple().
-refused_binary(Line) -> {'$refused', Line, "a binary of other parts than bytes and a whole rest is not translated; take a list of bytes, or a tuple"}.
+refused_binary(Line) -> {'$refused', Line, "a float or a character of UTF-16 or UTF-32 in a binary is not translated; take integers, or utf8"}.
 
 -spec whole(cerl:cerl()) -> {ok, binary()} | no.
 whole(Core) ->
     Bits = fun(S) -> cerl:concrete(cerl:bitstr_size(S)) * cerl:concrete(cerl:bitstr_unit(S)) end,
-    try {ok, << <<(cerl:concrete(cerl:bitstr_val(S))):(Bits(S))>> || S <- cerl:binary_segments(Core) >>}
+    Number = fun(S) -> integer = cerl:concrete(cerl:bitstr_type(S)), cerl:concrete(cerl:bitstr_val(S)) end,
+    try << <<(Number(S)):(Bits(S))>> || S <- cerl:binary_segments(Core), big(S) >> of
+        Binary when is_binary(Binary) -> {ok, Binary};
+        _ -> no
     catch _:_ -> no
     end.
 
--spec segments(cerl:cerl()) -> [{b | t, cerl:cerl()}] | no.
+-spec big(cerl:cerl()) -> true.
+big(S) -> true = lists:member(big, cerl:concrete(cerl:bitstr_flags(S))).
+
+-spec segments(cerl:cerl()) -> [segment()] | no.
 segments(Core) ->
     Segments = [segment(S) || S <- cerl:binary_segments(Core)],
     case lists:member(no, Segments) of
@@ -125,15 +143,34 @@ segments(Core) ->
         false -> lists:append(Segments)
     end.
 
-%% A segment as bytes, or as a whole binary.
--spec segment(cerl:cerl()) -> [{b | t, cerl:cerl()}] | no.
+%% A segment: as bytes (b), as a whole binary (t), as the rest of bits (r), or as an integer (n), a binary of a size (p) or a character (u). The
+%% code of an integer has 1 for a sign and 2 for its low byte first.
+-spec segment(cerl:cerl()) -> [segment()] | no.
 segment(S) ->
     Value = cerl:bitstr_val(S),
-    case {literal(cerl:bitstr_type(S)), literal(cerl:bitstr_size(S)), literal(cerl:bitstr_unit(S)), cerl:type(Value)} of
-        {integer, Size, 1, literal} when is_integer(Size), Size rem 8 =:= 0 -> [{b, cerl:abstract(X)} || <<X>> <= <<(cerl:concrete(Value)):Size>>];
-        {integer, 8, 1, _} -> [{b, Value}];
+    Size = cerl:bitstr_size(S),
+    Unit = literal(cerl:bitstr_unit(S)),
+    Flags = literal(cerl:bitstr_flags(S)),
+    Code = length([x || lists:member(signed, Flags)]) + 2 * length([x || not lists:member(big, Flags)]),
+    case {literal(cerl:bitstr_type(S)), literal(Size), Unit, cerl:type(Value)} of
+        {integer, Bits, 1, literal} when is_integer(Bits), Bits rem 8 =:= 0, Code < 2 -> [{b, cerl:abstract(X)} || <<X>> <= <<(cerl:concrete(Value)):Bits>>];
+        {integer, 8, 1, _} when Code =:= 0 -> [{b, Value}];
+        {integer, _, _, _} -> [{n, Code, Value, Size, Unit} || sized(Size)];
         {binary, all, 8, _} -> [{t, Value}];
+        {binary, all, 1, _} -> [{r, Value}];
+        {binary, _, _, _} -> [{p, Value, Size, Unit} || sized(Size)];
+        {utf8, _, _, literal} -> [{b, cerl:abstract(X)} || <<X>> <= <<(cerl:concrete(Value))/utf8>>];
+        {utf8, _, _, _} -> [{u, Value}];
         _ -> no
+    end.
+
+%% A size is a number or a variable.
+-spec sized(cerl:cerl()) -> true.
+sized(Size) ->
+    case cerl:type(Size) =:= var orelse literal(Size) of
+        true -> true;
+        Number when is_integer(Number) -> true;
+        _ -> plain_refusal:refuse("the size of a part of a binary is a number or a variable; bind it before", [])
     end.
 
 -spec clause(cerl:cerl(), names()) -> plain_tree:clause().
@@ -156,17 +193,50 @@ pattern(Core, Names) ->
 -spec binary_pattern(cerl:cerl(), names()) -> plain_tree:tree().
 binary_pattern(Core, Names) ->
     Line = plain_state:get(line),
-    Refused = {lit, refused_binary(Line), Line},
     case {whole(Core), segments(Core)} of
         {{ok, Binary}, _} -> {lit, Binary, Line};
-        {no, no} -> Refused;
+        {no, no} -> {lit, refused_binary(Line), Line};
         {no, Segments} ->
-            {Bytes, Rest} = lists:splitwith(fun({Kind, _}) -> Kind =:= b end, Segments),
+            {Bytes, Rest} = lists:splitwith(fun(Segment) -> element(1, Segment) =:= b end, Segments),
             Patterns = [pattern(B, Names) || {b, B} <- Bytes],
             case Rest of
                 [] -> {pbin, Patterns, {lit, [], 0}};
                 [{t, Tail}] -> {pbin, Patterns, pattern(Tail, Names)};
-                _ -> Refused
+                _ -> parts(Segments, Names)
+            end
+    end.
+
+%% A binary of other parts: what the library is to take of it, and the pattern of each part.
+-spec parts([segment()], names()) -> plain_tree:tree().
+parts(Segments, Names) ->
+    Patterns = [pattern(value_of(Segment), Names) || Segment <- Segments],
+    Parts = [part(Segment, Patterns, Names) || Segment <- Segments],
+    {pbits, lists:foldr(fun(Part, Rest) -> {cons, Part, Rest} end, {lit, [], 0}, Parts), Patterns}.
+
+-spec value_of(segment()) -> cerl:cerl().
+value_of({n, _, Value, _, _}) -> Value;
+value_of(Segment) -> element(2, Segment).
+
+-spec part(segment(), [plain_tree:tree()], names()) -> plain_tree:tree().
+part({b, _}, _, _) -> of_code(0, {lit, 8, 0});
+part({n, Code, _, Size, Unit}, Patterns, Names) -> of_code(Code, bits(Size, Unit, Patterns, Names));
+part({p, _, Size, Unit}, Patterns, Names) -> of_code(4, bits(Size, Unit, Patterns, Names));
+part({t, _}, _, _) -> of_code(5, {lit, 0, 0});
+part({u, _}, _, _) -> of_code(6, {lit, 0, 0});
+part({r, _}, _, _) -> of_code(7, {lit, 0, 0}).
+
+-spec of_code(0..7, plain_tree:tree()) -> plain_tree:tree().
+of_code(Code, Bits) -> {tup, [{lit, Code, 0}, Bits]}.
+
+%% The bits of a part: a number, or the value of a part before, or of a variable that is bound outside.
+-spec bits(cerl:cerl(), pos_integer(), [plain_tree:tree()], names()) -> plain_tree:tree().
+bits(Size, Unit, Patterns, Names) ->
+    case tree(Size, Names) of
+        {lit, Number, _} -> {lit, Number * Unit, 0};
+        Variable ->
+            case [I || {I, Pattern} <- lists:zip(lists:seq(1, length(Patterns)), Patterns), Pattern =:= Variable] of
+                [I | _] -> {tup, [{lit, I, 0}, {lit, Unit, 0}]};
+                [] -> {tup, [Variable, {lit, Unit, 0}, {lit, 0, 0}]}
             end
     end.
 

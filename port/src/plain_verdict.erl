@@ -3,12 +3,13 @@
 %% `sound' holds where the root returns and no process crashes. `supervised' holds where no process crashes, whatever becomes of the root. A
 %% crash is an end by an error, or by a reason other than normal, shutdown, {shutdown, _}, or killed by a supervisor. Where a process
 %% came to what the translator lacks, there is no verdict: the run is refused. With `--leaks' a run fails too whose root returns and leaves
-%% processes of the source that wait. Where a run fails in which a long time passes early, that is no failure, unless `--patience' asks for it.
+%% processes of the source that wait. Where a run fails in which a time passes early, that is no failure, unless `--patience' asks for it;
+%% and with `--one-node' where signals crossed as one node doesn't show it.
 -module(plain_verdict).
 -export([own/1, asked/1, of_run/4, early/2, gaps/1, left/2, spawned/1, services/1, outcome/1]).
 -export_type([verdict/0]).
 
--type verdict() :: holds | fails | early | refused.
+-type verdict() :: holds | fails | early | crossed | refused.
 
 %% @doc Whether a property is one that is judged here.
 -spec own(string()) -> boolean().
@@ -30,10 +31,15 @@ of_run(Property, #{events := Events, rest := Rest}, Asked, Translation) ->
         {[], false} -> case crashed(Events, Asked, Translation) of true -> failing(Events, Asked); false -> holds end
     end.
 
--spec failing([plain_report:event()], plain_words:asked()) -> fails | early.
-failing(Events, Asked) -> case early(Events, Asked) of [] -> fails; _ -> early end.
+-spec failing([plain_report:event()], plain_words:asked()) -> fails | early | crossed.
+failing(Events, Asked) ->
+    case {early(Events, Asked), maps:get(one_node, Asked, false) andalso plain_one_node:crossed(Events)} of
+        {[_ | _], _} -> early;
+        {[], true} -> crossed;
+        {[], false} -> fails
+    end.
 
-%% @doc Where a long time passes early, with its milliseconds; nowhere where that was asked for.
+%% @doc Where a time passes early, with its milliseconds; nowhere where that was asked for.
 -spec early([plain_report:event()], plain_words:asked()) -> [{pos_integer(), pos_integer()}].
 early(Events, #{options := #{library_defines := Own}}) ->
     case lists:keymember('PATIENCE', 1, Own) of true -> []; false -> plain_time:early(Events) end.
@@ -89,8 +95,8 @@ crashed(Events, Asked, Translation) ->
         {true, _} -> true;
         {false, []} -> false;
         {false, Killers} ->
-            Told = plain_answer:replayed(Asked, Translation, Events),
-            lists:any(fun(A) -> iolist_to_binary(io_lib:format("~ts", [plain_answer:role(A, Told)])) =/= <<"supervisor">> end, Killers)
+            Reported = plain_answer:replayed(Asked, Translation, Events),
+            lists:any(fun(A) -> iolist_to_binary(io_lib:format("~ts", [plain_answer:role(A, Reported)])) =/= <<"supervisor">> end, Killers)
     end.
 
 -spec crash(binary(), own | {by, non_neg_integer()}) -> yes | no | {killed_by, non_neg_integer()}.

@@ -4,9 +4,9 @@
 
 -define(FLAGS, ["--all", "--explain", "--compact", "--leaks", "--all-roots", "--fail-fast"]).
 
--type asked() :: #{command := translate | check | run | hunt | shrink | chart | eunit, files := [file:filename()], out := file:filename() | none,
+-type asked() :: #{command := translate | check | run | hunt | shrink | chart | eunit | prop, files := [file:filename()], out := file:filename() | none,
                    options := plain_translation:options(), words := [string()], property := string() | none, limit := string() | none,
-                   verbose => boolean(), format => text | json}.
+                   verbose => boolean(), format => text | json, mixed => true, one_node => true}.
 -export_type([asked/0]).
 
 %% @doc What is asked for.
@@ -18,18 +18,28 @@ read(["--version" | _]) ->
     {ok, Version} = application:get_key(pulsefarm_erl, vsn),
     {help, ["pulsefarm-erl ", Version, "\n"]};
 read([Word | Rest]) ->
-    case lists:member(Word, ["translate", "check", "run", "hunt", "shrink", "chart", "eunit"]) of
+    case lists:member(Word, ["translate", "check", "run", "hunt", "shrink", "chart", "eunit", "prop"]) of
         true ->
             Asked = #{command => list_to_atom(Word), files => [], out => none, options => plain_translation:defaults(), words => [], property => none, limit => none},
             complete(words(Rest, Asked));
-        false -> {refused, ["no command ", Word, "; the commands are translate, check, run, hunt, shrink, chart and eunit"]}
+        false -> {refused, ["no command ", Word, "; the commands are translate, check, run, hunt, shrink, chart, eunit and prop"]}
     end.
 
 -spec complete({ok, asked()} | {help, iodata()} | {refused, iodata()}) -> {ok, asked()} | {help, iodata()} | {refused, iodata()}.
 complete({ok, #{command := eunit, files := []}}) -> {refused, "no folder; name that of an application"};
 complete({ok, #{files := []}}) -> {refused, "no file; name one or more .erl files"};
+complete({ok, #{command := hunt, files := [Folder], words := Words, options := #{root := Root}} = Asked}) when not is_map_key(folder, Asked) ->
+    case {filelib:is_dir(Folder), Root} of
+        {false, _} -> complete({ok, Asked#{folder => none}});
+        {true, none} ->
+            Roots = case lists:member("--all-roots", words_in(Words)) of true -> all; false -> named end,
+            Files = lists:sort(filelib:wildcard(filename:join(Folder, "**/*.erl"))),
+            complete({ok, Asked#{folder => Roots, files := Files, words := ["--all-roots" | without(["--all-roots"], Words)]}});
+        {true, _} -> {refused, "the roots of a folder are found by their names; name files with --root"}
+    end;
 complete({ok, #{command := Command, words := Words, out := Out, property := Property, limit := Limit} = Asked}) ->
-    Given = words_in(Words) ++ ["-o" || Out =/= none] ++ ["--property" || Property =/= none] ++ ["--limit" || Limit =/= none] ++ ["--format" || is_map_key(format, Asked)],
+    Given = words_in(Words) ++ ["-o" || Out =/= none] ++ ["--property" || Property =/= none] ++ ["--limit" || Limit =/= none] ++ ["--format" || is_map_key(format, Asked)]
+        ++ ["--one-node" || is_map_key(one_node, Asked)],
     case {[Word || Word <- Given, not lists:member(Word, of_command(Command))], together(Asked)} of
         {[Word | _], _} -> {refused, [atom_to_list(Command), " has no word ", Word, other(Word)]};
         {[], {no, Sentence}} -> {refused, Sentence};
@@ -41,10 +51,12 @@ complete(Answer) -> Answer.
 -spec of_command(atom()) -> [string()].
 of_command(translate) -> ["-o"];
 of_command(check) -> ["--explain", "--format"];
-of_command(run) -> ["--property", "--limit", "--seed", "--schedule", "--strategy", "--weights", "--edition", "--explain", "--format"];
+of_command(run) -> ["--property", "--limit", "--seed", "--schedule", "--strategy", "--weights", "--edition", "--explain", "--format", "--one-node"];
 of_command(hunt) ->
-    ["--property", "--limit", "--seeds", "--for", "--strategy", "--weights", "--edition", "--workers", "--shrink", "--all", "--leaks", "--all-roots", "--fail-fast", "--format"];
-of_command(eunit) -> ["--property", "--limit", "--seeds", "--for", "--strategy", "--weights", "--edition", "--workers", "--test", "--junit"];
+    ["--property", "--limit", "--seeds", "--for", "--strategy", "--weights", "--edition", "--workers", "--shrink", "--all", "--leaks", "--all-roots", "--fail-fast", "--format",
+     "--one-node"];
+of_command(eunit) -> ["--property", "--limit", "--seeds", "--for", "--strategy", "--weights", "--edition", "--workers", "--test", "--junit", "--one-node"];
+of_command(prop) -> ["--limit", "--seeds", "--tests", "--seed", "--strategy", "--weights", "--edition", "--workers", "--shrink"];
 of_command(shrink) -> ["--property", "--limit", "--schedule", "--runs", "--edition", "--format"];
 of_command(chart) -> ["--property", "--limit", "--seed", "--schedule", "--strategy", "--weights", "--edition", "--page", "--compact"].
 
@@ -54,12 +66,25 @@ other("--leaks") -> "; it is of hunt";
 other("--all-roots") -> "; it is of hunt, and eunit hunts the tests of an application";
 other("--fail-fast") -> "; it is of hunt with --all-roots";
 other("--compact") -> "; it is of chart";
+other("--one-node") -> "; it is of hunt, run and eunit";
 other("--explain") -> "; it is of run and check";
 other("--format") -> "; it is of hunt, run, shrink and check; eunit has --junit";
 other(_) -> "".
 
 %% Words that don't go together.
 -spec together(asked()) -> yes | {no, string()}.
+together(#{mixed := true, command := Command}) when Command =/= hunt -> {no, "--patience mixed is of hunt; take a number, or early"};
+together(#{mixed := true, words := Words} = Asked) ->
+    case [Word || Word <- ["--all-roots", "--all"], lists:member(Word, words_in(Words))] of
+        [Word | _] -> {no, "--patience mixed and " ++ Word ++ " don't go together"};
+        [] -> together(maps:remove(mixed, Asked))
+    end;
+together(#{one_node := true, property := Property, words := Words} = Asked) ->
+    Own = (Property =:= none orelse plain_verdict:own(Property)) andalso not lists:member("--all", words_in(Words)),
+    case Own of
+        true -> together(maps:remove(one_node, Asked));
+        false -> {no, "--one-node goes with --property sound, or supervised"}
+    end;
 together(#{command := hunt, words := Words, property := Property, options := #{root := Root}}) ->
     Given = words_in(Words),
     Has = fun(Word) -> lists:member(Word, Given) end,
@@ -112,6 +137,8 @@ words(["-D", Definition | Rest], #{options := #{defines := Before, library_defin
     Library = case Name of 'CALL_TIMEOUTS' -> [Name | Own]; _ -> Own end,
     words(Rest, with(library_defines, Library, with(defines, Before ++ [Value], Asked)));
 words(["--root", Name | Rest], Asked) -> words(Rest, with(root, list_to_atom(Name), Asked));
+words(["--patience", "early" | Rest], Asked) -> words(["--patience", "0" | Rest], Asked);
+words(["--patience", "mixed" | Rest], Asked) -> words(Rest, Asked#{mixed => true});
 words(["--patience", Number | Rest], #{options := #{library_defines := Own}} = Asked) ->
     with_number("--patience", Number, fun(N) -> words(Rest, with(library_defines, [{'PATIENCE', N} | Own], Asked)) end);
 words(["--never", Number | Rest], Asked) -> with_number("--never", Number, fun(N) -> words(Rest, with(never, N, Asked)) end);
@@ -121,6 +148,7 @@ words(["--calls", Called | Rest], #{options := #{calls := Before}} = Asked) ->
         _ -> {refused, ["--calls wants Module:Function, and not ", Called]}
     end;
 words(["--verbose" | Rest], Asked) -> words(Rest, Asked#{verbose => true});
+words(["--one-node" | Rest], Asked) -> words(Rest, Asked#{one_node => true});
 words(["--lax" | Rest], Asked) -> words(Rest, with(lax, true, Asked));
 words(["--property", Text | Rest], Asked) -> words(Rest, Asked#{property := Text});
 words(["--limit", Number | Rest], Asked) -> words(Rest, Asked#{limit := Number});
@@ -149,6 +177,7 @@ with(Option, Value, #{options := Options} = Asked) -> Asked#{options := Options#
 with_number(Word, Text, Continue) ->
     case string:to_integer(Text) of
         {Number, ""} when is_integer(Number), Number >= 0 -> Continue(Number);
+        _ when Word =:= "--patience" -> {refused, ["--patience wants a number from 0 on, early or mixed, and not ", Text]};
         _ -> {refused, [Word, " wants a number from 0 on, and not ", Text]}
     end.
 
@@ -226,6 +255,9 @@ help() ->
     "                                          and what it depends on in _checkouts, _build and deps, the erl_opts of\n"
     "                                          rebar.config; --test PART takes those whose name has it, and reports the run of one that\n"
     "                                          fails; --junit FILE writes the answer as JUnit has it\n"
+    "  pulsefarm-erl prop FILE.. [WORDS]       tests parallel commands of the state machine (PropEr, QuickCheck) in the first file:\n"
+    "                                          each outcome has to be that of some order of the commands; --tests N (100), --seed S\n"
+    "                                          for the commands, --seeds (0..200) of each; setup/0 and cleanup/1 go around each run\n"
     "  pulsefarm-erl check FILE..              says ok, or all that is refused\n"
     "  pulsefarm-erl translate FILE.. [-o OUT] writes the module, and OUT.map with the lines that its functions come from\n"
     "\n"
@@ -238,16 +270,20 @@ help() ->
     "  --property sound          fails where the root doesn't return (a deadlock too), and where a process ends by an error, or by\n"
     "                            a reason other than normal, shutdown, {shutdown,_}, or killed by a supervisor\n"
     "  --property supervised     the same, whatever becomes of the root; the other properties are those of pulsefarm\n"
-    "  --patience N        how many turns of the run's clock a time has: N below 10 ms, 2N below 100, 3N below 1000, 4N else.\n"
-    "                      Without it a run draws this itself for times below 1000 ms, and a run that fails by a longer time\n"
-    "                      which passes while another process may go is left out of a hunt\n"
+    "  --patience N        how many turns of the run's clock a time has, whatever others do: N below 10 ms, 2N below 100,\n"
+    "                      3N below 1000, 4N else; early has each pass at any moment. mixed, of hunt, goes over the first half\n"
+    "                      of the seeds without it and over the second by early. Without it time is virtual: it passes where\n"
+    "                      nobody else can go, in the order of the deadlines, and a run that fails otherwise is left out of a hunt\n"
     "  --never MS          takes away the timeouts of literal times from MS milliseconds on, where a receive has clauses\n"
     "  -D CALL_TIMEOUTS    lets the 5,000 ms of gen_server:call/2 pass, which else they never do\n"
     "  --verbose           reports all events and processes, those of the library, its services and the clock too\n"
     "  --format json       of hunt, run, shrink and check: an object on each line (docs/FROM_ERLANG.md); text is what goes out else\n"
+    "  --one-node          of hunt, run and eunit: signals come in the order of their causes, as on one node; a run that fails\n"
+    "                      otherwise is left out of a hunt\n"
     "  --leaks             of hunt: a run fails too whose root returns and leaves processes that wait\n"
     "  --all-roots         of hunt: each exported function without arguments of the first file, with a line for each and one at the\n"
-    "                      end; with --fail-fast none behind the first that fails\n"
+    "                      end; with --fail-fast none after the first that fails. Of a folder in the place of files the roots are\n"
+    "                      main, race, and what ends with _race or _test in each of its files; with --all-roots all\n"
     "  --explain           of run: how each process stands at the end, on standard error\n"
     "  --calls M:F         says that a value names this function, where a text of over 24,576 bytes left it out\n"
     "  --lax               takes calls that aren't known; who comes to one ends with {refused,Module,Function,Arity}\n"

@@ -134,7 +134,7 @@ function({Module, Function, Arity}) -> io_lib:format("~w:~w/~w", [Module, Functi
 
 %% @doc A place: of a source its file, line and function, of the library its module.
 -spec place(plain_translation:place()) -> iodata().
-place({user, File, Line, Function}) -> [plain_refusal:place(File, Line), " ", function(Function)];
+place({Kind, File, Line, Function}) when Kind =:= user; Kind =:= called -> [plain_refusal:place(File, Line), " ", function(Function)];
 place({_, _, _, {'fun', {Module, _, _}}}) -> ["library ", atom_to_list(Module)];
 place({_, _, _, {Module, _, _}}) -> ["library ", atom_to_list(Module)].
 

@@ -19,7 +19,9 @@ check() ->
     into_a_file(),
     timed(),
     early(),
+    one_node(),
     unread(),
+    progress(),
     ok.
 
 %% One command finds the race of a program and tells it by a line that the file names.
@@ -31,11 +33,12 @@ told(File) ->
         {match, [Named]} -> ["--property", Named];
         nomatch -> []
     end,
-    {Answer, Status} = checks:command(["hunt", File, "--shrink", "30"] ++ Property),
+    Patience = case re:run(Text, "^%% patience: early$", [multiline]) of nomatch -> []; _ -> ["--patience", "early"] end,
+    {Answer, Status} = checks:command(["hunt", File, "--shrink", "30"] ++ Property ++ Patience),
     checks:expect(["status of ", File], 1, Status),
     has(File, "^" ++ Line ++ "$", Answer).
 
--spec has(string(), string(), string()) -> boolean().
+-spec has(iodata(), string(), string()) -> boolean().
 has(Name, Expression, Answer) ->
     case re:run(Answer, Expression, [multiline]) of
         nomatch ->
@@ -60,7 +63,8 @@ replayed() ->
     Room = checks:room("found"),
     ok = file:write_file(Room, Found),
     {Story, 1} = checks:command(["run", File, "--schedule", "@" ++ Room]),
-    has("a story", "^[0-9]+ <[0-9]+> calls <[0-9]+>: \\{set,alice,(5|10)\\}$", Story),
+    has("a story", "^[0-9]+ <[0-9]+> calls <[0-9]+>: \\{set,alice,(5|10)\\}  % bank\\.erl:15 bank:deposit/2: gen_server:call\\(\\?MODULE, \\{set, Who, B \\+ N\\}\\)\\.$", Story),
+    has("a reply", "^[0-9]+ <[0-9]+> gets the reply: ok  % bank\\.erl:15 bank:deposit/2: gen_server:call", Story),
     has("its last line", "^[0-9]+ <0> end \\{\\{lost_update,[0-9]+\\},\\[\\]\\}  % bank\\.erl:38 bank:main/0: B =:= 15 orelse error\\(\\{lost_update, B\\}\\),$", Story),
     checks:expect("no service in a story", nomatch, re:run(Story, "service|deliver|#Ref<[0-9]+>,<|port@")),
     {Run, Status} = checks:command(["run", File, "--verbose", "--schedule", "@" ++ Room]),
@@ -70,25 +74,29 @@ replayed() ->
     has("a place of the source", "^[0-9]+/[0-9]+ <0> end \\{\\{lost_update,[0-9]+\\},\\[\\]\\}  % bank\\.erl:38 bank:main/0$", Run),
     {Shrunk, 1} = checks:command(["shrink", File, "--schedule", "@" ++ Room, "--runs", "20"]),
     has("a shrinking", "^crash <0> at bank\\.erl:38 ", Shrunk),
-    {Mended, Holds} = checks:command(["hunt", File, "-D", "MENDED"]),
-    checks:expect("the mended bank", 0, Holds),
-    has("the mended bank", "^no failure in 1000 seeds$", Mended),
+    {Fixed, Holds} = checks:command(["hunt", File, "-D", "FIXED"]),
+    checks:expect("the fixed bank", 0, Holds),
+    has("the fixed bank", "^no failure in 1000 seeds$", Fixed),
     {All, _} = checks:command(["hunt", checks:folder("../examples/cache.erl"), "--all", "--seeds", "0..50"]),
     has("outcomes", "^fails [0-9]+ seeds, least [0-9]+: ended \\{loaded_twice,\\[\\]\\}$", All).
 
 %% A shrinking keeps the failure, and has no more events and no more switches of process than the run that it began from.
 -spec shrunk() -> boolean().
 shrunk() ->
-    Words = ["hunt", checks:folder("../examples/cache.erl"), "--verbose"],
+    Cache = checks:folder("../examples/cache.erl"),
+    [kept(["hunt", Cache, "--verbose" | Property]) || Property <- [[], ["--property", "nocrash"], ["--property", "returns"]]],
+    {Refused, 2} = checks:command(["shrink", Cache, "-D", "FIXED", "--schedule", "0,1,0"]),
+    has("a schedule that doesn't fail", "^S1$", Refused).
+
+-spec kept([string()]) -> boolean().
+kept(Words) ->
     {Found, 1} = checks:command(Words),
     {Shrunk, 1} = checks:command(Words ++ ["--shrink", "20"]),
     Crash = fun(Answer) -> re:run(Answer, "^crash .*$", [multiline, {capture, first, list}]) end,
     checks:expect("the failure is kept", Crash(Found), Crash(Shrunk)),
     [Before, After] = [size_of(Answer) || Answer <- [Found, Shrunk]],
     checks:expect(io_lib:format("events and switches: ~w, and ~w", [Before, After]),
-                  element(1, After) =< element(1, Before) andalso element(2, After) < element(2, Before)),
-    {Refused, 2} = checks:command(["shrink", checks:folder("../examples/cache.erl"), "-D", "MENDED", "--schedule", "0,1,0"]),
-    has("a schedule that doesn't fail", "^S1$", Refused).
+                  element(1, After) =< element(1, Before) andalso element(2, After) =< element(2, Before)).
 
 %% How many events an answer has, and how many switches of process.
 -spec size_of(string()) -> {non_neg_integer(), non_neg_integer()}.
@@ -213,9 +221,11 @@ refused() ->
     Expect("no file", ["hunt"], [], "^pulsefarm-erl: no file"),
     Expect("a file that isn't there", ["hunt", "nothing.erl"], [], "^nothing\\.erl:1: there is no such file"),
     Expect("a folder", ["check", checks:folder("commands")], [], "^commands:1: this is a folder; name its files"),
-    Expect("a compiled file", ["check", code:which(plain_cut)], [], "^plain_cut\\.beam:1: this is compiled; name its source"),
+    Expect("a compiled file", ["check", code:which(?MODULE)], [], "^check_command\\.beam:1: this is compiled without debug_info; name its source"),
     Expect("a root that isn't there", ["run", File, "--root", "nothing"], [], "^bank\\.erl:1: the module exports no function nothing/0"),
     Expect("a patience", ["run", File, "--patience", "much"], [], "^pulsefarm-erl: --patience wants a number"),
+    Expect("a patience of hunt", ["run", File, "--patience", "mixed"], [], "^pulsefarm-erl: --patience mixed is of hunt"),
+    Expect("one node by another property", ["hunt", File, "--one-node", "--property", "nocrash"], [], "^pulsefarm-erl: --one-node goes with "),
     Expect("a word that would be ignored", ["check", File, "--limit", "5"], [], "^pulsefarm-erl: check has no word --limit"),
     Expect("another", ["run", File, "--seeds", "0..5"], [], "^pulsefarm-erl: run has no word --seeds"),
     Expect("all outcomes by a property of this part", ["hunt", File, "--all", "--property", "sound"], [], "^pulsefarm-erl: --all goes with "),
@@ -225,37 +235,59 @@ refused() ->
     has("help", "tested and not proved", Help),
     {Version, 0} = checks:command(["--version"]),
     has("version", "^pulsefarm-erl [0-9.]+$", Version),
-    {Words, 0} = {os:cmd(lists:flatten(io_lib:format("bash -c '. ~ts; for c in translate check run hunt shrink chart eunit; do _pulsefarm_erl_words $c; done'",
+    {Words, 0} = {os:cmd(lists:flatten(io_lib:format("bash -c '. ~ts; for c in translate check run hunt shrink chart eunit prop; do _pulsefarm_erl_words $c; done'",
                                                      [checks:folder("../pulsefarm-erl.bash")]))), 0},
     Unknown = [Word || Word <- lists:usort(string:lexemes(Words, " \n")), string:find(Help ++ " --seed --schedule --strategy --weights --edition --workers --all --for "
                                                                                         "--runs --page --compact --explain --limit --shrink ", Word) =:= nomatch],
     checks:expect("the words of the completions stand in the help", [], Unknown).
 
-%% A time of seconds seldom passes while others go on: in less than one of twenty seeds.
+%% A time seldom passes while others go on: in less than one of twenty seeds.
 -spec timed() -> boolean().
 timed() ->
     File = checks:folder("commands/patient.erl"),
     {ok, Out, _} = checks:translate([File]),
     Late = lists:sum([Number || {fails, Number, _} <- checks:hunt(Out, "main", "nocrash", "0..1000")]),
-    checks:expect(io_lib:format("~w of 1000 seeds see a time of seconds pass", [Late]), Late < 50),
+    checks:expect(io_lib:format("~w of 1000 seeds see a time pass", [Late]), Late < 50),
     {ok, Eager, _} = checks:translate([File], #{library_defines => [{'PATIENCE', 0}]}),
     Early = lists:sum([Number || {fails, Number, _} <- checks:hunt(Eager, "main", "nocrash", "0..1000")]),
     checks:expect("without patience some pass", Early > 50),
     {ok, Never, _} = checks:translate([File], #{never => 1000}),
     checks:expect("and with --never none of the receive", true, is_list(checks:hunt(Never, "main", "nocrash", "0..10"))).
 
-%% A run that fails by a time of seconds which passes while others may go is left out, unless a patience is given.
+%% A run that fails by a time which passes while others may go is left out, unless a patience is given.
 -spec early() -> boolean().
 early() ->
     File = checks:folder("commands/seconds.erl"),
-    {Answered, 0} = checks:command(["hunt", File, "--root", "answered", "--seeds", "0..40"]),
-    has("a time that passes early", "^pulsefarm-erl: [0-9]+ of these seeds fail by a time of a second or more that passes while others may go, and are left out", Answered),
-    has("and no other failure", "^no failure in 40 seeds$", Answered),
+    [answered(File, Root) || Root <- ["answered", "short"]],
     {Eager, 1} = checks:command(["hunt", File, "--root", "answered", "--seeds", "0..40", "--patience", "0"]),
     has("with a patience it is one", "^crash <0> at seconds\\.erl:9 seconds:answered/0: exit too_late$", Eager),
+    {Mixed, 1} = checks:command(["hunt", File, "--root", "answered", "--seeds", "0..80", "--patience", "mixed"]),
+    has("by halves", "^no failure in 40 seeds$", Mixed),
+    has("by halves", "^pulsefarm-erl: the second half, by --patience early:$", Mixed),
+    has("by halves", "^crash <0> at seconds\\.erl:9 seconds:answered/0: exit too_late$", Mixed),
     {Lost, 1} = checks:command(["hunt", File, "--root", "lost", "--seeds", "0..40"]),
     has("a time that passes where nobody else may go", "^crash <0> at seconds\\.erl:14 seconds:lost/0: exit too_late$", Lost),
-    checks:expect("and that is told without a word", nomatch, string:find(Lost, "left out")).
+    checks:expect("and that is printed without a word", nomatch, string:find(Lost, "of these seeds")),
+    {Ordered, 0} = checks:command(["hunt", File, "--root", "ordered", "--seeds", "0..40"]),
+    has("times pass in the order of their deadlines", "^no failure in 40 seeds$", Ordered).
+
+%% What one node can't show is left out, and what it can is found.
+-spec one_node() -> boolean().
+one_node() ->
+    Words = ["hunt", checks:folder("commands/one_node.erl"), "--seeds", "0..60"],
+    {Crossed, 1} = checks:command(Words),
+    has("signals that cross", "^crash <0> at one_node\\.erl:9 one_node:main/0: error \\{badmatch,nothing\\}$", Crossed),
+    {One, 0} = checks:command(Words ++ ["--one-node"]),
+    has("one node", "^pulsefarm-erl: [0-9]+ of these seeds fail by signals in an order that one node doesn't show, and are left out$", One),
+    has("one node", "^no failure in 60 seeds$", One),
+    {Race, 1} = checks:command(Words ++ ["--one-node", "--root", "race"]),
+    has("a race on one node", "^crash <0> at one_node\\.erl:15 one_node:race/0: error \\{badmatch,nothing\\}$", Race).
+
+-spec answered(file:filename(), string()) -> boolean().
+answered(File, Root) ->
+    {Answered, 0} = checks:command(["hunt", File, "--root", Root, "--seeds", "0..40"]),
+    has([Root, ": a time that passes early"], "^pulsefarm-erl: [0-9]+ of these seeds fail by a time that passes while others may go, and are left out", Answered),
+    has([Root, ": and no other failure"], "^no failure in 40 seeds$", Answered).
 
 %% Where nobody reads its answer it ends as pulsefarm does, with 141, and where its output is full it says so.
 -spec unread() -> boolean().
@@ -268,3 +300,20 @@ unread() ->
 shell(Words) ->
     Program = filename:join([os:getenv("CHECKS"), "..", "pulsefarm-erl"]),
     os:cmd(lists:flatten(io_lib:format("bash -c '~ts ~ts'", [Program, Words]))).
+
+%% Progress is printed on a terminal alone.
+-spec progress() -> boolean() | ok.
+progress() ->
+    case os:find_executable("script") of
+        false -> io:format("  there is no script, which makes a terminal, so what is shown on one is left out~n");
+        _ -> on_a_terminal()
+    end.
+
+-spec on_a_terminal() -> boolean().
+on_a_terminal() ->
+    Words = ["hunt ", checks:folder("../examples/bank.erl"), " -D FIXED --seeds 0..500"],
+    Program = filename:join([os:getenv("CHECKS"), "..", "pulsefarm-erl"]),
+    Shown = os:cmd(lists:flatten(io_lib:format("script -qec '~ts ~ts' /dev/null", [Program, Words]))),
+    has("on a terminal", "\r\e\\[K250 of 500 seeds\r\e\\[K", Shown),
+    has("and the answer", "no failure in 500 seeds", Shown),
+    checks:expect("in a file there is none", nomatch, string:find(shell([Words, " 2>&1"]), "of 500 seeds")).

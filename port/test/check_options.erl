@@ -10,14 +10,15 @@ check() ->
     leaks(),
     roots(),
     first_that_fails(),
+    folder(),
     explained(),
     clauses(),
     refused(),
     ok.
 
 %% The answer of a command has each of these lines.
--spec tells(string(), [string()], non_neg_integer(), [string()]) -> string().
-tells(Name, Words, Status, Expressions) ->
+-spec prints(string(), [string()], non_neg_integer(), [string()]) -> string().
+prints(Name, Words, Status, Expressions) ->
     {Answer, Seen} = checks:command(Words),
     checks:expect(["status of ", Name], Status, Seen),
     [case re:run(Answer, Expression, [multiline]) of
@@ -38,17 +39,17 @@ json() ->
     Crash = "^\\{\"crash\":\"<0>\",\"file\":\"[^\"]*bank\\.erl\",\"line\":38,\"function\":\"bank:main/0\",\"class\":\"error\",\"reason\":\"\\{lost_update,(5|10)\\}\"\\}$",
     Event = "^\\{\"event\":[0-9]+,\"choice\":[0-9]+,\"count\":[0-9]+,\"actor\":\"<0>\",\"label\":\"end \\{\\{lost_update,[0-9]+\\},\\[\\]\\}\",\"file\":\"[^\"]*bank\\.erl\","
             "\"line\":38,\"function\":\"bank:main/0\",\"source\":\"B =:= 15 orelse error\\(\\{lost_update, B\\}\\),\"\\}$",
-    Found = tells("a hunt as JSON", ["hunt", File, "--format", "json"], 1,
+    Found = prints("a hunt as JSON", ["hunt", File, "--format", "json"], 1,
                   ["^\\{\"seed\":[0-9]+\\}$", "^\\{\"schedule\":\"[0-9,]+\"\\}$", Event, "^\\{\"ended\":\"\\{\\{lost_update,(5|10)\\},\\[\\]\\}\"\\}$",
                    "^\\{\"steps\":[0-9]+\\}$", "^\\{\"property\":\"fails\"\\}$", "^\\{\"process\":\"<0>\",\"runs\":\"bank:main/0\"\\}$", Crash]),
     {match, [Schedule]} = re:run(Found, "^\\{\"schedule\":\"([0-9,]+)\"\\}$", [multiline, {capture, [1], list}]),
-    Run = tells("a run as JSON", ["run", File, "--format", "json", "--verbose", "--schedule", Schedule], 1,
+    Run = prints("a run as JSON", ["run", File, "--format", "json", "--verbose", "--schedule", Schedule], 1,
                 [Crash, "^\\{\"choice\":[0-9]+,\"count\":[0-9]+,\"actor\":\"<[0-9]+>-><[0-9]+>\",\"label\":\"deliver message\"\\}$"]),
-    tells("a shrinking as JSON", ["shrink", File, "--format", "json", "--schedule", Schedule, "--runs", "5"], 1, [Crash, "^\\{\"(partial|complete)\":true\\}$"]),
-    tells("no failure as JSON", ["hunt", File, "--format", "json", "-D", "MENDED", "--seeds", "0..9"], 0, ["^\\{\"failure\":false,\"seeds\":9\\}$"]),
-    tells("outcomes as JSON", ["hunt", File, "--format", "json", "--all", "--seeds", "0..30"], 1,
+    prints("a shrinking as JSON", ["shrink", File, "--format", "json", "--schedule", Schedule, "--runs", "5"], 1, [Crash, "^\\{\"(partial|complete)\":true\\}$"]),
+    prints("no failure as JSON", ["hunt", File, "--format", "json", "-D", "FIXED", "--seeds", "0..9"], 0, ["^\\{\"failure\":false,\"seeds\":9\\}$"]),
+    prints("outcomes as JSON", ["hunt", File, "--format", "json", "--all", "--seeds", "0..30"], 1,
           ["^\\{\"property\":\"(holds|fails)\",\"seeds\":[0-9]+,\"least\":[0-9]+,\"(finished|ended)\":"]),
-    tells("a check as JSON", ["check", File, "--format", "json"], 0, ["^\\{\"ok\":true\\}$"]),
+    prints("a check as JSON", ["check", File, "--format", "json"], 0, ["^\\{\"ok\":true\\}$"]),
     {Text, 1} = checks:command(["hunt", File, "--format", "text"]),
     checks:expect("text is what goes out without the word", {Text, 1}, checks:command(["hunt", File])),
     checks:expect("each line is an object", [], [Line || Line <- string:split(Found ++ Run, "\n", all), Line =/= "", not is_object(Line)]).
@@ -75,14 +76,14 @@ objects() ->
 leaks() ->
     File = command_file("leaks.erl"),
     Words = ["hunt", File, "--seeds", "0..40", "--leaks"],
-    tells("a leak in each run", Words, 1,
+    prints("a leak in each run", Words, 1,
           ["^seed 0$", "^waits <[0-9]+> at leaks\\.erl:28 leaks:serve/1$", "^property fails$", "^pulsefarm-erl: 1 process still waits although the root returned: seed 0$"]),
-    tells("the same as JSON", Words ++ ["--format", "json"], 1, ["^\\{\"waits\":\"<[0-9]+>\",\"file\":\"[^\"]*leaks\\.erl\",\"line\":28,\"function\":\"leaks:serve/1\"\\}$"]),
-    tells("a leak in some runs", Words ++ ["-D", "STOPPED"], 1, ["^waits <[0-9]+> at leaks\\.erl:28 leaks:serve/1$", "^property fails$"]),
-    tells("no leak", Words ++ ["-D", "MENDED"], 0, ["^no failure in 40 seeds$"]),
-    tells("no crash either", Words ++ ["-D", "MENDED", "--property", "supervised"], 0, ["^no failure in 40 seeds$"]),
-    tells("a leak that isn't asked for", ["hunt", File, "--seeds", "0..40"], 0, ["^no failure in 40 seeds$"]),
-    tells("a run that leaves one", ["run", File, "--seed", "3"], 0, ["^property holds$", "^pulsefarm-erl: 1 process still waits although the root returned$"]).
+    prints("the same as JSON", Words ++ ["--format", "json"], 1, ["^\\{\"waits\":\"<[0-9]+>\",\"file\":\"[^\"]*leaks\\.erl\",\"line\":28,\"function\":\"leaks:serve/1\"\\}$"]),
+    prints("a leak in some runs", Words ++ ["-D", "STOPPED"], 1, ["^waits <[0-9]+> at leaks\\.erl:28 leaks:serve/1$", "^property fails$"]),
+    prints("no leak", Words ++ ["-D", "FIXED"], 0, ["^no failure in 40 seeds$"]),
+    prints("no crash either", Words ++ ["-D", "FIXED", "--property", "supervised"], 0, ["^no failure in 40 seeds$"]),
+    prints("a leak that isn't asked for", ["hunt", File, "--seeds", "0..40"], 0, ["^no failure in 40 seeds$"]),
+    prints("a run that leaves one", ["run", File, "--seed", "3"], 0, ["^property holds$", "^pulsefarm-erl: 1 process still waits although the root returned$"]).
 
 %% All roots of a file, each with a line.
 -spec roots() -> string().
@@ -92,36 +93,54 @@ roots() ->
     Holds = "^roots\\.erl holds: no failure in 20 seeds$",
     Crash = "^roots\\.erl crashes: seed 0 fails: crash <0> at roots\\.erl:15 roots:helper/1: error function_clause for \\(\"three\"\\)$",
     Hang = "^roots\\.erl hangs: seed 0 fails: waits <0> at roots\\.erl:13 roots:hangs/0$",
-    tells("all roots", Words, 1, [Holds, Crash, Hang, "^1 file, 3 roots: 2 fail, 0 refused$"]),
-    tells("all roots as JSON", Words ++ ["--format", "json"], 1,
+    prints("all roots", Words, 1, [Holds, Crash, Hang, "^1 file, 3 roots: 2 fail, 0 refused$"]),
+    prints("all roots as JSON", Words ++ ["--format", "json"], 1,
           ["^\\{\"file\":\"roots\\.erl\",\"root\":\"holds\",\"failure\":false,\"seeds\":20\\}$",
            "^\\{\"file\":\"roots\\.erl\",\"root\":\"crashes\",\"failure\":true,\"seed\":0,\"why\":\\{\"crash\":\"<0>\",\"file\":\"[^\"]*roots\\.erl\",\"line\":15,"
            "\"function\":\"roots:helper/1\",\"class\":\"error\",\"reason\":\"function_clause\",\"arguments\":\"\\\\\"three\\\\\"\"\\}\\}$",
            "^\\{\"files\":1,\"roots\":3,\"fail\":2,\"refused\":0\\}$"]),
-    tells("a root that can't be translated", Words ++ ["-D", "LACKING"], 2,
+    prints("a root that can't be translated", Words ++ ["-D", "LACKING"], 2,
           ["^roots\\.erl lacks: refused: .*file:list_dir/1", Holds, Crash, Hang, "^1 file, 4 roots: 2 fail, 1 refused$"]),
-    tells("all roots for a time", ["hunt", File, "--all-roots", "--for", "1s"], 1, [Crash, "^roots\\.erl holds: stopped behind [0-9]+ seeds, no failure$"]).
+    prints("all roots for a time", ["hunt", File, "--all-roots", "--for", "1s"], 1, [Crash, "^roots\\.erl holds: stopped behind [0-9]+ seeds, no failure$"]).
 
 -spec first_that_fails() -> boolean().
 first_that_fails() ->
-    Answer = tells("to the first that fails", ["hunt", command_file("roots.erl"), "--all-roots", "--fail-fast", "--seeds", "0..20"], 1,
+    Answer = prints("to the first that fails", ["hunt", command_file("roots.erl"), "--all-roots", "--fail-fast", "--seeds", "0..20"], 1,
                    ["^roots\\.erl crashes: seed 0 fails: ", "^1 file, 1 root: 1 fails, 0 refused$"]),
     checks:expect("nothing behind it", nomatch, re:run(Answer, "hangs|holds")).
+
+%% The roots of a folder by their names: of each file, and of its folders; servers are none.
+-spec folder() -> string().
+folder() ->
+    Folder = checks:folder("folder"),
+    One = "^account_race\\.erl one_test: no failure in 200 seeds$",
+    Two = "^account_race\\.erl two_race: seed [0-9]+ fails: crash <0> at account_race\\.erl:14 account_race:two_race/0: error \\{badmatch,1\\}$",
+    Main = "^account_holds\\.erl main: no failure in 200 seeds$",
+    prints("a folder", ["hunt", Folder, "--seeds", "0..200"], 1, [One, Two, Main, "^3 files, 3 roots: 1 fails, 0 refused$"]),
+    prints("all roots of a folder", ["hunt", Folder, "--all-roots", "--seeds", "0..200"], 1,
+          ["^account\\.erl start: no failure", "^account_race\\.erl helper: seed 0 fails: ", One, Two, Main, "^3 files, 5 roots: 2 fail, 0 refused$"]),
+    prints("a folder for a time", ["hunt", Folder, "--for", "2s"], 1,
+          [Two | ["^account_" ++ Root ++ ": stopped behind [1-9][0-9]+ seeds, no failure$" || Root <- ["race\\.erl one_test", "holds\\.erl main"]]]),
+    ok = filelib:ensure_path(checks:room("nothing")),
+    prints("a folder without files", ["hunt", checks:room("nothing")], 2, ["^pulsefarm-erl: no file; name one or more \\.erl files$"]),
+    ok = file:write_file(checks:room("nothing/none.erl"), "-module(none).\n-export([start_link/0]).\nstart_link() -> ok.\n"),
+    prints("a folder without roots", ["hunt", checks:room("nothing")], 2, ["^pulsefarm-erl: the folder has no file with a root; "]),
+    prints("a folder with a root", ["hunt", Folder, "--root", "main"], 2, ["^pulsefarm-erl: the roots of a folder are found by their names; name files with --root$"]).
 
 %% How each process stands at the end.
 -spec explained() -> string().
 explained() ->
-    tells("how processes stand", ["run", command_file("leaks.erl"), "--seed", "3", "--explain"], 0,
+    prints("how processes stand", ["run", command_file("leaks.erl"), "--seed", "3", "--explain"], 0,
           ["^pulsefarm-erl: <0> leaks:main/0 ended normally$", "^pulsefarm-erl: <[0-9]+> .* waits at leaks\\.erl:28 leaks:serve/1$"]),
-    tells("how one failed", ["run", command_file("roots.erl"), "--root", "crashes", "--explain"], 1,
+    prints("how one failed", ["run", command_file("roots.erl"), "--root", "crashes", "--explain"], 1,
           ["^pulsefarm-erl: <0> roots:crashes/0 failed at roots\\.erl:15 roots:helper/1: error function_clause$"]),
-    tells("by a property of pulsefarm", ["run", command_file("roots.erl"), "--root", "hangs", "--explain", "--property", "returns"], 1,
+    prints("by a property of pulsefarm", ["run", command_file("roots.erl"), "--root", "hangs", "--explain", "--property", "returns"], 1,
           ["^pulsefarm-erl: <0> roots:hangs/0 waits at roots\\.erl:13 roots:hangs/0$"]).
 
 %% The values that fit no clause stand in the report, texts as texts.
 -spec clauses() -> string().
 clauses() ->
-    Of = fun(Root, Status, Expressions) -> tells(Root, ["run", command_file("clauses.erl"), "--root", Root], Status, Expressions) end,
+    Of = fun(Root, Status, Expressions) -> prints(Root, ["run", command_file("clauses.erl"), "--root", Root], Status, Expressions) end,
     Of("main", 1, ["^crash <0> at clauses\\.erl:9 clauses:take/3: error function_clause for \\(\\{name,\"Ada\"\\},7,<<\"bytes\">>\\)$"]),
     Of("branch", 1, ["^crash <0> at clauses\\.erl:12 clauses:branch/0: error \\{case_clause,\\{answer,\"a text\"\\}\\}$"]),
     Of("match", 1, ["^crash <0> at clauses\\.erl:17 clauses:match/0: error \\{badmatch,\\{answer,\"a text\"\\}\\}$"]),
@@ -132,7 +151,7 @@ clauses() ->
 -spec refused() -> [string()].
 refused() ->
     File = checks:folder("../examples/bank.erl"),
-    [tells(Line, Words, 2, ["^pulsefarm-erl: " ++ Line ++ "$"]) || {Words, Line} <-
+    [prints(Line, Words, 2, ["^pulsefarm-erl: " ++ Line ++ "$"]) || {Words, Line} <-
         [{["hunt", File, "--compact"], "hunt has no word --compact; it is of chart"},
          {["run", File, "--leaks"], "run has no word --leaks; it is of hunt"},
          {["run", File, "--all-roots"], "run has no word --all-roots; it is of hunt, and eunit hunts the tests of an application"},

@@ -8,7 +8,7 @@
 -spec check() -> ok.
 check() ->
     Files = lists:sort(filelib:wildcard(checks:folder("../examples/*.erl"))) ++ [checks:folder("facts/facts_of_supervisors.erl"), checks:folder("commands/supervised.erl")],
-    [program(File, Defines) || File <- Files, Defines <- [[], ['MENDED']]],
+    [program(File, Defines) || File <- Files, Defines <- [[], ['FIXED']]],
     ok.
 
 -spec program(file:filename(), [atom()]) -> ok.

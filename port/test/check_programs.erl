@@ -1,4 +1,4 @@
-%% @doc Programs with a race and mended: the race is found, the mended form holds, and each outcome of Erlang is among those of the farm.
+%% @doc Programs with a race and fixed: the race is found, the fixed form holds, and each outcome of Erlang is among those of the farm.
 %% On Erlang a call of check_yield:yield/0 stands before each send and each remote call: it sleeps a little, yields or does nothing, by
 %% chance, so that more than the usual order is seen.
 -module(check_programs).
@@ -12,31 +12,38 @@ check() ->
     _ = rand:seed(exsss, {4, 5, 6}),
     Files = lists:sort(filelib:wildcard(checks:folder("../examples/*.erl"))),
     checks:expect("twelve programs", 12, length(Files)),
-    [one(File, Form) || File <- Files, Form <- [race, mended]],
+    [one(File, Form) || File <- Files, Form <- [race, fixed]],
     ok.
 
--spec one(file:filename(), race | mended) -> boolean().
+-spec one(file:filename(), race | fixed) -> boolean().
 one(File, Form) ->
     Name = lists:concat([filename:basename(File, ".erl"), " ", Form]),
-    Defines = ['MENDED' || Form =:= mended],
-    {ok, Out, _} = checks:translate([File], #{defines => Defines}),
+    Defines = ['FIXED' || Form =:= fixed],
+    {ok, Out, _} = checks:translate([File], #{defines => Defines, library_defines => [{'PATIENCE', 0} || is_early(File)]}),
     Outcomes = checks:hunt(Out, "main", property(File), ?SEEDS),
     Failing = lists:sum([Number || {fails, Number, _} <- Outcomes]),
     case Form of
         race -> checks:expect([Name, " is found"], Failing > 0);
-        mended -> checks:expect([Name, " holds"], 0, Failing)
+        fixed -> checks:expect([Name, " holds"], 0, Failing)
     end,
     Seen = on_erlang(File, Defines),
     Missing = [O || O <- Seen, not lists:keymember(O, 3, Outcomes)],
-    checks:expect([Name, ": outcomes of Erlang that the farm doesn't have"], [], further(Missing, Name, Out, property(File))).
+    checks:expect([Name, ": outcomes of Erlang that the farm doesn't have"], [], further(Missing, Name, File, Defines)).
 
-%% An outcome that is rare on the farm may want more seeds: it is looked for in 90,000 more, and said to be.
--spec further([string()], string(), file:filename(), string()) -> [string()].
+%% An outcome that virtual time doesn't have is one where a time passes while others go.
+-spec further([string()], string(), file:filename(), [atom()]) -> [string()].
 further([], _, _, _) -> [];
-further(Missing, Name, Out, Property) ->
-    io:format("  ~s: more seeds are hunted for ~s~n", [Name, lists:join(" ", Missing)]),
-    Outcomes = checks:hunt(Out, "main", Property, "10000..100000"),
+further(Missing, Name, File, Defines) ->
+    io:format("  ~s: times that pass at any moment are hunted for ~s~n", [Name, lists:join(" ", Missing)]),
+    {ok, Out, _} = checks:translate([File], #{defines => Defines, library_defines => [{'PATIENCE', 0}]}),
+    Outcomes = checks:hunt(Out, "main", property(File), "0..100000"),
     [O || O <- Missing, not lists:keymember(O, 3, Outcomes)].
+
+%% Whether a program's race is that of a time which passes while others go.
+-spec is_early(file:filename()) -> boolean().
+is_early(File) ->
+    {ok, Text} = file:read_file(File),
+    re:run(Text, "^%% patience: early$", [multiline]) =/= nomatch.
 
 -spec property(file:filename()) -> string().
 property(File) ->

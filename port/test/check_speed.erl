@@ -29,10 +29,10 @@ printed(Port, Before) ->
         {Port, {exit_status, 0}} -> lists:append(lists:reverse(Before))
     end.
 
-%% The mean of the steps of 20 seeds, of the mended program and of the one by hand.
+%% The mean of the steps of 20 seeds, of the fixed program and of the one by hand.
 -spec steps(string()) -> boolean().
 steps(Name) ->
-    {ok, Out, _} = checks:translate([checks:folder("../examples/" ++ Name ++ ".erl")], #{defines => ['MENDED']}),
+    {ok, Out, _} = checks:translate([checks:folder("../examples/" ++ Name ++ ".erl")], #{defines => ['FIXED']}),
     Translated = mean(Out),
     ByHand = mean(checks:folder("by_hand/" ++ Name ++ ".erl")),
     io:format("  ~s: ~w steps, by hand ~w, so ~.2f times~n", [Name, Translated, ByHand, Translated / ByHand]),

@@ -18,9 +18,9 @@ passes_early_test() -> ?assertEqual([{10, 5000}], early(<<"{arm,<0>,#Ref<0>,5000
 
 nobody_else_may_go_test() -> ?assertEqual([], early(<<"{arm,<0>,#Ref<0>,5000}">>, <<"1">>, ?OVER, [?READ])).
 
-short_times_pass_at_any_time_test() ->
-    ?assertEqual([], early(<<"{arm,<0>,#Ref<0>,999}">>, <<"2">>, ?OVER, [?READ])),
-    ?assertEqual([{10, 1000}], early(<<"{arm,<0>,#Ref<0>,1000}">>, <<"2">>, ?OVER, [?READ])).
+short_times_too_test() ->
+    ?assertEqual([{10, 1}], early(<<"{arm,<0>,#Ref<0>,1}">>, <<"2">>, ?OVER, [?READ])),
+    ?assertEqual([], early(<<"{arm,<0>,#Ref<0>,0}">>, <<"2">>, ?OVER, [?READ])).
 
 %% Who has its message takes the time back, and the clock was faster.
 given_up_test() ->
@@ -38,7 +38,7 @@ answered_test() ->
 messages_test() ->
     ?assertEqual([{8, 3000}], early(<<"{send,<0>,#Ref<1>,3000,{over,[1]}}">>, <<"3">>, <<"{over,[1]}">>, [])),
     ?assertEqual([], early(<<"{send,<0>,#Ref<1>,3000,over}">>, <<"1">>, <<"over">>, [])),
-    ?assertEqual([], early(<<"{send,<0>,#Ref<1>,30,over}">>, <<"3">>, <<"over">>, [])),
+    ?assertEqual([{8, 30}], early(<<"{send,<0>,#Ref<1>,30,over}">>, <<"3">>, <<"over">>, [])),
     ?assertEqual([], early(<<"{send,<0>,#Ref<1>,3000,over}">>, <<"3">>, <<"other">>, [])).
 
 no_clock_test() -> ?assertEqual([], plain_time:early([])).

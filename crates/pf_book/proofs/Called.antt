@@ -71,20 +71,21 @@ same_valid b b' edition modules trials history users usage running room h =
 -- ---- a call that the log has room for, or none
 
 module _ (d : Desk) (u : Usage) (sums : u ≡ usage_in d) where
-  told_limit : (o : Option Limit) → refusal_of d.edition u charge.Call ≡ o
+  reported_limit : (o : Option Limit) → refusal_of d.edition u charge.Call ≡ o
       → passed_by d charge.Call ≡ option_map quota.code_of o
-  told_limit o h = ap (option_map quota.code_of) (ap (λ (v : Usage). refusal_of d.edition v charge.Call) (sym sums) ∙ h)
+  reported_limit o h = ap (option_map quota.code_of)
+      (ap (λ (v : Usage). refusal_of d.edition v charge.Call) (sym sums) ∙ h)
 
   pub has_room : refusal_of d.edition u charge.Call ≡ None → HasRoom d
-  has_room h = told_limit None h
+  has_room h = reported_limit None h
 
   -- a call that the log has no room for is answered so, and the desk stays
   pub full_answers : (limit : Limit) (c : Call) (r : Reply) → refusal_of d.edition u charge.Call ≡ Some limit
       → view_of_reply r ≡ desk.refused (quota.code_of limit)
       → (d' : Desk) → d' ≡ d → DeskAnswers d c (Ok r) d'
-  full_answers limit c r h told d' same p right =
-      let full = told_limit (Some limit) h in (
-        told ∙ sym (ap (λ (o : Option Code). (within_limits d o (noted c (answer_of_call p d c))).1) full),
+  full_answers limit c r h reported d' same p right =
+      let full = reported_limit (Some limit) h in (
+        reported ∙ sym (ap (λ (o : Option Code). (within_limits d o (noted c (answer_of_call p d c))).1) full),
         same ∙ sym (ap (λ (o : Option Code). (within_limits d o (noted c (answer_of_call p d c))).0) full),
       )
 
@@ -120,11 +121,11 @@ changed_desk d a e edition ms ts es made noted =
 
 module _ (d : Desk) (c : Call) (plan : Plan) (planned : IsPlan d c plan) (room : HasRoom d) (d' : Desk)
     (is : d' ≡ with_entry (with_change d plan.change) (called c (view_of_reply plan.reply))) where
-  abbrev told : desk.Reply
-  told = view_of_reply plan.reply
+  abbrev reported : desk.Reply
+  reported = view_of_reply plan.reply
 
-  longer : d'.history ≡ d.history ++ called c told ∷ []
-  longer = ap (λ (k : Desk). k.history) is ∙ ap (λ es. es ++ called c told ∷ []) (same_history d plan.change)
+  longer : d'.history ≡ d.history ++ called c reported ∷ []
+  longer = ap (λ (k : Desk). k.history) is ∙ ap (λ es. es ++ called c reported ∷ []) (same_history d plan.change)
 
   -- the desk and the reply are those that the call leads to
   pub called_is : ForRight (λ p. d' ≡ after_call p d c)
@@ -133,7 +134,7 @@ module _ (d : Desk) (c : Call) (plan : Plan) (planned : IsPlan d c plan) (room :
       ∙ ap (λ (x : Desk × desk.Reply). with_entry x.0 (called c x.1)) (planned.answers p right)
       ∙ sym (ap (λ (o : Option Code). (within_limits d o (noted c (answer_of_call p d c))).0) room)
 
-  reply_is : ForRight (λ p. told ≡ reply_to p d c)
+  reply_is : ForRight (λ p. reported ≡ reply_to p d c)
   reply_is p right =
       ap (λ (x : Desk × desk.Reply). x.1) (planned.answers p right)
       ∙ sym (ap (λ (o : Option Code). (within_limits d o (noted c (answer_of_call p d c))).1) room)
@@ -142,7 +143,7 @@ module _ (d : Desk) (c : Call) (plan : Plan) (planned : IsPlan d c plan) (room :
   called_answers reply same p right = (ap view_of_reply same ∙ reply_is p right, called_is p right)
 
   called_legal : ForRight (λ p. IsLegalDesk p d) → ForRight (λ p. IsLegalDesk p d')
-  called_legal h p right = desk_more p d d' (called c told) (h p right) (
+  called_legal h p right = desk_more p d d' (called c reported) (h p right) (
     room,
     reply_is p right,
     called_is p right,
@@ -152,7 +153,7 @@ module _ (d : Desk) (c : Call) (plan : Plan) (planned : IsPlan d c plan) (room :
   called_sums =
       planned.usage
       ∙ ap (usage_of (held_by (with_change d plan.change)))
-      (sym (calls_more (with_change d plan.change).history c told))
+      (sym (calls_more (with_change d plan.change).history c reported))
       ∙ ap usage_in (sym is)
 
   -- what a desk keeps, where it is this desk

@@ -33,7 +33,7 @@ unclaimed_world q t w w' h = by (is_queued (held_at (desk_at q w).trials t)) ref
     by : (b : Bool) → is_queued (held_at (desk_at q w).trials t) ≡ b → (b ≡ false) × (w' ≡ w)
     by true e =
         let does = ap (λ (b : Bool). worked q w (if b then Some (after_claim (desk_at q w) t) else None)) e in
-        let told : work_done ≡ not_now = ap (λ (x : Desks × Answer). x.1) (sym does ∙ h) in
+        let reported : work_done ≡ not_now = ap (λ (x : Desks × Answer). x.1) (sym does ∙ h) in
         absurd (cc)
     by false e =
         let does = ap (λ (b : Bool). worked q w (if b then Some (after_claim (desk_at q w) t) else None)) e in
@@ -44,11 +44,11 @@ pub queues_claimed : (q t : ℕ) (k k' : TrialQueue) (w w' : Desks) (j : Arc Job
     → QueuesAll k w
     → ((r s : ℕ) → IsQueuedIn r s k.waiting.items → IsQueuedIn r s k'.waiting.items ⊎ ((r ≡ q) × (s ≡ t)))
     → k'.running ≡ k.running + 1 → HoldsRoom k' 0 → QueuesAll k' w'
-queues_claimed q t k k' w w' j h all stands ran room =
+queues_claimed q t k k' w w' j h all is_there ran room =
     let x = claimed_world q t w w' j h in
     subst (QueuesAll k') (sym x.1)
     (queues_put q k k' w (desk_at q w) (after_claim (desk_at q w) t) refl all
-    (claim_followed q k k' (desk_at q w) t x.0 stands ran room))
+    (claim_followed q k k' (desk_at q w) t x.0 is_there ran room))
 
 pub queues_some_claimed : (q t : ℕ) (k k' : TrialQueue) (w w' : Desks) (o : Option (Arc Job Global)) → is_some o ≡ true
     → ClaimsAt w q t (Ok o) w' → QueuesAll k w

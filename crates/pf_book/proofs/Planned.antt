@@ -44,9 +44,9 @@ module _ (d : Desk) (u : Usage) (counts : IsCharged d u) (plan : Plan) where
       → plan.usage ≡ u
       → ForRight (λ p. ◌≡◌ {A = Answer} (answer_of_call p d c) (d, r)) → view_of_entry plan.noted ≡ desk.called c r
       → IsPlan d c plan
-  alone c r same told uses so noted = record {
-    answers = λ p right. (λ i. (same i, told i)) ∙ sym (so p right);
-    notes = noted ∙ ap (desk.called c) (sym told);
+  alone c r same reported uses so noted = record {
+    answers = λ p right. (λ i. (same i, reported i)) ∙ sym (so p right);
+    notes = noted ∙ ap (desk.called c) (sym reported);
     usage = uses ∙ counts ∙ ap (λ (k : Desk). charged (usage_in k) charge.Call) (sym same);
   }
 
@@ -55,9 +55,9 @@ module _ (d : Desk) (u : Usage) (counts : IsCharged d u) (plan : Plan) where
       → plan.usage ≡ charged (usage_in d') charge.Call
       → ForRight (λ p. ◌≡◌ {A = Answer} (answer_of_call p d c) (d', r)) → view_of_entry plan.noted ≡ desk.called c r
       → IsPlan d c plan
-  changed c d' r leads told uses so noted = record {
-    answers = λ p right. (λ i. (leads i, told i)) ∙ sym (so p right);
-    notes = noted ∙ ap (desk.called c) (sym told);
+  changed c d' r leads reported uses so noted = record {
+    answers = λ p right. (λ i. (leads i, reported i)) ∙ sym (so p right);
+    notes = noted ∙ ap (desk.called c) (sym reported);
     usage = uses ∙ ap (λ (k : Desk). charged (usage_in k) charge.Call) (sym leads);
   }
 
@@ -69,8 +69,8 @@ module _ (d : Desk) (u : Usage) (counts : IsCharged d u) (plan : Plan) where
       → view_of_entry plan.noted ≡ desk.called (calls.drop_trial t) desk.given_up
       → plan.usage ≡ refunded u (held.Trial (steps_of_trial x.job.asked.limit x.job.asked.runs))
       → IsPlan d (calls.drop_trial t) plan
-  drop_planned t x h leads told noted uses =
-      changed (calls.drop_trial t) (record d { trials = with_held d.trials t None }) desk.given_up leads told
+  drop_planned t x h leads reported noted uses =
+      changed (calls.drop_trial t) (record d { trials = with_held d.trials t None }) desk.given_up leads reported
       (uses ∙ ap (λ (v : Usage). refunded v (held.Trial (steps_of_trial x.job.asked.limit x.job.asked.runs))) counts
       ∙ ap (λ (v : Usage). charged v charge.Call) (trial_refunded d t x h))
       (λ p right. ap (dropped d t) h) noted
@@ -80,8 +80,8 @@ module _ (d : Desk) (u : Usage) (counts : IsCharged d u) (plan : Plan) where
       → view_of_reply plan.reply ≡ desk.given_up
       → view_of_entry plan.noted ≡ desk.called (calls.withdraw n) desk.given_up
       → plan.usage ≡ refunded u (held.Module (length m.source)) → IsPlan d (calls.withdraw n) plan
-  withdrawal_planned n m h free leads told noted uses =
-      changed (calls.withdraw n) (record d { modules = with_held d.modules n None }) desk.given_up leads told
+  withdrawal_planned n m h free leads reported noted uses =
+      changed (calls.withdraw n) (record d { modules = with_held d.modules n None }) desk.given_up leads reported
       (uses ∙ ap (λ (v : Usage). refunded v (held.Module (length m.source))) counts
       ∙ ap (λ (v : Usage). charged v charge.Call) (module_refunded d n m h))
       (λ p right. ap (λ (o : Option ReadModule). withdrawn d n o (users_of d n)) h ∙ ap (withdrawn d n (Some m)) free)
@@ -93,8 +93,8 @@ module _ (d : Desk) (u : Usage) (counts : IsCharged d u) (plan : Plan) where
       → view_of_reply plan.reply ≡ desk.refused fault.ModuleInUse → plan.usage ≡ u
       → view_of_entry plan.noted ≡ desk.called (calls.withdraw n) (desk.refused fault.ModuleInUse)
       → IsPlan d (calls.withdraw n) plan
-  withdrawal_in_use n m h some same told uses noted =
-      alone (calls.withdraw n) (desk.refused fault.ModuleInUse) same told uses
+  withdrawal_in_use n m h some same reported uses noted =
+      alone (calls.withdraw n) (desk.refused fault.ModuleInUse) same reported uses
       (λ p right. ap (λ (o : Option ReadModule). withdrawn d n o (users_of d n)) h ∙ by (users_of d n) some) noted
     where
       by : (k : ℕ) → 0 < k → ◌≡◌ {A = Answer} (withdrawn d n (Some m) k) (d, desk.refused fault.ModuleInUse)
@@ -122,8 +122,8 @@ module _ (d : Desk) (u : Usage) (counts : IsCharged d u) (plan : Plan) where
         → view_of_reply plan.reply ≡ desk.refused (quota.code_of limit) → plan.usage ≡ u
         → view_of_entry plan.noted ≡ desk.called (calls.submit text) (desk.refused (quota.code_of limit))
         → IsPlan d (calls.submit text) plan
-    source_past_limit limit past same told uses noted =
-        alone (calls.submit text) (desk.refused (quota.code_of limit)) same told uses
+    source_past_limit limit past same reported uses noted =
+        alone (calls.submit text) (desk.refused (quota.code_of limit)) same reported uses
         (λ p right. ap (λ (o : Option Code). within_limits d o (submitted d text (p.reading text)))
         (module_limit (length text) (Some limit) past)) noted
 
@@ -137,8 +137,8 @@ module _ (d : Desk) (u : Usage) (counts : IsCharged d u) (plan : Plan) where
           → view_of_reply plan.reply ≡ desk.refused code → plan.usage ≡ u
           → view_of_entry plan.noted ≡ desk.called (calls.submit text) (desk.refused code)
           → IsPlan d (calls.submit text) plan
-      source_no_module code index reads same told uses noted =
-          alone (calls.submit text) (desk.refused code) same told uses
+      source_no_module code index reads same reported uses noted =
+          alone (calls.submit text) (desk.refused code) same reported uses
           (λ p right. no_limit p ∙ sym (submitted_refused p right d text code index reads)) noted
 
       pub source_planned : (s : ReadModule) → s.source ≡ text → IsReadAs text s
@@ -147,9 +147,9 @@ module _ (d : Desk) (u : Usage) (counts : IsCharged d u) (plan : Plan) where
           → plan.usage ≡ charged u (charge.Module (length text))
           → view_of_entry plan.noted ≡ desk.called (calls.submit text) (desk.number (length d.modules + 1))
           → IsPlan d (calls.submit text) plan
-      source_planned s same reads leads told uses noted =
+      source_planned s same reads leads reported uses noted =
           changed (calls.submit text) (record d { modules = d.modules ++ Some s ∷ [] })
-          (desk.number (length d.modules + 1)) leads told
+          (desk.number (length d.modules + 1)) leads reported
           (uses
           ∙ ap (λ (v : Usage). charged v (charge.Module (length text))) counts
           ∙ ap (λ (l : List ℕ). charged (charged (usage_in d) (charge.Module (length l))) charge.Call) (sym same)
@@ -166,8 +166,8 @@ module _ (d : Desk) (u : Usage) (counts : IsCharged d u) (plan : Plan) where
     pub order_refused : (code : Code) → OrderAsksFor d.edition d.modules o (Err code) → with_change d plan.change ≡ d
         → view_of_reply plan.reply ≡ desk.refused code → plan.usage ≡ u
         → view_of_entry plan.noted ≡ desk.called (view_of_order o) (desk.refused code) → IsPlan d (view_of_order o) plan
-    order_refused code asked same told uses noted =
-        alone (view_of_order o) (desk.refused code) same told uses (asked_answered (Err code) asked) noted
+    order_refused code asked same reported uses noted =
+        alone (view_of_order o) (desk.refused code) same reported uses (asked_answered (Err code) asked) noted
 
     module _ (j : Job) (asked : OrderAsksFor d.edition d.modules o (Ok j)) where
       pub order_past_limit : (limit : Limit) → refusal_of d.edition u
@@ -175,8 +175,8 @@ module _ (d : Desk) (u : Usage) (counts : IsCharged d u) (plan : Plan) where
           → view_of_reply plan.reply ≡ desk.refused (quota.code_of limit) → plan.usage ≡ u
           → view_of_entry plan.noted ≡ desk.called (view_of_order o) (desk.refused (quota.code_of limit))
           → IsPlan d (view_of_order o) plan
-      order_past_limit limit past same told uses noted =
-          alone (view_of_order o) (desk.refused (quota.code_of limit)) same told uses
+      order_past_limit limit past same reported uses noted =
+          alone (view_of_order o) (desk.refused (quota.code_of limit)) same reported uses
           (λ p right. asked_answered (Ok j) asked p right
           ∙ ap (λ (x : Option Code). within_limits d x (with_job d o.module j, desk.ticket (length d.trials + 1)))
           (trial_limit (steps_of_trial j.asked.limit j.asked.runs) (Some limit) past)) noted
@@ -187,8 +187,8 @@ module _ (d : Desk) (u : Usage) (counts : IsCharged d u) (plan : Plan) where
           → plan.usage ≡ charged u (charge.Trial (steps_of_trial j.asked.limit j.asked.runs))
           → view_of_entry plan.noted ≡ desk.called (view_of_order o) (desk.ticket (length d.trials + 1))
           → IsPlan d (view_of_order o) plan
-      order_planned within leads told uses noted =
-          changed (view_of_order o) (with_job d o.module j) (desk.ticket (length d.trials + 1)) leads told
+      order_planned within leads reported uses noted =
+          changed (view_of_order o) (with_job d o.module j) (desk.ticket (length d.trials + 1)) leads reported
           (uses
           ∙ ap (λ (v : Usage). charged v (charge.Trial (steps_of_trial j.asked.limit j.asked.runs))) counts
           ∙ ap (λ (v : Usage). charged v charge.Call)
@@ -215,8 +215,8 @@ module _ (d : Desk) (u : Usage) (counts : IsCharged d u) (plan : Plan) where
         → view_of_reply plan.reply ≡ desk.refused fault.NoEdition
         → plan.usage ≡ u → view_of_entry plan.noted ≡ desk.called (calls.edition e) (desk.refused fault.NoEdition)
         → IsPlan d (calls.edition e) plan
-    no_such_edition there same told uses noted =
-        alone (calls.edition e) (desk.refused fault.NoEdition) same told uses
+    no_such_edition there same reported uses noted =
+        alone (calls.edition e) (desk.refused fault.NoEdition) same reported uses
         (λ p right. edition_so e false (nat_lt e d.edition) there refl) noted
 
     module _ (there : is_edition e ≡ true) where
@@ -224,15 +224,15 @@ module _ (d : Desk) (u : Usage) (counts : IsCharged d u) (plan : Plan) where
           → view_of_reply plan.reply ≡ desk.refused fault.EditionTooLow
           → plan.usage ≡ u → view_of_entry plan.noted ≡ desk.called (calls.edition e) (desk.refused fault.EditionTooLow)
           → IsPlan d (calls.edition e) plan
-      edition_below below same told uses noted =
-          alone (calls.edition e) (desk.refused fault.EditionTooLow) same told uses
+      edition_below below same reported uses noted =
+          alone (calls.edition e) (desk.refused fault.EditionTooLow) same reported uses
           (λ p right. edition_so e true true there below) noted
 
       pub edition_planned : nat_lt e d.edition ≡ false → with_change d plan.change ≡ record d { edition = e }
           → view_of_reply plan.reply ≡ desk.has_edition → plan.usage ≡ u
           → view_of_entry plan.noted ≡ desk.called (calls.edition e) desk.has_edition → IsPlan d (calls.edition e) plan
-      edition_planned above leads told uses noted =
-          changed (calls.edition e) (record d { edition = e }) desk.has_edition leads told (uses ∙ counts)
+      edition_planned above leads reported uses noted =
+          changed (calls.edition e) (record d { edition = e }) desk.has_edition leads reported (uses ∙ counts)
           (λ p right. edition_so e true false there above) noted
 
 -- there is an edition that is 1 or 2

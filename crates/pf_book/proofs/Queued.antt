@@ -27,14 +27,14 @@ use Rattle.pf_desks.proofs.Isolated.{desk_placed, same_project}
 
 -- ---- what is in a queue
 
-pub stands_before : (q t : ℕ) (xs ys : List (ℕ × ℕ)) → IsQueuedIn q t xs → IsQueuedIn q t (xs ++ ys)
-stands_before q t [] ys h = absurd h
-stands_before q t (x ∷ xs) ys (inl h) = inl h
-stands_before q t (x ∷ xs) ys (inr h) = inr (stands_before q t xs ys h)
+pub is_there_before : (q t : ℕ) (xs ys : List (ℕ × ℕ)) → IsQueuedIn q t xs → IsQueuedIn q t (xs ++ ys)
+is_there_before q t [] ys h = absurd h
+is_there_before q t (x ∷ xs) ys (inl h) = inl h
+is_there_before q t (x ∷ xs) ys (inr h) = inr (is_there_before q t xs ys h)
 
-pub stands_last : (q t : ℕ) (xs : List (ℕ × ℕ)) → IsQueuedIn q t (xs ++ (q, t) ∷ [])
-stands_last q t [] = inl (refl, refl)
-stands_last q t (x ∷ xs) = inr (stands_last q t xs)
+pub is_there_last : (q t : ℕ) (xs : List (ℕ × ℕ)) → IsQueuedIn q t (xs ++ (q, t) ∷ [])
+is_there_last q t [] = inl (refl, refl)
+is_there_last q t (x ∷ xs) = inr (is_there_last q t xs)
 
 -- ---- which trials are queued
 
@@ -179,24 +179,24 @@ change_queued q d (change.Edition e) k h = inl h
 module _ (q : ℕ) (k k' : TrialQueue) (d d' : Desk) (a : DeskChange) (trials : d'.trials ≡ (with_change d a).trials)
     (waiting : k'.waiting.items ≡ k.waiting.items ++ lined_up q (length d.trials + 1) a)
     (running : k'.running + trials_dropped_by d.trials a ≡ k.running) (room : HoldsRoom k' 0) where
-  stands_then : (r t : ℕ) (ys : List (ℕ × ℕ)) → IsQueuedIn r t (k.waiting.items ++ ys)
+  is_there_then : (r t : ℕ) (ys : List (ℕ × ℕ)) → IsQueuedIn r t (k.waiting.items ++ ys)
       → k'.waiting.items ≡ k.waiting.items ++ ys → IsQueuedIn r t k'.waiting.items
-  stands_then r t ys h e = subst (IsQueuedIn r t) (sym e) h
+  is_there_then r t ys h e = subst (IsQueuedIn r t) (sym e) h
 
-  stands_after : (r t : ℕ) (xs ys : List (ℕ × ℕ)) → IsQueuedIn r t ys → IsQueuedIn r t (xs ++ ys)
-  stands_after r t [] ys h = h
-  stands_after r t (x ∷ xs) ys h = inr (stands_after r t xs ys h)
+  is_there_after : (r t : ℕ) (xs ys : List (ℕ × ℕ)) → IsQueuedIn r t ys → IsQueuedIn r t (xs ++ ys)
+  is_there_after r t [] ys h = h
+  is_there_after r t (x ∷ xs) ys h = inr (is_there_after r t xs ys h)
 
   now_queued : (t : ℕ) → (is_queued (held_at d.trials t) ≡ true) ⊎ IsQueuedIn q t (lined_up q (length d.trials + 1) a)
       → (is_queued (held_at d.trials t) ≡ true) ⊎ IsQueuedIn q t k'.waiting.items
   now_queued t (inl was) = inl was
-  now_queued t (inr new) = inr (stands_then q t _ (stands_after q t k.waiting.items _ new) waiting)
+  now_queued t (inr new) = inr (is_there_then q t _ (is_there_after q t k.waiting.items _ new) waiting)
 
   pub change_followed : FollowsQueue q k d k' d'
   change_followed = record {
     room = room;
     running = omega (arith, running, change_running d a, ap running_among trials);
-    stays = λ r t h. inl (stands_then r t _ (stands_before r t k.waiting.items _ h) waiting);
+    stays = λ r t h. inl (is_there_then r t _ (is_there_before r t k.waiting.items _ h) waiting);
     new = λ t h. now_queued t (change_queued q d a t
         (ap (λ (l : List (Option Trial)). is_queued (held_at l t)) (sym trials) ∙ h));
   }
@@ -286,10 +286,10 @@ running_within q k w d here all = omega (arith, all.running, at_most_all running
 pub claim_followed : (q : ℕ) (k k' : TrialQueue) (d : Desk) (t : ℕ) → is_queued (held_at d.trials t) ≡ true
     → ((r s : ℕ) → IsQueuedIn r s k.waiting.items → IsQueuedIn r s k'.waiting.items ⊎ ((r ≡ q) × (s ≡ t)))
     → k'.running ≡ k.running + 1 → HoldsRoom k' 0 → FollowsQueue q k d k' (after_claim d t)
-claim_followed q k k' d t queues stands running room = record {
+claim_followed q k k' d t queues is_there running room = record {
   room = room;
   running = omega (arith, running, claim_running d t queues);
-  stays = λ r s h. by r s (stands r s h);
+  stays = λ r s h. by r s (is_there r s h);
   new = λ s h. inl (queued_still d.trials t s desk.running refl h);
 }
   where
@@ -320,14 +320,14 @@ pub back_followed : (q : ℕ) (k k' : TrialQueue) (d : Desk) (t : ℕ) → is_ru
 back_followed q k k' d t runs waiting running room = record {
   room = room;
   running = omega (arith, running, back_running d t runs);
-  stays = λ r s h. inl (subst (IsQueuedIn r s) (sym waiting) (stands_before r s k.waiting.items _ h));
+  stays = λ r s h. inl (subst (IsQueuedIn r s) (sym waiting) (is_there_before r s k.waiting.items _ h));
   new = λ s h. by s (queued_other d.trials t s _ h);
 }
   where
     by : (s : ℕ) → (s ≡ t) ⊎ (is_queued (held_at d.trials s) ≡ true)
         → (is_queued (held_at d.trials s) ≡ true) ⊎ IsQueuedIn q s k'.waiting.items
     by s (inl e) = inr (subst (λ (n : ℕ). IsQueuedIn q n k'.waiting.items) (sym e)
-        (subst (IsQueuedIn q t) (sym waiting) (stands_last q t k.waiting.items)))
+        (subst (IsQueuedIn q t) (sym waiting) (is_there_last q t k.waiting.items)))
     by s (inr was) = inl was
 
 -- the first leaves the queue, which isn't queued

@@ -43,7 +43,7 @@ pub(crate) enum Entry {
     /// The whole result of the trial of a ticket was handed out.
     Fetched(u64, Whole),
     /// The reply was that memory ran out for the job of the trial of a ticket.
-    ToldMemory(u64, Arc<Job>),
+    ReportedMemory(u64, Arc<Job>),
     /// The result of the trial of a ticket was refused.
     FetchRefused(u64, CallRefusal),
     /// The trial of a ticket was at this stage.
@@ -80,7 +80,7 @@ impl Entry {
     {
         match finished.into_ending() {
             JobEnd::Whole(whole) => Entry::Fetched(ticket, whole),
-            JobEnd::Memory(job) => Entry::ToldMemory(ticket, job),
+            JobEnd::Memory(job) => Entry::ReportedMemory(ticket, job),
         }
     }
 }

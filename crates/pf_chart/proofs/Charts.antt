@@ -31,8 +31,8 @@ use Rattle.pf_svg.proofs.Drawn.{elsewhere, renamed, whole}
 use Rattle.pf_chart.proofs.Lined.{holds_elsewhere}
 use Rattle.pf_chart.proofs.Placed.{place_next}
 
-abbrev pub told : EventRow → meaning.Event
-told row = view_of_event row.event.now
+abbrev pub reported : EventRow → meaning.Event
+reported row = view_of_event row.event.now
 
 abbrev pub of_columns : (rows : ℕ) → List ℕ → List (List ℕ) → List Column → List (List ℕ)
 of_columns n root names cs = flat_map (λ c. process_labels n root names (process_of c)) cs
@@ -91,16 +91,16 @@ pub row_next : (compact : Bool) (es : List Event) (i : ℕ) (e : Event) (xs ys :
     (has : Bool) → i < length es → e ≡ get_or es i e
     → row.index ≡ i → row.event.now ≡ e → has ≡ has_row compact (view_of_event e)
     → ys ≡ xs ++ (if has then row ∷ [] else [])
-    → map told xs ≡ filter (has_row compact) (map view_of_event (take i es))
+    → map reported xs ≡ filter (has_row compact) (map view_of_event (take i es))
     → map (λ r. r.index) xs ≡ rows_from compact 0 (map view_of_event (take i es))
-    → (map told ys ≡ filter (has_row compact) (map view_of_event (take (i + 1) es)))
+    → (map reported ys ≡ filter (has_row compact) (map view_of_event (take (i + 1) es)))
     × (map (λ r. r.index) ys ≡ rows_from compact 0 (map view_of_event (take (i + 1) es)))
 row_next compact es i e xs ys row true low read index event is put events places =
     let kept : has_row compact (view_of_event e) ≡ true = sym is in
     let next = place_next view_of_event compact es i e low
     ∙ ap (λ (b : Bool). rows_from compact 0 (map view_of_event (take i es)) ++ (if b then i ∷ [] else []))
     (ap (λ (x : Event). has_row compact (view_of_event x)) (sym read) ∙ kept) in (
-      ap (map told) put ∙ map-append told xs (row ∷ []) ∙ ap (λ t. t ++ told row ∷ []) events
+      ap (map reported) put ∙ map-append reported xs (row ∷ []) ∙ ap (λ t. t ++ reported row ∷ []) events
           ∙ ap (λ (x : Event). filter (has_row compact) (map view_of_event (take i es)) ++ view_of_event x ∷ []) event
           ∙ ap (λ t. filter (has_row compact) (map view_of_event (take i es)) ++ t)
           (row_kept compact (view_of_event e) kept) ∙ rows_more compact es i e low read,
@@ -112,23 +112,23 @@ row_next compact es i e xs ys row false low read index event is put events place
     let next = place_next view_of_event compact es i e low
     ∙ ap (λ (b : Bool). rows_from compact 0 (map view_of_event (take i es)) ++ (if b then i ∷ [] else []))
     (ap (λ (x : Event). has_row compact (view_of_event x)) (sym read) ∙ left) in (
-      ap (map told) put ∙ map-append told xs [] ∙ ap (λ t. t ++ []) events
+      ap (map reported) put ∙ map-append reported xs [] ∙ ap (λ t. t ++ []) events
           ∙ ap (λ t. filter (has_row compact) (map view_of_event (take i es)) ++ t)
           (row_left compact (view_of_event e) left) ∙ rows_more compact es i e low read,
       ap (map (λ r. r.index)) put ∙ map-append (λ r. r.index) xs [] ∙ ap (λ t. t ++ []) places ∙ sym next,
     )
 
-pub length_told : (rows : List EventRow) → length (map told rows) ≡ length rows
-length_told [] = refl
-length_told (row ∷ rows) = ap suc (length_told rows)
+pub length_reported : (rows : List EventRow) → length (map reported rows) ≡ length rows
+length_reported [] = refl
+length_reported (row ∷ rows) = ap suc (length_reported rows)
 
 -- a page of the events is that of the rows
-pub paged : (page : ℕ) (rows : List EventRow) → map told (page_of page rows) ≡ page_of page (map told rows)
+pub paged : (page : ℕ) (rows : List EventRow) → map reported (page_of page rows) ≡ page_of page (map reported rows)
 paged page rows =
     let first = first_row page (length rows) in
-    sym (take-map told 500 (drop first rows))
-    ∙ ap (take 500) (sym (drop-map told first rows))
-    ∙ ap (λ (n : ℕ). take 500 (drop (first_row page n) (map told rows))) (sym (length_told rows))
+    sym (take-map reported 500 (drop first rows))
+    ∙ ap (take 500) (sym (drop-map reported first rows))
+    ∙ ap (λ (n : ℕ). take 500 (drop (first_row page n) (map reported rows))) (sym (length_reported rows))
 
 -- ---- pages
 
@@ -150,7 +150,7 @@ page_is s pitch events above count a b c d =
 pub chart_of : (name : ℕ → List ℕ) (root : List ℕ) (names : List (List ℕ)) (m : Manner) (r : Report) (cs : List Column)
     (rows : List EventRow) (n : ℕ) (o p : List ℕ) (width height : ℕ) {x y z w : List ℕ}
     → AreColumns (view_of_report r) (map process_of cs) → ShowsSignals m (view_of_report r) (map process_of cs) x w
-    → map told rows ≡ shown_events m (view_of_report r) → n ≡ length rows
+    → map reported rows ≡ shown_events m (view_of_report r) → n ≡ length rows
     → o ≡ outcome_text name (view_of_outcome r.outcome) → p ≡ outcome_text name (view_of_outcome r.outcome)
     → y ≡ x ++ start_text width height
     → DrawsInChart ((root ∷ root ∷ o ∷ []) ++ ((of_columns n root names cs ++ (of_choices rows ++ of_rows name rows))
@@ -161,15 +161,15 @@ chart_of name root names m r cs rows n o p width height all shows are count e e'
     let outcome = outcome_text name (view_of_outcome r.outcome) in
     let events = shown_events m (view_of_report r) in
     let processes = map process_of cs in
-    let number : n ≡ length events = count ∙ sym (length_told rows) ∙ ap length are in
+    let number : n ≡ length events = count ∙ sym (length_reported rows) ∙ ap length are in
     let labels_of_processes : of_columns n root names cs
     ≡ flat_map (process_labels (length events) root names) processes =
     sym (flat_map-map (process_labels n root names) process_of cs)
     ∙ ap (λ (k : ℕ). flat_map (process_labels k root names) processes) number in
-    let choices : of_choices rows ≡ flat_map choice_labels events = sym (flat_map-map choice_labels told rows)
+    let choices : of_choices rows ≡ flat_map choice_labels events = sym (flat_map-map choice_labels reported rows)
     ∙ ap (flat_map choice_labels) are in
     let labels : of_rows name rows ≡ flat_map (event_labels name) events =
-    sym (flat_map-map (event_labels name) told rows) ∙ ap (flat_map (event_labels name)) are in
+    sym (flat_map-map (event_labels name) reported rows) ∙ ap (flat_map (event_labels name)) are in
     let parted : (of_columns n root names cs ++ (of_choices rows ++ of_rows name rows)) ++ twice p
     ≡ of_columns n root names cs ++ (of_choices rows ++ (of_rows name rows ++ twice p)) =
     append_assoc (of_columns n root names cs) (of_choices rows ++ of_rows name rows) (twice p)

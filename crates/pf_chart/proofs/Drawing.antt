@@ -11,7 +11,7 @@ use Rattle.pf_model.specs.declared.report.Actor.TheVariants.{Channel}
 use Rattle.pf_chart.specs.Processes.{Process}
 use Rattle.pf_chart.specs.Signals.{AreArrows, BeginsIn, Delivers, EndsIn, HasPid, IsArrow, IsDeliveredIn, marked}
 use Rattle.pf_chart.specs.Traffic.{AreOnWay, AreSentIn, AreWaiting, IsDelivered, IsOnWay, Sends, Way, kind_of}
-use Rattle.pf_chart.specs.Traffic.{signal_kind_number, reach_of, open_arrow, untold, way_of}
+use Rattle.pf_chart.specs.Traffic.{signal_kind_number, reach_of, open_arrow, unreported, way_of}
 use Rattle.pf_chart.specs.declared.arrows.Arrow.{Arrow}
 use Rattle.pf_chart.specs.declared.arrows.ArrowEnd.TheVariants as reach
 use Rattle.pf_chart.specs.declared.arrows.SignalKind.{SignalKind}
@@ -19,7 +19,7 @@ use Rattle.pf_chart.specs.declared.arrows.SignalKind.TheVariants as kind
 use Rattle.pf_chart.specs.declared.arrows.ArrowStart.{ArrowStart}
 use Rattle.pf_chart.specs.declared.arrows.ArrowStart.TheVariants as start
 use Rattle.pf_chart.specs.declared.traffic.Traffic.{Traffic}
-use Rattle.pf_chart.proofs.Sending.{Tells, at_seam, one_ends, other_stays, stays_in}
+use Rattle.pf_chart.proofs.Sending.{Reports, at_seam, one_ends, other_stays, stays_in}
 
 -- ---- arrows by their columns and kinds
 
@@ -92,12 +92,12 @@ delivered_somewhere (ending_with r) n h = absurd (cc)
 module _ (es : List Event) (ps : List Process) where
   -- ---- what goes out
 
-  put_behind : (xs more : List Arrow) → ((i : ℕ) (a : Arrow) → slice_get xs i ≡ Some a → IsArrow es ps a)
+  put_after : (xs more : List Arrow) → ((i : ℕ) (a : Arrow) → slice_get xs i ≡ Some a → IsArrow es ps a)
       → ((i : ℕ) (a : Arrow) → slice_get more i ≡ Some a → IsArrow es ps a)
       → (i : ℕ) (a : Arrow) → slice_get (xs ++ more) i ≡ Some a → IsArrow es ps a
-  put_behind [] more h k i a at = k i a at
-  put_behind (x ∷ xs) more h k zero a at = h zero a at
-  put_behind (x ∷ xs) more h k (suc i) a at = put_behind xs more (λ j b. h (suc j) b) k i a at
+  put_after [] more h k i a at = k i a at
+  put_after (x ∷ xs) more h k zero a at = h zero a at
+  put_after (x ∷ xs) more h k (suc i) a at = put_after xs more (λ j b. h (suc j) b) k i a at
 
   sent_is : (n a : ℕ) (e : Event) → slice_get es n ≡ Some e → HasPid ps a (marked e.actor) → (more : List Arrow)
       → AreSentIn n a more
@@ -114,7 +114,7 @@ module _ (es : List Event) (ps : List Process) where
   sends_drawn n a c e s t at has h d =
       let xs = s.arrows.items in
       subst (λ (ys : List Arrow). AreArrows es ps c ys) (sym h.after) (record {
-        each = put_behind xs h.more d.each (sent_is n a e at has h.more h.are_sent);
+        each = put_after xs h.more d.each (sent_is n a e at has h.more h.are_sent);
         all = λ m f p q i j signal x low is actor label sender receiver.
             (let had = d.all m f p q i j signal x low is actor label sender receiver in
             (had.0, had.1, stays_in xs h.more had.0 had.1 had.2, had.3, had.4));
@@ -134,7 +134,7 @@ module _ (es : List Event) (ps : List Process) where
   }
     where
       all : (m : ℕ) (f : Event) (p q i j : ℕ) (signal : Signal) (x : Suffix) → m < n + 1 → slice_get es m ≡ Some f
-          → f.actor ≡ Channel p q → f.label ≡ delivers signal x → HasPid ps i p → HasPid ps j q → Tells m n
+          → f.actor ≡ Channel p q → f.label ≡ delivers signal x → HasPid ps i p → HasPid ps j q → Reports m n
           → (k : ℕ) × (a : Arrow) × (slice_get xs k ≡ Some a) × Delivers ps a x f × (a.reach ≡ reach_of x m)
       all m f p q i j signal x low is actor label sender receiver (inl same) =
           let one : f ≡ e = same_Some f e (sym is ∙ ap (slice_get es) same.1 ∙ at) in
@@ -163,7 +163,7 @@ module _ (es : List Event) (ps : List Process) where
     k = kind_of signal
 
     abbrev alone : Arrow
-    alone = untold n a b k (reach_of x n)
+    alone = unreported n a b k (reach_of x n)
 
     abbrev delivers_it : (y : Arrow) → way_of y.from y.to y.kind ≡ way_of a b k → IsDeliveredIn es ps y x n
     delivers_it y way = (
@@ -188,7 +188,7 @@ module _ (es : List Event) (ps : List Process) where
         → AreArrows es ps n s.arrows.items → AreArrows es ps (n + 1) t.arrows.items
     arrived_drawn s t (None, first, others, arrows) wait d = subst (λ (ys : List Arrow). AreArrows es ps (n + 1) ys)
         (sym arrows) (record {
-          each = put_behind xs (alone ∷ []) d.each only;
+          each = put_after xs (alone ∷ []) d.each only;
           all = λ m f v w i j g y low is acts labelled from to. all m f v w i j g y low is acts labelled from to
               (eqb_tells m n);
         })
@@ -201,7 +201,7 @@ module _ (es : List Event) (ps : List Process) where
         only (suc i) z is = absurd (cc)
 
         all : (m : ℕ) (f : Event) (v w i j : ℕ) (g : Signal) (y : Suffix) → m < n + 1 → slice_get es m ≡ Some f
-            → f.actor ≡ Channel v w → f.label ≡ delivers g y → HasPid ps i v → HasPid ps j w → Tells m n
+            → f.actor ≡ Channel v w → f.label ≡ delivers g y → HasPid ps i v → HasPid ps j w → Reports m n
             → (l : ℕ) × (z : Arrow) × (slice_get (xs ++ alone ∷ []) l ≡ Some z) × Delivers ps z y f
             × (z.reach ≡ reach_of y m)
         all m f v w i j g y low is acts labelled from to (inl same) =
@@ -242,7 +242,7 @@ module _ (es : List Event) (ps : List Process) where
                 × (z ≡ (if i == j then record y { reach = reach_of x n } else y))
             from = ended.1 i z is
 
-            by : Tells i j → IsArrow es ps z
+            by : Reports i j → IsArrow es ps z
             by (inl e') =
                 let there : slice_get xs j ≡ Some from.0 = ap (slice_get xs) (sym e'.1) ∙ from.1 in
                 let one : on.0 ≡ from.0 = same_Some on.0 from.0 (sym on.1 ∙ there) in
@@ -256,7 +256,7 @@ module _ (es : List Event) (ps : List Process) where
                 (d.each i from.0 from.1)
 
         all : (m : ℕ) (f : Event) (v w i o : ℕ) (g : Signal) (y : Suffix) → m < n + 1 → slice_get es m ≡ Some f
-            → f.actor ≡ Channel v w → f.label ≡ delivers g y → HasPid ps i v → HasPid ps o w → Tells m n
+            → f.actor ≡ Channel v w → f.label ≡ delivers g y → HasPid ps i v → HasPid ps o w → Reports m n
             → (l : ℕ) × (z : Arrow) × (slice_get ys l ≡ Some z) × Delivers ps z y f × (z.reach ≡ reach_of y m)
         all m f v w i o g y low is acts labelled from to (inl same) =
             let one : e ≡ f = same_Some e f (sym at ∙ ap (slice_get es) (sym same.1) ∙ is) in

@@ -7,7 +7,7 @@ use Rattle.std.proofs.lemmas.List.{length-set}
 use Rattle.std.proofs.lemmas.Option.{same_Some, slice_get-get_or, slice_get_within}
 use Rattle.pf_chart.specs.Signals.{AreJoined, IsJoinedBy}
 use Rattle.pf_chart.specs.declared.arrows.Arrow.{Arrow}
-use Rattle.pf_chart.proofs.Sending.{Tells}
+use Rattle.pf_chart.proofs.Sending.{Reports}
 
 set_there : (xs : List Arrow) (n : ℕ) (b : Arrow) → n < length xs → slice_get (set xs n b) n ≡ Some b
 set_there [] n b low = absurd (omega arith)
@@ -26,10 +26,10 @@ pub record AreJoinedTo (rs : List (Option ℕ)) (n : ℕ) (xs ys : List Arrow) :
   pub count : length ys ≡ length xs
   pub front : (i : ℕ) (b : Arrow) → i < n → slice_get ys i ≡ Some b
       → (a : Arrow) × (slice_get xs i ≡ Some a) × IsJoinedBy rs a.kind a.reach a b
-  pub behind : (i : ℕ) → n ≤ i → slice_get ys i ≡ slice_get xs i
+  pub back : (i : ℕ) → n ≤ i → slice_get ys i ≡ slice_get xs i
 
 pub joined_none : (rs : List (Option ℕ)) (xs : List Arrow) → AreJoinedTo rs 0 xs xs
-joined_none rs xs = record { count = refl; front = λ i b low is. absurd (omega arith); behind = λ i high. refl }
+joined_none rs xs = record { count = refl; front = λ i b low is. absurd (omega arith); back = λ i high. refl }
 
 pub joined_next : (rs : List (Option ℕ)) (n : ℕ) (xs ys : List Arrow) (a b : Arrow) → AreJoinedTo rs n xs ys
     → n < length ys → a ≡ get_or ys n a
@@ -37,13 +37,13 @@ pub joined_next : (rs : List (Option ℕ)) (n : ℕ) (xs ys : List Arrow) (a b :
 joined_next rs n xs ys a b h low read joined = record {
   count = length-set ys n b ∙ h.count;
   front = λ i c less is. front i c less is (eqb_tells i n);
-  behind = λ i high. set_besides ys n i b (λ e. omega (arith, high, e)) ∙ h.behind i (omega (arith, high));
+  back = λ i high. set_besides ys n i b (λ e. omega (arith, high, e)) ∙ h.back i (omega (arith, high));
 }
   where
     there : slice_get xs n ≡ Some a
-    there = sym (h.behind n (omega arith)) ∙ slice_get-get_or ys n a low ∙ ap Some (sym read)
+    there = sym (h.back n (omega arith)) ∙ slice_get-get_or ys n a low ∙ ap Some (sym read)
 
-    front : (i : ℕ) (c : Arrow) → i < n + 1 → slice_get (set ys n b) i ≡ Some c → Tells i n
+    front : (i : ℕ) (c : Arrow) → i < n + 1 → slice_get (set ys n b) i ≡ Some c → Reports i n
         → (z : Arrow) × (slice_get xs i ≡ Some z) × IsJoinedBy rs z.kind z.reach z c
     front i c less is (inl same) =
         let one : b ≡ c = same_Some b c (sym (set_there ys n b low) ∙ ap (slice_get (set ys n b)) (sym same.1) ∙ is) in

@@ -9,7 +9,7 @@ use Rattle.pf_chart.specs.Lines.{HaveLines, Holds}
 use Rattle.pf_chart.specs.Sheets.{Page, is_here, line_of}
 use Rattle.pf_chart.specs.Words.{ClosesGroup, DrawsInChart, OpensGroup}
 use Rattle.pf_chart.specs.declared.arrows.Arrow.{Arrow}
-use Rattle.pf_chart.proofs.Sending.{Tells}
+use Rattle.pf_chart.proofs.Sending.{Reports}
 
 -- a text was put at the end
 pub record Grows (old new : List ℕ) : Type 0 where
@@ -40,26 +40,26 @@ grown_on {x} {y} {z} a b = record {
 
 -- a text that is put is there
 pub holds_put : (text x y : List ℕ) → y ≡ x ++ text → Holds text x y
-holds_put text x y e = record { front = []; behind = []; is = e ∙ ap (λ (t : List ℕ). x ++ t) (sym (append-nil text)) }
+holds_put text x y e = record { front = []; back = []; is = e ∙ ap (λ (t : List ℕ). x ++ t) (sym (append-nil text)) }
 
 -- it is there still when more is put after it
 pub holds_then : {text x y z : List ℕ} → Holds text x y → Grows y z → Holds text x z
 holds_then {text} {x} {y} {z} h g = record {
   front = h.front;
-  behind = h.behind ++ g.more;
-  is = g.is ∙ ap (λ (t : List ℕ). t ++ g.more) h.is ∙ append_assoc x (h.front ++ (text ++ h.behind)) g.more
-      ∙ ap (λ (t : List ℕ). x ++ t) (append_assoc h.front (text ++ h.behind) g.more ∙ ap (λ (t : List ℕ). h.front ++ t)
-      (append_assoc text h.behind g.more));
+  back = h.back ++ g.more;
+  is = g.is ∙ ap (λ (t : List ℕ). t ++ g.more) h.is ∙ append_assoc x (h.front ++ (text ++ h.back)) g.more
+      ∙ ap (λ (t : List ℕ). x ++ t) (append_assoc h.front (text ++ h.back) g.more ∙ ap (λ (t : List ℕ). h.front ++ t)
+      (append_assoc text h.back g.more));
 }
 
 -- and where more was before it
 pub then_holds : {text x y z : List ℕ} → Grows x y → Holds text y z → Holds text x z
 then_holds {text} {x} {y} {z} g h = record {
   front = g.more ++ h.front;
-  behind = h.behind;
-  is = h.is ∙ ap (λ (t : List ℕ). t ++ (h.front ++ (text ++ h.behind))) g.is ∙ append_assoc x g.more
-      (h.front ++ (text ++ h.behind))
-      ∙ ap (λ (t : List ℕ). x ++ t) (sym (append_assoc g.more h.front (text ++ h.behind)));
+  back = h.back;
+  is = h.is ∙ ap (λ (t : List ℕ). t ++ (h.front ++ (text ++ h.back))) g.is ∙ append_assoc x g.more
+      (h.front ++ (text ++ h.back))
+      ∙ ap (λ (t : List ℕ). x ++ t) (sym (append_assoc g.more h.front (text ++ h.back)));
 }
 
 -- a document that was made by itself, after what is elsewhere
@@ -67,8 +67,8 @@ pub holds_elsewhere : {text x y : List ℕ} (before after : List ℕ) → x ≡ 
     → Holds text before after
 holds_elsewhere {text} {x} {y} before after none e h = record {
   front = h.front;
-  behind = h.behind;
-  is = e ∙ ap (λ (t : List ℕ). before ++ t) (h.is ∙ ap (λ (t : List ℕ). t ++ (h.front ++ (text ++ h.behind))) none);
+  back = h.back;
+  is = e ∙ ap (λ (t : List ℕ). before ++ t) (h.is ∙ ap (λ (t : List ℕ). t ++ (h.front ++ (text ++ h.back))) none);
 }
 
 -- ---- arrows
@@ -86,7 +86,7 @@ pub lines_next : (p : Page) (n k : ℕ) (arrows : List Arrow) (d : Arrow) {x y z
     → HaveLinesTo p n (k + 1) arrows x z
 lines_next p n k arrows d {x} {y} {z} lines low before after one i b less is from to here = by (eqb_tells i k)
   where
-    by : Tells i k → Holds (line_of p b) x z
+    by : Reports i k → Holds (line_of p b) x z
     by (inl same) =
         let this : get_or arrows k d ≡ b = same_Some (get_or arrows k d) b
         (sym (slice_get-get_or arrows k d low) ∙ ap (slice_get arrows) (sym same.1) ∙ is) in

@@ -78,11 +78,11 @@ pub in_order : (compact : Bool) (rows : List EventRow) (es : List Event) → pla
 in_order compact rows es are i j d le low =
     let count : length (rows_from compact 0 es) ≡ length rows = ap length (sym are) ∙ length-map rows (λ r. r.index) in
     let rises = (rise compact 0 es).order i j d.index le (omega (arith, count)) in
-    let told : get_or (places rows) i d.index ≤ get_or (places rows) j d.index =
+    let reported : get_or (places rows) i d.index ≤ get_or (places rows) j d.index =
     subst (λ ns. get_or ns i d.index ≤ get_or ns j d.index) (sym are) rises in
     let one = get_or-map (λ (r : EventRow). r.index) rows i d in
     let other = get_or-map (λ (r : EventRow). r.index) rows j d in
-    omega (arith, told, one, other)
+    omega (arith, reported, one, other)
 
 -- ---- one event more
 

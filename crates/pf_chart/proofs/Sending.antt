@@ -21,8 +21,8 @@ use Rattle.pf_chart.specs.declared.traffic.Traffic.{Traffic}
 -- ---- numbers
 
 -- two numbers are the same or not
-abbrev pub Tells : (i n : ℕ) → Type 0
-Tells i n = ((eqb i n ≡ true) × (i ≡ n)) ⊎ ((eqb i n ≡ false) × (i ≢ n))
+abbrev pub Reports : (i n : ℕ) → Type 0
+Reports i n = ((eqb i n ≡ true) × (i ≡ n)) ⊎ ((eqb i n ≡ false) × (i ≢ n))
 
 -- ---- ways
 
@@ -124,13 +124,13 @@ on_way_besides j r xs ys h w (i ∷ is) (one, above, rest) others = (
   on_way_besides j r xs ys h w is rest others,
 )
 
-on_way_behind : (j : ℕ) (r : ArrowEnd) (xs ys : List Arrow) → IsEnded j r xs ys → (w : Way) (is : List ℕ)
+on_way_after : (j : ℕ) (r : ArrowEnd) (xs ys : List Arrow) → IsEnded j r xs ys → (w : Way) (is : List ℕ)
     → AreOnWay xs w is → AllAbove j is → AreOnWay ys w is
-on_way_behind j r xs ys h w [] are low = tt
-on_way_behind j r xs ys h w (i ∷ is) (one, above, rest) (first, low) = (
+on_way_after j r xs ys h w [] are low = tt
+on_way_after j r xs ys h w (i ∷ is) (one, above, rest) (first, low) = (
   (one.0, other_stays j r xs ys h i one.0 one.1 (λ e. omega (arith, first, e)), one.2, one.3),
   above,
-  on_way_behind j r xs ys h w is rest low,
+  on_way_after j r xs ys h w is rest low,
 )
 
 -- ---- what goes out in an event
@@ -209,7 +209,7 @@ arrived_wait w alone s t (Some j, first, others, ended) h v = rest v (is_way w v
     rest : (v : Way) (own : Bool) → is_way w v ≡ own → AreOnWay t.arrows.items v (waiting_signals t.on_way v)
     rest v true is =
         subst (λ (u : Way). AreOnWay t.arrows.items u (waiting_signals t.on_way u)) (same_way w v is)
-        (on_way_behind j alone.reach xs t.arrows.items ended w (waiting_signals t.on_way w) all.2 all.1)
+        (on_way_after j alone.reach xs t.arrows.items ended w (waiting_signals t.on_way w) all.2 all.1)
     rest v false is =
         subst (AreOnWay t.arrows.items v) (sym (others v is))
         (on_way_besides j alone.reach xs t.arrows.items ended v (waiting_signals s.on_way v) (h v)

@@ -104,10 +104,10 @@ lacks_pid xs p (Err i) at none sorted = λ k d low is.
       | inr h ↦ (let greater = parted.1 k d h low in absurd (cc))
     ]
 
-pub told_by_pid : (xs : List Column) → IsNonDecreasingBy (λ (c : Column). c.pid) xs
+pub reported_by_pid : (xs : List Column) → IsNonDecreasingBy (λ (c : Column). c.pid) xs
     → IsNonDecreasingBy (λ (p : Process). p.pid) (map process_of xs)
-told_by_pid [] sorted i j d le low = absurd (omega arith)
-told_by_pid (x ∷ xs) sorted i j d le low =
+reported_by_pid [] sorted i j d le low = absurd (omega arith)
+reported_by_pid (x ∷ xs) sorted i j d le low =
     let below : j < length (x ∷ xs) = omega (arith, low, length-map (x ∷ xs) process_of) in
     let above : i < length (x ∷ xs) = omega (arith, le, below) in
     let rises = sorted i j x le below in

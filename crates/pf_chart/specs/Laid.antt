@@ -7,7 +7,7 @@ use Rattle.pf_model.specs.Labels.{unlinks}
 use Rattle.pf_model.specs.Meaning.{Event}
 use Rattle.pf_chart.specs.Origins.{process_of}
 use Rattle.pf_chart.specs.Signals.{AreArrows, IsManner}
-use Rattle.pf_chart.specs.Traffic.{AreWaiting, IsDelivered, Sends, kind_of, reach_of, untold, way_of}
+use Rattle.pf_chart.specs.Traffic.{AreWaiting, IsDelivered, Sends, kind_of, reach_of, unreported, way_of}
 use Rattle.pf_chart.specs.declared.arrows.Arrow.{Arrow}
 use Rattle.pf_chart.specs.declared.layout.Layout.{Layout}
 use Rattle.pf_chart.specs.declared.traffic.Traffic.{Traffic}
@@ -32,7 +32,7 @@ delivery_in l = None
 abbrev pub IsCarried : (event from to : ℕ) → Option (Signal × Suffix) → (old new : Traffic) → Type 0
 IsCarried n a b None s u = Sends n b s u
 IsCarried n a b (Some d) s u =
-    (t : Traffic) × IsDelivered (way_of a b (kind_of d.0)) (untold n a b (kind_of d.0) (reach_of d.1 n)) s t
+    (t : Traffic) × IsDelivered (way_of a b (kind_of d.0)) (unreported n a b (kind_of d.0) (reach_of d.1 n)) s t
     × Sends n b t u
 
 -- the signals of the first events of a run are laid out

@@ -6,8 +6,8 @@ use Rattle.pf_chart.specs.declared.arrows.Arrow.{Arrow}
 -- among what comes after what was there is this text
 pub record Holds (text before after : List ℕ) : Type 0 where
   pub front : List ℕ
-  pub behind : List ℕ
-  pub is : after ≡ before ++ (front ++ (text ++ behind))
+  pub back : List ℕ
+  pub is : after ≡ before ++ (front ++ (text ++ back))
 
 -- each arrow between two of so many columns of which something is on the page has its line, from where it begins to
 -- where it ends

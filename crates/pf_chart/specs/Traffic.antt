@@ -76,8 +76,8 @@ abbrev pub open_arrow : (event from to : ℕ) → SignalKind → Arrow
 open_arrow n a b k = record { kind = k; from = a; to = b; start = start.In n; reach = reach.Nowhere; chosen = false }
 
 -- a signal that ended in this event, of which no event shows that it was sent
-abbrev pub untold : (event from to : ℕ) → SignalKind → ArrowEnd → Arrow
-untold n a b k r = record { kind = k; from = a; to = b; start = start.Above n; reach = r; chosen = false }
+abbrev pub unreported : (event from to : ℕ) → SignalKind → ArrowEnd → Arrow
+unreported n a b k r = record { kind = k; from = a; to = b; start = start.Above n; reach = r; chosen = false }
 
 -- what goes back to the sender of a signal where there is no such process
 abbrev pub answer_to : Signal → Suffix → Option SignalKind

@@ -18,7 +18,7 @@ ghost use Rattle.pf_chart.specs.Traffic.{
   kind_of,
   reach_of,
   open_arrow,
-  untold,
+  unreported,
   waiting_signals,
   way_of,
 };
@@ -193,7 +193,7 @@ impl Traffic {
         kind: SignalKind,
         reach: ArrowEnd,
     ) -> Result<(), NoMemory>
-        ensures { OnOk result ((self.new.arrows.items ≡ self.old.arrows.items ++ untold row from to kind reach ∷ [])
+        ensures { OnOk result ((self.new.arrows.items ≡ self.old.arrows.items ++ unreported row from to kind reach ∷ [])
             × (self.new.on_way ≡ self.old.on_way)) }
     {
         self.arrows.push(Arrow {
@@ -216,7 +216,8 @@ impl Traffic {
         kind: SignalKind,
         reach: ArrowEnd,
     ) -> Result<(), NoMemory>
-        ensures { OnOk result (IsDelivered (way_of from to kind) (untold row from to kind reach) self.old self.new) }
+        ensures { OnOk result (IsDelivered (way_of from to kind)
+            (unreported row from to kind reach) self.old self.new) }
     {
         match self.on_way.take((from, to, kind.number())) {
             Some(index) => {
@@ -260,7 +261,7 @@ impl Traffic {
         suffix: &Suffix,
     ) -> Result<(), NoMemory>
         ensures { OnOk result ((t : Traffic) × IsDelivered (way_of from to (kind_of (signal_of signal.now)))
-            (untold row from to (kind_of (signal_of signal.now)) (reach_of (suffix_of suffix.now) row)) self.old t
+            (unreported row from to (kind_of (signal_of signal.now)) (reach_of (suffix_of suffix.now) row)) self.old t
             × (self.new.arrows.items ≡ with_return_arrow row to from
             (answer_to (signal_of signal.now) (suffix_of suffix.now)) t.arrows.items)
             × Sends row to t self.new) }

@@ -4,7 +4,7 @@ use Rattle.std.proofs.Common.{Contains, length, refl, sym, ap, ◌∙◌, subst,
 use Rattle.pf_tokens.specs.TokenKinds.{PlacedToken}
 use Rattle.pf_tokens.specs.Rules.{HasTokens}
 use Rattle.pf_tokens.specs.Scan.{Read, tokens}
-use Rattle.pf_tokens.proofs.Texts.{Tells, tokens_tell}
+use Rattle.pf_tokens.proofs.Texts.{Reports, tokens_report}
 use Rattle.pf_syntax.specs.Module.{Checked, empty}
 use Rattle.pf_tokens.specs.NumberedTokens.{NumberedToken, atoms_of, numbered_tokens}
 use Rattle.pf_grammar.specs.Grammar.{HasHead, DerivesTree}
@@ -152,9 +152,9 @@ module _ (bytes : List ℕ) where
     by_head (Some x) e = by_tree (x.0, x.1, begins_sound (atoms_of ts) (numbered_tokens ts) x e)
         (tree (atoms_of ts) (numbered_tokens ts)) refl
 
-  by_tokens : (read : Read (List PlacedToken)) → Tells bytes read → Outcomes
+  by_tokens : (read : Read (List PlacedToken)) → Reports bytes read → Outcomes
   by_tokens (Ok ts) has = by_head ts has (first_form (atoms_of ts) (numbered_tokens ts)) refl
   by_tokens (Err e) fault = (refused e.0 e.1, token_fault e.0 e.1 fault)
 
   pub any_outcome : Outcomes
-  any_outcome = by_tokens (tokens bytes) (tokens_tell bytes)
+  any_outcome = by_tokens (tokens bytes) (tokens_report bytes)

@@ -166,10 +166,10 @@ module _ (bytes : List ℕ) where
       tree_is us o k d = one_tree (atoms_of ts) (numbered_tokens ts) o m (tree_here us o k d) derives
 
       -- what is true of the atoms and the tree that were read holds of these
-      told_here : (P : List (List ℕ) → Tree → Type 0) → (us : List PlacedToken) (o : Tree) → HasTokens bytes us
+      reported_here : (P : List (List ℕ) → Tree → Type 0) → (us : List PlacedToken) (o : Tree) → HasTokens bytes us
           → DerivesTree (atoms_of us) o (numbered_tokens us)
           → P (atoms_of us) o → P (atoms_of ts) m
-      told_here P us o k d h =
+      reported_here P us o k d h =
           subst (P (atoms_of ts)) (tree_is us o k d) (subst (λ l. P (atoms_of l) o) (one_tokens bytes ts us has k) h)
 
       static_only : (f : SourceRefusal) → IsFirst (faults_of (atoms_of ts) m) f → (p : ReadOutcome) → Reads bytes p
@@ -179,11 +179,11 @@ module _ (bytes : List ℕ) where
       static_only f first _ (no_tree us to k head none there) = absurd (no_tree_not us k none)
       static_only f first _ (static us o g k d other) =
           let e = one_first (faults_of (atoms_of ts) m) f g first
-          (told_here (λ atoms tree. IsFirst (faults_of atoms tree) g) us o k d other) in
+          (reported_here (λ atoms tree. IsFirst (faults_of atoms tree) g) us o k d other) in
           (e.0, λ _. e.1)
       static_only f first _ (checked us o c k d none is) =
           absurd (none_first (faults_of (atoms_of ts) m) f
-          (told_here (λ atoms tree. faults_of atoms tree ≡ []) us o k d none) first)
+          (reported_here (λ atoms tree. faults_of atoms tree ≡ []) us o k d none) first)
 
       checked_only : (c : Checked) → faults_of (atoms_of ts) m ≡ [] → IsModule (atoms_of ts) m c → (p : ReadOutcome)
           → Reads bytes p → SameOutcome (accepted_as c) p
@@ -192,9 +192,9 @@ module _ (bytes : List ℕ) where
       checked_only c none is _ (no_tree us to k head h there) = absurd (no_tree_not us k h)
       checked_only c none is _ (static us o g k d other) =
           absurd (none_first (faults_of (atoms_of ts) m) g none
-          (told_here (λ atoms tree. IsFirst (faults_of atoms tree) g) us o k d other))
+          (reported_here (λ atoms tree. IsFirst (faults_of atoms tree) g) us o k d other))
       checked_only c none is _ (checked us o b k d none_too is_too) =
-          one_module (atoms_of ts) m c b none is (told_here (λ atoms tree. IsModule atoms tree b) us o k d is_too)
+          one_module (atoms_of ts) m c b none is (reported_here (λ atoms tree. IsModule atoms tree b) us o k d is_too)
 
   pub same_outcome : (o p : ReadOutcome) → Reads bytes o → Reads bytes p → SameOutcome o p
   same_outcome _ p (token_fault f at h) r = fault_only f at h p r

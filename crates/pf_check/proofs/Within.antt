@@ -10,16 +10,17 @@ goes_on : (ts : List PlacedToken) (start end : ℕ) → IsOrdered start ts end �
 goes_on [] start end h = h
 goes_on (t ∷ ts) start end (from, some, more) = let on = goes_on ts t.end end more in omega (arith, from, some, on)
 
-stands_within : (atoms variables : List (List ℕ)) (ts : List PlacedToken) (start end offset : ℕ)
+is_there_within : (atoms variables : List (List ℕ)) (ts : List PlacedToken) (start end offset : ℕ)
     → IsOrdered start ts end → IsAtOffset (map (numbered_token_in atoms variables) ts) offset → offset ≤ end
-stands_within atoms variables [] start end offset h there = absurd there
-stands_within atoms variables (t ∷ ts) start end offset (from, some, more) (inl here) =
+is_there_within atoms variables [] start end offset h there = absurd there
+is_there_within atoms variables (t ∷ ts) start end offset (from, some, more) (inl here) =
     let on = goes_on ts t.end end more in omega (arith, some, on, here)
-stands_within atoms variables (t ∷ ts) start end offset (from, some, more) (inr there) =
-    stands_within atoms variables ts t.end end offset more there
+is_there_within atoms variables (t ∷ ts) start end offset (from, some, more) (inr there) =
+    is_there_within atoms variables ts t.end end offset more there
 
 pub offset_within : (bytes : List ℕ) (ts : List PlacedToken) (offset : ℕ) → HasTokens bytes ts
     → IsOffsetOf (numbered_tokens ts) (length bytes) offset → offset ≤ length bytes
 offset_within bytes ts offset has (inl e) = omega (arith, e)
-offset_within bytes ts offset has (inr there) = stands_within (atoms_of ts) (variables_of ts) ts 0 (length bytes) offset
+offset_within bytes ts offset has (inr there) = is_there_within (atoms_of ts) (variables_of ts) ts 0
+    (length bytes) offset
     (ordered bytes ts has) there

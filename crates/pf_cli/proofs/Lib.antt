@@ -1,7 +1,7 @@
 pub mod Parsed
 pub mod Alike
 pub mod Alone
-pub mod Told
+pub mod Reported
 pub mod Named
 pub mod Guided
 pub mod Undotted

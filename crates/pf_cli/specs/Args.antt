@@ -123,13 +123,13 @@ working_app =
     (option_rule (codes "workers"))
 
 -- and what is reported: [--all] [--shrink N]
-abbrev pub telling_app : App
-telling_app = with_rule (with_rule working_app (flag_rule (codes "all"))) (option_rule (codes "shrink"))
+abbrev pub reporting_app : App
+reporting_app = with_rule (with_rule working_app (flag_rule (codes "all"))) (option_rule (codes "shrink"))
 
 -- and what is gone over: [--all-roots] [--fail-fast] [--leaks]
 abbrev pub reaching_app : App
 reaching_app =
-    with_rule (with_rule (with_rule telling_app (flag_rule (codes "all-roots"))) (flag_rule (codes "fail-fast")))
+    with_rule (with_rule (with_rule reporting_app (flag_rule (codes "all-roots"))) (flag_rule (codes "fail-fast")))
     (flag_rule (codes "leaks"))
 
 -- and in what form: [--format FORM]
@@ -728,10 +728,10 @@ StatusesAgree = (words : List Text) (k : ErrorKind) → IsFaultOfWords k words �
 pub data ReadWords : Type 0 where
   works : Wanted → (file : Option Text) → ReadWords
   reads : (file : Text) → ReadWords
-  tells : (status : ℕ) → (is_fault : Bool) → ReadWords
+  reports : (status : ℕ) → (is_fault : Bool) → ReadWords
 
 abbrev pub text_answered : (status : ℕ) → ReadWords
-text_answered status = tells status (not (status == 0))
+text_answered status = reports status (not (status == 0))
 
 abbrev pub works_by : Wanted → (file schedule_file : Option Text) → ReadWords
 works_by wanted file None = works wanted file
@@ -752,9 +752,9 @@ reading_of (Some text) words = reading_by (wanted_by (Some text) words) (file_of
 abbrev pub view_of_reading : reading_code.ReadWords → ReadWords
 view_of_reading (read.Asked words_asked) = works (view_of_command words_asked) (named_file words_asked.args)
 view_of_reading (read.ScheduleIn file) = reads file.now
-view_of_reading (read.Text text status is_fault) = tells status is_fault
+view_of_reading (read.Text text status is_fault) = reports status is_fault
 
 -- a text for a schedule changes nothing of words that name no file for it
-abbrev pub StandsAlone : Type 0
-StandsAlone = (text : Text) (words : List Text) → schedule_file_of words ≡ None
+abbrev pub IsAlone : Type 0
+IsAlone = (text : Text) (words : List Text) → schedule_file_of words ≡ None
     → wanted_by (Some text) words ≡ wanted_of words

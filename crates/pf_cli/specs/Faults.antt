@@ -38,23 +38,24 @@ text_in (read.Text text status is_fault) = Some (string_bytes text)
 -- ---- which words exclude each other
 
 -- each outcome or a shrinking with another word of a hunt
-abbrev pub clash_with : (told : List ℕ) → (leaks every several : Bool) → Option (List ℕ × List ℕ)
-clash_with told leaks every several =
-    if leaks then Some (told, codes "'--leaks'")
-    else (if every then Some (told, codes "'--all-roots'")
-    else (if several then Some (told, codes "several files") else None))
+abbrev pub clash_with : (reported : List ℕ) → (leaks every several : Bool) → Option (List ℕ × List ℕ)
+clash_with reported leaks every several =
+    if leaks then Some (reported, codes "'--leaks'")
+    else (if every then Some (reported, codes "'--all-roots'")
+    else (if several then Some (reported, codes "several files") else None))
 
 -- or every root with one that is named, or each outcome with a shrinking
-abbrev pub clash_told : (every leaks several all : Bool) → (root shrink : Option (List ℕ)) → Option (List ℕ × List ℕ)
-clash_told every leaks several all root shrink =
+abbrev pub clash_reported : (every leaks several all : Bool) → (root shrink : Option (List ℕ))
+    → Option (List ℕ × List ℕ)
+clash_reported every leaks several all root shrink =
     if every && is_some root then Some (codes "--all-roots", codes "'--root <F>'")
     else (if all && is_some shrink then Some (codes "--all", codes "'--shrink <N>'")
     else (if all then clash_with (codes "--all") leaks every several
     else (if is_some shrink then clash_with (codes "--shrink <N>") leaks every several else None)))
 
-abbrev pub clash_told_in : List Row → Option (List ℕ × List ℕ)
-clash_told_in rows =
-    clash_told (is_given (first_of (codes "all-roots") rows)) (is_given (first_of (codes "leaks") rows))
+abbrev pub clash_reported_in : List Row → Option (List ℕ × List ℕ)
+clash_reported_in rows =
+    clash_reported (is_given (first_of (codes "all-roots") rows)) (is_given (first_of (codes "leaks") rows))
     (nat_lt 1 (length (source_names rows)))
     (is_given (first_of (codes "all") rows)) (first_of (codes "root") rows) (first_of (codes "shrink") rows)
 

@@ -6,7 +6,7 @@ ghost use Rattle.clap.specs.declared.builder.command.Command.TheViews.{out-Comma
 ghost use Rattle.pf_cli.specs.Args.{bare_app, bounded_app, chart_app, check_app, farm_app, file_rule, files_rule};
 ghost use Rattle.pf_cli.specs.Args.{flag_rule, finding_app, format_rule, hunt_app, judged_app, many_rule, one_file_app};
 ghost use Rattle.pf_cli.specs.Args.{one_run_app, option_rule, pulsefarm, reaching_app, required_rule, rooted_app};
-ghost use Rattle.pf_cli.specs.Args.{run_app, runs_app, seeded_app, shrink_app, shrinking_app, steps_app, telling_app};
+ghost use Rattle.pf_cli.specs.Args.{run_app, runs_app, seeded_app, shrink_app, shrinking_app, steps_app, reporting_app};
 ghost use Rattle.pf_cli.specs.Args.{wanted_rule, weighted_app, working_app};
 
 use clap::{Arg, ArgAction, Command};
@@ -335,16 +335,16 @@ fn working<'a>(alloc: Global, about: &'a str) -> Result<Command<'a>, AllocError>
 }
 
 /// A hunt without the options of what it goes over.
-fn telling<'a>(alloc: Global, about: &'a str) -> Result<Command<'a>, AllocError>
-    ensures app { IfOk result (λ c. app_of c ≡ telling_app) }
+fn reporting<'a>(alloc: Global, about: &'a str) -> Result<Command<'a>, AllocError>
+    ensures app { IfOk result (λ c. app_of c ≡ reporting_app) }
     ensures local { IfOk result (λ c. (out-Command c).has_globals ≡ false) }
 {
     let all = "Tells each outcome, by how many seeds and the least of them, and runs all seeds";
     let shrink = "Shrinks the schedule of the seed that fails, within N runs from 1 to 1,000";
-    let telling = working(alloc, about)?
+    let reporting = working(alloc, about)?
         .arg(flag(alloc, "all", all))?
         .arg(option(alloc, "shrink", "N", shrink))?;
-    Ok(telling)
+    Ok(reporting)
 }
 
 /// A hunt without the option of its form.
@@ -355,7 +355,7 @@ fn reaching<'a>(alloc: Global, about: &'a str) -> Result<Command<'a>, AllocError
     let roots = "Hunts every exported function without arguments, and tells of each in a line";
     let fail_fast = "Hunts nothing behind the first root that fails";
     let leaks = "Lets a seed fail too whose root returned while processes still wait";
-    let reaching = telling(alloc, about)?
+    let reaching = reporting(alloc, about)?
         .arg(flag(alloc, "all-roots", roots))?
         .arg(flag(alloc, "fail-fast", fail_fast))?
         .arg(flag(alloc, "leaks", leaks))?;

@@ -18,6 +18,6 @@ pub use args::{
     Args, ChartArgs, CheckArgs, CliCommand, Edition, FarmArgs, Format, HuntArgs, HuntGoal, Roots,
     RunArgs, StepsArgs,
 };
-pub use laws::{stands_alone, statuses_agree};
+pub use laws::{is_alone, statuses_agree};
 pub use parse::{read_args, status_of_kind};
 pub use reading::{ReadWords, read};

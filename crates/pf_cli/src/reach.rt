@@ -2,7 +2,7 @@
 
 ghost use Rattle.std.specs.Prelude.{◌≡◌, ◌⊎◌, IfOk, IfErr, Some, None, codes, is_some, length, map, nat_lt, option_map};
 ghost use Rattle.clap.specs.Words.{first_of, kind_of, rows_of, found_of};
-ghost use Rattle.pf_cli.specs.Faults.{clash_told_in};
+ghost use Rattle.pf_cli.specs.Faults.{clash_reported_in};
 ghost use Rattle.pf_cli.specs.Args.{clashes_in, is_given, source_names, reach_in};
 ghost use Rattle.pf_cli.specs.Reach.{more_named, roots_named, view_of_reach};
 
@@ -29,7 +29,7 @@ pub(crate) struct HuntScope<'a> {
 }
 
 /// The names after the first of these.
-fn behind_first<'a>(alloc: Global, names: &[&'a str]) -> Result<Vec<&'a str>, Error>
+fn after_first<'a>(alloc: Global, names: &[&'a str]) -> Result<Vec<&'a str>, Error>
     ensures ok { IfOk result (λ v. more_named (map (λ s. s.now) names.now) ≡ Some (map (λ s. s.now) v.items)) }
     ensures err { IfErr result (λ e. (kind_of e ≡ ErrorKind.OutOfMemory)
         ⊎ ((kind_of e ≡ ErrorKind.InvalidValue) × (more_named (map (λ s. s.now) names.now) ≡ None))) }
@@ -37,10 +37,10 @@ fn behind_first<'a>(alloc: Global, names: &[&'a str]) -> Result<Vec<&'a str>, Er
     if let Some(extra) = names.get(4_096) {
         return Err(refuse_file(alloc, Valued::Hunt, extra, NAMES));
     }
-    let Some((_, behind)) = names.split_first() else {
+    let Some((_, after)) = names.split_first() else {
         return Ok(Vec::new(alloc));
     };
-    match Vec::from_slice(alloc, behind) {
+    match Vec::from_slice(alloc, after) {
         Ok(more) => Ok(more),
         Err(e) => Err(Error::from(e)),
     }
@@ -55,7 +55,7 @@ fn more<'a>(alloc: Global, rows: &ArgMatches<'a>) -> Result<Vec<&'a str>, Error>
         × (more_named (source_names (rows_of (found_of rows.now))) ≡ None))) }
 {
     match values(rows, "file") {
-        Some(names) => behind_first(alloc, names),
+        Some(names) => after_first(alloc, names),
         None => Ok(Vec::new(alloc)),
     }
 }
@@ -102,24 +102,24 @@ pub(crate) fn reach_of<'a>(alloc: Global, rows: &ArgMatches<'a>) -> Result<HuntS
 /// Two words that exclude each other, if there are such.
 pub(crate) fn clash(rows: &ArgMatches) -> Option<(&'static str, &'static str)>
     ensures some { is_some result ≡ clashes_in (rows_of (found_of rows.now)) }
-    ensures told { option_map (λ p. (p.0.now, p.1.now)) result ≡ clash_told_in (rows_of (found_of rows.now)) }
+    ensures reported { option_map (λ p. (p.0.now, p.1.now)) result ≡ clash_reported_in (rows_of (found_of rows.now)) }
 {
     let every = is_given(rows, "all-roots");
     if every && value(rows, "root").is_some() {
         return Some(("--all-roots", "'--root <F>'"));
     }
-    let told = match (is_given(rows, "all"), value(rows, "shrink")) {
+    let reported = match (is_given(rows, "all"), value(rows, "shrink")) {
         (true, Some(_)) => return Some(("--all", "'--shrink <N>'")),
         (true, None) => "--all",
         (false, Some(_)) => "--shrink <N>",
         (false, None) => return None,
     };
     if is_given(rows, "leaks") {
-        Some((told, "'--leaks'"))
+        Some((reported, "'--leaks'"))
     } else if every {
-        Some((told, "'--all-roots'"))
+        Some((reported, "'--all-roots'"))
     } else if are_several(rows) {
-        Some((told, "several files"))
+        Some((reported, "several files"))
     } else {
         None
     }

@@ -29,12 +29,12 @@ pub enum ReadWords<'a> {
 }
 
 /// The text of words that ask for no work: what their error of this kind prints.
-fn told<'a, E: Display>(
+fn reported<'a, E: Display>(
     alloc: Global,
     kind: ErrorKind,
     error: &E,
 ) -> Result<ReadWords<'a>, NoMemory>
-    ensures told { IfOk result (λ r. view_of_reading r ≡ text_answered (status_of_kind kind)) }
+    ensures reported { IfOk result (λ r. view_of_reading r ≡ text_answered (status_of_kind kind)) }
     ensures text { IfOk result (λ r. IfSome (E.output error.now) (λ printed. text_in r ≡ Some printed)) }
     ensures memory { IfOk result (λ r. kind ≢ ErrorKind.OutOfMemory) }
 {
@@ -68,7 +68,7 @@ pub fn read<'a>(
     };
     let found = match read_by(alloc, words, Some(text)) {
         Ok(found) => found,
-        Err(error) => return told(alloc, error.kind(), &error),
+        Err(error) => return reported(alloc, error.kind(), &error),
     };
     match (schedule, found.schedule) {
         (None, Some(file)) => Ok(ReadWords::ScheduleIn(file)),

@@ -129,8 +129,8 @@ pub(crate) fn refuse_value(
 ) -> Error
     ensures { (kind_of result ≡ ErrorKind.OutOfMemory) ⊎ (kind_of result ≡ ErrorKind.InvalidValue) }
 {
-    let told = wrong_value(alloc, option, value, wants);
-    refuse_with(alloc, valued, ErrorKind::InvalidValue, told)
+    let reported = wrong_value(alloc, option, value, wants);
+    refuse_with(alloc, valued, ErrorKind::InvalidValue, reported)
 }
 
 /// An option whose value is a number.

@@ -1,4 +1,4 @@
 pub mod Absent
-pub mod Telling
+pub mod Reporting
 pub mod Notices
 pub mod Texts

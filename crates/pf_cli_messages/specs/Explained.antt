@@ -5,25 +5,20 @@ use Rattle.pf_check.specs.Reads.{Reads, refused}
 use Rattle.pf_cli.specs.Args.{RunArgs}
 use Rattle.pf_model.specs.Configuration.{Configuration}
 use Rattle.pf_model.specs.Meaning as meaning
-use Rattle.pf_model.specs.Meaning.{Means, Report}
+use Rattle.pf_model.specs.Meaning.{Report}
 use Rattle.pf_check.specs.Reading.{IsModuleOf}
 use Rattle.pf_positions.specs.Placed.{ArePlaces}
 use Rattle.pf_positions.specs.declared.places.Position.{Position}
 use Rattle.pf_request.specs.Job.{Job}
 use Rattle.pf_check.specs.Module.{ReadModule}
 use Rattle.pf_sched.specs.Asked.{Asks}
-use Rattle.pf_strategy.specs.Runs.{MeansByPriorities}
+use Rattle.pf_sched.specs.Choosing.{MeansFor, choosing_of}
 use Rattle.pf_process_status.specs.Fates.{AreStandings}
 use Rattle.pf_process_status.specs.Known.{RunLeadsTo, module_of_run, events_of}
 use Rattle.pf_process_status.specs.Lines.{IsLine}
-use Rattle.pf_process_status.specs.Noted.{TellPoints}
+use Rattle.pf_process_status.specs.Noted.{ReportsPoints}
 use Rattle.pf_process_status.specs.declared.known.KnownRun.{KnownRun}
 use Rattle.pf_process_status.specs.declared.standing.ProcessStatus.{ProcessStatus}
-
--- what a job means, by its own choices or by the priorities of a seed
-abbrev pub MeansAs : Option ℕ → meaning.Job → Report → Type 0
-MeansAs None j r = Means j r
-MeansAs (Some seed) j r = MeansByPriorities j seed r
 
 -- a run is that of a job and has these events
 pub record IsKnownRunOf (j : meaning.Job) (r : Report) (k : KnownRun) : Type 0 where
@@ -41,23 +36,23 @@ AreStatusLines k places (x ∷ xs) text =
     × (text ≡ line ++ (10 ∷ rest))
 
 -- the lines of the processes of a run, as they are where its events lead
-pub record TellsRun (k : KnownRun) (source text : List ℕ) : Type 0 where
+pub record ReportsRun (k : KnownRun) (source text : List ℕ) : Type 0 where
   pub places : List (Option Position)
   pub are_places : ArePlaces k.module.now.value source places
   pub standings : List ProcessStatus
-  pub stand : (d : Configuration) → RunLeadsTo k d → AreStandings k d standings
-  pub points : TellPoints (events_of k) standings
+  pub are_there : (d : Configuration) → RunLeadsTo k d → AreStandings k d standings
+  pub points : ReportsPoints (events_of k) standings
   pub lines : AreStatusLines k places standings text
 
 -- the same of the run that a job means
 pub record ReportsProcesses (j : meaning.Job) (priorities : Option ℕ) (source text : List ℕ) : Type 0 where
   pub report : Report
-  pub means : MeansAs priorities j report
+  pub means : MeansFor (choosing_of priorities j) j report
   pub run : KnownRun
   pub is_run : IsKnownRunOf j report run
   pub last : Configuration
   pub comes : RunLeadsTo run last
-  pub tells : TellsRun run source text
+  pub reports : ReportsRun run source text
 
 -- what is asked for of a module is this job, or refused for this
 abbrev pub AsksOf : RunArgs → ReadModule → Result Job Code → Type 0
@@ -70,7 +65,7 @@ pub data ExplainsRun (a : RunArgs) (bytes : List ℕ) : List ℕ → Type 0 wher
   job_refused : (m : ReadModule) (code : Code) → IsModuleOf bytes m → AsksOf a m (Err code) → ExplainsRun a bytes []
   shrinks : (m : ReadModule) (j : Job) → IsModuleOf bytes m → AsksOf a m (Ok j) → (j.asked.runs ≡ zero → ⊥)
       → ExplainsRun a bytes []
-  told : (m : ReadModule) (j : Job) (text : List ℕ) → IsModuleOf bytes m → AsksOf a m (Ok j) → j.asked.runs ≡ zero
+  reported : (m : ReadModule) (j : Job) (text : List ℕ) → IsModuleOf bytes m → AsksOf a m (Ok j) → j.asked.runs ≡ zero
       → ReportsProcesses j.asked a.priorities bytes text → ExplainsRun a bytes text
 
 -- what is asked for of a source is one run of this job; or there is none, and nothing is said

@@ -13,10 +13,10 @@ abbrev pub HasStatus : Result ℕ (OrNoMemory StreamFault) → ℕ → Type 0
 HasStatus (Ok status) given = given ≡ status
 HasStatus (Err e) given = IsFailure given
 
--- TellsText is_fault status given old new failed_old failed_new: the text of a fault goes to the standard error, and
+-- PrintsText is_fault status given old new failed_old failed_new: the text of a fault goes to the standard error, and
 -- any other text goes out, with its status; or the output can't be written
-abbrev pub TellsText : (is_fault : Bool) → (status given : ℕ) → (old new : Option (List ℕ))
+abbrev pub PrintsText : (is_fault : Bool) → (status given : ℕ) → (old new : Option (List ℕ))
     → (failed_old failed_new : ℕ) → Type 0
-TellsText true status given old new m n = (given ≡ status) × (new ≡ old) × (n ≡ m)
-TellsText false status given old new m n = ((text : List ℕ) × (given ≡ status) × Appends old new text × (n ≡ m))
+PrintsText true status given old new m n = (given ≡ status) × (new ≡ old) × (n ≡ m)
+PrintsText false status given old new m n = ((text : List ℕ) × (given ≡ status) × Appends old new text × (n ≡ m))
     ⊎ (IsFailure given × (n ≡ m + 1))

@@ -5,9 +5,10 @@ ghost use Rattle.pf_cli.specs.Args.{view_of_run_args};
 ghost use Rattle.pf_model.specs.Limits.{IsEdition};
 ghost use Rattle.pf_model.specs.Reports.{view_of_report};
 ghost use Rattle.pf_check.specs.Module.{ReadModule};
-ghost use Rattle.pf_cli_messages.specs.Explained.{AreStatusLines, AsksOf, ExplainsRun, FindsRun, MeansAs};
-ghost use Rattle.pf_cli_messages.specs.Explained.{ReportsProcesses, TellsRun};
+ghost use Rattle.pf_cli_messages.specs.Explained.{AreStatusLines, AsksOf, ExplainsRun, FindsRun, ReportsProcesses};
+ghost use Rattle.pf_cli_messages.specs.Explained.{ReportsRun};
 ghost use Rattle.pf_check.specs.Reading.{IsModuleOf};
+ghost use Rattle.pf_sched.specs.Choosing.{MeansFor, choosing_of};
 
 use pf_check::ReadSource;
 use pf_cli::RunArgs;
@@ -15,7 +16,7 @@ use pf_errors::{NoMemory, OrNoMemory};
 use pf_model::report::Report;
 use pf_positions::Positions;
 use pf_process_status::{KnownRun, ProcessStatus, put_standing, standings};
-use pf_sched::{Job, Scratch, report_by_priorities, report_of_run};
+use pf_sched::{Job, Scratch, report_of_run};
 use std::alloc::Global;
 
 /// The job of one run that is asked for of a source; none where the source is refused, or what is asked for of it, or a
@@ -41,13 +42,10 @@ fn job_of(alloc: Global, args: &RunArgs, source: &ReadSource) -> Result<Option<J
 /// The report of the run that is asked for.
 fn report_by(alloc: Global, args: &RunArgs, job: &Job) -> Result<Report, NoMemory>
     requires { job.now.asked.runs ≡ zero }
-    ensures { IfOk result (λ r. MeansAs args.now.priorities job.now.asked (view_of_report r)) }
+    ensures { IfOk result (λ r. MeansFor (choosing_of args.now.priorities job.now.asked) job.now.asked
+        (view_of_report r)) }
 {
-    let mut scratch = Scratch::new(alloc);
-    match args.priorities {
-        Some(seed) => report_by_priorities(alloc, job, seed, &mut scratch),
-        None => report_of_run(alloc, job, &mut scratch),
-    }
+    report_of_run(alloc, job, args.priorities, &mut Scratch::new(alloc))
 }
 
 /// The lines of processes, each with a line end.
@@ -70,7 +68,7 @@ fn lines_of(
 /// The lines of a run's processes, with the places that a source gives.
 fn explain_known(alloc: Global, run: &KnownRun, source: &[u8]) -> Result<Vec<u8>, NoMemory>
     requires { IsEdition run.now.edition }
-    ensures { IfOk result (λ text. TellsRun run.now source.now text.items) }
+    ensures { IfOk result (λ text. ReportsRun run.now source.now text.items) }
 {
     let places = Positions::new(alloc, run.module, source)?;
     let standings = standings(alloc, run)?;

@@ -30,11 +30,11 @@ fn lacked<'a>(atoms: &AtomTable, found: &'a [Token]) -> Option<&'a [u8]>
     ensures { option_map (λ s. s.now) result ≡ lacked atoms.now (map placed_of found.entry.now) }
 {
     let mut rest = found;
-    while let Some((first, behind)) = rest.split_first() {
+    while let Some((first, after)) = rest.split_first() {
         if let Some(name) = lacked_name(atoms, first) {
             return Some(name);
         }
-        rest = behind;
+        rest = after;
     }
     None
 }

@@ -27,7 +27,7 @@ mod waiting;
 
 pub use escape::ShownText;
 pub use explain::say_processes;
-pub use messages::{REFUSED, end, failed, no_memory, say, tell};
+pub use messages::{REFUSED, end, failed, no_memory, notify, say};
 pub use progress::{Clearing, ProgressLine, Runs, Seeds};
 pub use reasons::{lacking_of, why, why_of_root};
 pub use waiting::{WaitingProcesses, say_waiting};

@@ -1,7 +1,7 @@
 //! What the program says of words that ask for no work, and of faults.
 
 ghost use Rattle.std.specs.Prelude.{◌≡◌, false};
-ghost use Rattle.pf_cli_messages.specs.Texts.{HasStatus, IsFailure, TellsText};
+ghost use Rattle.pf_cli_messages.specs.Texts.{HasStatus, IsFailure, PrintsText};
 
 use crate::escape::{ShownText, without_tip};
 use pf_cli::Format;
@@ -144,7 +144,7 @@ fn write_text<W: Write, M: Ledger>(
     status: u8,
     writer: &mut Counted<W, M>,
 ) -> u8
-    ensures { TellsText false status result
+    ensures { PrintsText false status result
         (W.contents writer.old.inner) (W.contents writer.new.inner)
         writer.old.failures.total writer.new.failures.total }
 {
@@ -155,14 +155,14 @@ fn write_text<W: Write, M: Ledger>(
 }
 
 /// Prints the text of words that ask for no work, help, the version or what is wrong with them; their status.
-pub fn tell<W: Write, M: Ledger>(
+pub fn notify<W: Write, M: Ledger>(
     rt: &(impl Print + Eprint),
     text: &str,
     status: u8,
     is_fault: bool,
     writer: &mut Counted<W, M>,
 ) -> u8
-    ensures { TellsText is_fault status result
+    ensures { PrintsText is_fault status result
         (W.contents writer.old.inner) (W.contents writer.new.inner)
         writer.old.failures.total writer.new.failures.total }
 {

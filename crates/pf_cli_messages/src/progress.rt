@@ -34,12 +34,12 @@ impl ProgressLine {
     }
 
     /// Shows this in place of what it showed before.
-    fn show(&self, told: &impl fmt::Display) {
+    fn show(&self, reported: &impl fmt::Display) {
         let Some(terminal) = self.terminal else {
             return;
         };
         self.is_full.set(true);
-        let _printed = eprint!(terminal; "\r{told}\x1b[K");
+        let _printed = eprint!(terminal; "\r{reported}\x1b[K");
     }
 
     /// Empties it.
@@ -73,20 +73,24 @@ pub struct Runs<'a> {
     line: &'a ProgressLine,
     most: u32,
     /// The runs that it showed last.
-    told: Option<u32>,
+    reported: Option<u32>,
 }
 
 impl<'a> Runs<'a> {
     pub fn new(line: &'a ProgressLine, most: u32) -> Runs<'a> {
-        let told = None;
-        Runs { line, most, told }
+        let reported = None;
+        Runs {
+            line,
+            most,
+            reported,
+        }
     }
 }
 
 impl Observer for Runs<'_> {
     fn progress(&mut self, progress: ShrinkingProgress) {
-        if self.told != Some(progress.runs) {
-            self.told = Some(progress.runs);
+        if self.reported != Some(progress.runs) {
+            self.reported = Some(progress.runs);
             let most = self.most;
             self.line.show(&RunsDone { progress, most });
         }
@@ -150,7 +154,7 @@ pub struct Seeds<'a, C> {
     /// When it began, if the clock can be read.
     start: Option<Instant>,
     /// When it last showed its progress, counted from its start.
-    told: Option<Duration>,
+    reported: Option<Duration>,
     /// When its last block was over, counted from its start.
     over: Duration,
     /// The least seed whose root returned while processes still waited, once it is known.
@@ -167,7 +171,7 @@ impl<'a, C: Clock> Seeds<'a, C> {
             seeds,
             limit,
             start: Instant::now(clock).ok(),
-            told: None,
+            reported: None,
             over: Duration::ZERO,
             leak: None,
         }
@@ -190,15 +194,15 @@ impl<'a, C: Clock> Seeds<'a, C> {
     }
 
     /// Shows its progress, unless it did so just now.
-    fn tell(&mut self, time: Option<Duration>, done: u64, failures: u64)
+    fn notify(&mut self, time: Option<Duration>, done: u64, failures: u64)
         ensures { self.new.leak ≡ self.old.leak }
     {
-        if let (Some(now), Some(told)) = (time, self.told) {
-            if now.saturating_sub(told).as_millis() < PAUSE {
+        if let (Some(now), Some(reported)) = (time, self.reported) {
+            if now.saturating_sub(reported).as_millis() < PAUSE {
                 return;
             }
         }
-        self.told = time;
+        self.reported = time;
         let (seeds, limit) = (self.seeds, self.limit);
         self.line.show(&SeedsDone {
             done,
@@ -240,7 +244,7 @@ impl<C: Clock> HuntObserver for Seeds<'_, C> {
 
     fn progress(&mut self, done: u64, failures: u64) -> Pace {
         let time = self.time();
-        self.tell(time, done, failures);
+        self.notify(time, done, failures);
         self.pace(time)
     }
 

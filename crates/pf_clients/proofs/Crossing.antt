@@ -15,8 +15,8 @@ use Rattle.std.proofs.io.Error.TheSendSync as error
 use Rattle.pf_farm_accounts.specs.declared.names.FarmNames as names
 use Rattle.pf_sched.proofs.Crossing as sched
 use Rattle.pf_farm_state.proofs.Crossing as hall
-use Rattle.pf_wire.specs.contracts.told.WrittenAnswer as Told
-use Rattle.pf_wire.specs.contracts.told.ToldReport as Report
+use Rattle.pf_wire.specs.contracts.reported.WrittenAnswer as Reported
+use Rattle.pf_wire.specs.contracts.reported.ReportedReport as Report
 use Rattle.pf_clients.specs.contracts.client.FileEnd as Ended
 use Rattle.pf_clients.proofs.start.StartStage.TheSendSync as stage
 use Rattle.pf_clients.specs.contracts.client.Client as Client
@@ -26,11 +26,11 @@ use Rattle.std.specs.contracts.alloc.Global as Global
 report_field_send : IsSend (Report.the_field).row
 report_field_send = search (sched.finished_send, heap.crosses, sendable) depth 30
 
-told_field_send : IsSend (Told.the_field).row
-told_field_send = search (report_field_send, heap.crosses, sendable) depth 30
+reported_field_send : IsSend (Reported.the_field).row
+reported_field_send = search (report_field_send, heap.crosses, sendable) depth 30
 
-told_send : IsSend Told.the_row
-told_send = recorded_send (Told.the_field).row _ _ (Told.the_type).to_one told_field_send
+reported_send : IsSend Reported.the_row
+reported_send = recorded_send (Reported.the_field).row _ _ (Reported.the_type).to_one reported_field_send
 
 ended_field_send : IsSend (Ended.the_field).row
 ended_field_send = search (error.the_field_send, sendable) depth 30
@@ -43,7 +43,7 @@ module _ (N R : RattleType) (g : names.Ghosts N.Denot) (s : IsSend R) where
         (
           search (s, sendable) depth 30,
           (
-            search (told_send, heap.crosses, sendable) depth 30,
+            search (reported_send, heap.crosses, sendable) depth 30,
             (search (ended_field_send, sendable) depth 30, tt),
           ),
         ),

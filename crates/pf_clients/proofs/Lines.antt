@@ -11,9 +11,9 @@ use Rattle.pf_streams.specs.declared.stream.StreamFault.TheVariants.{Read, Write
 use Rattle.pf_request.specs.declared.call.Call as call_code
 use Rattle.pf_request.specs.View.{view_of_call}
 use Rattle.pf_request.specs.Calls.{Call}
-use Rattle.pf_desks.specs.Told.{reply_text}
+use Rattle.pf_desks.specs.Reported.{reply_text}
 use Rattle.pf_world.specs.Steps.{client_calls}
-use Rattle.pf_world.specs.Told.{step_text}
+use Rattle.pf_world.specs.Reported.{step_text}
 use Rattle.pf_book.specs.declared.reply.Reply.{Reply}
 use Rattle.pf_farm_accounts.specs.Receipts.{receipt_of}
 use Rattle.pf_farm_state.specs.Clients.{ClientView, empty_client, full_seat, GetsReceipt, StaysFull}
@@ -32,37 +32,37 @@ use Rattle.pf_clients.specs.Lines.{AnswersLines, EndsAt, AnswersBytes, AnswersFi
 -- ---- calls
 
 -- the result of a call
-abbrev pub CallComesTo : call_code.Call → Result Reply NoMemory → (was is : ClientView) → Type 0
-CallComesTo c r s s' = (l : Line) × (asked_in l ≡ calls (view_of_call c)) × Leaves l s s'
+abbrev pub CallResultsIn : call_code.Call → Result Reply NoMemory → (was is : ClientView) → Type 0
+CallResultsIn c r s s' = (l : Line) × (asked_in l ≡ calls (view_of_call c)) × Leaves l s s'
     × (call_text s.project r ≡ line_text s.project l)
 
 -- a seat that is known to be full is the same when it is marked full
 full_again : (s : ClientView) → s.is_full ≡ true → s ≡ full_seat s
 full_again s e = λ i. record s { is_full = e i }
 
-pub call_comes_to : (c : call_code.Call) (r : Result Reply NoMemory) (s s' : ClientView)
-    → IfOk r (λ a. GetsReceipt c a s s') → StaysFull s s' r → OnErr r (s' ≡ s) → CallComesTo c r s s'
-call_comes_to c r s s' gets full err = by s.is_full refl r gets full err
+pub call_results_in : (c : call_code.Call) (r : Result Reply NoMemory) (s s' : ClientView)
+    → IfOk r (λ a. GetsReceipt c a s s') → StaysFull s s' r → OnErr r (s' ≡ s) → CallResultsIn c r s s'
+call_results_in c r s s' gets full err = by s.is_full refl r gets full err
   where
-    by_receipt : (a : Reply) → s.is_full ≡ false → GetsReceipt c a s s' → CallComesTo c (Ok a) s s'
+    by_receipt : (a : Reply) → s.is_full ≡ false → GetsReceipt c a s s' → CallResultsIn c (Ok a) s s'
     by_receipt a room (inl h) = (logged (receipt_of s.project h.0 c a), refl, (room, h.1), refl)
     by_receipt a room (inr h) = (one_too_many (view_of_call c), refl, h.0, ap (reply_text s.project) h.1)
 
     by : (b : Bool) → s.is_full ≡ b → (x : Result Reply NoMemory) → IfOk x (λ a. GetsReceipt c a s s')
-        → StaysFull s s' x → OnErr x (s' ≡ s) → CallComesTo c x s s'
+        → StaysFull s s' x → OnErr x (s' ≡ s) → CallResultsIn c x s s'
     by true e (Ok a) got stays same = let h = stays e in
         (one_too_many (view_of_call c), refl, h.0 ∙ full_again s e, ap (reply_text s.project) h.1)
     by true e (Err x) got stays same = absurd (stays e).1
     by false e (Ok a) got stays same = by_receipt a e got
     by false e (Err x) got stays same = (without_memory (view_of_call c), refl, (e, same), refl)
 
-pub call_answered : (c : call_code.Call) (r : Result Reply NoMemory) (s s' : ClientView) (t t' told : List ℕ)
-    → CallComesTo c r s s' → told ≡ call_text s.project r → t' ≡ t ++ told
+pub call_answered : (c : call_code.Call) (r : Result Reply NoMemory) (s s' : ClientView) (t t' reported : List ℕ)
+    → CallResultsIn c r s s' → reported ≡ call_text s.project r → t' ≡ t ++ reported
     → AnswersLine (calls (view_of_call c)) s s' t t'
-call_answered c r s s' t t' told h text added = (h.0, h.1, h.2, added ∙ ap (λ (x : List ℕ). t ++ x) (text ∙ h.3))
+call_answered c r s s' t t' reported h text added = (h.0, h.1, h.2, added ∙ ap (λ (x : List ℕ). t ++ x) (text ∙ h.3))
 
 pub call_cut : (c : call_code.Call) (r : Result Reply NoMemory) (s s' : ClientView) (t t' : List ℕ)
-    → CallComesTo c r s s' → t' ≡ t → CutsLine (calls (view_of_call c)) s s' t t'
+    → CallResultsIn c r s s' → t' ≡ t → CutsLine (calls (view_of_call c)) s s' t t'
 call_cut c r s s' t t' h same = (h.0, h.1, h.2, same)
 
 pub waits : (t : ℕ) (s : ClientView) (text : List ℕ) → AnswersLine (awaits t) s s text text
@@ -143,12 +143,12 @@ module _ (bytes : List ℕ) (s0 s : ClientView) (t0 t : List ℕ) (rest : List �
       let l : Line = h.2.0 in
       let at : client_line_at s0.project rest ≡ Some (asked_in l, after) =
       ap (λ (q : ℕ). client_line_at q rest) (sym f.project) ∙ h.1 ∙ ap (λ m. Some (m, after)) (sym h.2.1) in
-      let told : t' ≡ t ++ line_text s0.project l = h.2.3 ∙ ap (λ (q : ℕ). t ++ line_text q l) f.project in
+      let reported : t' ≡ t ++ line_text s0.project l = h.2.3 ∙ ap (λ (q : ℕ). t ++ line_text q l) f.project in
       record {
         lines = f.lines ++ l ∷ [];
         answered = lines_more s0.project bytes s0 f.lines rest s l after s' f.answered at h.2.2;
         project = leaves_project l s s' h.2.2 ∙ f.project;
-        text = and_then t' (line_text s0.project l) told ∙ ap (λ (x : List ℕ). t0 ++ x)
+        text = and_then t' (line_text s0.project l) reported ∙ ap (λ (x : List ℕ). t0 ++ x)
             (sym (text_more s0.project f.lines l));
         next = omega (arith, f.next, length-append f.lines (l ∷ []));
       }
@@ -158,7 +158,7 @@ module _ (bytes : List ℕ) (s0 s : ClientView) (t0 t : List ℕ) (rest : List �
     lines = f.lines;
     rest = rest;
     last = s;
-    told = [];
+    reported = [];
     answered = f.answered;
     ends = (over, refl, refl);
     text = and_then t [] (sym (append-nil t));
@@ -170,7 +170,7 @@ module _ (bytes : List ℕ) (s0 s : ClientView) (t0 t : List ℕ) (rest : List �
     lines = f.lines;
     rest = rest;
     last = s;
-    told = last_text false n;
+    reported = last_text false n;
     answered = f.answered;
     ends = (h.0, some, h.1, ap (last_text false) f.next);
     text = and_then t' (last_text false n) h.2;
@@ -181,7 +181,7 @@ module _ (bytes : List ℕ) (s0 s : ClientView) (t0 t : List ℕ) (rest : List �
     lines = f.lines;
     rest = rest;
     last = s;
-    told = [];
+    reported = [];
     answered = f.answered;
     ends = (h.0, refl);
     text = and_then t' [] (h.1 ∙ sym (append-nil t));
@@ -229,7 +229,7 @@ is_unread q input e =
         lines = [];
         rest = read.0;
         last = empty_client q;
-        told = [];
+        reported = [];
         answered = (refl, refl);
         ends =
             ends_unread e read.0 (empty_client q);

@@ -17,57 +17,58 @@ use Rattle.pf_trace.proofs.Fronts.{front_of_both, front_of_more}
 use Rattle.pf_wire.proofs.Adding.{added_both, front_of_second}
 use Rattle.pf_wire.proofs.Leaving.{IsAdded}
 use Rattle.pf_wire.specs.Whole.{whole_text, with_report}
-use Rattle.pf_wire.specs.declared.told.WrittenAnswer.{WrittenAnswer}
+use Rattle.pf_wire.specs.declared.reported.WrittenAnswer.{WrittenAnswer}
 use Rattle.pf_clients.specs.declared.client.FileEnd.{FileEnd}
 use Rattle.pf_clients.specs.declared.client.FileEnd.TheVariants.{Answered, NoCommand, Unread, NoMemory as OutOfMemory}
 use Rattle.pf_clients.specs.Faults.{CountsFault}
 use Rattle.pf_clients.specs.Farms.{ClientText, stop_at, or_else, first_stop, unless, printed, status_at, status_of}
 use Rattle.pf_clients.specs.Farms.{Prints, PrintsInPart}
-use Rattle.pf_clients.specs.Texts.{told_text}
+use Rattle.pf_clients.specs.Texts.{reported_text}
 
-pub told_more : (ts : List WrittenAnswer) (t : WrittenAnswer) → told_text (ts ++ t ∷ []) ≡ told_text ts ++ whole_text t
-told_more [] t = append-nil (whole_text t)
-told_more (x ∷ ts) t = ap (λ (y : List ℕ). whole_text x ++ y) (told_more ts t)
-    ∙ sym (append_assoc (whole_text x) (told_text ts) (whole_text t))
+pub reported_more : (ts : List WrittenAnswer) (t : WrittenAnswer)
+    → reported_text (ts ++ t ∷ []) ≡ reported_text ts ++ whole_text t
+reported_more [] t = append-nil (whole_text t)
+reported_more (x ∷ ts) t = ap (λ (y : List ℕ). whole_text x ++ y) (reported_more ts t)
+    ∙ sym (append_assoc (whole_text x) (reported_text ts) (whole_text t))
 
-pub told_both : (ts us : List WrittenAnswer) → told_text (ts ++ us) ≡ told_text ts ++ told_text us
-told_both [] us = refl
-told_both (t ∷ ts) us = ap (λ (y : List ℕ). whole_text t ++ y) (told_both ts us)
-    ∙ sym (append_assoc (whole_text t) (told_text ts) (told_text us))
+pub reported_both : (ts us : List WrittenAnswer) → reported_text (ts ++ us) ≡ reported_text ts ++ reported_text us
+reported_both [] us = refl
+reported_both (t ∷ ts) us = ap (λ (y : List ℕ). whole_text t ++ y) (reported_both ts us)
+    ∙ sym (append_assoc (whole_text t) (reported_text ts) (reported_text us))
 
 -- ---- replies that are gathered
 
 module _ (ts : List WrittenAnswer) (i : ℕ) (g1 g2 : List ℕ) (w0 w1 w2 : Option (List ℕ))
-    (so_far : IsAdded [] (told_text (take i ts)) g1 w0 w1) where
+    (so_far : IsAdded [] (reported_text (take i ts)) g1 w0 w1) where
   one_reply : (t : WrittenAnswer) → i < length ts → t ≡ get_or ts i t
-      → told_text (take (i + 1) ts) ≡ told_text (take i ts) ++ whole_text t
-  one_reply t within is = ap told_text (take_more ts i t within) ∙ told_more (take i ts) (get_or ts i t)
-      ∙ ap (λ x. told_text (take i ts) ++ whole_text x) (sym is)
+      → reported_text (take (i + 1) ts) ≡ reported_text (take i ts) ++ whole_text t
+  one_reply t within is = ap reported_text (take_more ts i t within) ∙ reported_more (take i ts) (get_or ts i t)
+      ∙ ap (λ x. reported_text (take i ts) ++ whole_text x) (sym is)
 
   pub adds_reply : (t : WrittenAnswer) → i < length ts → t ≡ get_or ts i t → IsAdded g1 (whole_text t) g2 w1 w2
-      → IsAdded [] (told_text (take (i + 1) ts)) g2 w0 w2
+      → IsAdded [] (reported_text (take (i + 1) ts)) g2 w0 w2
   adds_reply t within is h =
-      added_both [] g1 g2 (told_text (take i ts)) (whole_text t) (told_text (take (i + 1) ts)) w0 w1 w2
+      added_both [] g1 g2 (reported_text (take i ts)) (whole_text t) (reported_text (take (i + 1) ts)) w0 w1 w2
       (sym (one_reply t within is)) so_far h
 
   pub front_at_reply : (t : WrittenAnswer) → i < length ts → t ≡ get_or ts i t → AppendsFront w1 w2 (g1 ++ whole_text t)
-      → AppendsFront w0 w2 (told_text ts)
+      → AppendsFront w0 w2 (reported_text ts)
   front_at_reply t within is h =
-      let front : AppendsFront w0 w2 (told_text (take (i + 1) ts)) =
-      front_of_second [] g1 (told_text (take i ts)) (whole_text t) (told_text (take (i + 1) ts)) w0 w1 w2
+      let front : AppendsFront w0 w2 (reported_text (take (i + 1) ts)) =
+      front_of_second [] g1 (reported_text (take i ts)) (whole_text t) (reported_text (take (i + 1) ts)) w0 w1 w2
       (sym (one_reply t within is)) so_far h in
-      let all : told_text (take (i + 1) ts) ++ told_text (drop (i + 1) ts) ≡ told_text ts =
-      sym (told_both (take (i + 1) ts) (drop (i + 1) ts)) ∙ ap told_text (take-append-drop (i + 1) ts) in
-      subst (AppendsFront w0 w2) all (front_of_more w0 w2 (told_text (take (i + 1) ts))
-      (told_text (drop (i + 1) ts)) front)
+      let all : reported_text (take (i + 1) ts) ++ reported_text (drop (i + 1) ts) ≡ reported_text ts =
+      sym (reported_both (take (i + 1) ts) (drop (i + 1) ts)) ∙ ap reported_text (take-append-drop (i + 1) ts) in
+      subst (AppendsFront w0 w2) all (front_of_more w0 w2 (reported_text (take (i + 1) ts))
+      (reported_text (drop (i + 1) ts)) front)
 
-  all_added : length ts ≤ i → so_far.0 ++ g1 ≡ told_text ts
-  all_added over = so_far.2 ∙ ap told_text (take_all i ts over)
+  all_added : length ts ≤ i → so_far.0 ++ g1 ≡ reported_text ts
+  all_added over = so_far.2 ∙ ap reported_text (take_all i ts over)
 
-  pub all_sent : length ts ≤ i → Appends w1 w2 g1 → Appends w0 w2 (told_text ts)
+  pub all_sent : length ts ≤ i → Appends w1 w2 g1 → Appends w0 w2 (reported_text ts)
   all_sent over h = subst (Appends w0 w2) (all_added over) (appends_both w0 w1 w2 so_far.0 g1 so_far.1 h)
 
-  pub front_sent : length ts ≤ i → AppendsFront w1 w2 g1 → AppendsFront w0 w2 (told_text ts)
+  pub front_sent : length ts ≤ i → AppendsFront w1 w2 g1 → AppendsFront w0 w2 (reported_text ts)
   front_sent over h = subst (AppendsFront w0 w2) (all_added over) (front_of_both w0 w1 w2 so_far.0 g1 so_far.1 h)
 
 -- ---- files that were printed before
@@ -217,17 +218,17 @@ pub none_in : (last t : WrittenAnswer) → Some last ≡ Some t → last.report 
 none_in last t is none = let same : last ≡ t = cc in subst (λ (x : WrittenAnswer). x.report ≡ None) same none
 
 -- that of two which have no report, as one
-pub joined_text : (t told : WrittenAnswer) (text : Vec ℕ) → t.report ≡ None → told.report ≡ None
-    → text.items ≡ t.text.items ++ told.text.items
-    → with_report text.items t.report ≡ whole_text t ++ whole_text told
-joined_text t told text none none_told both =
+pub joined_text : (t reported : WrittenAnswer) (text : Vec ℕ) → t.report ≡ None → reported.report ≡ None
+    → text.items ≡ t.text.items ++ reported.text.items
+    → with_report text.items t.report ≡ whole_text t ++ whole_text reported
+joined_text t reported text none none_reported both =
     ap (with_report text.items) none ∙ both ∙ sym
-    (λ i. with_report t.text.items (none i) ++ with_report told.text.items (none_told i))
+    (λ i. with_report t.text.items (none i) ++ with_report reported.text.items (none_reported i))
 
 -- it is longer by a text
 pub longer_last : (ts : List WrittenAnswer) (i : ℕ) (t x : WrittenAnswer) (more : List ℕ) → length ts ≡ i + 1
     → slice_get ts i ≡ Some t → whole_text x ≡ whole_text t ++ more
-    → told_text (set ts i x) ≡ told_text ts ++ more
+    → reported_text (set ts i x) ≡ reported_text ts ++ more
 longer_last [] i t x more len is longer = absurd (cc)
 longer_last (u ∷ []) zero t x more len is longer =
     let same : u ≡ t = cc in
@@ -237,4 +238,4 @@ longer_last (u ∷ []) zero t x more len is longer =
 longer_last (u ∷ v ∷ ts) zero t x more len is longer = absurd (omega (arith, len))
 longer_last (u ∷ ts) (suc i) t x more len is longer =
     ap (λ (y : List ℕ). whole_text u ++ y) (longer_last ts i t x more (omega (arith, len)) is longer)
-    ∙ sym (append_assoc (whole_text u) (told_text ts) more)
+    ∙ sym (append_assoc (whole_text u) (reported_text ts) more)

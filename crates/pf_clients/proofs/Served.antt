@@ -8,53 +8,54 @@ use Rattle.pf_errors.specs.declared.fault.OrNoMemory.{OrNoMemory}
 use Rattle.pf_streams.specs.declared.stream.StreamFault.{StreamFault}
 use Rattle.pf_farm_accounts.specs.Rows.{HaveEnded}
 use Rattle.pf_book.specs.Profile.{ForRight}
-use Rattle.pf_farm_laws.specs.Told.{AgreesWithHistories}
+use Rattle.pf_farm_laws.specs.Reported.{AgreesWithHistories}
 use Rattle.pf_farm_state.specs.Clients.{ClientView, all_receipts, closed_as, empty_client, AreFull, AreLegal}
 use Rattle.pf_farm_state.specs.Clients.{AreTheCalls}
 use Rattle.pf_farm_state.specs.declared.client.ClosedSeat.{ClosedSeat}
 use Rattle.pf_farm_state.specs.declared.closing.Closing.{Closing}
-use Rattle.pf_wire.specs.declared.told.WrittenAnswer.{WrittenAnswer}
-use Rattle.pf_clients.specs.declared.told.ClientAnswers.{ClientAnswers}
+use Rattle.pf_wire.specs.declared.reported.WrittenAnswer.{WrittenAnswer}
+use Rattle.pf_clients.specs.declared.reported.ClientAnswers.{ClientAnswers}
 use Rattle.pf_clients.specs.declared.client.FileEnd.{FileEnd}
 use Rattle.pf_clients.specs.Farms.{answers_of, client_text, ClientText, AreAnswered, FarmLeaves, FarmOf, FarmPrints}
 use Rattle.pf_clients.specs.Farms.{Prints, PrintsInPart}
 use Rattle.pf_clients.specs.Lines.{AnswersFile, IsNew, IsServed}
 use Rattle.pf_clients.specs.Pairs.{EachTwo}
-use Rattle.pf_clients.specs.Texts.{told_text}
+use Rattle.pf_clients.specs.Texts.{reported_text}
 
 pub new_seat : (s : ClientView) (k : ℕ) → s ≡ empty_client k → s ≡ empty_client s.project
 new_seat s k e = e ∙ ap empty_client (sym (ap (λ (x : ClientView). x.project) e))
 
-module _ {F C : Type 0} (seat : C → ClientView) (file : C → Option F) (told : C → Vec WrittenAnswer) (ended : C
+module _ {F C : Type 0} (seat : C → ClientView) (file : C → Option F) (reported : C → Vec WrittenAnswer) (ended : C
     → FileEnd) where
   abbrev IsSeated : ℕ → F → C → Type 0
-  IsSeated k f c = (seat c ≡ empty_client k) × (file c ≡ Some f) × ((told c).items ≡ [])
+  IsSeated k f c = (seat c ≡ empty_client k) × (file c ≡ Some f) × ((reported c).items ≡ [])
 
   pub all_new : (k : ℕ) (fs : List F) (cs : List C) → EachTwo IsSeated k fs cs
-      → All (λ c. IsNew (seat c) (told c).items) cs
-  all_new k [] [] h = All-nil (λ c. IsNew (seat c) (told c).items)
+      → All (λ c. IsNew (seat c) (reported c).items) cs
+  all_new k [] [] h = All-nil (λ c. IsNew (seat c) (reported c).items)
   all_new k [] (c ∷ cs) h = absurd h
   all_new k (f ∷ fs) [] h = absurd h
   all_new k (f ∷ fs) (c ∷ cs) h =
-      let one : IsNew (seat c) (told c).items = (new_seat (seat c) k h.0.0, h.0.2) in
-      All-cons (λ c. IsNew (seat c) (told c).items) c cs one (all_new (suc k) fs cs h.1)
+      let one : IsNew (seat c) (reported c).items = (new_seat (seat c) k h.0.0, h.0.2) in
+      All-cons (λ c. IsNew (seat c) (reported c).items) c cs one (all_new (suc k) fs cs h.1)
 
   -- the client of a file of a project was served, and this is its seat
   file_answered : (remaining : F → Option (List ℕ)) (k : ℕ) (f : F) (c d : C) (s : ClosedSeat) → IsSeated k f c
-      → IsServed remaining (file c) (seat c).project (seat d) (told d).items (ended d) → closed_as s ≡ seat d
-      → AnswersFile k (remaining f) (closed_as s) (told_text (told d).items) (ended d)
+      → IsServed remaining (file c) (seat c).project (seat d) (reported d).items (ended d) → closed_as s ≡ seat d
+      → AnswersFile k (remaining f) (closed_as s) (reported_text (reported d).items) (ended d)
   file_answered remaining k f c d s seated served same =
       let q : (seat c).project ≡ k = ap (λ (x : ClientView). x.project) seated.0 in
-      let one : IsServed remaining (Some f) (seat c).project (seat d) (told d).items (ended d) =
-      subst (λ o. IsServed remaining o (seat c).project (seat d) (told d).items (ended d)) seated.1 served in
-      let P : ℕ × ClientView → Type 0 = λ x. AnswersFile x.0 (remaining f) x.1 (told_text (told d).items) (ended d) in
+      let one : IsServed remaining (Some f) (seat c).project (seat d) (reported d).items (ended d) =
+      subst (λ o. IsServed remaining o (seat c).project (seat d) (reported d).items (ended d)) seated.1 served in
+      let P : ℕ × ClientView → Type 0 = λ x. AnswersFile x.0 (remaining f) x.1 (reported_text (reported d).items)
+      (ended d) in
       subst P (λ i. (q i, sym same i)) one
 
   pub all_answered : (remaining : F → Option (List ℕ)) (k j : ℕ) (fs : List F) (cs ds : List C) (ss : List ClosedSeat)
       → EachTwo IsSeated k fs cs
-      → EachTwo (λ n c d. IsServed remaining (file c) (seat c).project (seat d) (told d).items (ended d)) j cs ds
+      → EachTwo (λ n c d. IsServed remaining (file c) (seat c).project (seat d) (reported d).items (ended d)) j cs ds
       → map closed_as ss ≡ map seat ds
-      → AreAnswered k (map remaining fs) ss (map client_text (map (λ d. answers_of (told d) (ended d)) ds))
+      → AreAnswered k (map remaining fs) ss (map client_text (map (λ d. answers_of (reported d) (ended d)) ds))
   all_answered remaining k j [] [] [] [] seated served same = tt
   all_answered remaining k j [] [] [] (s ∷ ss) seated served same = absurd (cc)
   all_answered remaining k j [] [] (d ∷ ds) ss seated served same = absurd served
@@ -73,8 +74,8 @@ module _ {F C : Type 0} (seat : C → ClientView) (file : C → Option F) (told 
   pub farm_answered : (remaining : F → Option (List ℕ)) (fs : List F) (cs ds whole : List C) (closing : Closing)
       (seats : List ClientView) (answers : List ClientAnswers)
       → EachTwo IsSeated 1 fs cs → EachTwo (λ n c d. IsServed remaining (file c) (seat c).project (seat d)
-      (told d).items (ended d)) 1 cs ds → whole ≡ ds
-      → seats ≡ map seat whole → answers ≡ map (λ d. answers_of (told d) (ended d)) whole
+      (reported d).items (ended d)) 1 cs ds → whole ≡ ds
+      → seats ≡ map seat whole → answers ≡ map (λ d. answers_of (reported d) (ended d)) whole
       → map closed_as closing.seats.items ≡ seats
       → ForRight (λ p. AreTheCalls (all_receipts closing.seats.items) closing.book)
       → ForRight (λ p. AreLegal p closing.seats.items closing.book)
@@ -82,10 +83,10 @@ module _ {F C : Type 0} (seat : C → ClientView) (file : C → Option F) (told 
       → ForRight (λ p. AgreesWithHistories closing.rows.items closing.book)
       → FarmOf (map remaining fs) (map client_text answers)
   farm_answered remaining fs cs ds whole closing seats answers seated served all are_seats are_answers same receipts
-      legal full over are_told =
+      legal full over are_reported =
       let same_seats = same ∙ are_seats ∙ ap (λ (xs : List C). map seat xs) all in
-      let same_answers : answers ≡ map (λ d. answers_of (told d) (ended d)) ds =
-      are_answers ∙ ap (λ (xs : List C). map (λ d. answers_of (told d) (ended d)) xs) all in
+      let same_answers : answers ≡ map (λ d. answers_of (reported d) (ended d)) ds =
+      are_answers ∙ ap (λ (xs : List C). map (λ d. answers_of (reported d) (ended d)) xs) all in
       record {
         closing = closing;
         answered = subst (λ (a : List ClientAnswers). AreAnswered 1 (map remaining fs) closing.seats.items
@@ -95,7 +96,7 @@ module _ {F C : Type 0} (seat : C → ClientView) (file : C → Option F) (told 
         legal = legal;
         full = full;
         ended = over;
-        told = are_told;
+        reported = are_reported;
       }
 
 module _ (inputs : List (Option (List ℕ))) (clients : List ClientText) (farm : FarmOf inputs clients)

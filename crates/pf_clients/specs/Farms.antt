@@ -2,7 +2,7 @@
 use Rattle.std.specs.Prelude.{◌≡◌, ◌⊎◌, ⊤, ℕ, suc, ◌+◌, List, [], ◌∷◌, ◌++◌, Option, Some, None}
 use Rattle.std.specs.Io.KnownBytes.{Appends}
 use Rattle.std.specs.Global.{Vec}
-use Rattle.pf_wire.specs.declared.told.WrittenAnswer as wire
+use Rattle.pf_wire.specs.declared.reported.WrittenAnswer as wire
 use Rattle.pf_errors.specs.declared.fault.OrNoMemory.{OrNoMemory}
 use Rattle.pf_errors.specs.declared.fault.OrNoMemory.TheVariants.{Fault, NoMemory}
 use Rattle.pf_streams.specs.declared.stream.StreamFault.{StreamFault}
@@ -12,15 +12,15 @@ use Rattle.pf_desks.specs.History.{IsLegalDesk}
 use Rattle.pf_desks.specs.Desks.{desk_at}
 use Rattle.pf_farm_accounts.specs.Rows.{HaveEnded}
 use Rattle.pf_book.specs.Profile.{ForRight}
-use Rattle.pf_farm_laws.specs.Told.{AgreesWithHistories}
+use Rattle.pf_farm_laws.specs.Reported.{AgreesWithHistories}
 use Rattle.pf_farm_state.specs.Clients.{all_receipts, closed_as, AreFull, AreLegal, AreTheCalls}
 use Rattle.pf_farm_state.specs.declared.client.ClosedSeat.{ClosedSeat}
 use Rattle.pf_farm_state.specs.declared.closing.Closing.{Closing}
 use Rattle.pf_clients.specs.declared.client.FileEnd.{FileEnd}
 use Rattle.pf_clients.specs.declared.client.FileEnd.TheVariants.{Answered, NoCommand, Unread, NoMemory as OutOfMemory}
-use Rattle.pf_clients.specs.declared.told.ClientAnswers.{ClientAnswers}
+use Rattle.pf_clients.specs.declared.reported.ClientAnswers.{ClientAnswers}
 use Rattle.pf_clients.specs.Lines.{AnswersFile}
-use Rattle.pf_clients.specs.Texts.{told_text}
+use Rattle.pf_clients.specs.Texts.{reported_text}
 
 -- ---- what goes out
 
@@ -30,10 +30,10 @@ pub record ClientText : Type 0 where
   pub ended : FileEnd
 
 abbrev pub answers_of : Vec wire.WrittenAnswer → FileEnd → ClientAnswers
-answers_of told e = record { told = told; ended = e }
+answers_of reported e = record { reported = reported; ended = e }
 
 abbrev pub client_text : ClientAnswers → ClientText
-client_text a = record { text = told_text a.told.items; ended = a.ended }
+client_text a = record { text = reported_text a.reported.items; ended = a.ended }
 
 -- why no file is printed after one that ended so, if none is
 abbrev pub stop_at : FileEnd → Option (OrNoMemory StreamFault)
@@ -102,7 +102,7 @@ pub record FarmOf (inputs : List (Option (List ℕ))) (clients : List ClientText
   pub legal : ForRight (λ p. AreLegal p closing.seats.items closing.book)
   pub full : ForRight (λ p. AreFull closing.seats.items closing.book)
   pub ended : HaveEnded closing.rows.items
-  pub told : ForRight (λ p. AgreesWithHistories closing.rows.items closing.book)
+  pub reported : ForRight (λ p. AgreesWithHistories closing.rows.items closing.book)
 
 -- what such a farm answered its clients was printed
 abbrev pub FarmPrints : List (Option (List ℕ)) → (status : ℕ) → (written_old written_new : Option (List ℕ)) → Type 0

@@ -7,7 +7,7 @@ use Rattle.pf_errors.specs.declared.memory.NoMemory.{NoMemory}
 use Rattle.pf_request.specs.Calls.{Call}
 use Rattle.pf_request.specs.View.{view_of_call}
 use Rattle.pf_desks.specs.Desk.{Reply, refused}
-use Rattle.pf_desks.specs.Told.{reply_text, to_project}
+use Rattle.pf_desks.specs.Reported.{reply_text, to_project}
 use Rattle.pf_desks.specs.Desks.{replied}
 use Rattle.pf_world.specs.Chores as chores
 use Rattle.pf_world.specs.Chores.{answer}
@@ -16,10 +16,10 @@ use Rattle.pf_book.specs.View.{view_of_reply}
 use Rattle.pf_farm_state.specs.Clients.{ClientReplies, ClientView, empty_client, full_seat, with_receipt}
 use Rattle.pf_protocol.specs.Clients.{ClientLine, calls, awaits, client_line_at}
 use Rattle.pf_wire.specs.Steps.{AreRead, last_text}
-use Rattle.pf_wire.specs.declared.told.WrittenAnswer as wire
+use Rattle.pf_wire.specs.declared.reported.WrittenAnswer as wire
 use Rattle.pf_clients.specs.declared.client.FileEnd.{FileEnd}
 use Rattle.pf_clients.specs.declared.client.FileEnd.TheVariants.{Answered, NoCommand, Unread, NoMemory as OutOfMemory}
-use Rattle.pf_clients.specs.Texts.{told_text}
+use Rattle.pf_clients.specs.Texts.{reported_text}
 
 -- ---- one line
 
@@ -108,7 +108,7 @@ AnswersLines q bytes s (l ∷ ls) rest s' =
 -- how a file ends after so many lines, of which this rest is left, and what is answered of the end: nothing is left; or
 -- what is left begins with no command, and that is answered; or the file can't be read, and none of its lines was; or
 -- memory ran out
-abbrev pub EndsAt : FileEnd → (lines : ℕ) → (rest : List ℕ) → (was is : ClientView) → (told : List ℕ) → Type 0
+abbrev pub EndsAt : FileEnd → (lines : ℕ) → (rest : List ℕ) → (was is : ClientView) → (reported : List ℕ) → Type 0
 EndsAt Answered n rest s s' t = (rest ≡ []) × (s' ≡ s) × (t ≡ [])
 EndsAt NoCommand n rest s s' t = (client_line_at s.project rest ≡ None) × ¬ (rest ≡ []) × (s' ≡ s)
     × (t ≡ last_text false (n + 1))
@@ -121,10 +121,10 @@ pub record AnswersBytes (bytes : List ℕ) (was is : ClientView) (before after :
   pub lines : List Line
   pub rest : List ℕ
   pub last : ClientView
-  pub told : List ℕ
+  pub reported : List ℕ
   pub answered : AnswersLines was.project bytes was lines rest last
-  pub ends : EndsAt ended (length lines) rest last is told
-  pub text : after ≡ before ++ (lines_text was.project lines ++ told)
+  pub ends : EndsAt ended (length lines) rest last is reported
+  pub text : after ≡ before ++ (lines_text was.project lines ++ reported)
 
 -- the client of a project's file was answered this text: of the first 67,108,864 bytes of the file, if it is known what
 -- there is. Its seat began empty
@@ -134,10 +134,11 @@ AnswersFile q input s text ended = (bytes : List ℕ) × AreRead input bytes × 
 
 -- a client's seat has no receipt yet, and it was answered nothing
 abbrev pub IsNew : ClientView → List wire.WrittenAnswer → Type 0
-IsNew s told = (s ≡ empty_client s.project) × (told ≡ [])
+IsNew s reported = (s ≡ empty_client s.project) × (reported ≡ [])
 
 -- the lines of a client's file, if it had one, were answered: this is left of its seat, this is what it was answered,
 -- and so its file ended
 abbrev pub IsServed : {R : Type 0} → (remaining : R → Option (List ℕ)) → Option R → (project : ℕ) → (seat : ClientView)
     → List wire.WrittenAnswer → FileEnd → Type 0
-IsServed remaining file q s told ended = IfSome file (λ f. AnswersFile q (remaining f) s (told_text told) ended)
+IsServed remaining file q s reported ended = IfSome file
+    (λ f. AnswersFile q (remaining f) s (reported_text reported) ended)

@@ -12,7 +12,7 @@ ghost use Rattle.pf_clients.specs.Faults.{ended_by};
 ghost use Rattle.pf_pool.specs.Responses.{response_in};
 ghost use Rattle.pf_clients.specs.Lines.{answer_in, call_text, AnswersBytes, AnswersFront, AnswersLine, CutsFront};
 ghost use Rattle.pf_clients.specs.Lines.{CutsLine, IsNew, IsServed};
-ghost use Rattle.pf_clients.specs.Texts.{told_text, EndsInText};
+ghost use Rattle.pf_clients.specs.Texts.{reported_text, EndsInText};
 
 use crate::watch::Watch;
 use pf_book::Reply;
@@ -63,7 +63,7 @@ fn stopped(stop: OrNoMemory<StreamFault>) -> FileEnd
 pub(crate) struct Client<N: FarmNames, R> {
     pub seat: ClientSeat<N>,
     pub file: Option<R>,
-    pub told: Vec<WrittenAnswer>,
+    pub reported: Vec<WrittenAnswer>,
     pub ended: FileEnd,
 }
 
@@ -102,12 +102,17 @@ fn text_of(
     ensures { IfOk result (λ t. whole_text t ≡ call_text project outcome) }
 {
     let response = response_of(outcome);
-    let mut told = WrittenAnswer {
+    let mut reported = WrittenAnswer {
         text: Vec::new(alloc),
         report: None,
     };
-    put_outcome(alloc, &mut told, Requester::Client { project }, response)?;
-    Ok(told)
+    put_outcome(
+        alloc,
+        &mut reported,
+        Requester::Client { project },
+        response,
+    )?;
+    Ok(reported)
 }
 
 /// The text that says that the line of this number is no command.
@@ -120,10 +125,10 @@ fn refusal(alloc: Global, number: u64) -> Result<WrittenAnswer, NoMemory>
 }
 
 /// Whether an answer may join the last text: neither has a report, and that text isn't long.
-fn joins(all: &[WrittenAnswer], told: &WrittenAnswer) -> bool
-    ensures { OnTrue result ((told.now.report ≡ None) × EndsInText all.now) }
+fn joins(all: &[WrittenAnswer], reported: &WrittenAnswer) -> bool
+    ensures { OnTrue result ((reported.now.report ≡ None) × EndsInText all.now) }
 {
-    if told.report.is_some() {
+    if reported.report.is_some() {
         return false;
     }
     match all.last() {
@@ -133,15 +138,15 @@ fn joins(all: &[WrittenAnswer], told: &WrittenAnswer) -> bool
 }
 
 /// Adds an answer, to the last text where it may join that.
-fn add(all: &mut Vec<WrittenAnswer>, told: WrittenAnswer) -> Result<(), NoMemory>
-    ensures added { OnOk result (told_text all.new.items ≡ told_text all.old.items ++ whole_text told) }
-    ensures err { OnErr result (told_text all.new.items ≡ told_text all.old.items) }
+fn add(all: &mut Vec<WrittenAnswer>, reported: WrittenAnswer) -> Result<(), NoMemory>
+    ensures added { OnOk result (reported_text all.new.items ≡ reported_text all.old.items ++ whole_text reported) }
+    ensures err { OnErr result (reported_text all.new.items ≡ reported_text all.old.items) }
 {
-    if joins(all, &told) {
+    if joins(all, &reported) {
         let last = all.len() - 1;
-        all[last].text.extend_from_slice(&told.text)?;
+        all[last].text.extend_from_slice(&reported.text)?;
     } else {
-        all.push(told)?;
+        all.push(reported)?;
     }
     Ok(())
 }
@@ -149,9 +154,9 @@ fn add(all: &mut Vec<WrittenAnswer>, told: WrittenAnswer) -> Result<(), NoMemory
 impl<N: FarmNames, R: Read + Drop> Client<N, R> {
     /// Answers the lines of its file, at most 64 MiB of it, up to one that is no command.
     pub fn work<T: Wait, G: Watch>(&mut self, alloc: Global, rt: &T, floor: &Floor<N>, watch: &G)
-        requires { IsNew self.old.seat self.old.told.items }
+        requires { IsNew self.old.seat self.old.reported.items }
         ensures { IsServed R.remaining self.old.file self.old.seat.project
-            self.new.seat self.new.told.items self.new.ended }
+            self.new.seat self.new.reported.items self.new.ended }
     {
         self.ended = self.answer_file(alloc, rt, floor, watch);
     }
@@ -164,9 +169,9 @@ impl<N: FarmNames, R: Read + Drop> Client<N, R> {
         floor: &Floor<N>,
         watch: &G,
     ) -> FileEnd
-        requires { IsNew self.old.seat self.old.told.items }
+        requires { IsNew self.old.seat self.old.reported.items }
         ensures { IsServed R.remaining self.old.file self.old.seat.project
-            self.new.seat self.new.told.items result }
+            self.new.seat self.new.reported.items result }
     {
         let Some(file) = self.file.take() else {
             return FileEnd::Answered;
@@ -188,7 +193,7 @@ impl<N: FarmNames, R: Read + Drop> Client<N, R> {
     ) -> FileEnd
         requires { length bytes.now ≤ MOST_BYTES }
         ensures { AnswersBytes bytes.now self.old.seat self.new.seat
-            (told_text self.old.told.items) (told_text self.new.told.items) result }
+            (reported_text self.old.reported.items) (reported_text self.new.reported.items) result }
     {
         let mut rest = bytes;
         let mut number: u64 = 1;
@@ -217,9 +222,11 @@ impl<N: FarmNames, R: Read + Drop> Client<N, R> {
         bytes: &'a [u8],
     ) -> Result<Option<&'a [u8]>, NoMemory>
         ensures answered { IfOk result (λ rest. AnswersFront bytes.now number (option_copied rest)
-            self.old.seat self.new.seat (told_text self.old.told.items) (told_text self.new.told.items)) }
+            self.old.seat self.new.seat (reported_text self.old.reported.items)
+            (reported_text self.new.reported.items)) }
         ensures err { OnErr result (CutsFront bytes.now
-            self.old.seat self.new.seat (told_text self.old.told.items) (told_text self.new.told.items)) }
+            self.old.seat self.new.seat (reported_text self.old.reported.items)
+            (reported_text self.new.reported.items)) }
     {
         match read_client_line(alloc, self.seat.project(), bytes) {
             Ok((line, rest)) => {
@@ -227,8 +234,8 @@ impl<N: FarmNames, R: Read + Drop> Client<N, R> {
                 Ok(Some(rest))
             }
             Err(OrNoMemory::Fault(NoCommand)) => {
-                let told = refusal(alloc, number)?;
-                add(&mut self.told, told)?;
+                let reported = refusal(alloc, number)?;
+                add(&mut self.reported, reported)?;
                 Ok(None)
             }
             Err(OrNoMemory::NoMemory) => Err(NoMemory),
@@ -245,9 +252,11 @@ impl<N: FarmNames, R: Read + Drop> Client<N, R> {
         line: ClientLine,
     ) -> Result<(), NoMemory>
         ensures answered { OnOk result (AnswersLine (view_of_client_line line)
-            self.old.seat self.new.seat (told_text self.old.told.items) (told_text self.new.told.items)) }
+            self.old.seat self.new.seat (reported_text self.old.reported.items)
+            (reported_text self.new.reported.items)) }
         ensures err { OnErr result (CutsLine (view_of_client_line line)
-            self.old.seat self.new.seat (told_text self.old.told.items) (told_text self.new.told.items)) }
+            self.old.seat self.new.seat (reported_text self.old.reported.items)
+            (reported_text self.new.reported.items)) }
     {
         match line {
             ClientLine::Call(call) => self.answer_call(alloc, rt, floor, watch, call),
@@ -269,16 +278,18 @@ impl<N: FarmNames, R: Read + Drop> Client<N, R> {
         call: Call,
     ) -> Result<(), NoMemory>
         ensures answered { OnOk result (AnswersLine (calls (view_of_call call))
-            self.old.seat self.new.seat (told_text self.old.told.items) (told_text self.new.told.items)) }
+            self.old.seat self.new.seat (reported_text self.old.reported.items)
+            (reported_text self.new.reported.items)) }
         ensures err { OnErr result (CutsLine (calls (view_of_call call))
-            self.old.seat self.new.seat (told_text self.old.told.items) (told_text self.new.told.items)) }
+            self.old.seat self.new.seat (reported_text self.old.reported.items)
+            (reported_text self.new.reported.items)) }
     {
         let project = self.seat.project();
         let outcome = floor.call(alloc, rt, &mut self.seat, call);
         if let Ok(Reply::Ticket(_)) = &outcome {
             watch.ordered(project);
         }
-        let told = text_of(alloc, project, outcome)?;
-        add(&mut self.told, told)
+        let reported = text_of(alloc, project, outcome)?;
+        add(&mut self.reported, reported)
     }
 }

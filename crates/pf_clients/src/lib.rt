@@ -2,9 +2,9 @@
 #![tactic(auto)]
 
 mod client;
+mod reported;
 mod run;
 mod start;
-mod told;
 mod watch;
 
 pub use run::run_farm;

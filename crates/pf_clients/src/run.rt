@@ -12,8 +12,8 @@ ghost use Rattle.pf_farm.specs.Farms.{opened_farm};
 ghost use Rattle.pf_farm.specs.Seats.{AllIdle, IsRing};
 
 use crate::client::{Client, FileEnd};
+use crate::reported::{ClientAnswers, write_all};
 use crate::start::FarmStart;
-use crate::told::{ClientAnswers, write_all};
 use crate::watch::Watch;
 use pf_errors::{NoMemory, OrNoMemory};
 use pf_farm::{Blanks, ClientSeat, Farm, Floor, Gate, MOST_SEATS, NoSeat, WorkSeat, work_all};
@@ -72,12 +72,12 @@ pub fn run_farm<
     let floor = farm.floor();
     let start = FarmStart::new();
     let begun = serve(alloc, rt, floor, gate, &start, &mut clients, &mut seats);
-    tell_work(&seats, gate);
+    notify_work(&seats, gate);
     let ClientSeats {
-        seats: told,
+        seats: reported,
         answers,
     } = parted(clients, room);
-    let closing = farm.close(told, seats);
+    let closing = farm.close(reported, seats);
     closing.look_up();
     if !begun {
         let error = Error::new(ErrorKind::Other, "no thread can be started");
@@ -96,8 +96,8 @@ fn seated<N: FarmNames, R: Drop>(
     requires files { vec_len files ≤ MOST_SEATS }
     ensures clients { IfOk result (λ v. vec_len v ≡ vec_len files) }
     ensures seated { IfOk result (λ v. EachTwo (λ k f c.
-        (c.seat ≡ empty_client k) × (c.file ≡ Some f) × (c.told.items ≡ [])) 1 files.items v.items) }
-    ensures new { IfOk result (λ v. All (λ c. IsNew c.seat c.told.items) v.items) }
+        (c.seat ≡ empty_client k) × (c.file ≡ Some f) × (c.reported.items ≡ [])) 1 files.items v.items) }
+    ensures new { IfOk result (λ v. All (λ c. IsNew c.seat c.reported.items) v.items) }
     ensures given { IfOk result (λ v. farm.new ≡ opened_farm farm.old.workers (vec_len files)) }
 {
     let mut clients = Vec::new(alloc);
@@ -112,7 +112,7 @@ fn seated<N: FarmNames, R: Drop>(
         clients.push(Client {
             seat,
             file: Some(file),
-            told: Vec::new(alloc),
+            reported: Vec::new(alloc),
             ended: FileEnd::Answered,
         })?;
     }
@@ -137,11 +137,11 @@ fn serve<
     seats: &'a mut [WorkSeat<N>],
 ) -> bool
     requires some { (0 < length clients.old) × (0 < length seats.old) }
-    requires new { All (λ c. IsNew c.seat c.told.items) clients.old }
+    requires new { All (λ c. IsNew c.seat c.reported.items) clients.old }
     requires idle { AllIdle seats.old }
     ensures clients { length clients.new ≡ length clients.old }
     ensures served { OnTrue result (EachTwo (λ k c d. IsServed R.remaining c.file c.seat.project
-        d.seat d.told.items d.ended) 1 clients.old clients.new) }
+        d.seat d.reported.items d.ended) 1 clients.old clients.new) }
     ensures seats { length seats.new ≡ length seats.old }
     ensures ring { IsRing seats.old → IsRing seats.new }
     ensures idle { AllIdle seats.new }
@@ -153,10 +153,10 @@ fn serve<
         ensures idle { AllIdle seats.exit.now }
     { farm_out(alloc, rt, floor, gate, start, seats) };
     let mut answer = || -> bool
-        requires { (0 < length clients.now) × All (λ c. IsNew c.seat c.told.items) clients.now }
+        requires { (0 < length clients.now) × All (λ c. IsNew c.seat c.reported.items) clients.now }
         ensures len { length clients.exit.now ≡ length clients.entry.now }
         ensures served { OnTrue result (EachTwo (λ k c d. IsServed R.remaining c.file c.seat.project
-            d.seat d.told.items d.ended) 1 clients.entry.now clients.exit.now) }
+            d.seat d.reported.items d.ended) 1 clients.entry.now clients.exit.now) }
     { answer_all(alloc, rt, floor, gate, start, clients) };
     join_mut(rt, &mut work, &mut answer).1
 }
@@ -196,10 +196,10 @@ fn answer_all<
     clients: &mut [Client<N, R>],
 ) -> bool
     requires some { 0 < length clients.old }
-    requires new { All (λ c. IsNew c.seat c.told.items) clients.old }
+    requires new { All (λ c. IsNew c.seat c.reported.items) clients.old }
     ensures len { length clients.new ≡ length clients.old }
     ensures served { OnTrue result (EachTwo (λ k c d. IsServed R.remaining c.file c.seat.project
-        d.seat d.told.items d.ended) 1 clients.old clients.new) }
+        d.seat d.reported.items d.ended) 1 clients.old clients.new) }
 {
     let begun = start.wait(rt);
     if begun {
@@ -217,22 +217,22 @@ fn answer_each<
     G: Watch + Sync,
 >(alloc: Global, rt: &T, floor: &Floor<N>, watch: &G, clients: &mut [Client<N, R>])
     requires some { 0 < length clients.old }
-    requires new { All (λ c. IsNew c.seat c.told.items) clients.old }
+    requires new { All (λ c. IsNew c.seat c.reported.items) clients.old }
     ensures len { length clients.new ≡ length clients.old }
     ensures served { EachTwo (λ k c d. IsServed R.remaining c.file c.seat.project
-        d.seat d.told.items d.ended) 1 clients.old clients.new }
+        d.seat d.reported.items d.ended) 1 clients.old clients.new }
 {
     let count = clients.len();
     let work_one = move |_: usize, client: &mut Client<N, R>|
-        requires { IsNew client.now.seat client.now.told.items }
+        requires { IsNew client.now.seat client.now.reported.items }
         ensures { IsServed R.remaining client.entry.now.file client.entry.now.seat.project
-            client.exit.now.seat client.exit.now.told.items client.exit.now.ended }
+            client.exit.now.seat client.exit.now.reported.items client.exit.now.ended }
     { client.work(alloc, rt, floor, watch) };
     for_each_mut(rt, clients, count, &work_one);
 }
 
-/// Tells what each worker did.
-fn tell_work<N: FarmNames, G: Watch>(seats: &[WorkSeat<N>], watch: &G) {
+/// Reports what each worker did.
+fn notify_work<N: FarmNames, G: Watch>(seats: &[WorkSeat<N>], watch: &G) {
     for (worker, seat) in seats.iter().enumerate() {
         watch.worked(worker, seat.tally());
     }
@@ -252,7 +252,7 @@ fn parted<N: FarmNames, R: Drop>(clients: Vec<Client<N, R>>, room: ClientSeats<N
     requires answers { vec_len clients ≤ vec_capacity room.answers }
     ensures len { vec_len result.seats ≡ vec_len clients }
     ensures seats { result.seats.items ≡ map (λ c. c.seat) clients.items }
-    ensures answers { result.answers.items ≡ map (λ c. answers_of c.told c.ended) clients.items }
+    ensures answers { result.answers.items ≡ map (λ c. answers_of c.reported c.ended) clients.items }
 {
     let ClientSeats {
         mut seats,
@@ -262,11 +262,11 @@ fn parted<N: FarmNames, R: Drop>(clients: Vec<Client<N, R>>, room: ClientSeats<N
         let Client {
             seat,
             file: _,
-            told,
+            reported,
             ended,
         } = client;
         seats.push_reserved(seat);
-        answers.push_reserved(ClientAnswers { told, ended });
+        answers.push_reserved(ClientAnswers { reported, ended });
     }
     ClientSeats { seats, answers }
 }

@@ -1,59 +1,79 @@
--- What is answered of runs, by their own choices or by priorities.
-use Rattle.std.proofs.Common.{◌≡◌, ℕ, List, Ok, Err, None, Some, sym, ap, subst}
-use Rattle.std.specs.Prelude.{Result}
-use Rattle.pf_errors.specs.declared.code.Code.{Code}
-use Rattle.pf_model.specs.Meaning.{Report}
-use Rattle.pf_check.specs.Module.{ReadModule}
-use Rattle.pf_request.specs.Request.{Request}
+-- What is reported of a run by priorities is reported of the job by the schedule of their choices.
+use Rattle.std.proofs.Common.{◌≡◌, ℕ, zero, List, Option, None, Some, inl, inr, refl}
+use Rattle.std.specs.Prelude.{IsNone}
+use Rattle.pf_errors.specs.declared.fault.OrNoMemory.{OrNoMemory}
+use Rattle.pf_streams.specs.declared.stream.StreamFault.{StreamFault}
+use Rattle.pf_model.specs.Meaning as meaning
+use Rattle.pf_model.specs.Meaning.{Means, Report}
 use Rattle.pf_request.specs.Job.{Job}
-use Rattle.pf_sched.specs.Asked.{Asks}
 use Rattle.pf_strategy.specs.Runs.{MeansByPriorities}
+use Rattle.pf_strategy.proofs.Meant.{replay_of_priorities}
+use Rattle.pf_sched.specs.Choosing.{MeansFor, choosing_of}
+use Rattle.pf_sched.specs.Printing.{HasPrinted, HasStopped}
+use Rattle.pf_sched.specs.declared.printing.PrintedRun.{PrintedRun}
 use Rattle.pf_chart.specs.declared.manner.Manner.{Manner}
-use Rattle.pf_cli.specs.Args.{RunArgs}
-use Rattle.pf_command.specs.Answers.{AnswersBy, source_refused, job_refused, told}
-use Rattle.pf_check.specs.Reading.{IsModuleOf}
-use Rattle.pf_command.specs.Charts.{DrawsJob}
-use Rattle.pf_command.specs.Guided.{AsksOfRun, by_own, by_priorities, with_schedule}
+use Rattle.pf_command.specs.Charts.{AreNamesIn, DrawsJob, DrawsRun, IsOfRun}
+use Rattle.pf_command.specs.Guided.{RunsAs, scheduled}
 use Rattle.pf_command.specs.Hunts.{choices_of}
+use Rattle.pf_command.specs.declared.answer.Output.{Output}
+use Rattle.pf_command.proofs.Drawn.{draws_one_run}
 
--- what implies what is asked for of the modules of a source
-pub asks_more : (asks more : ReadModule → Result Job Code → Type 0) (tells : Job → List ℕ → ℕ
-    → Type 0) (bytes text : List ℕ) (status : ℕ)
-    → ((m : ReadModule) (x : Result Job Code) → IsModuleOf bytes m → asks m x → more m x)
-    → AnswersBy asks tells bytes text status
-    → AnswersBy more tells bytes text status
-asks_more asks more tells bytes _ _ h (source_refused code offset reads) = source_refused code offset reads
-asks_more asks more tells bytes _ _ h (job_refused m code of asked) = job_refused m code of (h m (Err code) of asked)
-asks_more asks more tells bytes _ _ h (told m j text status of asked is) =
-    told m j text status of (h m (Ok j) of asked) is
+-- the report by priorities is the one by their choices
+replayed : (j : Job) (seed : ℕ) (r : Report) → MeansByPriorities j.asked seed r
+    → Means (scheduled j (choices_of r)).asked r
+replayed j seed r means =
+    let m = replay_of_priorities j.asked seed r means in
+    record { transitions = m.transitions; last = m.last; state = m.state; run = m.run; report = m.report }
 
-module _ (a : RunArgs) (tells : Job → List ℕ → ℕ → Type 0) (bytes text : List ℕ) (status : ℕ) where
-  pub answers_own : a.priorities ≡ None → AnswersBy (λ m. Asks m a.edition a.request) tells bytes text status
-      → AnswersBy (AsksOfRun a) tells bytes text status
-  answers_own none = asks_more (λ m. Asks m a.edition a.request) (AsksOfRun a) tells bytes text status
-      (λ m x of asked. by_own x none asked)
+-- a run that was printed is that of a job by its own choices
+pub printed_as : (priorities : Option ℕ) (j : Job) (p : PrintedRun) (w0 w1 : Option (List ℕ))
+    → (IsNone priorities → j.asked.runs ≡ zero) → HasPrinted j (choosing_of priorities j.asked) p w0 w1
+    → (k : Job) × RunsAs priorities j k × (k.asked.runs ≡ zero) × HasPrinted k (choosing_of None k.asked) p w0 w1
+printed_as None j p w0 w1 one h = (j, refl, one refl, h)
+printed_as (Some seed) j p w0 w1 one (r, means, verdict, waits, out) =
+    (scheduled j (choices_of r), (r, means, refl), refl, (r, replayed j seed r means, verdict, waits, out))
 
-  pub answers_guided : (seed : ℕ) (k : ReadModule) (j : Job) (r : Report) (q : Request) → a.priorities ≡ Some seed
-      → IsModuleOf bytes k
-      → Asks k a.edition a.request (Ok j) → MeansByPriorities j.asked seed r
-      → q ≡ with_schedule a.request (choices_of r)
-      → AnswersBy (λ m. Asks m a.edition q) tells bytes text status → AnswersBy (AsksOfRun a) tells bytes text status
-  answers_guided seed k j r q some of asks means same =
-      asks_more (λ m. Asks m a.edition q) (AsksOfRun a) tells bytes text status
-      (λ m x is asked.
-      by_priorities seed k j r x some (subst (λ s. IsModuleOf s k) (sym is.0) of) asks means
-      (subst (λ y. Asks m a.edition y x) same asked))
+-- and so is one that was cut short
+pub stopped_as : (e : OrNoMemory StreamFault) (priorities : Option ℕ) (j : Job) (w0 w1 : Option (List ℕ)) (n0 n1 : ℕ)
+    → (IsNone priorities → j.asked.runs ≡ zero) → HasStopped e j (choosing_of priorities j.asked) w0 w1 n0 n1
+    → (k : Job) × RunsAs priorities j k × (k.asked.runs ≡ zero)
+    × HasStopped e k (choosing_of None k.asked) w0 w1 n0 n1
+stopped_as e None j w0 w1 n0 n1 one h = (j, refl, one refl, h)
+stopped_as e (Some seed) j w0 w1 n0 n1 one (r, means, stops) =
+    (scheduled j (choices_of r), (r, means, refl), refl, (r, replayed j seed r means, stops))
 
--- the job of a module that is shared, in the edition that is asked for
-pub asks_shared : (m k : ReadModule) (n e : ℕ) (r : Request) (x : Result Job Code) → k ≡ m → n ≡ e
-    → Asks k n r x → Asks m e r x
-asks_shared m k n e r x module_is edition_is asks =
-    subst (λ l. Asks l e r x) module_is (subst (λ i. Asks k i r x) edition_is asks)
+-- ---- charts
 
--- a schedule changes nothing of the root that a chart names
-pub draws_alike : (asks : ReadModule → Result Job Code → Type 0) (q r : Request) (m n : Manner)
-    (numbers bytes text : List ℕ) (status : ℕ) → q ≡ with_schedule r numbers → m ≡ n
-    → AnswersBy asks (DrawsJob q.root m) bytes text status → AnswersBy asks (DrawsJob r.root n) bytes text status
-draws_alike asks q r m n numbers bytes text status same manner answers =
-    subst (λ k. AnswersBy asks (DrawsJob r.root k) bytes text status) manner
-    (subst (λ root. AnswersBy asks (DrawsJob root m) bytes text status) (ap (λ y. y.root) same) answers)
+-- a report by priorities is one by a schedule
+pub of_run : (priorities : Option ℕ) (j : meaning.Job) (r : Report) → MeansFor (choosing_of priorities j) j r
+    → IsOfRun j r
+of_run None j r means = inl means
+of_run (Some seed) j r means = inr (choices_of r, replay_of_priorities j seed r means)
+
+-- the names are of the same functions by a schedule
+names_scheduled : (j : Job) (numbers : List ℕ) (r : Report) (names : List (List ℕ)) → AreNamesIn j.asked r names
+    → AreNamesIn (scheduled j numbers).asked r names
+names_scheduled j numbers r names (k, h, d) = (
+  k,
+  record {
+    code = h.code;
+    root = h.root;
+    edition = h.edition;
+    limit = h.limit;
+    events = h.events;
+  },
+  d,
+)
+
+-- a run that is drawn is that of a job by its own choices
+pub drawn_as : (priorities : Option ℕ) (j : Job) (root : List ℕ) (m : Manner) (r : Report) (a : Output)
+    → (IsNone priorities → j.asked.runs ≡ zero) → MeansFor (choosing_of priorities j.asked) j.asked r
+    → DrawsRun j.asked root m r a → (k : Job) × RunsAs priorities j k × DrawsJob root m k a.text.items a.status
+drawn_as None j root m r a one means drawn = (j, refl, draws_one_run root m j a (one refl) (r, means, drawn))
+drawn_as (Some seed) j root m r a one means (names, named, drawn, status) =
+    let k = scheduled j (choices_of r) in (
+      k,
+      (r, means, refl),
+      draws_one_run root m k a refl
+          (r, replayed j seed r means, (names, names_scheduled j (choices_of r) r names named, drawn, status)),
+    )

@@ -1,29 +1,19 @@
 -- Who still waits after a run that is reported.
-use Rattle.std.proofs.Common.{◌≡◌, ℕ, zero, List, ◌++◌, Option, Result, Ok, Err, None, Some, sym, ap, ◌∙◌, subst}
+use Rattle.std.proofs.Common.{◌≡◌, ℕ, zero, List, ◌++◌, Option, Result, Ok, Err, None, sym, ap, ◌∙◌, subst}
 use Rattle.std.specs.Prelude.{IfOk, IfSome, take}
 use Rattle.std.specs.Io.KnownBytes.{Appends}
-use Rattle.pf_errors.specs.declared.code.Code.{Code}
 use Rattle.pf_errors.specs.declared.fault.OrNoMemory.{OrNoMemory}
 use Rattle.pf_errors.specs.declared.fault.OrNoMemory.TheVariants.{NoMemory, Fault}
 use Rattle.pf_streams.specs.declared.stream.StreamFault.{StreamFault}
 use Rattle.pf_streams.proofs.Writes.{appends_both}
-use Rattle.pf_model.specs.Meaning.{Report}
 use Rattle.pf_model.specs.Text.{report_text}
-use Rattle.pf_check.specs.Module.{ReadModule}
-use Rattle.pf_request.specs.Request.{Request}
 use Rattle.pf_request.specs.Job.{Job}
 use Rattle.pf_trace.specs.Written.{lines_text}
-use Rattle.pf_sched.specs.Asked.{Asks}
+use Rattle.pf_sched.specs.Choosing.{choosing_of}
 use Rattle.pf_sched.specs.Printing.{HasPrinted, HasStopped}
 use Rattle.pf_sched.specs.Waiting.{waiting_in}
 use Rattle.pf_sched.specs.declared.printing.PrintedRun.{PrintedRun}
-use Rattle.pf_strategy.specs.Runs.{MeansByPriorities}
-use Rattle.pf_cli.specs.Args.{RunArgs}
-use Rattle.pf_command.specs.Answers.{Counts, CountsBy, IsNoMemory, counted, atom_names_of, refused_before, reported}
-use Rattle.pf_command.specs.Answers.{run_status, unreported}
-use Rattle.pf_check.specs.Reading.{IsModuleOf}
-use Rattle.pf_command.specs.Guided.{AsksOfRun, RunCounts, by_own, by_priorities, with_schedule}
-use Rattle.pf_command.specs.Hunts.{choices_of}
+use Rattle.pf_command.specs.Answers.{Counts, IsNoMemory, atom_names_of, reported_result, run_status, unreported}
 use Rattle.pf_command.specs.Streams.{IsAnsweredSo, Answering, IsRefusedText, PrintsAnswer, Sends, WentOut, streams}
 use Rattle.pf_command.specs.declared.serving.TheConstants.{MOST_BYTES}
 
@@ -41,53 +31,26 @@ went_refused P words w0 w1 n0 n1 f (Ok s) h = (h.0, subst (P h.0) (sym h.1.1) (f
 went_refused P words w0 w1 n0 n1 f (Err e) h = tt
 
 module _ (j : Job) (plain : j.asked.runs ≡ zero) (old : ℕ) (w0 w w1 : Option (List ℕ)) (n0 n n1 : ℕ) where
-  pub run_counted : (p : PrintedRun) (s : ℕ) → HasPrinted j p w0 w1 → s ≡ run_status p.verdict
-      → WentOut (Counts j old p.waiting) w0 w1 s
+  pub run_counted : (p : PrintedRun) (s : ℕ) → HasPrinted j (choosing_of None j.asked) p w0 w1
+      → s ≡ run_status p.verdict → WentOut (Counts j old p.waiting) w0 w1 s
   run_counted p s h is = (
     report_text (atom_names_of j) h.0,
     subst (λ k. Counts j old k (report_text (atom_names_of j) h.0) s) (sym h.3)
         (subst (Counts j old (waiting_in h.0) (report_text (atom_names_of j) h.0)) (ap run_status h.2 ∙ sym is)
-        (reported h.0 plain h.1)),
+        (reported_result h.0 plain h.1)),
     h.4,
   )
 
-  pub run_uncounted : (r : Result ℕ StreamFault) → HasStopped NoMemory j w0 w n0 n → PrintsAnswer IsNoMemory w w1 n n1 r
+  pub run_uncounted : (r : Result ℕ StreamFault) → HasStopped NoMemory j (choosing_of None j.asked) w0 w n0 n
+      → PrintsAnswer IsNoMemory w w1 n n1 r
       → IfOk r (WentOut (Counts j old old) w0 w1)
-  run_uncounted (Ok s) h told =
+  run_uncounted (Ok s) h reported =
       let lines = lines_text (atom_names_of j) h.2.0 in (
-        lines ++ told.0,
-        subst (Counts j old old (lines ++ told.0)) (sym told.1.1) (unreported (lines ++ told.0)),
-        appends_both w0 w w1 lines told.0 h.2.3 told.2,
+        lines ++ reported.0,
+        subst (Counts j old old (lines ++ reported.0)) (sym reported.1.1) (unreported (lines ++ reported.0)),
+        appends_both w0 w w1 lines reported.0 h.2.3 reported.2,
       )
-  run_uncounted (Err e) h told = tt
-
--- ---- of what is asked for
-
--- what implies what is asked for of the modules of a source
-pub counts_more : (asks more : ReadModule → Result Job Code → Type 0) (old new : ℕ) (bytes text : List ℕ) (status : ℕ)
-    → ((m : ReadModule) (x : Result Job Code) → IsModuleOf bytes m → asks m x → more m x)
-    → CountsBy asks old new bytes text status
-    → CountsBy more old new bytes text status
-counts_more asks more old _ _ _ _ h (counted m j new bytes text status of asked is) =
-    counted m j new bytes text status of (h m (Ok j) of asked) is
-counts_more asks more old _ _ _ _ h (refused_before bytes text) = refused_before bytes text
-
-module _ (a : RunArgs) (old new : ℕ) (bytes text : List ℕ) (status : ℕ) where
-  pub counts_own : a.priorities ≡ None → CountsBy (λ m. Asks m a.edition a.request) old new bytes text status
-      → RunCounts a old new bytes text status
-  counts_own none = counts_more (λ m. Asks m a.edition a.request) (AsksOfRun a) old new bytes text status
-      (λ m x of asked. by_own x none asked)
-
-  pub counts_guided : (seed : ℕ) (k : ReadModule) (j : Job) (r : Report) (q : Request) → a.priorities ≡ Some seed
-      → IsModuleOf bytes k
-      → Asks k a.edition a.request (Ok j) → MeansByPriorities j.asked seed r
-      → q ≡ with_schedule a.request (choices_of r)
-      → CountsBy (λ m. Asks m a.edition q) old new bytes text status → RunCounts a old new bytes text status
-  counts_guided seed k j r q some of asks means same =
-      counts_more (λ m. Asks m a.edition q) (AsksOfRun a) old new bytes text status
-      (λ m x is asked.
-      by_priorities seed k j r x some (subst (λ s. IsModuleOf s k) (sym is.0) of) asks means
-      (subst (λ y. Asks m a.edition y x) same asked))
+  run_uncounted (Err e) h reported = tt
 
 -- ---- between a reader and a writer
 

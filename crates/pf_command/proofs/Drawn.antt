@@ -10,7 +10,7 @@ use Rattle.pf_chart.specs.declared.manner.Manner.{Manner}
 use Rattle.pf_command.specs.Answers.{Refuses}
 use Rattle.pf_model.specs.Configuration.{Configuration}
 use Rattle.pf_cli_messages.specs.Explained.{IsKnownRunOf}
-use Rattle.pf_cli_messages.proofs.Telling.{comes_to}
+use Rattle.pf_cli_messages.proofs.Reporting.{leads_to}
 use Rattle.pf_process_status.specs.Known.{RunLeadsTo}
 use Rattle.pf_process_status.specs.declared.known.KnownRun.{KnownRun}
 use Rattle.pf_command.specs.Charts.{AreNamesIn, DrawsJob, DrawsMeaning, IsOfRun, run_drawn, found_drawn, none_drawn}
@@ -23,8 +23,8 @@ no_report j _ shrinks (plain r one means) = omega arith
 -- what was found holds with each report that its schedule means
 found_again : (j : meaning.Job) (f : Found) (r s : Report) → IsResult j (shrunk_to f r)
     → Means (by_schedule j f.schedule) s → IsResult j (shrunk_to f s)
-found_again j _ _ s (smaller k ns fails f r runs choices tells is means) again =
-    smaller k ns fails f s runs choices tells is again
+found_again j _ _ s (smaller k ns fails f r runs choices reports is means) again =
+    smaller k ns fails f s runs choices reports is again
 
 -- the names are of the same functions whichever the choices are
 pub unscheduled : (j : meaning.Job) (ns : List ℕ) (r : Report) (names : List (List ℕ))
@@ -58,9 +58,9 @@ rescheduled j ns r names (k, h, d) = (
 -- its events lead somewhere
 pub comes_there : (j : meaning.Job) (r : Report) (k : KnownRun) → IsKnownRunOf j r k → IsOfRun j r
     → (d : Configuration) × RunLeadsTo k d
-comes_there j r k h (inl means) = comes_to j r k h None means
+comes_there j r k h (inl means) = leads_to j r k h None means
 comes_there j r k h (inr (ns, means)) =
-    comes_to (by_schedule j ns) r k (record {
+    leads_to (by_schedule j ns) r k (record {
       code = h.code;
       root = h.root;
       edition = h.edition;
@@ -83,4 +83,4 @@ module _ (root : List ℕ) (m : Manner) (j : Job) (a : Output) where
 
   pub draws_none : IsResult j.asked nothing_fails → Refuses a (code_text code.NothingFails)
       → DrawsJob root m j a.text.items a.status
-  draws_none is told = rw (told.0, told.1) (none_drawn is)
+  draws_none is reported = rw (reported.0, reported.1) (none_drawn is)

@@ -1,5 +1,5 @@
 -- What goes out where a command answers.
-use Rattle.std.proofs.Common.{◌≡◌, ℕ, zero, List, ◌++◌, Option, Result, Ok, Err, refl, sym, ap, ◌∙◌, subst}
+use Rattle.std.proofs.Common.{◌≡◌, ℕ, zero, List, ◌++◌, Option, None, Result, Ok, Err, refl, sym, ap, ◌∙◌, subst}
 use Rattle.std.specs.Prelude.{IfErr, IfOk, IfSome, IsErr, IsErrAnd, OnOk, take}
 use Rattle.std.specs.Io.KnownBytes.{Appends}
 use Rattle.pf_errors.specs.declared.fault.OrNoMemory.{OrNoMemory}
@@ -16,6 +16,7 @@ use Rattle.pf_model.proofs.Meanings.{only_evaluated}
 use Rattle.pf_request.specs.Job.{Job}
 use Rattle.pf_trace.specs.Written.{lines_text}
 use Rattle.pf_trace.proofs.Fronts.{front_of_both}
+use Rattle.pf_sched.specs.Choosing.{choosing_of}
 use Rattle.pf_sched.specs.Printing.{HasPrinted, HasStopped}
 use Rattle.pf_sched.specs.declared.printing.PrintedRun.{PrintedRun}
 use Rattle.pf_command.specs.Answers.{AreFirst, IsNoMemory, ReportsJob, atom_names_of, result, out_of_memory, run_status}
@@ -124,8 +125,8 @@ module _ (j : Job) (plain : j.asked.runs ≡ zero) (w0 w w1 : Option (List ℕ))
   it_is : (r : Report) → Means j.asked r → ReportsJob j (report_text (atom_names_of j) r) (run_status r.verdict)
   it_is r means = result (shrinking.report r) (shrinking.plain r plain means)
 
-  pub run_printed : (p : PrintedRun) (s : ℕ) → HasPrinted j p w0 w1 → s ≡ run_status p.verdict → n1 ≡ n0
-      → PrintsAnswer (ReportsJob j) w0 w1 n0 n1 (Ok s)
+  pub run_printed : (p : PrintedRun) (s : ℕ) → HasPrinted j (choosing_of None j.asked) p w0 w1
+      → s ≡ run_status p.verdict → n1 ≡ n0 → PrintsAnswer (ReportsJob j) w0 w1 n0 n1 (Ok s)
   run_printed p s h is kept = (
     report_text (atom_names_of j) h.0,
     subst (ReportsJob j (report_text (atom_names_of j) h.0)) (ap run_status h.2 ∙ sym is) (it_is h.0 h.1),
@@ -133,11 +134,11 @@ module _ (j : Job) (plain : j.asked.runs ≡ zero) (w0 w w1 : Option (List ℕ))
     kept,
   )
 
-  pub run_stopped : (f : StreamFault) → HasStopped (Fault f) j w0 w1 n0 n1
+  pub run_stopped : (f : StreamFault) → HasStopped (Fault f) j (choosing_of None j.asked) w0 w1 n0 n1
       → PrintsAnswer (ReportsJob j) w0 w1 n0 n1 (Err f)
   run_stopped f h = (report_text (atom_names_of j) h.0, run_status h.0.verdict, it_is h.0 h.1, h.2.0, h.2.1)
 
-  pub run_without_memory : (r : Result ℕ StreamFault) → HasStopped NoMemory j w0 w n0 n
+  pub run_without_memory : (r : Result ℕ StreamFault) → HasStopped NoMemory j (choosing_of None j.asked) w0 w n0 n
       → PrintsAnswer IsNoMemory w w1 n n1 r → PrintsAnswer (ReportsJob j) w0 w1 n0 n1 r
   run_without_memory r h = by h.0 h.1 h.2
     where

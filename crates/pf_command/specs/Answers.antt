@@ -25,20 +25,20 @@ use Rattle.pf_cli_messages.specs.Explained.{AsksOf}
 use Rattle.pf_cli.specs.declared.args.Edition.{Edition}
 use Rattle.pf_command.specs.declared.answer.Output.{Output}
 
--- AnswersBy asks tells bytes text status: a source of these bytes is answered with this text and this status, if `asks`
--- says which job is asked for of a module or what it is refused for, and `tells` what is reported of a job
-pub data AnswersBy (asks : ReadModule → Result Job Code → Type 0) (tells : Job → List ℕ → ℕ
+-- AnswersBy asks reports bytes text status: a source of these bytes is answered with this text and this status, if
+-- `asks` says which job is asked for of a module or what it is refused for, and `reports` what is reported of a job
+pub data AnswersBy (asks : ReadModule → Result Job Code → Type 0) (reports : Job → List ℕ → ℕ
     → Type 0) (bytes : List ℕ) : List ℕ → ℕ → Type 0 where
   -- the source is refused
   source_refused : (code : Code) (offset : ℕ) → Reads bytes (refused code offset)
-      → AnswersBy asks tells bytes (line (refusal_text code offset)) 2
+      → AnswersBy asks reports bytes (line (refusal_text code offset)) 2
   -- what is asked for of the module is refused
   job_refused : (m : ReadModule) (code : Code) → IsModuleOf bytes m → asks m (Err code)
-      → AnswersBy asks tells bytes (line (code_text code)) 2
+      → AnswersBy asks reports bytes (line (code_text code)) 2
   -- what is reported of the job
-  told : (m : ReadModule) (j : Job) (text : List ℕ) (status : ℕ) → IsModuleOf bytes m → asks m (Ok j)
-      → tells j text status
-      → AnswersBy asks tells bytes text status
+  reported : (m : ReadModule) (j : Job) (text : List ℕ) (status : ℕ) → IsModuleOf bytes m → asks m (Ok j)
+      → reports j text status
+      → AnswersBy asks reports bytes text status
 
 -- ---- runs and shrinkings
 
@@ -53,16 +53,16 @@ run_status (Some false) = 1
 run_status None = 2
 
 -- a job's result in words, if `name` gives the names of atoms: that nothing fails is reported by its code
-abbrev pub told_text : (ℕ → List ℕ) → shrinking.Result → List ℕ
-told_text name (shrinking.report r) = result_text name (shrinking.report r)
-told_text name (shrinking.shrunk_to f r) = result_text name (shrinking.shrunk_to f r)
-told_text name shrinking.nothing_fails = line (code_text code.NothingFails)
+abbrev pub reported_text : (ℕ → List ℕ) → shrinking.Result → List ℕ
+reported_text name (shrinking.report r) = result_text name (shrinking.report r)
+reported_text name (shrinking.shrunk_to f r) = result_text name (shrinking.shrunk_to f r)
+reported_text name shrinking.nothing_fails = line (code_text code.NothingFails)
 
 -- and its status: that of the run; 1 if a schedule was shrunk, which fails; 2 if the given one doesn't
-abbrev pub told_status : shrinking.Result → ℕ
-told_status (shrinking.report r) = run_status r.verdict
-told_status (shrinking.shrunk_to f r) = 1
-told_status shrinking.nothing_fails = 2
+abbrev pub reported_status : shrinking.Result → ℕ
+reported_status (shrinking.report r) = run_status r.verdict
+reported_status (shrinking.shrunk_to f r) = 1
+reported_status shrinking.nothing_fails = 2
 
 -- these are the first events of what a job means
 abbrev pub AreFirst : meaning.Job → List Event → Type 0
@@ -82,7 +82,8 @@ cut_text name es = lines_text name es ++ no_memory_report
 -- what is reported of a job: its result; or of a run that memory ran out within it, after the lines of its first events
 -- that went out by then. Nothing is reported of a shrinking without memory
 pub data ReportsJob (j : Job) : List ℕ → ℕ → Type 0 where
-  result : (x : shrinking.Result) → IsResult j.asked x → ReportsJob j (told_text (atom_names_of j) x) (told_status x)
+  result : (x : shrinking.Result) → IsResult j.asked x
+      → ReportsJob j (reported_text (atom_names_of j) x) (reported_status x)
   out_of_memory : (es : List Event) → j.asked.runs ≡ zero → AreFirst j.asked es
       → ReportsJob j (cut_text (atom_names_of j) es) 2
 
@@ -96,7 +97,7 @@ AnswersRun a = AnswersBy (AsksOf a) ReportsJob
 -- run though its root returned, if the report of that is printed. If it isn't, what was counted stays: of a shrinking,
 -- and with the status of what is refused
 pub data Counts (j : Job) (old : ℕ) : (new : ℕ) → List ℕ → ℕ → Type 0 where
-  reported : (r : Report) → j.asked.runs ≡ zero → Means j.asked r
+  reported_result : (r : Report) → j.asked.runs ≡ zero → Means j.asked r
       → Counts j old (waiting_in r) (report_text (atom_names_of j) r) (run_status r.verdict)
   shrunk : (text : List ℕ) (status : ℕ) → 0 < j.asked.runs → Counts j old old text status
   unreported : (text : List ℕ) → Counts j old old text 2
@@ -120,5 +121,5 @@ abbrev pub Refuses : Output → List ℕ → Type 0
 Refuses a words = (a.text.items ≡ line words) × (a.status ≡ 2)
 
 -- the answer reports a result, if atoms have these names
-abbrev pub TellsResult : (atoms : List (List ℕ)) → shrinking.Result → Output → Type 0
-TellsResult atoms x a = (a.text.items ≡ told_text (name_of atoms) x) × (a.status ≡ told_status x)
+abbrev pub PrintsResult : (atoms : List (List ℕ)) → shrinking.Result → Output → Type 0
+PrintsResult atoms x a = (a.text.items ≡ reported_text (name_of atoms) x) × (a.status ≡ reported_status x)

@@ -10,14 +10,13 @@ use Rattle.pf_model.specs.Shrinking.{Found, IsResult, by_schedule, report, shrun
 use Rattle.pf_model.specs.TermText.{line}
 use Rattle.pf_request.specs.Job.{Job}
 use Rattle.pf_syntax.specs.Root.{root_of}
-use Rattle.pf_cli_messages.specs.Explained.{IsKnownRunOf, AsksOf}
+use Rattle.pf_cli_messages.specs.Explained.{IsKnownRunOf}
 use Rattle.pf_process_status.specs.Known.{RunLeadsTo}
 use Rattle.pf_process_status.specs.Lines.{AreNames}
 use Rattle.pf_process_status.specs.declared.known.KnownRun.{KnownRun}
 use Rattle.pf_chart.specs.Chart.{IsChart}
 use Rattle.pf_chart.specs.declared.manner.Manner.{Manner}
-use Rattle.pf_cli.specs.Args.{RunArgs}
-use Rattle.pf_command.specs.Answers.{AnswersBy, atom_names_of, run_status}
+use Rattle.pf_command.specs.Answers.{atom_names_of, run_status}
 use Rattle.pf_command.specs.declared.answer.Output.{Output}
 
 -- these are the names of the functions in whose calls the processes began in the run of a job that has this report
@@ -37,11 +36,6 @@ pub data DrawsJob (root : List ℕ) (m : Manner) (j : Job) : List ℕ → ℕ �
       → IsChart (atom_names_of j) root names m r [] text
       → DrawsJob root m j text (run_status r.verdict)
   none_drawn : IsResult j.asked nothing_fails → DrawsJob root m j (line (code_text code.NothingFails)) 2
-
--- a source of these bytes, of which the chart of a run in this manner is asked for, is answered with this text and this
--- status
-abbrev pub ChartAnswers : Manner → RunArgs → (bytes text : List ℕ) → ℕ → Type 0
-ChartAnswers m a = AnswersBy (AsksOf a) (DrawsJob a.request.root m)
 
 -- ---- the code's own answers
 

@@ -14,8 +14,8 @@ use Rattle.pf_command.specs.declared.answer.Output.{Output}
 -- that is asked for explanations of faults, among them that of the refusal
 pub data ExplainsRefusal (bytes : List ℕ) (code : Code) (offset : ℕ) : (explain : Bool) → List ℕ → Type 0 where
   unasked : ExplainsRefusal bytes code offset false []
-  asked : (told : List Advice) → ReportsRefusal bytes code offset told
-      → ExplainsRefusal bytes code offset true (explanations bytes told)
+  asked : (reported : List Advice) → ReportsRefusal bytes code offset reported
+      → ExplainsRefusal bytes code offset true (explanations bytes reported)
 
 -- Checks explain bytes text status: a source of these bytes is answered with this text and this status
 pub data Checks (explain : Bool) (bytes : List ℕ) : List ℕ → ℕ → Type 0 where

@@ -1,34 +1,32 @@
 -- What a source is answered with of which a run is asked for, by its own choices or by the priorities of a seed.
-use Rattle.std.specs.Prelude.{◌≡◌, ℕ, List, None, Some, Result, Ok, Err}
+use Rattle.std.specs.Prelude.{◌≡◌, ℕ, zero, List, Option, None, Some, Result, Ok, Err}
 use Rattle.pf_errors.specs.declared.code.Code.{Code}
-use Rattle.pf_model.specs.Meaning.{Report, schedule}
+use Rattle.pf_model.specs.Meaning.{Report}
+use Rattle.pf_model.specs.Shrinking.{by_schedule}
 use Rattle.pf_check.specs.Module.{ReadModule}
-use Rattle.pf_request.specs.Request.{Request, run}
 use Rattle.pf_request.specs.Job.{Job}
 use Rattle.pf_sched.specs.Asked.{Asks}
 use Rattle.pf_strategy.specs.Runs.{MeansByPriorities}
 use Rattle.pf_chart.specs.declared.manner.Manner.{Manner}
 use Rattle.pf_cli.specs.Args.{ChartArgs, RunArgs}
 use Rattle.pf_command.specs.Answers.{AnswersBy, CountsBy, ReportsJob}
-use Rattle.pf_check.specs.Reading.{IsModuleOf}
 use Rattle.pf_command.specs.Charts.{DrawsJob}
 use Rattle.pf_command.specs.Hunts.{choices_of}
 
--- the run by this schedule in place of the request's own choices
-abbrev pub with_schedule : Request → (numbers : List ℕ) → Request
-with_schedule r numbers = record r { kind = run (schedule numbers) }
+-- the run of a job by this schedule in place of what is asked for of it
+abbrev pub scheduled : Job → (numbers : List ℕ) → Job
+scheduled j numbers = record j { asked = record (by_schedule j.asked numbers) { runs = zero } }
 
--- AsksOfRun a m x: what is asked for of a module is this job, or refused for this: a run by its own choices; or one by
--- the schedule of those that the priorities of a seed make of it
+-- RunsAs priorities j k: what is asked for is job k by its own choices: j itself; or where the priorities of a seed
+-- choose in j, its run by the schedule of the choices that they make
+abbrev pub RunsAs : (priorities : Option ℕ) → (j k : Job) → Type 0
+RunsAs None j k = k ≡ j
+RunsAs (Some seed) j k = (r : Report) × MeansByPriorities j.asked seed r × (k ≡ scheduled j (choices_of r))
+
+-- AsksOfRun a m x: what is asked for of a module is this job, or refused for this
 pub data AsksOfRun (a : RunArgs) (m : ReadModule) : Result Job Code → Type 0 where
-  by_own : (x : Result Job Code) → a.priorities ≡ None → Asks m a.edition a.request x → AsksOfRun a m x
-  refused : (seed : ℕ) (code : Code) → a.priorities ≡ Some seed → Asks m a.edition a.request (Err code)
-      → AsksOfRun a m (Err code)
-  by_priorities : (seed : ℕ) (k : ReadModule) (j : Job) (r : Report) (x : Result Job Code) → a.priorities ≡ Some seed
-      → IsModuleOf m.source k
-      → Asks k a.edition a.request (Ok j) → MeansByPriorities j.asked seed r
-      → Asks m a.edition (with_schedule a.request (choices_of r)) x
-      → AsksOfRun a m x
+  refused : (code : Code) → Asks m a.edition a.request (Err code) → AsksOfRun a m (Err code)
+  asked : (j k : Job) → Asks m a.edition a.request (Ok j) → RunsAs a.priorities j k → AsksOfRun a m (Ok k)
 
 -- a source of these bytes, of which a run is asked for, is answered with this text and this status
 abbrev pub RunAnswers : RunArgs → (bytes text : List ℕ) → ℕ → Type 0

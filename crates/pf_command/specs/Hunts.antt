@@ -4,6 +4,8 @@ use Rattle.std.specs.Prelude.{flat_map, codes, Option, None, Some, Result, Ok, E
 use Rattle.std.specs.List.{list_any}
 use Rattle.std.specs.Fmt.{decimal}
 use Rattle.pf_errors.specs.declared.code.Code.{Code}
+use Rattle.pf_errors.specs.declared.fault.OrNoMemory.{OrNoMemory}
+use Rattle.pf_errors.specs.declared.fault.OrNoMemory.TheVariants.{NoMemory, Fault}
 use Rattle.pf_model.specs.Meaning.{Event, Report}
 use Rattle.pf_model.specs.Shrinking.{is_failure}
 use Rattle.pf_model.specs.TermText.{line}
@@ -22,8 +24,10 @@ use Rattle.pf_hunt.specs.Views.{failure_of}
 use Rattle.pf_cli.specs.Args.{HuntArgs, RunArgs}
 use Rattle.pf_cli.specs.declared.args.HuntGoal.{HuntGoal}
 use Rattle.pf_cli.specs.declared.args.HuntGoal.TheVariants.{Failure, Outcomes}
+use Rattle.pf_command.specs.declared.answer.Output.{Output}
 use Rattle.pf_command.specs.declared.ending.HuntEnd.{HuntEnd}
-use Rattle.pf_command.specs.declared.ending.HuntEnd.TheVariants.{Told, Found}
+use Rattle.pf_command.specs.declared.ending.HuntEnd.TheVariants.{Reported, Found}
+use Rattle.pf_command.specs.declared.seek.HuntedJob.{HuntedJob}
 use Rattle.pf_command.specs.Answers.{AnswersRun, AnswersBy, IsNoMemory, cut_text, atom_names_of, no_memory_report}
 use Rattle.pf_cli_messages.specs.Explained.{AsksOf}
 use Rattle.pf_check.specs.Reading.{IsModuleOf}
@@ -106,34 +110,35 @@ IsLeastFailure h j ns c x =
     FirstFailing h.leaks h.strategy j.asked h.seeds.0 c x × SearchNotices h.strategy j.asked (may_stop h) h.seeds.0
     h.seeds.1 c x ns
 
--- TellsSought h bytes j notices sought text status: what is reported of the runs of a job by the seeds, by what is
+-- PrintsSought h bytes j notices sought text status: what is reported of the runs of a job by the seeds, by what is
 -- sought, if the source has these bytes and the observer receives these notices
-pub data TellsSought (h : HuntArgs) (bytes : List ℕ) (j : Job) (ns : List Notice) : HuntGoal → List ℕ → ℕ → Type 0 where
+pub data PrintsSought (h : HuntArgs) (bytes : List ℕ) (j : Job) (ns : List Notice) : HuntGoal → List ℕ → ℕ
+    → Type 0 where
   -- no run fails of the seeds that it reached
   none_fails : (runs : Option ℕ) (c : ℕ) → SearchedTo (may_stop h) h.seeds.0 h.seeds.1 c → IsLeastFailure h j ns c None
-      → TellsSought h bytes j ns (Failure runs) (front_text h c ++ none_text (c - h.seeds.0)) 0
+      → PrintsSought h bytes j ns (Failure runs) (front_text h c ++ none_text (c - h.seeds.0)) 0
   -- the least seed whose run fails, the choices of that run, and its report
   seed_fails : (s : ℕ) (r : Report) → IsLeastFailure h j ns h.seeds.1 (Some (s, r))
-      → TellsSought h bytes j ns (Failure None)
+      → PrintsSought h bytes j ns (Failure None)
       (seed_text s h.strategy (choices_of r) ++ report_text (atom_names_of j) r) 1
   -- or, if memory ran out within the report, the lines of its first events that went out by then, and that it did
   seed_cut : (s : ℕ) (r : Report) (es rest : List Event) → IsLeastFailure h j ns h.seeds.1 (Some (s, r))
       → r.events ≡ es ++ rest
-      → TellsSought h bytes j ns (Failure None)
+      → PrintsSought h bytes j ns (Failure None)
       (seed_text s h.strategy (choices_of r) ++ cut_text (atom_names_of j) es) 2
   -- or what the shrinking of these choices is answered with
   seed_shrunk : (s : ℕ) (r : Report) (runs : ℕ) (text : List ℕ) (status : ℕ)
       → IsLeastFailure h j ns h.seeds.1 (Some (s, r))
       → AnswersRun (shrinking_of h (choices_of r) runs) bytes text status
-      → TellsSought h bytes j ns (Failure (Some runs)) (seed_text s h.strategy (choices_of r) ++ text) status
+      → PrintsSought h bytes j ns (Failure (Some runs)) (seed_text s h.strategy (choices_of r) ++ text) status
   -- or, if memory ran out within the shrinking, that it did
   seed_alone : (s : ℕ) (r : Report) (runs : ℕ) → IsLeastFailure h j ns h.seeds.1 (Some (s, r))
-      → TellsSought h bytes j ns (Failure (Some runs)) (seed_text s h.strategy (choices_of r) ++ no_memory_report) 2
+      → PrintsSought h bytes j ns (Failure (Some runs)) (seed_text s h.strategy (choices_of r) ++ no_memory_report) 2
   -- the strategy, and each outcome that is met by the seeds that it reached
   tallied : (c : ℕ) (rows : List OutcomeRow) → SearchedTo (may_stop h) h.seeds.0 h.seeds.1 c
       → Tallies h.strategy j.asked h.seeds.0 c rows
       → TallyNotices h.strategy j.asked (may_stop h) h.seeds.0 h.seeds.1 c ns
-      → TellsSought h bytes j ns Outcomes (front_text h c ++ strategy_text h.strategy
+      → PrintsSought h bytes j ns Outcomes (front_text h c ++ strategy_text h.strategy
       ++ flat_map (row_text (atom_names_of j)) rows) (rows_status rows)
 
 -- SoughtAnswers h sought bytes notices text status: a source of these bytes, of whose runs by many seeds this is
@@ -145,7 +150,7 @@ pub data SoughtAnswers (h : HuntArgs) (sought : HuntGoal) (bytes : List ℕ) : L
   -- the job is hunted
   hunted : (m : ReadModule) (j : Job) (ns : List Notice) (text : List ℕ) (status : ℕ) → IsModuleOf bytes m
       → HuntAsksFor h sought m (Ok j)
-      → TellsSought h bytes j ns sought text status → SoughtAnswers h sought bytes ns text status
+      → PrintsSought h bytes j ns sought text status → SoughtAnswers h sought bytes ns text status
 
 -- a source of these bytes, whose runs by many seeds are asked for, is answered with this text and this status, while
 -- the observer receives these notices
@@ -160,20 +165,20 @@ HuntAnswers h bytes text status = (ns : List Notice) × HuntNotifies h ns bytes 
 
 -- what may be said of the end of a hunt over the runs of a source's job: its answer; or, where a run fails, that
 abbrev pub MaySay : HuntArgs → (bytes : List ℕ) → List Notice → HuntEnd → List ℕ → ℕ → Type 0
-MaySay h bytes ns (Told a) text status = (text ≡ a.text.items) × (status ≡ a.status)
-MaySay h bytes ns (Found f) text status = TellsSought h bytes f.job ns (Failure f.runs) text status
+MaySay h bytes ns (Reported a) text status = (text ≡ a.text.items) × (status ≡ a.status)
+MaySay h bytes ns (Found f) text status = PrintsSought h bytes f.job ns (Failure f.runs) text status
 
 -- it is a run that fails, the first of the module of the source, or an answer
 abbrev pub IsFound : HuntArgs → (bytes : List ℕ) → List Notice → HuntEnd → Type 0
-IsFound h bytes ns (Told a) = Unit {0}
+IsFound h bytes ns (Reported a) = Unit {0}
 IsFound h bytes ns (Found f) = IsModuleOf bytes f.«module» × IsLeastFailure h f.job ns h.seeds.1
     (Some (failure_of f.failure))
 
 -- whatever may be said of it is reported of the runs of this job
-abbrev pub TellsAs : HuntArgs → (bytes : List ℕ) → Job → HuntGoal → HuntEnd → List Notice → Type 0
-TellsAs h bytes j sought x ns =
+abbrev pub PrintsAs : HuntArgs → (bytes : List ℕ) → Job → HuntGoal → HuntEnd → List Notice → Type 0
+PrintsAs h bytes j sought x ns =
     IsFound h bytes ns x × ((text : List ℕ) (status : ℕ) → MaySay h bytes ns x text status
-    → TellsSought h bytes j ns sought text status)
+    → PrintsSought h bytes j ns sought text status)
 
 -- so a source of these bytes may be answered
 abbrev pub HuntEndsAs : HuntArgs → HuntGoal → (bytes : List ℕ) → HuntEnd → List Notice → Type 0
@@ -185,17 +190,26 @@ HuntEndsAs h sought bytes x ns =
 abbrev pub OfEach : ReadModule → (so : (bytes : List ℕ) → List Notice → Type 0) → List Notice → Type 0
 OfEach m so ns = (bytes : List ℕ) → IsModuleOf bytes m → so bytes ns
 
+-- what is hunted of a source of these bytes: its module, and the job in whose place those of the seeds go
+abbrev pub IsHunted : HuntArgs → (bytes : List ℕ) → HuntedJob → Type 0
+IsHunted h bytes x = IsModuleOf bytes x.«module» × HuntAsksFor h h.sought x.«module» (Ok x.job)
+
+-- something is refused, so that nothing is hunted, and this is the answer; out of memory says nothing
+abbrev pub IsNotHunted : HuntArgs → (bytes : List ℕ) → OrNoMemory Output → Type 0
+IsNotHunted h bytes NoMemory = Unit {0}
+IsNotHunted h bytes (Fault a) = AnswersBy (HuntAsksFor h h.sought) (λ j t s. ⊥) bytes a.text.items a.status
+
 -- ---- the code's own words
 
 -- what is reported of a run that fails after its choices: its report; or the lines of its first events, and that memory
 -- ran out
-abbrev pub TellsReport : Job → Report → List ℕ → ℕ → Type 0
-TellsReport j r text status =
+abbrev pub PrintsReport : Job → Report → List ℕ → ℕ → Type 0
+PrintsReport j r text status =
     ((text ≡ report_text (atom_names_of j) r) × (status ≡ 1))
     ⊎ ((es : List Event) × (rest : List Event) × (r.events ≡ es ++ rest) × (text ≡ cut_text (atom_names_of j) es)
     × (status ≡ 2))
 
 -- what the shrinking of its choices is answered with; or that memory ran out within it
-abbrev pub TellsShrinking : HuntArgs → (bytes : List ℕ) → Report → (runs : ℕ) → List ℕ → ℕ → Type 0
-TellsShrinking h bytes r runs text status =
+abbrev pub PrintsShrinking : HuntArgs → (bytes : List ℕ) → Report → (runs : ℕ) → List ℕ → ℕ → Type 0
+PrintsShrinking h bytes r runs text status =
     AnswersRun (shrinking_of h (choices_of r) runs) bytes text status ⊎ IsNoMemory text status

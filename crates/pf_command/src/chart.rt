@@ -1,33 +1,23 @@
 //! What a source is answered with of which the chart of a run is asked for.
 
-ghost use Rattle.std.specs.Prelude.{◌≡◌, ◌<◌, List, ℕ, zero, IfOk, Some, map};
+ghost use Rattle.std.specs.Prelude.{◌≡◌, ◌<◌, List, ℕ, zero, IfOk, IsNone, map};
 ghost use Rattle.pf_model.specs.Reports.{view_of_report};
 ghost use Rattle.pf_model.specs.Shrinking.{IsResult, by_schedule};
 ghost use Rattle.pf_sched.specs.Views.{result_of};
-ghost use Rattle.pf_command.specs.Answers.{run_args};
 ghost use Rattle.pf_check.specs.Reading.{IsModuleOf};
 ghost use Rattle.pf_cli.specs.Args.{view_of_chart_args};
-ghost use Rattle.pf_command.specs.Charts.{
-  AreNamesIn,
-  ChartAnswers,
-  DrawsJob,
-  DrawsMeaning,
-  DrawsRun,
-  IsOfRun,
-  IsRootOf,
-};
-ghost use Rattle.pf_command.specs.Guided.{DrawnAnswers, manner_of};
+ghost use Rattle.pf_command.specs.Charts.{AreNamesIn, DrawsJob, DrawsMeaning, DrawsRun, IsOfRun, IsRootOf};
+ghost use Rattle.pf_command.specs.Guided.{DrawnAnswers, RunsAs, manner_of};
+ghost use Rattle.pf_request.specs.Job as request;
 
 use crate::answer::{Output, refused_at, refused_by_code, run_status};
-use crate::guided::scheduled;
 use crate::serving::Answering;
 use pf_chart::{Manner, put_chart};
 use pf_check::{ReadModule, ReadSource};
-use pf_cli::{ChartArgs, Edition};
+use pf_cli::ChartArgs;
 use pf_errors::{Code, NoMemory, OrNoMemory};
 use pf_model::report::Report;
 use pf_process_status::{KnownRun, names};
-use pf_request::Request;
 use pf_sched::{
     Finished, Job, JobResult, Scratch, Silent, report_by_schedule, report_of_run, run_to_end,
 };
@@ -81,13 +71,20 @@ fn draw_run(
     Ok(Output { text, status })
 }
 
-/// The chart of a job that is one run, which is made with its events.
-fn draw_one_run(alloc: Global, root: &[u8], manner: Manner, job: &Job) -> Result<Output, NoMemory>
-    requires runs { job.now.asked.runs ≡ zero }
+/// The chart of the run of a job, by its own choices or by the priorities of a seed, which is made with its events.
+fn draw_one_run(
+    alloc: Global,
+    root: &[u8],
+    manner: Manner,
+    job: &Job,
+    priorities: Option<u64>,
+) -> Result<Output, NoMemory>
+    requires runs { IsNone priorities → job.now.asked.runs ≡ zero }
     requires root { IsRootOf job.now root.now }
-    ensures { IfOk result (DrawsMeaning job.now.asked root.now manner) }
+    ensures { IfOk result (λ a. (k : request.Job) × RunsAs priorities job.now k
+        × DrawsJob root.now manner k a.text.items a.status) }
 {
-    let run = report_of_run(alloc, job, &mut Scratch::new(alloc))?;
+    let run = report_of_run(alloc, job, priorities, &mut Scratch::new(alloc))?;
     draw_run(alloc, job, root, manner, &run)
 }
 
@@ -155,33 +152,22 @@ fn draw_shrinking(alloc: Global, root: &[u8], manner: Manner, job: Job) -> Resul
     draw_finished(alloc, root, manner, &finished)
 }
 
-/// The chart of a job.
-fn draw_job(alloc: Global, root: &[u8], manner: Manner, job: Job) -> Result<Output, NoMemory>
+/// The chart of a job, or of its run by the priorities of a seed.
+fn draw_job(
+    alloc: Global,
+    root: &[u8],
+    manner: Manner,
+    job: Job,
+    priorities: Option<u64>,
+) -> Result<Output, NoMemory>
     requires { IsRootOf job root.now }
-    ensures { IfOk result (λ a. DrawsJob root.now manner job a.text.items a.status) }
+    ensures { IfOk result (λ a. (k : request.Job) × RunsAs priorities job k
+        × DrawsJob root.now manner k a.text.items a.status) }
 {
-    if job.runs() > 0 {
+    if priorities.is_none() && job.runs() > 0 {
         draw_shrinking(alloc, root, manner, job)
     } else {
-        draw_one_run(alloc, root, manner, &job)
-    }
-}
-
-/// The answer to a module.
-fn draw_module(
-    alloc: Global,
-    request: &Request,
-    edition: Edition,
-    manner: Manner,
-    module: ReadModule,
-) -> Result<Output, NoMemory>
-    ensures { IfOk result (λ a. (bytes : List ℕ) → IsModuleOf bytes «module»
-        → ChartAnswers manner (run_args request.now edition) bytes a.text.items a.status) }
-{
-    match Job::new(alloc, module, request, edition.number()) {
-        Ok(job) => draw_job(alloc, request.root.as_slice(), manner, job),
-        Err(OrNoMemory::Fault(refusal)) => refused_by_code(alloc, refusal.code()),
-        Err(OrNoMemory::NoMemory) => Err(NoMemory),
+        draw_one_run(alloc, root, manner, &job, priorities)
     }
 }
 
@@ -195,37 +181,17 @@ fn manner_of(args: &ChartArgs) -> Manner
     }
 }
 
-/// The answer to a module of which the run by the priorities of a seed is asked for.
-fn draw_guided(
-    alloc: Global,
-    args: &ChartArgs,
-    seed: u64,
-    module: ReadModule,
-) -> Result<Output, NoMemory>
-    requires { args.now.run.priorities ≡ Some seed }
+/// The answer to a module of which the chart of a run is asked for.
+fn draw_module(alloc: Global, args: &ChartArgs, module: ReadModule) -> Result<Output, NoMemory>
     ensures { IfOk result (λ a. (bytes : List ℕ) → IsModuleOf bytes «module»
         → DrawnAnswers (view_of_chart_args args.now) bytes a.text.items a.status) }
 {
     let run = &args.run;
-    match Job::new(alloc, module.share()?, &run.request, run.edition.number()) {
-        Ok(job) => {
-            let request = scheduled(alloc, &run.request, &job, seed)?;
-            draw_module(alloc, &request, run.edition, manner_of(args), module)
-        }
+    let root = run.request.root.as_slice();
+    match Job::new(alloc, module, &run.request, run.edition.number()) {
+        Ok(job) => draw_job(alloc, root, manner_of(args), job, run.priorities),
         Err(OrNoMemory::Fault(refusal)) => refused_by_code(alloc, refusal.code()),
         Err(OrNoMemory::NoMemory) => Err(NoMemory),
-    }
-}
-
-/// The answer to a module of which the chart of a run is asked for.
-fn draw_asked(alloc: Global, args: &ChartArgs, module: ReadModule) -> Result<Output, NoMemory>
-    ensures { IfOk result (λ a. (bytes : List ℕ) → IsModuleOf bytes «module»
-        → DrawnAnswers (view_of_chart_args args.now) bytes a.text.items a.status) }
-{
-    let run = &args.run;
-    match run.priorities {
-        Some(seed) => draw_guided(alloc, args, seed, module),
-        None => draw_module(alloc, &run.request, run.edition, manner_of(args), module),
     }
 }
 
@@ -234,7 +200,7 @@ fn draw_source(alloc: Global, args: &ChartArgs, source: &ReadSource) -> Result<O
     ensures { IfOk result (λ a. DrawnAnswers (view_of_chart_args args.now) source.now a.text.items a.status) }
 {
     match source.module() {
-        Ok(module) => draw_asked(alloc, args, module.share()?),
+        Ok(module) => draw_module(alloc, args, module.share()?),
         Err(refusal) => refused_at(alloc, refusal),
     }
 }

@@ -31,9 +31,9 @@ fn explain_refusal(
 ) -> Result<Vec<u8>, NoMemory>
     ensures { IfOk result (λ t. ExplainsRefusal source.now refusal.code refusal.offset true t.items) }
 {
-    let told = faults(alloc, source, refusal)?;
+    let reported = faults(alloc, source, refusal)?;
     let mut text = Vec::new(alloc);
-    put_explanations(alloc, &mut text, source, &told)?;
+    put_explanations(alloc, &mut text, source, &reported)?;
     Ok(text)
 }
 

@@ -13,7 +13,7 @@ ghost use Rattle.pf_cli.specs.Args.{view_of_hunt_args};
 ghost use Rattle.pf_cli.specs.declared.args.HuntGoal.TheVariants.{Failure};
 ghost use Rattle.pf_command.specs.Answers.{AnswersRun};
 ghost use Rattle.pf_check.specs.Reading.{IsModuleOf};
-ghost use Rattle.pf_command.specs.Hunts.{IsFound, IsLeastFailure, MaySay, TellsReport, TellsShrinking, TellsSought};
+ghost use Rattle.pf_command.specs.Hunts.{IsFound, IsLeastFailure, MaySay, PrintsReport, PrintsShrinking, PrintsSought};
 ghost use Rattle.pf_command.specs.Hunts.{choices_of, seed_text, shrinking_of, strategy_text};
 ghost use Rattle.pf_command.specs.Streams.{PrintsAnswer};
 ghost use Rattle.pf_command.specs.Waiting.{Adds, after_commas};
@@ -50,7 +50,7 @@ pub struct FailingRun {
 #[derive(Drop)]
 pub enum HuntEnd {
     /// An answer.
-    Told(Output),
+    Reported(Output),
     /// A run that fails, which is to be reported.
     Found(FailingRun),
 }
@@ -170,7 +170,7 @@ fn print_failure<W: Write, M: Ledger>(
     report: &Report,
     writer: &mut Counted<W, M>,
 ) -> Result<u8, StreamFault>
-    ensures { PrintsAnswer (TellsReport job.now (view_of_report report.now))
+    ensures { PrintsAnswer (PrintsReport job.now (view_of_report report.now))
         (W.contents writer.old.inner) (W.contents writer.new.inner)
         writer.old.failures.total writer.new.failures.total result }
 {
@@ -181,19 +181,30 @@ fn print_failure<W: Write, M: Ledger>(
     }
 }
 
+/// A run whose choices are to be shrunk: its module and its report, and within how many runs.
+#[derive(Drop)]
+struct RunToShrink<'a> {
+    module: ReadModule,
+    report: &'a Report,
+    runs: u32,
+}
+
 /// What the shrinking of the choices of a run is answered with.
 fn shrink_report(
     alloc: Global,
     args: &HuntArgs,
-    module: ReadModule,
-    report: &Report,
-    runs: u32,
+    run: RunToShrink<'_>,
     observer: &mut impl Observer,
 ) -> Result<Output, NoMemory>
-    ensures { IfOk result (λ a. (bytes : List ℕ) → IsModuleOf bytes «module»
-        → AnswersRun (shrinking_of (view_of_hunt_args args.now) (choices_of (view_of_report report.now)) runs) bytes
-        a.text.items a.status) }
+    ensures { IfOk result (λ a. (bytes : List ℕ) → IsModuleOf bytes run.entry.«module»
+        → AnswersRun (shrinking_of (view_of_hunt_args args.now) (choices_of (view_of_report run.entry.report.now))
+        run.entry.runs) bytes a.text.items a.status) }
 {
+    let RunToShrink {
+        module,
+        report,
+        runs,
+    } = run;
     let choices = choices_of(alloc, report)?;
     shrink(alloc, args, module, choices, runs, observer)
 }
@@ -202,18 +213,16 @@ fn shrink_report(
 fn print_shrunk<W: Write, M: Ledger>(
     alloc: Global,
     args: &HuntArgs,
-    module: ReadModule,
-    report: &Report,
-    runs: u32,
+    run: RunToShrink<'_>,
     observer: &mut impl Observer,
     writer: &mut Counted<W, M>,
 ) -> Result<u8, StreamFault>
-    ensures { (bytes : List ℕ) → IsModuleOf bytes «module»
-        → PrintsAnswer (TellsShrinking (view_of_hunt_args args.now) bytes (view_of_report report.now) runs)
-        (W.contents writer.old.inner) (W.contents writer.new.inner)
+    ensures { (bytes : List ℕ) → IsModuleOf bytes run.entry.«module»
+        → PrintsAnswer (PrintsShrinking (view_of_hunt_args args.now) bytes (view_of_report run.entry.report.now)
+        run.entry.runs) (W.contents writer.old.inner) (W.contents writer.new.inner)
         writer.old.failures.total writer.new.failures.total result }
 {
-    match shrink_report(alloc, args, module, report, runs, observer) {
+    match shrink_report(alloc, args, run, observer) {
         Ok(answer) => print_answer(&answer, writer),
         Err(NoMemory) => print_no_memory(writer),
     }
@@ -229,7 +238,7 @@ fn print_found<W: Write, M: Ledger>(
 ) -> Result<u8, StreamFault>
     ensures { (bytes : List ℕ) (ns : List Notice) → IsModuleOf bytes found.«module»
         → IsLeastFailure (view_of_hunt_args args.now) found.job ns args.now.end (Some (failure_of found.failure))
-        → PrintsAnswer (TellsSought (view_of_hunt_args args.now) bytes found.job ns (Failure found.runs))
+        → PrintsAnswer (PrintsSought (view_of_hunt_args args.now) bytes found.job ns (Failure found.runs))
         (W.contents writer.old.inner) (W.contents writer.new.inner)
         writer.old.failures.total writer.new.failures.total result }
 {
@@ -241,13 +250,21 @@ fn print_found<W: Write, M: Ledger>(
     } = found;
     print_seed(args.strategy, &failure, writer)?;
     match runs {
-        Some(runs) => print_shrunk(alloc, args, module, &failure.report, runs, observer, writer),
+        Some(runs) => {
+            let report = &failure.report;
+            let run = RunToShrink {
+                module,
+                report,
+                runs,
+            };
+            print_shrunk(alloc, args, run, observer, writer)
+        }
         None => print_failure(alloc, &job, &failure.report, writer),
     }
 }
 
 /// Prints the result of a hunt.
-pub(crate) fn print_end<W: Write, M: Ledger>(
+pub fn print_end<W: Write, M: Ledger>(
     alloc: Global,
     args: &HuntArgs,
     end: HuntEnd,
@@ -260,7 +277,7 @@ pub(crate) fn print_end<W: Write, M: Ledger>(
         writer.old.failures.total writer.new.failures.total result }
 {
     match end {
-        HuntEnd::Told(answer) => print_answer(&answer, writer),
+        HuntEnd::Reported(answer) => print_answer(&answer, writer),
         HuntEnd::Found(found) => print_found(alloc, args, found, observer, writer),
     }
 }

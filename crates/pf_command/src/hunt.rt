@@ -6,85 +6,99 @@ ghost use Rattle.pf_cli.specs.Args.{view_of_hunt_args};
 ghost use Rattle.pf_command.specs.Hunts.{HuntEndsAs, HuntAnswers, HuntNotifies};
 ghost use Rattle.pf_command.specs.Streams.{IsAnsweredSo, PrintsAnswer, Sends, Serves, TakesBytes, streams};
 
-use crate::answer::refused_at;
 use crate::ending::{HuntEnd, print_end};
-use crate::seek::hunt_module;
+use crate::seek::{hunted_of, seek_failure, seek_outcomes};
 use crate::serving::MOST_BYTES;
 use pf_check::ReadSource;
-use pf_cli::HuntArgs;
+use pf_cli::{HuntArgs, HuntGoal};
 use pf_errors::{NoMemory, OrNoMemory};
 use pf_hunt::HuntObserver;
 use pf_sched::Observer;
 use pf_streams::{Counted, StreamFault};
-use std::alloc::Global;
+use std::alloc::{AllocGlobal, Global};
 use std::io::{Read, Write};
 use std::sync::ledger::Ledger;
 use std::thread::Threads;
 
-/// The result for a source, by the given number of workers: an answer, or a run that fails.
-fn end_of_hunt<T: Threads + Sync, S: HuntObserver>(
+/// A hunt that is asked for, and how many workers share its seeds.
+#[derive(Clone, Copy)]
+pub struct HuntRequest<'a> {
+    pub args: &'a HuntArgs<'a>,
+    pub workers: u64,
+}
+
+/// The result for a source: an answer, or a run that fails, which is still to be printed.
+pub fn end_of_hunt<T: Threads + Sync, S: HuntObserver>(
     rt: &T,
     alloc: Global,
-    args: &HuntArgs,
+    asked: &HuntRequest,
     source: &ReadSource,
-    workers: u64,
     seeds: &mut S,
 ) -> Result<HuntEnd, NoMemory>
-    ensures { IfOk result (λ x. HearsSome S.Heard seeds.old
-        (HuntEndsAs (view_of_hunt_args args.now) (view_of_hunt_args args.now).sought source.now x) seeds.new) }
+    ensures { IfOk result (λ x. HearsSome S.Heard seeds.old (HuntEndsAs (view_of_hunt_args asked.now.args.now)
+        (view_of_hunt_args asked.now.args.now).sought source.now x) seeds.new) }
 {
-    match source.module() {
-        Ok(module) => hunt_module(rt, alloc, args, module.share()?, workers, seeds),
-        Err(refusal) => {
-            let answer = refused_at(alloc, refusal)?;
-            Ok(HuntEnd::Told(answer))
+    let hunted = match hunted_of(alloc, asked.args, source) {
+        Ok(hunted) => hunted,
+        Err(OrNoMemory::Fault(answer)) => return Ok(HuntEnd::Reported(answer)),
+        Err(OrNoMemory::NoMemory) => return Err(NoMemory),
+    };
+    match asked.args.sought {
+        HuntGoal::Failure { runs } => seek_failure(rt, alloc, asked, hunted, runs, seeds),
+        HuntGoal::Outcomes => {
+            let answer = seek_outcomes(rt, alloc, asked, hunted, seeds)?;
+            Ok(HuntEnd::Reported(answer))
         }
     }
 }
 
-/// Prints what a source is answered with, by the given number of workers.
-pub fn print_hunt<W: Write, M: Ledger, T: Threads + Sync, S: HuntObserver>(
+/// Prints what a source is answered with.
+pub fn print_hunt<W: Write, M: Ledger, T: AllocGlobal + Threads + Sync, S: HuntObserver>(
     rt: &T,
-    alloc: Global,
-    args: &HuntArgs,
+    asked: &HuntRequest,
     source: &ReadSource,
-    workers: u64,
     writer: &mut Counted<W, M>,
     seeds: &mut S,
     observer: &mut impl Observer,
 ) -> Result<u8, OrNoMemory<StreamFault>>
-    ensures sent { Sends (HuntAnswers (view_of_hunt_args args.now) source.now)
+    ensures sent { Sends (HuntAnswers (view_of_hunt_args asked.now.args.now) source.now)
         (W.contents writer.old.inner) (W.contents writer.new.inner)
         writer.old.failures.total writer.new.failures.total result }
     ensures heard { IfOk result (λ status. HearsSome S.Heard seeds.old
-        (λ ns. PrintsAnswer (HuntNotifies (view_of_hunt_args args.now) ns source.now)
+        (λ ns. PrintsAnswer (HuntNotifies (view_of_hunt_args asked.now.args.now) ns source.now)
         (W.contents writer.old.inner) (W.contents writer.new.inner)
         writer.old.failures.total writer.new.failures.total (Ok status)) seeds.new) }
 {
-    let end = end_of_hunt(rt, alloc, args, source, workers, seeds)?;
-    Ok(print_end(alloc, args, end, observer, writer)?)
+    let alloc = rt.alloc();
+    let end = end_of_hunt(rt, alloc, asked, source, seeds)?;
+    Ok(print_end(alloc, asked.args, end, observer, writer)?)
 }
 
-/// Answers a source whose runs by many seeds are asked for, by n workers: reads at most one byte more than a source may
-/// have, writes a text and gives the status. The observer of the seeds receives how far the hunt came and the least
-/// leak, and answers how it goes on; the other observer receives the progress of a shrinking.
-pub fn hunt_source<R: Read, W: Write, L: Ledger, M: Ledger, T: Threads + Sync, S: HuntObserver>(
+/// Answers a source whose runs by many seeds are asked for: reads at most one byte more than a source may have, writes
+/// a text and gives the status. The observer of the seeds receives how far the hunt came and the least leak, and
+/// answers how it goes on; the other observer receives the progress of a shrinking.
+pub fn hunt_source<R, W, L, M, T, S>(
     rt: &T,
-    alloc: Global,
     reader: &mut Counted<R, L>,
-    args: &HuntArgs,
-    workers: u64,
+    asked: &HuntRequest,
     writer: &mut Counted<W, M>,
     seeds: &mut S,
     observer: &mut impl Observer,
 ) -> Result<u8, OrNoMemory<StreamFault>>
-    ensures served { Serves (HuntAnswers (view_of_hunt_args args.now))
+where
+    R: Read,
+    W: Write,
+    L: Ledger,
+    M: Ledger,
+    T: AllocGlobal + Threads + Sync,
+    S: HuntObserver,
+    ensures served { Serves (HuntAnswers (view_of_hunt_args asked.now.args.now))
         (streams (R.remaining reader.old.inner) (W.contents writer.old.inner)
         reader.old.failures.total writer.old.failures.total)
         (streams (R.remaining reader.new.inner) (W.contents writer.new.inner)
         reader.new.failures.total writer.new.failures.total) result }
     ensures heard { IfOk result (λ status. HearsSome S.Heard seeds.old
-        (λ ns. IsAnsweredSo (HuntNotifies (view_of_hunt_args args.now) ns)
+        (λ ns. IsAnsweredSo (HuntNotifies (view_of_hunt_args asked.now.args.now) ns)
         (streams (R.remaining reader.old.inner) (W.contents writer.old.inner)
         reader.old.failures.total writer.old.failures.total)
         (streams (R.remaining reader.new.inner) (W.contents writer.new.inner)
@@ -95,7 +109,8 @@ pub fn hunt_source<R: Read, W: Write, L: Ledger, M: Ledger, T: Threads + Sync, S
         (streams (R.remaining reader.new.inner) (W.contents writer.new.inner)
         reader.new.failures.total writer.new.failures.total) }
 {
+    let alloc = rt.alloc();
     let bytes = reader.take_front(alloc, MOST_BYTES)?;
     let source = ReadSource::new(alloc, bytes)?;
-    print_hunt(rt, alloc, args, &source, workers, writer, seeds, observer)
+    print_hunt(rt, asked, &source, writer, seeds, observer)
 }

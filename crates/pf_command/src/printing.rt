@@ -1,24 +1,22 @@
 //! The work of a run between a reader and a writer: its report goes out as the run goes, so that no more of it is held
 //! than a piece.
 
-ghost use Rattle.std.specs.Prelude.{◌≡◌, List, ℕ, zero, IfOk, Some};
+ghost use Rattle.std.specs.Prelude.{◌≡◌, List, ℕ, zero, IfOk, IsNone};
 ghost use Rattle.pf_errors.specs.Codes.{code_text, refusal_text};
 ghost use Rattle.pf_cli.specs.Args.{view_of_run_args};
-ghost use Rattle.pf_command.specs.Answers.{AnswersRun, Counts, CountsBy, IsNoMemory, ReportsJob, run_args};
-ghost use Rattle.pf_cli_messages.specs.Explained.{AsksOf};
+ghost use Rattle.pf_command.specs.Answers.{Counts, IsNoMemory, ReportsJob};
 ghost use Rattle.pf_check.specs.Reading.{IsModuleOf};
-ghost use Rattle.pf_command.specs.Guided.{RunAnswers, RunCounts};
+ghost use Rattle.pf_command.specs.Guided.{RunAnswers, RunCounts, RunsAs};
+ghost use Rattle.pf_request.specs.Job as request;
 ghost use Rattle.pf_command.specs.Streams.{IsAnsweredSo, IsAnswer, IsRefusedText, PrintsAnswer, Sends, Serves};
 ghost use Rattle.pf_command.specs.Streams.{TakesBytes, WentOut, streams};
 
 use crate::answer::{Output, REFUSED, refused_at, refused_by_code, run_status};
-use crate::guided::scheduled;
 use crate::run::answer_job;
 use crate::serving::MOST_BYTES;
 use pf_check::{ReadModule, ReadSource};
-use pf_cli::{Edition, RunArgs};
+use pf_cli::RunArgs;
 use pf_errors::{Code, OrNoMemory, SourceRefusal};
-use pf_request::Request;
 use pf_sched::{Job, Scratch, Silent, print_run};
 use pf_streams::{Counted, StreamFault};
 use std::alloc::Global;
@@ -75,21 +73,24 @@ pub(crate) fn print_answer<W: Write, M: Ledger>(
     Ok(answer.status)
 }
 
-/// Prints the report of a job that is one run, as the run goes, and counts how many processes still wait though its
-/// root returned.
+/// Prints the report of the run of a job, by its own choices or by the priorities of a seed, as the run goes, and
+/// counts how many processes still wait though its root returned.
 fn print_one_run<W: Write, M: Ledger>(
     alloc: Global,
     job: &Job,
+    priorities: Option<u64>,
     writer: &mut Counted<W, M>,
     waiting: &mut u32,
 ) -> Result<u8, StreamFault>
-    requires { job.now.asked.runs ≡ zero }
-    ensures told { PrintsAnswer (ReportsJob job.now) (W.contents writer.old.inner) (W.contents writer.new.inner)
+    requires { IsNone priorities → job.now.asked.runs ≡ zero }
+    ensures reported { (k : request.Job) × RunsAs priorities job.now k
+        × PrintsAnswer (ReportsJob k) (W.contents writer.old.inner) (W.contents writer.new.inner)
         writer.old.failures.total writer.new.failures.total result }
-    ensures waits { IfOk result (WentOut (Counts job.now waiting.old waiting.new)
+    ensures waits { (k : request.Job) × RunsAs priorities job.now k
+        × IfOk result (WentOut (Counts k waiting.old waiting.new)
         (W.contents writer.old.inner) (W.contents writer.new.inner)) }
 {
-    match print_run(alloc, job, &mut Scratch::new(alloc), writer) {
+    match print_run(alloc, job, priorities, &mut Scratch::new(alloc), writer) {
         Ok(printed) => {
             *waiting = printed.waiting;
             Ok(run_status(printed.verdict))
@@ -99,76 +100,27 @@ fn print_one_run<W: Write, M: Ledger>(
     }
 }
 
-/// Prints what is reported of a job. Of one that is one run it counts how many processes still wait though its root
-/// returned.
+/// Prints what is reported of a job, or of its run by the priorities of a seed. Of one run it counts how many processes
+/// still wait though its root returned.
 fn print_job<W: Write, M: Ledger>(
     alloc: Global,
     job: Job,
+    priorities: Option<u64>,
     writer: &mut Counted<W, M>,
     waiting: &mut u32,
 ) -> Result<u8, OrNoMemory<StreamFault>>
-    ensures told { Sends (ReportsJob job) (W.contents writer.old.inner) (W.contents writer.new.inner)
+    ensures reported { (k : request.Job) × RunsAs priorities job k
+        × Sends (ReportsJob k) (W.contents writer.old.inner) (W.contents writer.new.inner)
         writer.old.failures.total writer.new.failures.total result }
-    ensures waits { IfOk result (WentOut (Counts job waiting.old waiting.new)
+    ensures waits { (k : request.Job) × RunsAs priorities job k
+        × IfOk result (WentOut (Counts k waiting.old waiting.new)
         (W.contents writer.old.inner) (W.contents writer.new.inner)) }
 {
-    if job.runs() > 0 {
+    if priorities.is_none() && job.runs() > 0 {
         let answer = answer_job(alloc, job, &mut Silent)?;
         Ok(print_answer(&answer, writer)?)
     } else {
-        Ok(print_one_run(alloc, &job, writer, waiting)?)
-    }
-}
-
-/// Prints the answer to a module of which this is asked for.
-fn print_asked<W: Write, M: Ledger>(
-    alloc: Global,
-    request: &Request,
-    edition: Edition,
-    module: ReadModule,
-    writer: &mut Counted<W, M>,
-    waiting: &mut u32,
-) -> Result<u8, OrNoMemory<StreamFault>>
-    ensures told { (bytes : List ℕ) → IsModuleOf bytes «module»
-        → Sends (AnswersRun (run_args request.now edition) bytes)
-        (W.contents writer.old.inner) (W.contents writer.new.inner)
-        writer.old.failures.total writer.new.failures.total result }
-    ensures waits { (bytes : List ℕ) → IsModuleOf bytes «module»
-        → IfOk result (WentOut (CountsBy (AsksOf (run_args request.now edition)) waiting.old waiting.new bytes)
-        (W.contents writer.old.inner) (W.contents writer.new.inner)) }
-{
-    match Job::new(alloc, module, request, edition.number()) {
-        Ok(job) => print_job(alloc, job, writer, waiting),
-        Err(OrNoMemory::NoMemory) => Err(OrNoMemory::NoMemory),
-        Err(OrNoMemory::Fault(refusal)) => print_code(alloc, refusal.code(), writer),
-    }
-}
-
-/// Prints the answer to a module of which the run by the priorities of a seed is asked for.
-fn print_guided<W: Write, M: Ledger>(
-    alloc: Global,
-    args: &RunArgs,
-    seed: u64,
-    module: ReadModule,
-    writer: &mut Counted<W, M>,
-    waiting: &mut u32,
-) -> Result<u8, OrNoMemory<StreamFault>>
-    requires { args.now.priorities ≡ Some seed }
-    ensures told { (bytes : List ℕ) → IsModuleOf bytes «module»
-        → Sends (RunAnswers (view_of_run_args args.now) bytes)
-        (W.contents writer.old.inner) (W.contents writer.new.inner)
-        writer.old.failures.total writer.new.failures.total result }
-    ensures waits { (bytes : List ℕ) → IsModuleOf bytes «module»
-        → IfOk result (WentOut (RunCounts (view_of_run_args args.now) waiting.old waiting.new bytes)
-        (W.contents writer.old.inner) (W.contents writer.new.inner)) }
-{
-    match Job::new(alloc, module.share()?, &args.request, args.edition.number()) {
-        Ok(job) => {
-            let request = scheduled(alloc, &args.request, &job, seed)?;
-            print_asked(alloc, &request, args.edition, module, writer, waiting)
-        }
-        Err(OrNoMemory::NoMemory) => Err(OrNoMemory::NoMemory),
-        Err(OrNoMemory::Fault(refusal)) => print_code(alloc, refusal.code(), writer),
+        Ok(print_one_run(alloc, &job, priorities, writer, waiting)?)
     }
 }
 
@@ -180,7 +132,7 @@ fn print_module<W: Write, M: Ledger>(
     writer: &mut Counted<W, M>,
     waiting: &mut u32,
 ) -> Result<u8, OrNoMemory<StreamFault>>
-    ensures told { (bytes : List ℕ) → IsModuleOf bytes «module»
+    ensures reported { (bytes : List ℕ) → IsModuleOf bytes «module»
         → Sends (RunAnswers (view_of_run_args args.now) bytes)
         (W.contents writer.old.inner) (W.contents writer.new.inner)
         writer.old.failures.total writer.new.failures.total result }
@@ -188,9 +140,10 @@ fn print_module<W: Write, M: Ledger>(
         → IfOk result (WentOut (RunCounts (view_of_run_args args.now) waiting.old waiting.new bytes)
         (W.contents writer.old.inner) (W.contents writer.new.inner)) }
 {
-    match args.priorities {
-        Some(seed) => print_guided(alloc, args, seed, module, writer, waiting),
-        None => print_asked(alloc, &args.request, args.edition, module, writer, waiting),
+    match Job::new(alloc, module, &args.request, args.edition.number()) {
+        Ok(job) => print_job(alloc, job, args.priorities, writer, waiting),
+        Err(OrNoMemory::NoMemory) => Err(OrNoMemory::NoMemory),
+        Err(OrNoMemory::Fault(refusal)) => print_code(alloc, refusal.code(), writer),
     }
 }
 
@@ -203,7 +156,7 @@ pub fn print_source<W: Write, M: Ledger>(
     writer: &mut Counted<W, M>,
     waiting: &mut u32,
 ) -> Result<u8, OrNoMemory<StreamFault>>
-    ensures told { Sends (RunAnswers (view_of_run_args args.now) source.now)
+    ensures reported { Sends (RunAnswers (view_of_run_args args.now) source.now)
         (W.contents writer.old.inner) (W.contents writer.new.inner)
         writer.old.failures.total writer.new.failures.total result }
     ensures waits { IfOk result (WentOut (RunCounts (view_of_run_args args.now) waiting.old waiting.new source.now)

@@ -7,7 +7,7 @@ ghost use Rattle.pf_model.specs.Text.{report_text};
 ghost use Rattle.pf_request.specs.Job.{memory_report};
 ghost use Rattle.pf_trace.specs.Written.{AreWritten, report_in};
 ghost use Rattle.pf_sched.specs.Views.{IsWritten, result_of};
-ghost use Rattle.pf_command.specs.Answers.{AnswersRun, ReportsJob, TellsResult, run_args};
+ghost use Rattle.pf_command.specs.Answers.{AnswersRun, ReportsJob, PrintsResult, run_args};
 ghost use Rattle.pf_check.specs.Reading.{IsModuleOf};
 
 use crate::answer::{FAILED, Output, refused_at, refused_by_code, run_status};
@@ -23,13 +23,13 @@ use std::alloc::Global;
 use std::sync::Arc;
 
 /// The answer of a run: its report, with the status of its verdict.
-fn write_run(alloc: Global, atoms: &AtomTable, told: &WrittenReport) -> Result<Output, NoMemory>
-    requires { AreWritten (name_of atoms.now) told.now.lines }
-    ensures { IfOk result (TellsResult atoms.now (report (report_in told.now))) }
+fn write_run(alloc: Global, atoms: &AtomTable, reported: &WrittenReport) -> Result<Output, NoMemory>
+    requires { AreWritten (name_of atoms.now) reported.now.lines }
+    ensures { IfOk result (PrintsResult atoms.now (report (report_in reported.now))) }
 {
     let mut text = Vec::new(alloc);
-    put_written(&mut text, atoms, told)?;
-    let status = run_status(told.verdict);
+    put_written(&mut text, atoms, reported)?;
+    let status = run_status(reported.verdict);
     Ok(Output { text, status })
 }
 
@@ -40,15 +40,15 @@ fn write_shrunk(
     atoms: &AtomTable,
     schedule: &[u32],
     complete: bool,
-    told: &WrittenReport,
+    reported: &WrittenReport,
 ) -> Result<Output, NoMemory>
-    requires { AreWritten (name_of atoms.now) told.now.lines }
-    ensures { IfOk result (TellsResult atoms.now
-        (shrunk_to (found schedule.now complete) (report_in told.now))) }
+    requires { AreWritten (name_of atoms.now) reported.now.lines }
+    ensures { IfOk result (PrintsResult atoms.now
+        (shrunk_to (found schedule.now complete) (report_in reported.now))) }
 {
     let mut text = Vec::new(alloc);
     put_found(&mut text, schedule, complete)?;
-    put_written(&mut text, atoms, told)?;
+    put_written(&mut text, atoms, reported)?;
     Ok(Output {
         text,
         status: FAILED,
@@ -56,11 +56,11 @@ fn write_shrunk(
 }
 
 /// The answer of a job's result. If the given schedule doesn't fail, that is refused.
-fn write_result(alloc: Global, atoms: &AtomTable, told: &JobResult) -> Result<Output, NoMemory>
-    requires { IsWritten (name_of atoms.now) told.now }
-    ensures { IfOk result (TellsResult atoms.now (result_of told.now)) }
+fn write_result(alloc: Global, atoms: &AtomTable, reported: &JobResult) -> Result<Output, NoMemory>
+    requires { IsWritten (name_of atoms.now) reported.now }
+    ensures { IfOk result (PrintsResult atoms.now (result_of reported.now)) }
 {
-    match told {
+    match reported {
         JobResult::Report(report) => write_run(alloc, atoms, report),
         JobResult::Shrunk {
             schedule,
@@ -74,7 +74,7 @@ fn write_result(alloc: Global, atoms: &AtomTable, told: &JobResult) -> Result<Ou
 /// The answer of a job within which memory ran out: of a run that this is so, of a shrinking none.
 fn write_no_memory(alloc: Global, atoms: &AtomTable, job: &Job) -> Result<Output, NoMemory>
     ensures { IfOk result (λ a. (job.now.asked.runs ≡ zero)
-        × TellsResult atoms.now (report memory_report) a) }
+        × PrintsResult atoms.now (report memory_report) a) }
 {
     if job.runs() > 0 {
         return Err(NoMemory);

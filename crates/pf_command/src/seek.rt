@@ -1,4 +1,4 @@
-//! What a module is answered with whose runs by many seeds are asked for.
+//! What is hunted of a source, and the result of a hunt.
 
 ghost use Rattle.std.specs.Prelude.{◌≡◌, ◌-◌, ◌++◌, [], List, ℕ, IfOk, Ok, Some, MatchResult, flat_map, if◌then◌else◌};
 ghost use Rattle.std.specs.List.{list_any};
@@ -11,19 +11,22 @@ ghost use Rattle.pf_cli.specs.declared.args.HuntGoal.TheVariants as goals;
 ghost use Rattle.pf_command.specs.Answers.{AnswersRun, atom_names_of, run_args};
 ghost use Rattle.pf_cli_messages.specs.Explained.{AsksOf};
 ghost use Rattle.pf_check.specs.Reading.{IsModuleOf};
-ghost use Rattle.pf_command.specs.Hunts.{HuntAsksFor, HuntEndsAs, MayShrink, OfEach, SoughtAnswers, TellsAs};
-ghost use Rattle.pf_command.specs.Hunts.{TellsSought};
+ghost use Rattle.pf_command.specs.Hunts.{HuntAsksFor, IsHunted, IsNotHunted, MayShrink, OfEach, PrintsAs};
+ghost use Rattle.pf_command.specs.Hunts.{PrintsSought};
 ghost use Rattle.pf_command.specs.Hunts.{front_text, none_text, row_text, shrinking_of, strategy_text};
 
-use crate::answer::{Output, refused_by_code};
+use crate::answer::{Output, refused_at, refused_by_code};
 use crate::ending::{FailingRun, HuntEnd};
+use crate::hunt::HuntRequest;
 use crate::run::answer_module;
 use crate::seeds::{put_none, put_rows, put_strategy, rows_status};
 use crate::stopping::{may_stop, put_front};
-use pf_check::ReadModule;
+use pf_check::{ReadModule, ReadSource};
 use pf_cli::{HuntArgs, HuntGoal};
 use pf_errors::{NoMemory, OrNoMemory};
-use pf_hunt::{Hunt, HuntObserver, Searched, Tally, first_failing, other_jobs, tally_all};
+use pf_hunt::{
+    Hunt, HuntObserver, HuntRange, Searched, Tally, first_failing, other_jobs, tally_all,
+};
 use pf_request::{Request, RequestKind, ShortBytes};
 use pf_sched::{Job, JobRefusal, Observer};
 use std::alloc::Global;
@@ -86,7 +89,7 @@ fn may_shrink(
 }
 
 /// The same, if a schedule is to be shrunk.
-fn may_seek(
+fn may_seek_failure(
     alloc: Global,
     args: &HuntArgs,
     module: &ReadModule,
@@ -102,19 +105,78 @@ fn may_seek(
     }
 }
 
+/// The same of what a hunt seeks.
+fn may_seek(
+    alloc: Global,
+    args: &HuntArgs,
+    module: &ReadModule,
+) -> Result<(), OrNoMemory<JobRefusal>>
+    ensures { MatchResult result
+        (λ _. MayShrink (view_of_hunt_args args.now) (view_of_hunt_args args.now).sought «module».now)
+        (IsRefusal (HuntAsksFor (view_of_hunt_args args.now) (view_of_hunt_args args.now).sought «module».now)) }
+{
+    match args.sought {
+        HuntGoal::Failure { runs } => may_seek_failure(alloc, args, module, runs),
+        HuntGoal::Outcomes => Ok(()),
+    }
+}
+
 /// The job in whose place those of the seeds go.
 fn job_of(
     alloc: Global,
     args: &HuntArgs,
     module: &ReadModule,
-    runs: Option<u32>,
 ) -> Result<Job, OrNoMemory<JobRefusal>>
     ensures { MatchResult result
-        (λ job. HuntAsksFor (view_of_hunt_args args.now) (goals.Failure runs) «module».now (Ok job))
-        (IsRefusal (HuntAsksFor (view_of_hunt_args args.now) (goals.Failure runs) «module».now)) }
+        (λ job. HuntAsksFor (view_of_hunt_args args.now) (view_of_hunt_args args.now).sought «module».now (Ok job))
+        (IsRefusal (HuntAsksFor (view_of_hunt_args args.now) (view_of_hunt_args args.now).sought «module».now)) }
 {
-    may_seek(alloc, args, module, runs)?;
+    may_seek(alloc, args, module)?;
     Job::new(alloc, module.share()?, &args.request, args.edition.number())
+}
+
+/// What is hunted: a module, and the job in whose place those of the seeds go.
+#[derive(Drop)]
+pub(crate) struct HuntedJob {
+    pub job: Job,
+    pub module: ReadModule,
+}
+
+/// What is hunted of a module; or the answer, if that is refused.
+fn hunted_in(
+    alloc: Global,
+    args: &HuntArgs,
+    module: ReadModule,
+) -> Result<HuntedJob, OrNoMemory<Output>>
+    ensures { (bytes : List ℕ) → IsModuleOf bytes «module» → MatchResult result
+        (IsHunted (view_of_hunt_args args.now) bytes) (IsNotHunted (view_of_hunt_args args.now) bytes) }
+{
+    match job_of(alloc, args, &module) {
+        Ok(job) => Ok(HuntedJob { job, module }),
+        Err(OrNoMemory::Fault(refusal)) => {
+            let answer = refused_by_code(alloc, refusal.code())?;
+            Err(OrNoMemory::Fault(answer))
+        }
+        Err(OrNoMemory::NoMemory) => Err(OrNoMemory::NoMemory),
+    }
+}
+
+/// What is hunted of a source; or the answer, if the source is refused, or what is asked for of it.
+pub(crate) fn hunted_of(
+    alloc: Global,
+    args: &HuntArgs,
+    source: &ReadSource,
+) -> Result<HuntedJob, OrNoMemory<Output>>
+    ensures { MatchResult result (IsHunted (view_of_hunt_args args.now) source.now)
+        (IsNotHunted (view_of_hunt_args args.now) source.now) }
+{
+    match source.module() {
+        Ok(module) => hunted_in(alloc, args, module.share()?),
+        Err(refusal) => {
+            let answer = refused_at(alloc, refusal)?;
+            Err(OrNoMemory::Fault(answer))
+        }
+    }
 }
 
 /// The answer if no run fails of the seeds to before an end.
@@ -149,20 +211,21 @@ fn workers_of(args: &HuntArgs, workers: u64) -> u64 {
     workers.min(args.end.saturating_sub(args.first))
 }
 
-/// The result if the least seed that fails is sought, by the given number of workers.
-fn seek_failure<T: Threads + Sync, S: HuntObserver>(
+/// The result if the least seed that fails is sought.
+pub(crate) fn seek_failure<T: Threads + Sync, S: HuntObserver>(
     rt: &T,
     alloc: Global,
-    args: &HuntArgs,
-    module: ReadModule,
-    job: Job,
+    asked: &HuntRequest,
+    hunted: HuntedJob,
     runs: Option<u32>,
-    workers: u64,
     seeds: &mut S,
 ) -> Result<HuntEnd, NoMemory>
-    ensures { IfOk result (λ x. HearsSome S.Heard seeds.old (OfEach «module»
-        (λ bytes. TellsAs (view_of_hunt_args args.now) bytes job (goals.Failure runs) x)) seeds.new) }
+    ensures { IfOk result (λ x. HearsSome S.Heard seeds.old (OfEach hunted.«module»
+        (λ bytes. PrintsAs (view_of_hunt_args asked.now.args.now) bytes hunted.job (goals.Failure runs) x))
+        seeds.new) }
 {
+    let HuntRequest { args, workers } = *asked;
+    let HuntedJob { job, module } = hunted;
     let others = other_jobs(
         alloc,
         &job,
@@ -176,13 +239,17 @@ fn seek_failure<T: Threads + Sync, S: HuntObserver>(
         strategy: args.strategy,
         leaks: args.leaks,
     };
-    let (from, to) = (args.first, args.end);
     let may_stop = may_stop(args);
-    let Searched { failure, end, .. } = first_failing(
-        rt, alloc, &hunt, from, to, may_stop, workers, seeds,
-    )?;
+    let (first, end) = (args.first, args.end);
+    let range = HuntRange {
+        first,
+        end,
+        may_stop,
+        workers,
+    };
+    let Searched { failure, end, .. } = first_failing(rt, alloc, &hunt, range, seeds)?;
     let Some(failure) = failure else {
-        return Ok(HuntEnd::Told(write_none(alloc, args, end)?));
+        return Ok(HuntEnd::Reported(write_none(alloc, args, end)?));
     };
     Ok(HuntEnd::Found(FailingRun {
         job: hunt.job,
@@ -190,29 +257,6 @@ fn seek_failure<T: Threads + Sync, S: HuntObserver>(
         failure,
         runs,
     }))
-}
-
-/// The result for a module if the least seed that fails is sought.
-fn hunt_failure<T: Threads + Sync, S: HuntObserver>(
-    rt: &T,
-    alloc: Global,
-    args: &HuntArgs,
-    module: ReadModule,
-    runs: Option<u32>,
-    workers: u64,
-    seeds: &mut S,
-) -> Result<HuntEnd, NoMemory>
-    ensures { IfOk result (λ x. HearsSome S.Heard seeds.old (OfEach «module»
-        (λ bytes. HuntEndsAs (view_of_hunt_args args.now) (goals.Failure runs) bytes x)) seeds.new) }
-{
-    match job_of(alloc, args, &module, runs) {
-        Ok(job) => seek_failure(rt, alloc, args, module, job, runs, workers, seeds),
-        Err(OrNoMemory::Fault(refusal)) => {
-            let answer = refused_by_code(alloc, refusal.code())?;
-            Ok(HuntEnd::Told(answer))
-        }
-        Err(OrNoMemory::NoMemory) => Err(NoMemory),
-    }
 }
 
 /// The answer of rows, of the seeds to before an end: the strategy and each row on a line, and 1 if the property of
@@ -237,19 +281,20 @@ fn write_rows(
     Ok(Output { text, status })
 }
 
-/// The answer if each outcome is sought, by the given number of workers.
-fn seek_outcomes<T: Threads + Sync, S: HuntObserver>(
+/// The answer if each outcome is sought.
+pub(crate) fn seek_outcomes<T: Threads + Sync, S: HuntObserver>(
     rt: &T,
     alloc: Global,
-    args: &HuntArgs,
-    module: ReadModule,
-    job: Job,
-    workers: u64,
+    asked: &HuntRequest,
+    hunted: HuntedJob,
     seeds: &mut S,
 ) -> Result<Output, NoMemory>
     ensures { IfOk result (λ a. HearsSome S.Heard seeds.old (λ ns. (bytes : List ℕ)
-        → TellsSought (view_of_hunt_args args.now) bytes job ns goals.Outcomes a.text.items a.status) seeds.new) }
+        → PrintsSought (view_of_hunt_args asked.now.args.now) bytes hunted.job ns goals.Outcomes
+        a.text.items a.status) seeds.new) }
 {
+    let HuntRequest { args, workers } = *asked;
+    let HuntedJob { job, module } = hunted;
     let others = other_jobs(
         alloc,
         &job,
@@ -264,49 +309,12 @@ fn seek_outcomes<T: Threads + Sync, S: HuntObserver>(
         leaks: false,
     };
     let may_stop = may_stop(args);
-    let tallied = tally_all(
-        rt, alloc, &hunt, args.first, args.end, may_stop, workers, seeds,
-    )?;
+    let range = HuntRange {
+        first: args.first,
+        end: args.end,
+        may_stop,
+        workers,
+    };
+    let tallied = tally_all(rt, alloc, &hunt, range, seeds)?;
     write_rows(alloc, args, &hunt.job, &tallied.tally, tallied.end)
-}
-
-/// The answer to a module if each outcome is sought.
-fn hunt_outcomes<T: Threads + Sync, S: HuntObserver>(
-    rt: &T,
-    alloc: Global,
-    args: &HuntArgs,
-    module: ReadModule,
-    workers: u64,
-    seeds: &mut S,
-) -> Result<Output, NoMemory>
-    ensures { IfOk result (λ a. HearsSome S.Heard seeds.old (OfEach «module»
-        (λ bytes ns. SoughtAnswers (view_of_hunt_args args.now) goals.Outcomes bytes ns a.text.items a.status))
-        seeds.new) }
-{
-    match Job::new(alloc, module.share()?, &args.request, args.edition.number()) {
-        Ok(job) => seek_outcomes(rt, alloc, args, module, job, workers, seeds),
-        Err(OrNoMemory::Fault(refusal)) => refused_by_code(alloc, refusal.code()),
-        Err(OrNoMemory::NoMemory) => Err(NoMemory),
-    }
-}
-
-/// The result for a module, by the given number of workers.
-pub(crate) fn hunt_module<T: Threads + Sync, S: HuntObserver>(
-    rt: &T,
-    alloc: Global,
-    args: &HuntArgs,
-    module: ReadModule,
-    workers: u64,
-    seeds: &mut S,
-) -> Result<HuntEnd, NoMemory>
-    ensures { IfOk result (λ x. HearsSome S.Heard seeds.old (OfEach «module»
-        (λ bytes. HuntEndsAs (view_of_hunt_args args.now) (view_of_hunt_args args.now).sought bytes x)) seeds.new) }
-{
-    match args.sought {
-        HuntGoal::Failure { runs } => hunt_failure(rt, alloc, args, module, runs, workers, seeds),
-        HuntGoal::Outcomes => {
-            let answer = hunt_outcomes(rt, alloc, args, module, workers, seeds)?;
-            Ok(HuntEnd::Told(answer))
-        }
-    }
 }

@@ -3,6 +3,7 @@
 ghost use Rattle.pf_command.specs.Streams.{Sends, Serves, TakesBytes, streams};
 
 use crate::answer::Output;
+use crate::printing::print_answer;
 use pf_check::ReadSource;
 use pf_errors::{NoMemory, OrNoMemory};
 use pf_streams::{Counted, StreamFault};
@@ -37,8 +38,7 @@ pub fn answer_by<W: Write, M: Ledger, C: Answering + Drop>(
         writer.old.failures.total writer.new.failures.total result }
 {
     let answer = command.answer(alloc, source)?;
-    writer.put(&answer.text)?;
-    Ok(answer.status)
+    Ok(print_answer(&answer, writer)?)
 }
 
 /// Answers a source by a command: reads at most one byte more than a source may have, writes a text and gives the

@@ -46,9 +46,10 @@ module _ {T : Type 0} where
         other = λ y. refl;
       }
 
-  behind : (o : Option T) (xs : List (Option T)) (i : ℕ) (x : T) → Around xs (suc i) x → Around (o ∷ xs) (suc (suc i)) x
-  behind None xs i x a = record { before = a.before; after = a.after; is = a.is; gone = a.gone; other = a.other }
-  behind (Some y) xs i x a = record {
+  later_ones : (o : Option T) (xs : List (Option T)) (i : ℕ) (x : T) → Around xs (suc i) x
+      → Around (o ∷ xs) (suc (suc i)) x
+  later_ones None xs i x a = record { before = a.before; after = a.after; is = a.is; gone = a.gone; other = a.other }
+  later_ones (Some y) xs i x a = record {
     before = y ∷ a.before;
     after = a.after;
     is = ap (λ (l : List T). y ∷ l) a.is;
@@ -59,7 +60,7 @@ module _ {T : Type 0} where
   around_index : (xs : List (Option T)) (i : ℕ) (x : T) → slice_get xs i ≡ Some (Some x) → Around xs (suc i) x
   around_index [] i x h = absurd (cc)
   around_index (o ∷ xs) zero x h = let e : o ≡ Some x = cc in here xs x o e
-  around_index (o ∷ xs) (suc i) x h = behind o xs i x (around_index xs i x h)
+  around_index (o ∷ xs) (suc i) x h = later_ones o xs i x (around_index xs i x h)
 
   at_index : (xs : List (Option T)) (i : ℕ) (x : T) → held_at xs (suc i) ≡ Some x → slice_get xs i ≡ Some (Some x)
   at_index xs i x h = by (slice_get xs i) refl h

@@ -3,7 +3,7 @@ pub mod Calls
 pub mod Work
 pub mod History
 pub mod Desks
-pub mod Told
+pub mod Reported
 pub mod Encoding
 pub mod Legality
 pub mod Limits

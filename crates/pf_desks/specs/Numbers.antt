@@ -20,14 +20,14 @@ CountUp n [] = Unit {0}
 CountUp n (m ∷ ms) = (m ≡ n) × CountUp (n + 1) ms
 
 -- the modules' numbers that these replies give are 1, 2, 3 and so on, and so are their tickets
-abbrev pub TellEachOnce : List Reply → Type 0
-TellEachOnce rs = CountUp 1 (filter_map replied_number rs) × CountUp 1 (filter_map ticket_in rs)
+abbrev pub ReportEachOnce : List Reply → Type 0
+ReportEachOnce rs = CountUp 1 (filter_map replied_number rs) × CountUp 1 (filter_map ticket_in rs)
 
 -- no legal history notes a number or a ticket twice, whatever was given up
-abbrev pub LegalHistoriesTellEachOnce : Type 0
-LegalHistoriesTellEachOnce = (p : Profile) (d : Desk) → IsLegalDesk p d → TellEachOnce (replies_noted d.history)
+abbrev pub LegalHistoriesReportEachOnce : Type 0
+LegalHistoriesReportEachOnce = (p : Profile) (d : Desk) → IsLegalDesk p d → ReportEachOnce (replies_noted d.history)
 
 -- whatever steps there are, from no open desk, the modules' numbers that a project is given are
 -- 1, 2, 3 and so on, and so are its tickets: none is given twice, whatever was given up
 abbrev pub NoNumberTwice : Type 0
-NoNumberTwice = (p : Profile) (q : ℕ) (ss : List DeskStep) → TellEachOnce (replies_to q ss (all_answers p ss))
+NoNumberTwice = (p : Profile) (q : ℕ) (ss : List DeskStep) → ReportEachOnce (replies_to q ss (all_answers p ss))

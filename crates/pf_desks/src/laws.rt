@@ -3,7 +3,7 @@
 ghost use Rattle.pf_desks.specs.Desks.{Isolation};
 ghost use Rattle.pf_desks.specs.Legality.{Legality};
 ghost use Rattle.pf_desks.specs.Limits.{LegalDesksAreInLimits, StaysInLimits};
-ghost use Rattle.pf_desks.specs.Numbers.{LegalHistoriesTellEachOnce, NoNumberTwice};
+ghost use Rattle.pf_desks.specs.Numbers.{LegalHistoriesReportEachOnce, NoNumberTwice};
 ghost use Rattle.pf_desks.specs.Jobs.{TicketsStay};
 
 /// Isolation: for every list of steps, of any length, in any order and of any number of projects, a project
@@ -27,8 +27,8 @@ pub fn legal_desks_are_in_limits()
 
 /// Numbers of legal histories: the modules' numbers that a legal history notes are 1, 2, 3 and so on, and so are its
 /// tickets. None is given twice, in `steps` or in `farm`, whose histories are legal.
-pub fn legal_histories_tell_each_once()
-    ensures { LegalHistoriesTellEachOnce }
+pub fn legal_histories_report_each_once()
+    ensures { LegalHistoriesReportEachOnce }
 {}
 
 /// Limits: for every list of steps, what each project's desk uses passes none of the limits of its edition.

@@ -14,9 +14,9 @@ pub since_is : (xs : List ℕ) (n : ℕ) → n ≤ length xs
     → ((k : ℕ) → n ≤ k → k < length xs → is_newline (get_or xs k 0) ≡ false)
     → (0 < n → is_newline (get_or xs (n - 1) 0) ≡ true) → take (length xs - n) (drop n xs) ≡ since_newline xs
 since_is xs n h none one =
-    let behind : suffix_len is_other xs ≡ length xs - n = suffix_len_is is_other xs n 0 h (λ k a b. ap not (none k a b))
+    let after : suffix_len is_other xs ≡ length xs - n = suffix_len_is is_other xs n 0 h (λ k a b. ap not (none k a b))
     (λ a. ap not (one a)) in
-    let start : n ≡ length xs - suffix_len is_other xs = omega (arith, behind, h) in
+    let start : n ≡ length xs - suffix_len is_other xs = omega (arith, after, h) in
     take_all (length xs - n) (drop n xs) (omega (arith, length-drop n xs)) ∙ ap (λ (k : ℕ). drop k xs) start
 
 -- there is no newline before n, and one at n, unless that is the end

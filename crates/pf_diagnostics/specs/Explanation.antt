@@ -24,8 +24,8 @@ rewrite_text (Some r) = line (codes "  instead of  " ++ r.instead.now) ++ line (
 abbrev pub explanation : (source : List ℕ) → Advice → List ℕ
 explanation source a =
     let front = take a.position source in
-    let behind = drop a.position source in
-    line (position_text front) ++ line (shown_line front behind) ++ line (caret_line front) ++ line a.sentence.now
+    let after = drop a.position source in
+    line (position_text front) ++ line (shown_line front after) ++ line (caret_line front) ++ line a.sentence.now
     ++ rewrite_text a.rewrite
 
 -- of several things that are said of a source: the first, and each other one after an empty line

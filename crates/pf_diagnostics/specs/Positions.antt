@@ -31,4 +31,4 @@ column front = 1 + columns (since_newline front)
 
 -- the rest of its line: the bytes from it on, up to the next newline
 abbrev pub up_to_newline : List ℕ → List ℕ
-up_to_newline behind = before_first is_newline behind
+up_to_newline after = before_first is_newline after

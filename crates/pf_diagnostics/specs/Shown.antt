@@ -9,8 +9,8 @@ abbrev pub leads : ℕ → Bool
 leads byte = nat_lt 194 byte && nat_lt byte 224
 
 -- a byte that goes on with a character: itself in such a letter, else nothing
-abbrev pub shown_behind : (before byte : ℕ) → List ℕ
-shown_behind before byte = if leads before then byte ∷ [] else []
+abbrev pub shown_after : (before byte : ℕ) → List ℕ
+shown_after before byte = if leads before then byte ∷ [] else []
 
 -- a byte with which a character begins: itself from the blank to `~` and in such a letter, else `?`
 abbrev pub shown_first : (byte next : ℕ) → List ℕ
@@ -18,7 +18,7 @@ shown_first byte next = if nat_lt 31 byte && nat_lt byte 127 || leads byte && go
 
 -- a byte as it is shown, by those around it
 abbrev pub shown_byte : (before byte next : ℕ) → List ℕ
-shown_byte before byte next = if goes_on byte then shown_behind before byte else shown_first byte next
+shown_byte before byte next = if goes_on byte then shown_after before byte else shown_first byte next
 
 -- the first n bytes as they are shown
 unfoldable pub shown_up_to : List ℕ → (n : ℕ) → List ℕ
@@ -36,11 +36,11 @@ nearest before = drop (length before - MOST_SHOWN) before
 
 -- the first bytes of what follows, as many as are shown
 abbrev pub farthest : List ℕ → List ℕ
-farthest behind = take MOST_SHOWN behind
+farthest after = take MOST_SHOWN after
 
 -- the line around a position, by the bytes before the position and those from it on
-abbrev pub shown_line : (front behind : List ℕ) → List ℕ
-shown_line front behind = shown_bytes (nearest (since_newline front)) ++ shown_bytes (farthest (up_to_newline behind))
+abbrev pub shown_line : (front after : List ℕ) → List ℕ
+shown_line front after = shown_bytes (nearest (since_newline front)) ++ shown_bytes (farthest (up_to_newline after))
 
 -- a caret in the column of the position, after as many blanks as the bytes that are shown before the position have
 -- columns

@@ -22,11 +22,11 @@ fn put_position(alloc: Global, out: &mut Vec<u8>, front: &[u8]) -> Result<(), No
 }
 
 /// Puts the line around a position.
-fn put_line(out: &mut Vec<u8>, front: &[u8], behind: &[u8]) -> Result<(), NoMemory>
-    ensures { OnOk result (out.new.items ≡ out.old.items ++ line (shown_line front.now behind.now)) }
+fn put_line(out: &mut Vec<u8>, front: &[u8], after: &[u8]) -> Result<(), NoMemory>
+    ensures { OnOk result (out.new.items ≡ out.old.items ++ line (shown_line front.now after.now)) }
 {
     put_shown(out, nearest(since_newline(front)))?;
-    put_shown(out, farthest(up_to_newline(behind)))?;
+    put_shown(out, farthest(up_to_newline(after)))?;
     out.push(b'\n')?;
     Ok(())
 }
@@ -50,7 +50,7 @@ fn put_sentence(out: &mut Vec<u8>, sentence: &str) -> Result<(), NoMemory>
 }
 
 /// Puts words on a line of their own, after others.
-fn put_behind(out: &mut Vec<u8>, front: &[u8], words: &str) -> Result<(), NoMemory>
+fn put_after(out: &mut Vec<u8>, front: &[u8], words: &str) -> Result<(), NoMemory>
     ensures { OnOk result (out.new.items ≡ out.old.items ++ line (front.now ++ words.now)) }
 {
     out.extend_from_slice(front)?;
@@ -61,8 +61,8 @@ fn put_behind(out: &mut Vec<u8>, front: &[u8], words: &str) -> Result<(), NoMemo
 fn put_example(out: &mut Vec<u8>, rewrite: Rewrite) -> Result<(), NoMemory>
     ensures { OnOk result (out.new.items ≡ out.old.items ++ rewrite_text (Some rewrite)) }
 {
-    put_behind(out, b"  instead of  ", rewrite.instead)?;
-    put_behind(out, b"  write       ", rewrite.write)
+    put_after(out, b"  instead of  ", rewrite.instead)?;
+    put_after(out, b"  write       ", rewrite.write)
 }
 
 /// The same if there is one.
@@ -85,9 +85,9 @@ fn put_lines(
     ensures { OnOk result (out.new.items ≡ out.old.items ++ explanation source.now advice) }
 {
     let position = advice.position.min(source.len());
-    let (front, behind) = source.split_at(position);
+    let (front, after) = source.split_at(position);
     put_position(alloc, out, front)?;
-    put_line(out, front, behind)?;
+    put_line(out, front, after)?;
     put_caret(out, front)?;
     put_sentence(out, advice.sentence)?;
     put_rewrite(out, advice.rewrite)
@@ -133,11 +133,11 @@ pub fn put_explanations(
     alloc: Global,
     out: &mut Vec<u8>,
     source: &[u8],
-    told: &[Advice],
+    reported: &[Advice],
 ) -> Result<(), NoMemory>
-    ensures { OnOk result (out.new.items ≡ out.old.items ++ explanations source.now told.now) }
+    ensures { OnOk result (out.new.items ≡ out.old.items ++ explanations source.now reported.now) }
 {
-    let Some((first, others)) = told.split_first() else {
+    let Some((first, others)) = reported.split_first() else {
         return Ok(());
     };
     put_explanation(alloc, out, source, *first)?;

@@ -51,14 +51,14 @@ pub(crate) fn since_newline(front: &[u8]) -> &[u8]
 }
 
 /// The bytes up to the first newline; all where there is none.
-pub(crate) fn up_to_newline(behind: &[u8]) -> &[u8]
-    ensures { result.now ≡ up_to_newline behind.now }
+pub(crate) fn up_to_newline(after: &[u8]) -> &[u8]
+    ensures { result.now ≡ up_to_newline after.now }
 {
     let mut end = 0;
-    while end < behind.len() && behind[end] != b'\n' {
+    while end < after.len() && after[end] != b'\n' {
         end += 1;
     }
-    &behind[..end]
+    &after[..end]
 }
 
 /// The number of the line after these bytes, from 1.

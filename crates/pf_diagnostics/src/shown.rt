@@ -1,7 +1,7 @@
 //! The line of a position as it is shown, and the caret below the position.
 
 ghost use Rattle.std.specs.Prelude.{◌≡◌, ◌++◌, ◌∷◌, [], OnOk, get_or, replicate};
-ghost use Rattle.pf_diagnostics.specs.Shown.{farthest, leads, nearest, shown_bytes, shown_behind, shown_byte};
+ghost use Rattle.pf_diagnostics.specs.Shown.{farthest, leads, nearest, shown_bytes, shown_after, shown_byte};
 ghost use Rattle.pf_diagnostics.specs.Shown.{shown_first};
 
 use crate::position::goes_on;
@@ -19,8 +19,8 @@ fn leads(byte: u8) -> bool
 }
 
 /// Puts a byte that goes on with a character, where that is such a letter.
-fn put_behind(out: &mut Vec<u8>, before: u8, byte: u8) -> Result<(), NoMemory>
-    ensures { OnOk result (out.new.items ≡ out.old.items ++ shown_behind before byte) }
+fn put_after(out: &mut Vec<u8>, before: u8, byte: u8) -> Result<(), NoMemory>
+    ensures { OnOk result (out.new.items ≡ out.old.items ++ shown_after before byte) }
 {
     if leads(before) {
         out.push(byte)?;
@@ -45,7 +45,7 @@ fn put_byte(out: &mut Vec<u8>, before: u8, byte: u8, next: u8) -> Result<(), NoM
     ensures { OnOk result (out.new.items ≡ out.old.items ++ shown_byte before byte next) }
 {
     if goes_on(byte) {
-        return put_behind(out, before, byte);
+        return put_after(out, before, byte);
     }
     out.push(shown_first(byte, next))?;
     Ok(())
@@ -67,11 +67,11 @@ pub(crate) fn nearest(before: &[u8]) -> &[u8]
 }
 
 /// The bytes from a position on that are shown, the first ones.
-pub(crate) fn farthest(behind: &[u8]) -> &[u8]
-    ensures { result.now ≡ farthest behind.now }
+pub(crate) fn farthest(after: &[u8]) -> &[u8]
+    ensures { result.now ≡ farthest after.now }
 {
-    let shown = MOST_SHOWN.min(behind.len());
-    &behind[..shown]
+    let shown = MOST_SHOWN.min(after.len());
+    &after[..shown]
 }
 
 /// Puts bytes as they are shown.

@@ -3,7 +3,7 @@
 ghost use Rattle.std.specs.Prelude.{◌≡◌, ◌+◌, ◌<◌, ◌≤◌, [], Some, false, length, map, vec_len, IfOk, IfErr};
 ghost use Rattle.pf_farm_accounts.specs.Rows.{HaveEnded};
 ghost use Rattle.pf_book.specs.Profile.{ForRight};
-ghost use Rattle.pf_farm_laws.specs.Told.{AgreesWithHistories};
+ghost use Rattle.pf_farm_laws.specs.Reported.{AgreesWithHistories};
 ghost use Rattle.pf_farm_state.specs.Clients.{all_receipts, closed_as, empty_client, AreFull, AreTheCalls};
 ghost use Rattle.pf_farm_accounts.specs.DequeViews.{stolen_by};
 ghost use Rattle.pf_farm.specs.Farms.{opened_farm, LacksSeat};
@@ -172,7 +172,7 @@ impl<N: FarmNames> Farm<N> {
         ensures receipts { ForRight (λ p. AreTheCalls (all_receipts result.seats.items) result.book) }
         ensures full { ForRight (λ p. AreFull result.seats.items result.book) }
         ensures ended { HaveEnded result.rows.items }
-        ensures told { ForRight (λ p. AgreesWithHistories result.rows.items result.book) }
+        ensures reported { ForRight (λ p. AgreesWithHistories result.rows.items result.book) }
         ensures spent { IsSpent seats.items }
     {
         let Farm {

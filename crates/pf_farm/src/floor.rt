@@ -144,13 +144,13 @@ impl<N: FarmNames> Floor<N> {
             self.wake_one(&mut shared);
         }
         if let Some(ticket) = dropped {
-            self.tell_done(&shared, seat.project(), ticket);
+            self.notify_done(&shared, seat.project(), ticket);
         }
         Ok(reply)
     }
 
-    /// Waits until the trial of a ticket of the seat's project is done, or isn't held; or until the farm stops. Tells
-    /// what it saw last.
+    /// Waits until the trial of a ticket of the seat's project is done, or isn't held; or until the farm stops.
+    /// Returns what it saw last.
     pub fn wait_done<R: Wait>(&self, rt: &R, seat: &ClientSeat<N>, ticket: u64) -> LastSeen
         ensures { result.stops ≡ false → IsTrialOver result.stage }
     {
@@ -189,7 +189,7 @@ impl<N: FarmNames> Floor<N> {
     }
 
     /// Wakes the clients that may wait for a trial which is done now, or dropped.
-    fn tell_done(&self, shared: &SharedState<N>, project: u32, ticket: u64) {
+    fn notify_done(&self, shared: &SharedState<N>, project: u32, ticket: u64) {
         let slot = slot_of(project);
         if shared.clients.is_awaited(slot, ticket) {
             self.done[slot].notify_all();
@@ -247,7 +247,7 @@ impl<N: FarmNames> Floor<N> {
         let ticket = claim.claim().ticket;
         let mut shared = self.shared.lock(rt);
         seat.file(&mut shared.hall, claim, finished);
-        self.tell_done(&shared, project, ticket);
+        self.notify_done(&shared, project, ticket);
     }
 
     /// Hands a seat's trial back.

@@ -7,21 +7,21 @@ use pf_sched::{Parked, Scratch, Slice, run_slice};
 use std::alloc::Global;
 use std::sync::Wait;
 
-/// What a worker calls for each slice of a run, without the farm's lock: with the project and the ticket of its trial.
-/// It does what `run_slice` does, and may note it, or wait.
+/// A slice that is due: of so many events, of a parked run, and the project and the ticket of its trial.
+#[derive(Drop)]
+pub struct DueSlice {
+    pub project: u32,
+    pub ticket: u64,
+    pub parked: Parked,
+    pub turns: u32,
+}
+
+/// What a worker calls for each slice of a run, without the farm's lock. It does what `run_slice` does, and may note
+/// it, or wait.
 pub trait Gate {
-    fn slice<R: Wait>(
-        &self,
-        alloc: Global,
-        rt: &R,
-        project: u32,
-        ticket: u64,
-        parked: Parked,
-        scratch: &mut Scratch,
-        turns: u32,
-    ) -> Slice
-        requires { 0 < turns }
-        ensures { SimulatesSlice parked turns result };
+    fn slice<R: Wait>(&self, alloc: Global, rt: &R, due: DueSlice, scratch: &mut Scratch) -> Slice
+        requires { 0 < due.turns }
+        ensures { SimulatesSlice due.parked due.turns result };
 }
 
 /// The gate that only runs the slice.
@@ -32,12 +32,9 @@ impl Gate for Direct {
         &self,
         alloc: Global,
         _rt: &R,
-        _project: u32,
-        _ticket: u64,
-        parked: Parked,
+        due: DueSlice,
         scratch: &mut Scratch,
-        turns: u32,
     ) -> Slice {
-        run_slice(alloc, parked, scratch, turns)
+        run_slice(alloc, due.parked, scratch, due.turns)
     }
 }

@@ -13,7 +13,7 @@ mod workers;
 
 pub use farm::{Blanks, Farm, MOST_SEATS, NoSeat};
 pub use floor::{Floor, LastSeen};
-pub use gate::{Direct, Gate};
+pub use gate::{Direct, DueSlice, Gate};
 pub use seat::WorkSeat;
 pub use tally::WorkTally;
 pub use workers::{work, work_all};

@@ -4,7 +4,7 @@ ghost use Rattle.std.specs.Prelude.{◌≡◌, ◌<◌, true, false, length, is_
 ghost use Rattle.pf_farm.specs.Seats.{AllIdle, IsAsBefore, IsIdle, IsNotLost, IsRing, SameEnds};
 
 use crate::floor::Floor;
-use crate::gate::Gate;
+use crate::gate::{DueSlice, Gate};
 use crate::held::HeldRun;
 use crate::seat::WorkSeat;
 use pf_errors::NoMemory;
@@ -215,9 +215,13 @@ fn sliced<N: FarmNames, G: Gate, R: Wait>(
     ensures kept { IsNotLost run seat.old seat.new result }
 {
     let (claim, parked) = run.into_parts();
-    let project = claim.claim().project;
-    let ticket = claim.claim().ticket;
-    match gate.slice(alloc, rt, project, ticket, parked, scratch, TURNS) {
+    let due = DueSlice {
+        project: claim.claim().project,
+        ticket: claim.claim().ticket,
+        parked,
+        turns: TURNS,
+    };
+    match gate.slice(alloc, rt, due, scratch) {
         Slice::Done(finished) => {
             floor.file(rt, seat, claim, finished);
             None

@@ -4,7 +4,7 @@ use Rattle.std.proofs.lemmas.List.Elements.{All-push, All-weaker}
 use Rattle.pf_farm_accounts.specs.Places.{AreBelow, StartsWith}
 use Rattle.pf_farm_accounts.specs.declared.receipt.Receipt.{Receipt}
 use Rattle.pf_farm_accounts.specs.Receipts.{of_project, standing_at, IsSeat}
-use Rattle.pf_farm_accounts.proofs.Standing.{grows, standing_append, still_stands, last_stands}
+use Rattle.pf_farm_accounts.proofs.Standing.{grows, standing_append, is_still_there, last_is_there}
 use Rattle.pf_farm_accounts.proofs.Numbers.{no_fewer, one_more, rising_push}
 
 module _ {C A : Type 0} where
@@ -20,7 +20,7 @@ module _ {C A : Type 0} where
       → IsSeat ks seen q rs → IsSeat ks log q rs
   shown ks seen log q rs starts is = record {
     below = below_longer ks seen log is.below starts;
-    standing = is.standing ∙ sym (still_stands ks seen log is.below starts);
+    standing = is.standing ∙ sym (is_still_there ks seen log is.below starts);
     own = is.own;
     rising = is.rising;
     counted = All-weaker (λ (r : Receipt C A). r.number ≤ length (of_project q seen))
@@ -36,7 +36,7 @@ module _ {C A : Type 0} where
       let all = log ++ r ∷ [] in
       let old = shown ks log all q rs (r ∷ [], refl) is in
       let last : standing_at (ks ++ length log ∷ []) all ≡ standing_at ks all ++ r ∷ [] =
-      standing_append ks (length log ∷ []) all ∙ ap (λ l. standing_at ks all ++ l) (last_stands log r) in
+      standing_append ks (length log ∷ []) all ∙ ap (λ l. standing_at ks all ++ l) (last_is_there log r) in
       record {
         below = below;
         standing = ap (λ l. l ++ r ∷ []) old.standing ∙ sym last;

@@ -122,22 +122,22 @@ module _ {C A : Type 0} where
   standing_append (k ∷ ks) js log = ap (put_some (slice_get log k)) (standing_append ks js log)
       ∙ some_append (slice_get log k) (standing_at ks log) (standing_at js log)
 
-  stands : (ks : List ℕ) (log rest : List (Receipt C A)) → weigh_places (λ k. absent (slice_get log k)) ks ≡ 0
+  is_there : (ks : List ℕ) (log rest : List (Receipt C A)) → weigh_places (λ k. absent (slice_get log k)) ks ≡ 0
       → standing_at ks (log ++ rest) ≡ standing_at ks log
-  stands [] log rest h = refl
-  stands (k ∷ ks) log rest h =
+  is_there [] log rest h = refl
+  is_there (k ∷ ks) log rest h =
       let here = stays log rest k (omega (arith, h)) in
-      let others = stands ks log rest (omega (arith, h)) in
+      let others = is_there ks log rest (omega (arith, h)) in
       λ i. put_some (here i) (others i)
 
   -- what was there is there when more were logged
-  pub still_stands : (ks : List ℕ) (seen log : List (Receipt C A)) → AreBelow ks (length seen) → StartsWith log seen
+  pub is_still_there : (ks : List ℕ) (seen log : List (Receipt C A)) → AreBelow ks (length seen) → StartsWith log seen
       → standing_at ks log ≡ standing_at ks seen
-  still_stands ks seen log below starts =
+  is_still_there ks seen log below starts =
       let none : weigh_places (λ k. absent (slice_get seen k)) ks ≡ 0 =
       omega (arith, below (λ k. absent (slice_get seen k)), none_absent seen) in
-      subst (λ l. standing_at ks l ≡ standing_at ks seen) (sym starts.1) (stands ks seen starts.0 none)
+      subst (λ l. standing_at ks l ≡ standing_at ks seen) (sym starts.1) (is_there ks seen starts.0 none)
 
-  pub last_stands : (log : List (Receipt C A)) (r : Receipt C A)
+  pub last_is_there : (log : List (Receipt C A)) (r : Receipt C A)
       → standing_at (length log ∷ []) (log ++ r ∷ []) ≡ r ∷ []
-  last_stands log r = ap (λ o. put_some o []) (last_get log r)
+  last_is_there log r = ap (λ o. put_some o []) (last_get log r)

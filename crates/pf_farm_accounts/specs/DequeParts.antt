@@ -33,7 +33,7 @@ module _ {T : Type 0} where
   -- this item was the first: all that was pushed before it was popped or stolen
   abbrev pub IsFirst : (steals : Bool) → (pushed popped own : List T) → T → Type 0
   IsFirst steals pushed popped own x =
-      (before : List T) × (behind : List T) × (stolen : List T) × (pushed ≡ before ++ x ∷ behind)
+      (before : List T) × (after : List T) × (stolen : List T) × (pushed ≡ before ++ x ∷ after)
       × IsDealt before popped stolen × (steals ≡ true → stolen ≡ own)
 
   -- ---- parts

@@ -139,7 +139,7 @@ module _ (p : Profile) where
   called_known es ms _ c r (less u e) known n m h =
       older es (called c r) n m (known n m (gone_held ms u n m
       (subst (λ (l : List (Option ReadModule)). held_at l n ≡ Some m) e h)))
-  called_known es ms _ c r (more x read is told e) known n m h =
+  called_known es ms _ c r (more x read is reported e) known n m h =
       ⊎_elim (λ (old : held_at ms n ≡ Some m). older es (called c r) n m (known n m old)) new
       (push_held ms (Some x) n m (subst (λ (l : List (Option ReadModule)). held_at l n ≡ Some m) e h))
     where
@@ -147,7 +147,7 @@ module _ (p : Profile) where
       new at =
           let same : x ≡ m = cc (at.1) in
           let here : called c r ≡ called (submit m.source) (number n) =
-          (λ i. called ((is ∙ ap (λ (y : ReadModule). submit y.source) same) i) ((told ∙ ap number (sym at.0)) i))
+          (λ i. called ((is ∙ ap (λ (y : ReadModule). submit y.source) same) i) ((reported ∙ ap number (sym at.0)) i))
           in (
             (es, [], ap (λ (y : Entry). es ++ y ∷ []) here),
             subst (λ (y : ReadModule). p.reading y.source ≡ readable y.code) same read,

@@ -1,7 +1,7 @@
 pub mod Lists
 pub mod Trials
 pub mod Drops
-pub mod Tells
+pub mod Reports
 pub mod Points
 pub mod Alike
 pub mod Meant

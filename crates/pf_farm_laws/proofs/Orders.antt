@@ -99,10 +99,10 @@ module _ (p : Profile) (j : Job) (t : ℕ) where
       (own_note d h.0 e h.1 (All-head (λ (x : Entry). x ≡ filed t Memory → ⊥) e es none) g)
 
   -- a result that is reported of it
-  told_own : (d : Desk) (atoms : List (List ℕ)) (r : shrinking.Result) → IsGiven IsOwn d t
+  reported_own : (d : Desk) (atoms : List (List ℕ)) (r : shrinking.Result) → IsGiven IsOwn d t
       → reply_to p d (fetch t) ≡ result atoms r
       → (atoms ≡ j.asked.code.atoms) × (r ≡ p.meaning j.asked)
-  told_own d atoms r g h =
+  reported_own d atoms r g h =
       let is : IsDone (held_at d.trials t) atoms r = of_reply p d t atoms r h in
       let x : Trial = record { module_number = is.0; job = is.1; state = done r } in
       let own : IsOwn x = subst (λ (o : Option Trial). IfSome o IsOwn) is.2 g.1 in
@@ -125,7 +125,8 @@ reports_are_of_their_orders p d before between after n q t atoms r legal is none
     let given : IsGiven (IsOwn p j t) first.1 t =
     subst (λ (x : ℕ × List (Option Trial)). (x.0 ≤ length x.1) × IfSome (held_at x.1 x.0) (IsOwn p j t))
     (λ i. (sym taken.4 i, sym trials i)) new in
-    let told : _ = told_own p j t second.0 atoms r (own_along p j t first.1 between second.0 second.2 none given)
+    let reported : _ = reported_own p j t second.0 atoms r
+    (own_along p j t first.1 between second.0 second.2 none given)
     (sym second.3.1) in (
       j,
       record {
@@ -136,6 +137,6 @@ reports_are_of_their_orders p d before between after n q t atoms r legal is none
         job = subst (λ (e : ℕ). job_of m e (p.property m.code.atoms q.property) q ≡ Ok j)
             (edition_noted p before k first.2) taken.3;
       },
-      told.0,
-      told.1,
+      reported.0,
+      reported.1,
     )

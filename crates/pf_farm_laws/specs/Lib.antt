@@ -2,7 +2,7 @@ pub mod Tally
 pub mod ClaimNotes
 pub mod Claims
 pub mod Gone
-pub mod Told
+pub mod Reported
 pub mod Points
 pub mod Notes
 pub mod Laws

@@ -14,14 +14,14 @@ use Rattle.pf_farm_state.proofs.Logged.{as_many_logged}
 use Rattle.pf_farm_state.proofs.Noted.{most_calls}
 
 pub all_more : (ss : List ClosedSeat) (s : ClosedSeat)
-    → all_receipts (ss ++ s ∷ []) ≡ all_receipts ss ++ s.told.receipts.items
-all_more [] s = append-nil s.told.receipts.items
-all_more (x ∷ ss) s = ap (λ l. x.told.receipts.items ++ l) (all_more ss s)
-    ∙ sym (append_assoc x.told.receipts.items (all_receipts ss) s.told.receipts.items)
+    → all_receipts (ss ++ s ∷ []) ≡ all_receipts ss ++ s.reported.receipts.items
+all_more [] s = append-nil s.reported.receipts.items
+all_more (x ∷ ss) s = ap (λ l. x.reported.receipts.items ++ l) (all_more ss s)
+    ∙ sym (append_assoc x.reported.receipts.items (all_receipts ss) s.reported.receipts.items)
 
 -- the log of this seat's project has as many calls as a log holds
 abbrev pub IsFull : ClosedSeat → Desks → Type 0
-IsFull s w = s.is_full ≡ true → calls_in (desk_at s.told.project w).history ≡ MOST_CALLS
+IsFull s w = s.is_full ≡ true → calls_in (desk_at s.reported.project w).history ≡ MOST_CALLS
 
 pub full_more : (ss : List ClosedSeat) (s : ClosedSeat) (w : Desks) → AreFull ss w → IsFull s w
     → AreFull (ss ++ s ∷ []) w

@@ -7,7 +7,7 @@ use Rattle.pf_model.specs.Evaluation.{evaluated}
 use Rattle.pf_model.specs.Meaning.{Job, Choices, seed, schedule, weighted_seed}
 use Rattle.pf_model.specs.Properties.{Property}
 use Rattle.pf_model.specs.Shrinking.{Found, Result, report, shrunk_to, IsResult, plain, smaller, no_failure}
-use Rattle.pf_model.specs.Shrinking.{nothing_fails, TellsFailures, by_schedule, is_failure, shrunk}
+use Rattle.pf_model.specs.Shrinking.{nothing_fails, ReportsFailures, by_schedule, is_failure, shrunk}
 use Rattle.pf_model.proofs.Meanings.{evaluation_is_the_meaning, only_evaluated}
 use Rattle.pf_property.specs.Texts.{IsPropertyOf}
 use Rattle.pf_property.proofs.AnyProperty.{any_property}
@@ -40,28 +40,28 @@ abbrev shrunk_so : Job → Option Found → Result
 shrunk_so j None = nothing_fails
 shrunk_so j (Some f) = shrunk_to f (evaluated (by_schedule j f.schedule))
 
-abbrev comes_to : Job → (runs : ℕ) → Choices → Result
-comes_to j zero cs = report (evaluated j)
-comes_to j (suc k) (schedule ns) = shrunk_so j (shrunk (fails_by j) (suc k) ns)
-comes_to j (suc k) (seed n) = nothing_fails
-comes_to j (suc k) (weighted_seed n process channel) = nothing_fails
+abbrev leads_to : Job → (runs : ℕ) → Choices → Result
+leads_to j zero cs = report (evaluated j)
+leads_to j (suc k) (schedule ns) = shrunk_so j (shrunk (fails_by j) (suc k) ns)
+leads_to j (suc k) (seed n) = nothing_fails
+leads_to j (suc k) (weighted_seed n process channel) = nothing_fails
 
 -- a function that says which schedules fail says what the one report of each does
-same_failures : (j : Job) (fails : List ℕ → Bool) → TellsFailures j fails → fails_by j ≡ fails
-same_failures j fails tells = λ i ns. sym (tells ns (evaluated (by_schedule j ns))
+same_failures : (j : Job) (fails : List ℕ → Bool) → ReportsFailures j fails → fails_by j ≡ fails
+same_failures j fails reports = λ i ns. sym (reports ns (evaluated (by_schedule j ns))
     (evaluation_is_the_meaning (by_schedule j ns) tt)) i
 
-meaning_is : (j : Job) (r : Result) → IsResult j r → comes_to j j.runs j.choices ≡ r
+meaning_is : (j : Job) (r : Result) → IsResult j r → leads_to j j.runs j.choices ≡ r
 meaning_is j _ (plain r one_run means) =
-    ap (λ (n : ℕ). comes_to j n j.choices) one_run ∙ ap report (sym (only_evaluated j r means))
-meaning_is j _ (smaller k ns fails f r runs choices tells found means) =
-    (λ i. comes_to j (runs i) (choices i))
-    ∙ ap (λ (g : List ℕ → Bool). shrunk_so j (shrunk g (suc k) ns)) (same_failures j fails tells)
+    ap (λ (n : ℕ). leads_to j n j.choices) one_run ∙ ap report (sym (only_evaluated j r means))
+meaning_is j _ (smaller k ns fails f r runs choices reports found means) =
+    (λ i. leads_to j (runs i) (choices i))
+    ∙ ap (λ (g : List ℕ → Bool). shrunk_so j (shrunk g (suc k) ns)) (same_failures j fails reports)
     ∙ ap (shrunk_so j) found
     ∙ ap (shrunk_to f) (sym (only_evaluated (by_schedule j f.schedule) r means))
-meaning_is j _ (no_failure k ns fails runs choices tells none) =
-    (λ i. comes_to j (runs i) (choices i))
-    ∙ ap (λ (g : List ℕ → Bool). shrunk_so j (shrunk g (suc k) ns)) (same_failures j fails tells)
+meaning_is j _ (no_failure k ns fails runs choices reports none) =
+    (λ i. leads_to j (runs i) (choices i))
+    ∙ ap (λ (g : List ℕ → Bool). shrunk_so j (shrunk g (suc k) ns)) (same_failures j fails reports)
     ∙ ap (shrunk_so j) none
 
 -- ---- the profile
@@ -70,7 +70,7 @@ unfoldable language : Profile
 language = record {
   reading = λ bytes. reading_from (any_outcome bytes).0;
   property = λ names bytes. (any_property names bytes).0;
-  meaning = λ j. comes_to j j.runs j.choices;
+  meaning = λ j. leads_to j j.runs j.choices;
 }
 
 language_is_right : IsRight language

@@ -37,10 +37,11 @@ use Rattle.pf_book.specs.Trials.{JobAt}
 use Rattle.pf_book.specs.View.{mark_of, view_of_reply}
 use Rattle.pf_book.proofs.Claims.{claimed_world}
 use Rattle.pf_farm_laws.specs.Gone.{IsGone}
-use Rattle.pf_farm_laws.specs.Told.{IsToldAt, AgreesWithHistories, AreOfTheirJobs}
+use Rattle.pf_farm_laws.specs.Reported.{IsReportedAt, AgreesWithHistories, AreOfTheirJobs}
 use Rattle.pf_farm_laws.proofs.Lists.{same_by, self_is}
-use Rattle.pf_farm_laws.proofs.Tells.{told_none, told_where, other_opened, other_ended, told_call, told_claim}
-use Rattle.pf_farm_laws.proofs.Tells.{told_filed, told_back, told_stray, open_gone}
+use Rattle.pf_farm_laws.proofs.Reports.{reported_none, reported_where, other_opened, other_ended, reported_call}
+use Rattle.pf_farm_laws.proofs.Reports.{reported_claim}
+use Rattle.pf_farm_laws.proofs.Reports.{reported_filed, reported_back, reported_stray, open_gone}
 use Rattle.pf_farm_accounts.specs.Receipts.{receipt_of, of_project}
 use Rattle.pf_farm_state.specs.Clients.{ClientReplies, calls_noted, IsLogged, IsOneTooMany}
 use Rattle.pf_farm_state.specs.Hall.{IsSound, end_or_stray}
@@ -61,23 +62,23 @@ any_profile = record {
 -- ---- worlds
 
 -- what holds of the desk that a step changed, and of all others, holds of the world
-placed : (q : ℕ) (rows : List (ClaimRow Job)) (w : Desks) (d : Desk) → IsToldAt q rows d
-    → ((r : ℕ) → (q == r) ≡ false → IsToldAt r rows (desk_at r w)) → AgreesWithHistories rows (put_desk q d w)
-placed q rows w d mine others r = subst (IsToldAt r rows) (sym (desk_placed r q d w)) (by (q == r) refl)
+placed : (q : ℕ) (rows : List (ClaimRow Job)) (w : Desks) (d : Desk) → IsReportedAt q rows d
+    → ((r : ℕ) → (q == r) ≡ false → IsReportedAt r rows (desk_at r w)) → AgreesWithHistories rows (put_desk q d w)
+placed q rows w d mine others r = subst (IsReportedAt r rows) (sym (desk_placed r q d w)) (by (q == r) refl)
   where
-    by : (b : Bool) → (q == r) ≡ b → IsToldAt r rows (if b then d else desk_at r w)
-    by true e = subst (λ n. IsToldAt n rows d) (same_by q r e) mine
+    by : (b : Bool) → (q == r) ≡ b → IsReportedAt r rows (if b then d else desk_at r w)
+    by true e = subst (λ n. IsReportedAt n rows d) (same_by q r e) mine
     by false e = others r e
 
 worked_done : (q : ℕ) (w w' : Desks) (b : Bool) (k : Desk)
     → ◌≡◌ {A = Desks × Answer} (worked q w (if b then Some k else None)) (w', work_done)
     → (b ≡ true) × (w' ≡ put_desk q k w)
 worked_done q w w' true k h = (refl, sym (ap (λ (x : Desks × Answer). x.0) h))
-worked_done q w w' false k h = let told : not_now ≡ work_done = ap (λ (x : Desks × Answer). x.1) h in absurd (cc)
+worked_done q w w' false k h = let reported : not_now ≡ work_done = ap (λ (x : Desks × Answer). x.1) h in absurd (cc)
 
 worked_not : (q : ℕ) (w w' : Desks) (b : Bool) (k : Desk)
     → ◌≡◌ {A = Desks × Answer} (worked q w (if b then Some k else None)) (w', not_now) → (b ≡ false) × (w' ≡ w)
-worked_not q w w' true k h = let told : work_done ≡ not_now = ap (λ (x : Desks × Answer). x.1) h in absurd (cc)
+worked_not q w w' true k h = let reported : work_done ≡ not_now = ap (λ (x : Desks × Answer). x.1) h in absurd (cc)
 worked_not q w w' false k h = (refl, sym (ap (λ (x : Desks × Answer). x.0) h))
 
 -- ---- jobs
@@ -111,17 +112,17 @@ waiting_ticket d t j (Some x) e h = subst (IsTicketOf d t) (waiting_job x x.stat
 -- ---- calls
 
 pub sound_new : IsSound [] [] []
-sound_new = ((λ p right. (told_none, logged_none)), All-nil _)
+sound_new = ((λ p right. (reported_none, logged_none)), All-nil _)
 
 -- as many calls of a project were logged as its history notes
 pub as_many : (rows : List (ClaimRow Job)) (log : List ClientReplies) (w : Desks) → IsSound rows log w → (q : ℕ)
     → length (of_project q log) ≡ calls_in (desk_at q w).history
 as_many rows log w s q = for_one (λ p right. as_many_logged log w (s.0 p right).1 q)
 
-abbrev reply_told : Answer → desk.Reply
-reply_told (replied r) = r
-reply_told work_done = desk.given_up
-reply_told not_now = desk.given_up
+abbrev reply_reported : Answer → desk.Reply
+reply_reported (replied r) = r
+reply_reported work_done = desk.given_up
+reply_reported not_now = desk.given_up
 
 module _ (rows : List (ClaimRow Job)) (log : List ClientReplies) (w w' : Desks) (q : ℕ) (c : call_code.Call) (r : Reply)
     (a : SimulatesCall w q (view_of_call c) (Ok r) w') (s : IsSound rows log w) where
@@ -135,22 +136,22 @@ module _ (rows : List (ClaimRow Job)) (log : List ClientReplies) (w w' : Desks) 
   goes : (p : Profile) → IsRight p → put_desk q (next p) w ≡ w'
   goes p right = ap (λ (x : Desks × Answer). x.0) (a p right)
 
-  told_so : (p : Profile) → IsRight p → reply_to p mine (view_of_call c) ≡ view_of_reply r
-  told_so p right = ap (λ (x : Desks × Answer). reply_told x.1) (a p right)
+  reported_so : (p : Profile) → IsRight p → reply_to p mine (view_of_call c) ≡ view_of_reply r
+  reported_so p right = ap (λ (x : Desks × Answer). reply_reported x.1) (a p right)
 
   own_desk : (p : Profile) → IsRight p → desk_at q w' ≡ next p
   own_desk p right = ap (desk_at q) (sym (goes p right)) ∙ desk_placed q q (next p) w
       ∙ ap (λ (b : Bool). if b then next p else mine) (self_is q)
 
-  tells : (p : Profile) → IsRight p → AgreesWithHistories rows (put_desk q (next p) w)
-  tells p right = placed q rows w (next p) (told_call p q rows mine (view_of_call c) ((s.0 p right).0 q))
+  reports : (p : Profile) → IsRight p → AgreesWithHistories rows (put_desk q (next p) w)
+  reports p right = placed q rows w (next p) (reported_call p q rows mine (view_of_call c) ((s.0 p right).0 q))
       (λ n apart. (s.0 p right).0 n)
 
   at_next : (log' : List ClientReplies) → KeepsAllTickets w w'
       → ((p : Profile) → IsRight p → IsLogged log' (put_desk q (next p) w)) → IsSound rows log' w'
   at_next log' keeps logged = (
     (λ p right. (
-      subst (AgreesWithHistories rows) (goes p right) (tells p right),
+      subst (AgreesWithHistories rows) (goes p right) (reports p right),
       subst (IsLogged log') (goes p right) (logged p right),
     )),
     jobs_kept rows w w' keeps s.1,
@@ -172,7 +173,7 @@ module _ (rows : List (ClaimRow Job)) (log : List ClientReplies) (w w' : Desks) 
   sound_called n room number keeps = at_next (log ++ receipt_of q n c r ∷ []) keeps (λ p right.
       logged_more log w (s.0 p right).1 q n c r (next p) number
       (noted_call p mine (view_of_call c) room ∙ ap (λ x. calls_noted mine.history ++ called (view_of_call c) x ∷ [])
-      (told_so p right)))
+      (reported_so p right)))
 
   -- a call for which the log has no room isn't noted
   pub sound_full : MOST_CALLS ≤ calls_in mine.history → KeepsAllTickets w w' → IsSound rows log w'
@@ -181,7 +182,7 @@ module _ (rows : List (ClaimRow Job)) (log : List ClientReplies) (w w' : Desks) 
       (ap (λ (d : Desk). calls_noted d.history) (full_stays mine p (view_of_call c) full)))
 
   refused_full : MOST_CALLS ≤ calls_in mine.history → IsOneTooMany (Ok r)
-  refused_full full = for_one (λ p right. sym (told_so p right) ∙ full_refused mine p (view_of_call c) full)
+  refused_full full = for_one (λ p right. sym (reported_so p right) ∙ full_refused mine p (view_of_call c) full)
 
 -- ---- calls for which the log has no room
 
@@ -204,8 +205,8 @@ pub sound_claimed : (rows : List (ClaimRow Job)) (log : List ClientReplies) (w w
 sound_claimed rows log w w' q t j h s = (
   (λ p right. (
     subst (AgreesWithHistories after) (sym x.1)
-        (placed q after w (after_claim d t) (told_claim q rows d t j.value x.0 ((s.0 p right).0 q))
-        (λ r apart. told_where r rows after (desk_at r w) (other_opened r (claim_of q t j.value) apart rows None)
+        (placed q after w (after_claim d t) (reported_claim q rows d t j.value x.0 ((s.0 p right).0 q))
+        (λ r apart. reported_where r rows after (desk_at r w) (other_opened r (claim_of q t j.value) apart rows None)
         ((s.0 p right).0 r))),
     subst (IsLogged log) (sym x.1) (logged_same log w (s.0 p right).1 q (after_claim d t) (noted_claim d t)),
   )),
@@ -238,8 +239,8 @@ module _ (rows : List (ClaimRow Job)) (log : List ClientReplies) (w : Desks) (n 
 
   -- the rows of other projects stay
   others : (p : Profile) → IsRight p → (e : ClaimEnd) (r : ℕ) → (c.project == r) ≡ false
-      → IsToldAt r (slice_set rows n (row_of c (Some e))) (desk_at r w)
-  others p right e r apart = told_where r rows (slice_set rows n (row_of c (Some e))) (desk_at r w)
+      → IsReportedAt r (slice_set rows n (row_of c (Some e))) (desk_at r w)
+  others p right e r apart = reported_where r rows (slice_set rows n (row_of c (Some e))) (desk_at r w)
       (other_ended r c apart rows n None (Some e) at) ((s.0 p right).0 r)
 
   jobs_set : (w' : Desks) (e : ClaimEnd) → KeepsAllTickets w w'
@@ -254,9 +255,9 @@ module _ (rows : List (ClaimRow Job)) (log : List ClientReplies) (w : Desks) (n 
   )
     where
       by : (p : Profile) → IsRight p → (r : ℕ) (b : Bool) → (c.project == r) ≡ b
-          → IsToldAt r (slice_set rows n (row_of c (Some Stray))) (desk_at r w)
-      by p right r true e = subst (λ k. IsToldAt k (slice_set rows n (row_of c (Some Stray))) (desk_at k w))
-          (same_by c.project r e) (told_stray c.project rows own n c (self_is c.project) at
+          → IsReportedAt r (slice_set rows n (row_of c (Some Stray))) (desk_at r w)
+      by p right r true e = subst (λ k. IsReportedAt k (slice_set rows n (row_of c (Some Stray))) (desk_at k w))
+          (same_by c.project r e) (reported_stray c.project rows own n c (self_is c.project) at
           ((s.0 p right).0 c.project) idle)
       by p right r false e = others p right Stray r e
 
@@ -282,7 +283,7 @@ module _ (rows : List (ClaimRow Job)) (log : List ClientReplies) (w : Desks) (n 
           subst (AgreesWithHistories (slice_set rows n (row_of c (Some Filed)))) (sym x.1)
               (placed c.project (slice_set rows n (row_of c (Some Filed))) w
               (after_file p own c.ticket (mark_of f.result))
-              (told_filed c.project rows own n c (self_is c.project) at ((s.0 p right).0 c.project) p
+              (reported_filed c.project rows own n c (self_is c.project) at ((s.0 p right).0 c.project) p
               (mark_of f.result)) (others p right Filed)),
           subst (IsLogged log) (sym x.1) (logged_same log w (s.0 p right).1 c.project
               (after_file p own c.ticket (mark_of f.result)) (noted_file own c.ticket p (mark_of f.result))),
@@ -303,7 +304,7 @@ module _ (rows : List (ClaimRow Job)) (log : List ClientReplies) (w : Desks) (n 
     (λ p right. (
       subst (AgreesWithHistories (slice_set rows n (row_of c (Some HandedBack)))) (sym x.1)
           (placed c.project (slice_set rows n (row_of c (Some HandedBack))) w (after_hand_back own c.ticket)
-          (told_back c.project rows own n c (self_is c.project) at ((s.0 p right).0 c.project))
+          (reported_back c.project rows own n c (self_is c.project) at ((s.0 p right).0 c.project))
           (others p right HandedBack)),
       subst (IsLogged log) (sym x.1) (logged_same log w (s.0 p right).1 c.project (after_hand_back own c.ticket)
           (noted_back own c.ticket)),

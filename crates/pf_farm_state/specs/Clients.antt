@@ -78,16 +78,16 @@ StaysFull s s' r = s.is_full ≡ true → (s' ≡ s) × IsOneTooMany r
 -- all receipts of these seats
 abbrev pub all_receipts : List ClosedSeat → List ClientReplies
 all_receipts [] = []
-all_receipts (s ∷ ss) = s.told.receipts.items ++ all_receipts ss
+all_receipts (s ∷ ss) = s.reported.receipts.items ++ all_receipts ss
 
 -- what is left of each of these seats
 abbrev pub closed_as : ClosedSeat → ClientView
-closed_as s = record { project = s.told.project; receipts = s.told.receipts.items; is_full = s.is_full }
+closed_as s = record { project = s.reported.project; receipts = s.reported.receipts.items; is_full = s.is_full }
 
 -- the history of each seat's project is legal: replayed on an empty desk it gives the desk, and its own replies
 abbrev pub AreLegal : Profile → List ClosedSeat → Desks → Type 0
-AreLegal p ss w = All (λ s. IsLegalDesk p (desk_at s.told.project w)) ss
+AreLegal p ss w = All (λ s. IsLegalDesk p (desk_at s.reported.project w)) ss
 
 -- the project of each seat that is full has as many calls as a log holds
 abbrev pub AreFull : List ClosedSeat → Desks → Type 0
-AreFull ss w = All (λ s. s.is_full ≡ true → calls_in (desk_at s.told.project w).history ≡ MOST_CALLS) ss
+AreFull ss w = All (λ s. s.is_full ≡ true → calls_in (desk_at s.reported.project w).history ≡ MOST_CALLS) ss

@@ -12,7 +12,7 @@ use Rattle.pf_farm_accounts.specs.declared.row.ClaimEnd.{ClaimEnd}
 use Rattle.pf_farm_accounts.specs.declared.row.ClaimEnd.TheVariants.{Filed, HandedBack, Stray}
 use Rattle.pf_farm_accounts.specs.Rows.{claim_of, row_of}
 use Rattle.pf_book.specs.Profile.{ForRight}
-use Rattle.pf_farm_laws.specs.Told.{AgreesWithHistories, AreOfTheirJobs}
+use Rattle.pf_farm_laws.specs.Reported.{AgreesWithHistories, AreOfTheirJobs}
 use Rattle.pf_farm_state.specs.Clients.{ClientReplies, IsLogged}
 
 -- the rows of the ledger, and the desks by project

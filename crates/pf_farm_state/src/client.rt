@@ -73,6 +73,6 @@ impl<N: FarmNames> ClientSeat<N> {
 /// What is left of a client's seat that is closed.
 #[derive(Drop)]
 pub struct ClosedSeat {
-    pub told: SeatReceipts<Call, Reply>,
+    pub reported: SeatReceipts<Call, Reply>,
     pub is_full: bool,
 }

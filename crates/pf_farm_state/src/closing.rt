@@ -40,7 +40,7 @@ impl Closing {
         ensures { ForRight (λ p. AreLegal p self.now.seats.items self.now.book) }
     {
         'seats: for seat in &self.seats {
-            self.note_count(seat.told.project);
+            self.note_count(seat.reported.project);
         }
     }
 
@@ -83,14 +83,14 @@ fn close_one<N: FarmNames>(
     requires { ForRight (λ p. IsLogged gathering.old.log book.now) }
     ensures seat { closed_as result ≡ client }
     ensures gathered { gathering.new ≡ gathering_of gathering.old.log
-        (gathering.old.receipts ++ result.told.receipts.items) (gathering.old.parts + 1) }
+        (gathering.old.receipts ++ result.reported.receipts.items) (gathering.old.parts + 1) }
     ensures full { ForRight (λ p. result.is_full ≡ true
-        → calls_in (desk_at result.told.project book.now).history ≡ MOST_CALLS) }
+        → calls_in (desk_at result.reported.project book.now).history ≡ MOST_CALLS) }
 {
     let ClientSeat { seat, is_full } = client;
     book.note_count(seat.project());
     ClosedSeat {
-        told: gathering.add(seat),
+        reported: gathering.add(seat),
         is_full,
     }
 }

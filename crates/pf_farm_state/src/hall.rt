@@ -12,7 +12,7 @@ ghost use Rattle.pf_farm_accounts.specs.Rows.{row_of, HaveEnded};
 ghost use Rattle.pf_book.specs.Answers.{SimulatesCall, ClaimsAt, SimulatesFile, SimulatesHandBack};
 ghost use Rattle.pf_book.specs.Profile.{ForRight};
 ghost use Rattle.pf_farm_laws.specs.Gone.{IsGone};
-ghost use Rattle.pf_farm_laws.specs.Told.{AgreesWithHistories};
+ghost use Rattle.pf_farm_laws.specs.Reported.{AgreesWithHistories};
 ghost use Rattle.std.specs.Vec.{vec_len, vec_capacity};
 ghost use Rattle.pf_farm_state.specs.Clients.{all_receipts, closed_as, empty_client, full_seat, AreFull, AreTheCalls};
 ghost use Rattle.pf_farm_state.specs.Clients.{GetsReceipt, IsOneTooMany, StaysFull};
@@ -261,7 +261,7 @@ impl<N: FarmNames> Hall<N> {
         ensures book { result.book ≡ self.desks }
         ensures seats { map closed_as result.seats.items ≡ clients.items }
         ensures ended { HaveEnded result.rows.items }
-        ensures told { ForRight (λ p. AgreesWithHistories result.rows.items result.book) }
+        ensures reported { ForRight (λ p. AgreesWithHistories result.rows.items result.book) }
         ensures receipts { ForRight (λ p. AreTheCalls (all_receipts result.seats.items) result.book) }
         ensures full { ForRight (λ p. AreFull result.seats.items result.book) }
     {

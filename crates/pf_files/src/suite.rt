@@ -17,7 +17,7 @@ use pf_cli_messages::{
 use pf_command::MOST_BYTES;
 use pf_errors::{NoMemory, OrNoMemory};
 use pf_hunt_suite::{
-    Hunted, RootEnd, Suite, SuiteCounts, hunt_root, line_of_refusal, line_of_root,
+    Hunted, RootEnd, RootHunt, Suite, SuiteCounts, hunt_root, line_of_refusal, line_of_root,
     line_of_rootless, read_hunted, request_for, root_name,
 };
 use pf_request::Request;
@@ -169,8 +169,8 @@ where
     fn say_why(&self, name: &str, request: &Request, source: &ReadSource) -> Result<(), NoMemory> {
         let alloc = self.rt.alloc();
         let why = why_of_root(alloc, self.args, request, source)?;
-        let told = format!(in alloc; "{name}: {why}")?;
-        say(self.rt, &told);
+        let reported = format!(in alloc; "{name}: {why}")?;
+        say(self.rt, &reported);
         Ok(())
     }
 
@@ -191,8 +191,8 @@ where
             self.say_why(name, &request, source)?;
         }
         if let Some(waiting) = waiting {
-            let told = format!(in alloc; "{name}: {waiting}")?;
-            say(self.rt, &told);
+            let reported = format!(in alloc; "{name}: {waiting}")?;
+            say(self.rt, &reported);
         }
         Ok(())
     }
@@ -210,8 +210,13 @@ where
         let args = self.args;
         let seeds = args.end.saturating_sub(args.first);
         let mut observer = Seeds::new(self.line, self.rt, seeds, self.time_left());
-        let workers = self.workers;
-        let end = hunt_root(self.rt, alloc, args, module, root, workers, &mut observer)?;
+        let hunted = RootHunt {
+            args,
+            module,
+            root,
+            workers: self.workers,
+        };
+        let end = hunt_root(self.rt, alloc, &hunted, &mut observer)?;
         self.suite.ends.push(SuiteCounts::Root(end))?;
         put_now(&line_of_root(alloc, file, root, end)?, writer)?;
         // The line went out: nothing more is said where memory runs out now.

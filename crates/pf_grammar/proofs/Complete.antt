@@ -70,13 +70,13 @@ module _ (deeper : ℕ → Parse Expr) (g : Bool) (limit level : ℕ) where
   more_stops zero floor left ts e = refl
   more_stops (suc turns) floor left ts e = ap (more_step deeper limit (more deeper g limit level turns) left ts) e
 
-  more_goes : (turns fewer floor : ℕ) (left : Expr) (ts : List NumberedToken) (i : Infix) (behind : List NumberedToken)
-      (right : Expr) (rest : List NumberedToken) → turns ≡ suc fewer → infix_ahead g floor level ts ≡ Some (i, behind)
-      → deeper (right_level i) behind ≡ Some (right, rest) → expr_depth (joined_exprs i left right) ≤ limit
+  more_goes : (turns fewer floor : ℕ) (left : Expr) (ts : List NumberedToken) (i : Infix) (after : List NumberedToken)
+      (right : Expr) (rest : List NumberedToken) → turns ≡ suc fewer → infix_ahead g floor level ts ≡ Some (i, after)
+      → deeper (right_level i) after ≡ Some (right, rest) → expr_depth (joined_exprs i left right) ≤ limit
       → more deeper g limit level turns floor left ts ≡ more deeper g limit level fewer (level_of i)
       (joined_exprs i left right) rest
   unfolding more
-  more_goes turns fewer floor left ts i behind right rest k e f le =
+  more_goes turns fewer floor left ts i after right rest k e f le =
       let deep = within_is limit (joined_exprs i left right) rest le in rw (k, e, f, deep) refl
 
 module _ (n : TokenNames) (d : ℕ) (parse_exprs : ExpressionsRead n d) (g : Bool) (part : Parse Expr)
@@ -126,15 +126,15 @@ module _ (n : TokenNames) (d : ℕ) (parse_exprs : ExpressionsRead n d) (g : Boo
       → ReadsUpTo level (left_level i) a h.2.0 (h.2.1 ∷ (h.2.2 ++ r)) → ReadsUpTo level m (joined_exprs i a b) front r
   reads_joined level m i a b front r le h deep shallow stops left =
       let q = h.2 in
-      let behind = q.2 ++ r in
+      let after = q.2 ++ r in
       let k : left.turns ≡ suc (left.turns - 1) = omega (arith, left.enough) in
-      let ahead = infix_here g left.floor level i q.1 behind q.3 h.1 left.low (let binds = h.0 in
+      let ahead = infix_here g left.floor level i q.1 after q.3 h.1 left.low (let binds = h.0 in
       omega (arith, le, binds)) in
       let right = parse_exprs g (right_level i) (right_low i) (omega (arith, right_most i, level_high i)) b q.2 r
       (q.6, shallow) stops in
-      let goes = more_goes (parse_expr n g d) g (suc d) level left.turns (left.turns - 1) left.floor a (q.1 ∷ behind) i
-      behind b r k ahead right deep in
-      let regroup : front ++ r ≡ q.0 ++ q.1 ∷ behind = ap (λ (l : List NumberedToken). l ++ r) q.4 ∙ append_assoc q.0
+      let goes = more_goes (parse_expr n g d) g (suc d) level left.turns (left.turns - 1) left.floor a (q.1 ∷ after) i
+      after b r k ahead right deep in
+      let regroup : front ++ r ≡ q.0 ++ q.1 ∷ after = ap (λ (l : List NumberedToken). l ++ r) q.4 ∙ append_assoc q.0
       (q.1 ∷ q.2) r in
       record {
         turns = left.turns - 1;
@@ -203,10 +203,10 @@ module _ (n : TokenNames) (d : ℕ) (parse_exprs : ExpressionsRead n d) (g : Boo
 -- tokens have two
 module _ (n : TokenNames) (d : ℕ) (plain : Parse Expr) (plain_complete : CompleteFor plain (Fits n false top (suc d))
     (Stops false top)) where
-  match_behind : (e : Expr) (front rest : List NumberedToken) (x : ExprPattern × List NumberedToken)
+  match_after : (e : Expr) (front rest : List NumberedToken) (x : ExprPattern × List NumberedToken)
       → Fits n false top (suc d) e front → Stops false top rest → match_ahead (pattern n d) (front ++ rest) ≡ Some x
       → after_kind (mark marks.Match) rest ≡ Some x.1
-  match_behind e front rest x fits stops h =
+  match_after e front rest x fits stops h =
       let a = bind_some (pattern n d (front ++ rest)) _ x h in
       let b = bind_some (after_kind (mark marks.Match) a.0.1) (λ r. Some (a.0.0, r)) x a.2 in
       let m = after_some (mark marks.Match) a.0.1 b.0 b.1 in
@@ -231,7 +231,7 @@ module _ (n : TokenNames) (d : ℕ) (plain : Parse Expr) (plain_complete : Compl
     where
       none : (o : Option (ExprPattern × List NumberedToken)) → match_ahead (pattern n d) (front ++ rest) ≡ o → o ≡ None
       none None h = refl
-      none (Some x) h = absurd (let yes = match_behind e front rest x fits ends.0 h in let non = ends.1 in cc)
+      none (Some x) h = absurd (let yes = match_after e front rest x fits ends.0 h in let non = ends.1 in cc)
 
   module _ (elements : ElementsRead n d) where
     element_plain : (e : Expr) (front rest : List NumberedToken) → Derives n false e top front → expr_depth e ≤ suc d
@@ -250,16 +250,16 @@ module _ (n : TokenNames) (d : ℕ) (plain : Parse Expr) (plain_complete : Compl
         let h = fits.0 in
         let b = h.1 in
         let shallow = fits.1 in
-        let behind = b.1 ∷ (b.2 ++ rest) in
-        let regroup : front ++ rest ≡ b.0 ++ behind = ap (λ (l : List NumberedToken). l ++ rest) b.4 ∙ append_assoc b.0
+        let after = b.1 ∷ (b.2 ++ rest) in
+        let regroup : front ++ rest ≡ b.0 ++ after = ap (λ (l : List NumberedToken). l ++ rest) b.4 ∙ append_assoc b.0
         (b.1 ∷ b.2) rest in
-        let left = pattern_complete n d q b.0 behind (b.5, omega (arith, shallow)) tt in
+        let left = pattern_complete n d q b.0 after (b.5, omega (arith, shallow)) tt in
         let kind = after_here (mark marks.Match) b.1 (b.2 ++ rest) refl b.3 in
-        let ahead : match_ahead (pattern n d) (b.0 ++ behind) ≡ Some (q, b.2 ++ rest) = rw (left, kind) refl in
+        let ahead : match_ahead (pattern n d) (b.0 ++ after) ≡ Some (q, b.2 ++ rest) = rw (left, kind) refl in
         let one = elements a b.2 rest (b.6, omega (arith, shallow)) ends in
         let deep = within_is (suc d) (p.match q a) rest fits.1 in
         ap (λ (l : List NumberedToken). element_step plain (element n d) (suc d) l (match_ahead (pattern n d) l))
-        regroup ∙ ap (element_step plain (element n d) (suc d) (b.0 ++ behind)) ahead ∙ rw one deep
+        regroup ∙ ap (element_step plain (element n d) (suc d) (b.0 ++ after)) ahead ∙ rw one deep
 
     element_complete_step : (e : Expr) (front rest : List NumberedToken) → Fits n false body_level (suc d) e front
         → ElementEnds rest → element_step plain (element n d) (suc d) (front ++ rest)

@@ -34,9 +34,9 @@ TestsEnd rest = Stops true top rest × (after_kind (mark marks.Comma) rest ≡ N
 -- a guard
 pub record ArrowAhead (rest : List NumberedToken) : Type 0 where
   pub arrow : NumberedToken
-  pub behind : List NumberedToken
+  pub after : List NumberedToken
   pub arrow_is : arrow.kind ≡ mark marks.Arrow
-  pub whole : rest ≡ arrow ∷ behind
+  pub whole : rest ≡ arrow ∷ after
 
 pub element_ends : (kind : NumberedKind) (t : NumberedToken) (ts : List NumberedToken) → t.kind ≡ kind
     → infix_of kind ≡ None → is (mark marks.OpenParenthesis) kind ≡ false → is (mark marks.Match) kind ≡ false
@@ -55,10 +55,10 @@ tests_end kind t ts e a b c = (stops_kind true top kind t ts e a b, after_none (
 -- another kind of token isn't ahead
 arrow_other : (s : NumberedKind) (rest : List NumberedToken) → ArrowAhead rest → is s (mark marks.Arrow) ≡ false
     → after_kind s rest ≡ None
-arrow_other s rest a non = ap (after_kind s) a.whole ∙ after_none s (mark marks.Arrow) a.arrow a.behind a.arrow_is non
+arrow_other s rest a non = ap (after_kind s) a.whole ∙ after_none s (mark marks.Arrow) a.arrow a.after a.arrow_is non
 
 arrow_tests : (rest : List NumberedToken) → ArrowAhead rest → TestsEnd rest
-arrow_tests rest a = let w = a.whole in rw w (tests_end (mark marks.Arrow) a.arrow a.behind a.arrow_is refl refl refl)
+arrow_tests rest a = let w = a.whole in rw w (tests_end (mark marks.Arrow) a.arrow a.after a.arrow_is refl refl refl)
 
 -- ---- what derives a part is some tokens
 
@@ -149,11 +149,11 @@ module _ (n : TokenNames) (d : ℕ) (elements : ElementsRead n d) where
 module _ (n : TokenNames) (d : ℕ) (parse_exprs : ExpressionsRead n d) (elements : ElementsRead n d) where
   clause_complete : (choice : Bool) → CompleteFor (clause (readers n d) choice) (FitsClause n choice d) ClauseEnds
   clause_complete choice c front rest h ends =
-      let behind = h.1 ∷ (h.2 ++ rest) in
-      let regroup : front ++ rest ≡ h.0 ++ behind = ap (λ (l : List NumberedToken). l ++ rest) h.4 ∙ append_assoc h.0
+      let after = h.1 ∷ (h.2 ++ rest) in
+      let regroup : front ++ rest ≡ h.0 ++ after = ap (λ (l : List NumberedToken). l ++ rest) h.4 ∙ append_assoc h.0
       (h.1 ∷ h.2) rest in
-      let one = front_complete n d parse_exprs choice c.0 h.0 behind h.5
-      (record { arrow = h.1; behind = h.2 ++ rest; arrow_is = h.3; whole = refl }) in
+      let one = front_complete n d parse_exprs choice c.0 h.0 after h.5
+      (record { arrow = h.1; after = h.2 ++ rest; arrow_is = h.3; whole = refl }) in
       let arrow = after_here (mark marks.Arrow) h.1 (h.2 ++ rest) refl h.3 in
       let es = body_complete n d elements c.1 h.2 rest h.6 ends in
       ap (clause (readers n d) choice) regroup ∙ rw (one, arrow, es) refl
@@ -163,14 +163,14 @@ module _ (n : TokenNames) (d : ℕ) (parse_exprs : ExpressionsRead n d) (element
       → t.kind ≡ reserved words.End → DerivesBranches n choice bs front → branches_depth bs ≤ d
       → branches (readers n d) choice (front ++ t ∷ rest) ≡ Some (bs, rest)
   branches_complete choice bs front rest t e h le =
-      let behind = t ∷ rest in
+      let after = t ∷ rest in
       let cs = branches_to n choice d bs front h le in
       let listed = items_complete ParsedClause (mark marks.Semicolon) (FitsClause n choice d)
       (clause (readers n d) choice) ClauseEnds refl (clause_complete choice) (clause_some n choice d)
-      (λ u ts f. clause_ends (mark marks.Semicolon) u ts f refl refl refl refl) (clause_list bs) front behind
-      (length (front ++ behind)) cs (clause_ends (reserved words.End) t rest e refl refl refl refl)
+      (λ u ts f. clause_ends (mark marks.Semicolon) u ts f refl refl refl refl) (clause_list bs) front after
+      (length (front ++ after)) cs (clause_ends (reserved words.End) t rest e refl refl refl refl)
       (after_none (mark marks.Semicolon) (reserved words.End) t rest e refl)
-      (omega (arith, length-append front behind)) in
+      (omega (arith, length-append front after)) in
       let end_word = after_here (reserved words.End) t rest refl e in
       let back = branches_back bs in
       rw (listed, end_word, back) refl

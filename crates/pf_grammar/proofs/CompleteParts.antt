@@ -7,7 +7,7 @@ use Rattle.pf_tokens.specs.declared.words.Reserved.TheVariants as words
 use Rattle.pf_syntax.specs.Expr as p
 use Rattle.pf_syntax.specs.Expr.{Expr, Exprs, Branches, expr_depth, exprs_depth, branches_depth}
 use Rattle.pf_tokens.specs.NumberedTokens.{NumberedKind, atom, mark, reserved, NumberedToken}
-use Rattle.pf_grammar.specs.Grammar.{TokenNames, IsAtom, Between, Apart, infix_of, top, call_stands, Derives}
+use Rattle.pf_grammar.specs.Grammar.{TokenNames, IsAtom, Between, Apart, infix_of, top, call_is_there, Derives}
 use Rattle.pf_grammar.specs.Grammar.{DerivesBranches}
 use Rattle.pf_grammar.specs.declared.infix.Infix.TheVariants.{Operator, AndAlso, OrElse, Send}
 use Rattle.pf_grammar.specs.Parse.{is, after_kind, atom_in, until, listed, call_parse_step, prim_with, readers}
@@ -149,10 +149,10 @@ module _ (n : TokenNames) (d : ℕ) (parse_exprs : ExpressionsRead n d) (element
       ) in
       let offset = h.3 in
       let arity = list_arity es in
-      let stands : call_stands n g f (length (expr_list es)) ≡ true = rw arity h.5 in
+      let is_there : call_is_there n g f (length (expr_list es)) ≡ true = rw arity h.5 in
       let back = exprs_back es in
       ap (prim_with n (readers n d) g (parse_expr n g d top)) regroup ∙ prim_atom f h.0 (b.0 ∷ (b.1 ++ rest)) h.2
-      ∙ rw (opens, all, stands, offset, back) refl
+      ∙ rw (opens, all, is_there, offset, back) refl
 
   parentheses_complete : (a : Expr) (front rest : List NumberedToken) → Fits n g 0 (suc d) (p.parentheses a) front
       → prim_with n (readers n d) g (parse_expr n g d top) (front ++ rest) ≡ Some (p.parentheses a, rest)
@@ -171,48 +171,48 @@ module _ (n : TokenNames) (d : ℕ) (parse_exprs : ExpressionsRead n d) (element
       → prim_with n (readers n d) g (parse_expr n g d top) (front ++ rest) ≡ Some (p.case a bs, rest)
   case_complete a bs front rest fits =
       let f = fits.0 in
-      let stands = f.0 in
+      let is_there = f.0 in
       let h = f.1 in
       let b = h.4 in
       let c = b.4 in
-      let behind = b.1 ∷ rest in
+      let after = b.1 ∷ rest in
       let shallow = fits.1 in
-      let regroup : front ++ rest ≡ h.0 ∷ (c.0 ++ c.1 ∷ (c.2 ++ behind)) =
+      let regroup : front ++ rest ≡ h.0 ∷ (c.0 ++ c.1 ∷ (c.2 ++ after)) =
       between_regroup (reserved words.Case) (reserved words.End)
       (Apart (reserved words.Of) (Derives n g a top) (DerivesBranches n false bs)) front rest h
-      ∙ ap (λ (l : List NumberedToken). h.0 ∷ l) (ap (λ (l : List NumberedToken). l ++ behind) c.4 ∙ append_assoc c.0
-      (c.1 ∷ c.2) behind) in
+      ∙ ap (λ (l : List NumberedToken). h.0 ∷ l) (ap (λ (l : List NumberedToken). l ++ after) c.4 ∙ append_assoc c.0
+      (c.1 ∷ c.2) after) in
       let e = h.2 in
-      let one = inner_complete a c.0 (c.1 ∷ (c.2 ++ behind)) (c.5, omega (arith, shallow))
-      (stops_kind g top (reserved words.Of) c.1 (c.2 ++ behind) c.3 refl refl) in
-      let of_word = after_here (reserved words.Of) c.1 (c.2 ++ behind) refl c.3 in
+      let one = inner_complete a c.0 (c.1 ∷ (c.2 ++ after)) (c.5, omega (arith, shallow))
+      (stops_kind g top (reserved words.Of) c.1 (c.2 ++ after) c.3 refl refl) in
+      let of_word = after_here (reserved words.Of) c.1 (c.2 ++ after) refl c.3 in
       let all = branches_complete n d parse_exprs elements false bs c.2 rest b.1 b.2 c.6 (omega (arith, shallow)) in
-      ap (prim_with n (readers n d) g (parse_expr n g d top)) regroup ∙ rw (e, stands, one, of_word, all) refl
+      ap (prim_with n (readers n d) g (parse_expr n g d top)) regroup ∙ rw (e, is_there, one, of_word, all) refl
 
   if_complete : (bs : Branches) (front rest : List NumberedToken) → Fits n g 0 (suc d) (p.if_expression bs) front
       → prim_with n (readers n d) g (parse_expr n g d top) (front ++ rest) ≡ Some (p.if_expression bs, rest)
   if_complete bs front rest fits =
       let f = fits.0 in
-      let stands = f.0 in
+      let is_there = f.0 in
       let h = f.1 in
       let b = h.4 in
       let regroup = between_regroup (reserved words.If) (reserved words.End) (DerivesBranches n true bs) front rest h in
       let e = h.2 in
       let all = branches_complete n d parse_exprs elements true bs b.0 rest b.1 b.2 b.4 (omega (arith, fits.1)) in
-      ap (prim_with n (readers n d) g (parse_expr n g d top)) regroup ∙ rw (e, stands, all) refl
+      ap (prim_with n (readers n d) g (parse_expr n g d top)) regroup ∙ rw (e, is_there, all) refl
 
   receive_complete : (bs : Branches) (front rest : List NumberedToken) → Fits n g 0 (suc d) (p.receive bs) front
       → prim_with n (readers n d) g (parse_expr n g d top) (front ++ rest) ≡ Some (p.receive bs, rest)
   receive_complete bs front rest fits =
       let f = fits.0 in
-      let stands = f.0 in
+      let is_there = f.0 in
       let h = f.1 in
       let b = h.4 in
       let regroup = between_regroup (reserved words.Receive) (reserved words.End) (DerivesBranches n false bs)
       front rest h in
       let e = h.2 in
       let all = branches_complete n d parse_exprs elements false bs b.0 rest b.1 b.2 b.4 (omega (arith, fits.1)) in
-      ap (prim_with n (readers n d) g (parse_expr n g d top)) regroup ∙ rw (e, stands, all) refl
+      ap (prim_with n (readers n d) g (parse_expr n g d top)) regroup ∙ rw (e, is_there, all) refl
 
   pub prim_complete : CompleteFor (prim_with n (readers n d) g (parse_expr n g d top)) (Fits n g 0 (suc d)) (Stops g 0)
   prim_complete (p.integer z) front rest fits stops = let h = fits.0 in let ez = h.1 in let i = h.2 in let e = i.1 in

@@ -29,27 +29,27 @@ head_complete n h front rest d ends =
     let k = q.5 in
     let b = k.3 in
     let c = b.4 in
-    let behind = q.1 ∷ (q.2 ++ rest) in
-    let more : d.more ++ rest ≡ b.0 ∷ (b.1 ++ (k.1 ++ behind)) = ap (λ (l : List NumberedToken). l ++ rest) q.4
-    ∙ append_assoc q.0 (q.1 ∷ q.2) rest ∙ ap (λ (l : List NumberedToken). l ++ behind) k.2
-    ∙ append_assoc k.0 k.1 behind
-    ∙ ap (λ (l : List NumberedToken). l ++ (k.1 ++ behind)) b.3 in
-    let regroup : front ++ rest ≡ d.name ∷ b.0 ∷ (b.1 ++ (k.1 ++ behind)) =
+    let after = q.1 ∷ (q.2 ++ rest) in
+    let more : d.more ++ rest ≡ b.0 ∷ (b.1 ++ (k.1 ++ after)) = ap (λ (l : List NumberedToken). l ++ rest) q.4
+    ∙ append_assoc q.0 (q.1 ∷ q.2) rest ∙ ap (λ (l : List NumberedToken). l ++ after) k.2
+    ∙ append_assoc k.0 k.1 after
+    ∙ ap (λ (l : List NumberedToken). l ++ (k.1 ++ after)) b.3 in
+    let regroup : front ++ rest ≡ d.name ∷ b.0 ∷ (b.1 ++ (k.1 ++ after)) =
     ap (λ (l : List NumberedToken). l ++ rest) d.whole ∙ ap (λ (l : List NumberedToken). d.name ∷ l) more in
-    let name = named_is n h.name h.offset d.name (b.0 ∷ (b.1 ++ (k.1 ++ behind))) d.name_is d.offset_is in
-    let opens = after_here (mark marks.OpenParenthesis) b.0 (b.1 ++ (k.1 ++ behind)) refl b.2 in
+    let name = named_is n h.name h.offset d.name (b.0 ∷ (b.1 ++ (k.1 ++ after))) d.name_is d.offset_is in
+    let opens = after_here (mark marks.OpenParenthesis) b.0 (b.1 ++ (k.1 ++ after)) refl b.2 in
     let qs = until_complete ExprPattern (mark marks.CloseParenthesis) (FitsPattern n MOST_TREE_DEPTH)
     (pattern n MOST_TREE_DEPTH) Any refl refl (pattern_complete n MOST_TREE_DEPTH)
     (λ r xs f. expr_pattern_opens n marks.CloseParenthesis closing_parenthesis r xs f.0)
-    (λ t ts u. tt) (λ t ts u. tt) (expr_pattern_list h.parameters) b.1 (k.1 ++ behind) (
+    (λ t ts u. tt) (λ t ts u. tt) (expr_pattern_list h.parameters) b.1 (k.1 ++ after) (
       c.0,
       c.1,
       c.2,
       c.3,
       expr_patterns_to n MOST_TREE_DEPTH h.parameters c.0 c.4 d.shallow_parameters,
     ) in
-    let condition = when_complete n MOST_TREE_DEPTH (parse_expr_complete n MOST_TREE_DEPTH) h.condition k.1 behind k.4
-    d.shallow_condition (record { arrow = q.1; behind = q.2 ++ rest; arrow_is = q.3; whole = refl }) in
+    let condition = when_complete n MOST_TREE_DEPTH (parse_expr_complete n MOST_TREE_DEPTH) h.condition k.1 after k.4
+    d.shallow_condition (record { arrow = q.1; after = q.2 ++ rest; arrow_is = q.3; whole = refl }) in
     let arrow = after_here (mark marks.Arrow) q.1 (q.2 ++ rest) refl q.3 in
     let es = body_complete n MOST_TREE_DEPTH (element_complete n MOST_TREE_DEPTH) (expr_list h.body) q.2 rest
     (body_to n MOST_TREE_DEPTH h.body q.2 q.6 d.shallow_body) ends in
@@ -69,13 +69,13 @@ heads_to n (h ∷ k ∷ hs) ts d = let more = heads_to n (k ∷ hs) d.2 d.6 in
 
 function_complete : (n : TokenNames) → CompleteFor (function n) (DerivesFunction n) Any
 function_complete n hs front rest d u =
-    let behind = d.1 ∷ rest in
-    let regroup : front ++ rest ≡ d.0 ++ behind = ap (λ (l : List NumberedToken). l ++ rest) d.3 ∙ append_assoc d.0
+    let after = d.1 ∷ rest in
+    let regroup : front ++ rest ≡ d.0 ++ after = ap (λ (l : List NumberedToken). l ++ rest) d.3 ∙ append_assoc d.0
     (d.1 ∷ []) rest in
     let listed = items_complete Head (mark marks.Semicolon) (DerivesHead n) (head_parse n) ClauseEnds refl
     (head_complete n) (head_some n) (λ t ts e. clause_ends (mark marks.Semicolon) t ts e refl refl refl refl)
-    hs d.0 behind (length (d.0 ++ behind)) (heads_to n hs d.0 d.4) (clause_ends dot d.1 rest d.2 refl refl refl refl)
-    (after_none (mark marks.Semicolon) dot d.1 rest d.2 refl) (omega (arith, length-append d.0 behind)) in
+    hs d.0 after (length (d.0 ++ after)) (heads_to n hs d.0 d.4) (clause_ends dot d.1 rest d.2 refl refl refl refl)
+    (after_none (mark marks.Semicolon) dot d.1 rest d.2 refl) (omega (arith, length-append d.0 after)) in
     let last = after_here dot d.1 rest refl d.2 in
     ap (function n) regroup ∙ rw (listed, last) refl
 
@@ -158,11 +158,11 @@ export_complete n es front rest d =
     let b = q.4 in
     let c = b.4 in
     let i = c.4 in
-    let behind = d.last ∷ rest in
-    let r4 = b.1 ∷ behind in
+    let after = d.last ∷ rest in
+    let r4 = b.1 ∷ after in
     let regroup : (d.more ++ d.last ∷ []) ++ rest ≡ q.0 ∷ c.0 ∷ (c.1 ++ r4) = append_assoc d.more (d.last ∷ []) rest
-    ∙ ap (λ (l : List NumberedToken). l ++ behind) q.3 ∙ ap (λ (l : List NumberedToken). q.0 ∷ (l ++ behind)) b.3
-    ∙ ap (λ (l : List NumberedToken). q.0 ∷ l) (append_assoc b.0 (b.1 ∷ []) behind)
+    ∙ ap (λ (l : List NumberedToken). l ++ after) q.3 ∙ ap (λ (l : List NumberedToken). q.0 ∷ (l ++ after)) b.3
+    ∙ ap (λ (l : List NumberedToken). q.0 ∷ l) (append_assoc b.0 (b.1 ∷ []) after)
     ∙ ap (λ (l : List NumberedToken). q.0 ∷ (l ++ r4)) c.3 in
     let name = word_is n (codes "export") d.word (q.0 ∷ c.0 ∷ (c.1 ++ r4)) d.word_is in
     let opens = after_here (mark marks.OpenParenthesis) q.0 (c.0 ∷ (c.1 ++ r4)) refl q.2 in
@@ -170,7 +170,7 @@ export_complete n es front rest d =
     let listed = until_complete Export (mark marks.CloseBracket) (DerivesEntry n) (entry n) Any refl refl
     (entry_complete n) (entry_opens n) (λ t ts u. tt) (λ t ts u. tt)
     es c.1 r4 (i.0, i.1, i.2, i.3, entries_to n es i.0 i.4) in
-    let closes = after_here (mark marks.CloseParenthesis) b.1 behind refl b.2 in
+    let closes = after_here (mark marks.CloseParenthesis) b.1 after refl b.2 in
     let last = after_here dot d.last rest refl d.last_is in
     ap (λ (l : List NumberedToken). export n (d.word ∷ l)) regroup
     ∙ rw (name, opens, bracket, listed, closes, last) refl

@@ -129,10 +129,10 @@ module _ (A : Type 0) (s : NumberedKind) (P : A → List NumberedToken → Type 
         absurd (let a = h.0 in let w = ap length a.4 in omega (arith, w, length-append a.0 (a.1 ∷ a.2)))
     items_complete (x ∷ y ∷ xs) front rest (suc n) h stop last le =
         let a = h.0 in
-        let behind = a.1 ∷ (a.2 ++ rest) in
-        let regroup : front ++ rest ≡ a.0 ++ behind = ap (λ (l : List NumberedToken). l ++ rest) a.4 ∙ append_assoc a.0
+        let after = a.1 ∷ (a.2 ++ rest) in
+        let regroup : front ++ rest ≡ a.0 ++ after = ap (λ (l : List NumberedToken). l ++ rest) a.4 ∙ append_assoc a.0
         (a.1 ∷ a.2) rest in
-        let one = complete x a.0 behind a.5 (ends a.1 (a.2 ++ rest) a.3) in
+        let one = complete x a.0 after a.5 (ends a.1 (a.2 ++ rest) a.3) in
         let sep = after_here s a.1 (a.2 ++ rest) plain a.3 in
         let shorter : length a.2 ≤ n = let w = ap length a.4 in
         omega (arith, w, length-append a.0 (a.1 ∷ a.2), some x a.0 a.5) in
@@ -293,11 +293,11 @@ module _ (A : Type 0) (P : A → List NumberedToken → Type 0) (item : Parse A)
         → b.kind ≡ mark marks.Bar → t.kind ≡ mark marks.CloseBracket → Several (mark marks.Comma) P xs mid → P y last
         → listed item (mid ++ b ∷ (last ++ t ∷ rest)) ≡ Some ((xs, Some y), rest)
     listed_tail xs y mid last rest b t f e h p =
-        let behind = last ++ t ∷ rest in
-        let non = opens_front (mark marks.CloseBracket) mid (b ∷ behind) (bracket_opens xs mid h) in
-        let read = listed_items xs mid (b ∷ behind) h (bar_ends b behind f)
-        (after_none (mark marks.Comma) (mark marks.Bar) b behind f refl) in
-        let bar = after_here (mark marks.Bar) b behind refl f in
+        let after = last ++ t ∷ rest in
+        let non = opens_front (mark marks.CloseBracket) mid (b ∷ after) (bracket_opens xs mid h) in
+        let read = listed_items xs mid (b ∷ after) h (bar_ends b after f)
+        (after_none (mark marks.Comma) (mark marks.Bar) b after f refl) in
+        let bar = after_here (mark marks.Bar) b after refl f in
         let one = complete y last (t ∷ rest) p (last_ends t rest e) in
         let closes = after_here (mark marks.CloseBracket) t rest refl e in
         rw (non, read, bar, one, closes) refl

@@ -10,7 +10,7 @@ use Rattle.pf_syntax.specs.ExprPattern.{ExprPattern, ExprPatterns, no_expr_patte
 use Rattle.pf_syntax.specs.ExprPattern.{expr_patterns_depth}
 use Rattle.pf_tokens.specs.NumberedTokens.{NumberedKind, integer, atom, variable, anonymous, text, own_module, dot}
 use Rattle.pf_tokens.specs.NumberedTokens.{mark, reserved, NumberedToken}
-use Rattle.pf_grammar.specs.Grammar.{TokenNames, IsAtom, IsOne, Behind, HasPattern, DerivesExprPattern}
+use Rattle.pf_grammar.specs.Grammar.{TokenNames, IsAtom, IsOne, After, HasPattern, DerivesExprPattern}
 use Rattle.pf_grammar.specs.Grammar.{DerivesExprPatterns}
 use Rattle.pf_grammar.specs.Parse.{Parse, atom_in, number, until, Listed, listed, expr_patterns_of, is_short}
 use Rattle.pf_grammar.specs.Parse.{atom_expr_pattern, negative, tuple_expr_pattern, listed_expr_pattern}
@@ -177,7 +177,7 @@ pattern_sound n (suc d) ts x e = pattern_with_sound n d (pattern n d) (pattern_s
 
 integer_opens : (m : TokenMark) (z : ℤ) (front : List NumberedToken) (k : ℕ) → Closing m
     → ((z ≡ pos k) × IsOne (integer k) front)
-    ⊎ ((z ≡ neg_ℤ (pos k)) × Behind (mark marks.Minus) (IsOne (integer k)) front) → Opens (mark m) front
+    ⊎ ((z ≡ neg_ℤ (pos k)) × After (mark marks.Minus) (IsOne (integer k)) front) → Opens (mark m) front
 integer_opens m z front k c (inl h) = let i = h.1 in
     record { first = i.0; others = []; whole = i.2; differs = differs (mark m) (integer k) i.0 i.1 refl }
 integer_opens m z front k c (inr h) = let b = h.1 in
@@ -234,7 +234,7 @@ pattern_atom n d a t ts h = with_atom n (pattern n d) a t ts h
 
 integer_complete : (n : TokenNames) (inner : Parse ExprPattern) (z : ℤ) (front rest : List NumberedToken) (k : ℕ)
     → ((z ≡ pos k) × IsOne (integer k) front)
-    ⊎ ((z ≡ neg_ℤ (pos k)) × Behind (mark marks.Minus) (IsOne (integer k)) front)
+    ⊎ ((z ≡ neg_ℤ (pos k)) × After (mark marks.Minus) (IsOne (integer k)) front)
     → pattern_with n inner (front ++ rest) ≡ Some (s.integer z, rest)
 integer_complete n inner z front rest k (inl h) = let e = h.0 in let i = h.1 in let kind = i.1 in let w = i.2 in
     rw (w, kind, e) refl

@@ -15,7 +15,7 @@ use Rattle.pf_syntax.specs.declared.operator.Operator.TheVariants.{Equal, Unequa
 use Rattle.pf_tokens.specs.declared.limits.TheConstants.{MOST_NAME_BYTES, MOST_TEXT_CHARACTERS}
 use Rattle.pf_tokens.specs.NumberedTokens.{NumberedKind, integer, atom, own_module, dot, mark, reserved, NumberedToken}
 use Rattle.pf_grammar.specs.Grammar.{TokenNames, IsAtom, IsWord, infix_of, binding_of, level_of, top, greatest_left}
-use Rattle.pf_grammar.specs.Grammar.{greatest_right, left_level, right_level, infix_stands}
+use Rattle.pf_grammar.specs.Grammar.{greatest_right, left_level, right_level, infix_is_there}
 use Rattle.pf_grammar.specs.declared.infix.Grouping.{Grouping}
 use Rattle.pf_grammar.specs.declared.infix.Grouping.TheVariants.{Leftwards, Rightwards, Alone}
 use Rattle.pf_grammar.specs.declared.infix.Infix.{Infix}
@@ -380,25 +380,25 @@ infix_after s i t ts e f = after_other s t ts (infix_differs s t.kind i e f)
 
 pub infix_some : (guard : Bool) (floor level : ℕ) (ts : List NumberedToken) (x : Infix × List NumberedToken)
     → infix_ahead guard floor level ts ≡ Some x
-    → (t : NumberedToken) × (infix_of t.kind ≡ Some x.0) × (ts ≡ t ∷ x.1) × IsTrue (infix_stands guard x.0)
+    → (t : NumberedToken) × (infix_of t.kind ≡ Some x.0) × (ts ≡ t ∷ x.1) × IsTrue (infix_is_there guard x.0)
     × (floor ≤ left_level x.0) × (level_of x.0 ≤ level)
 infix_some guard floor level [] x e = absurd cc
 infix_some guard floor level (t ∷ ts) x e =
     let b = bind_some (infix_of t.kind) (λ i. cond (infix_fits guard floor level i) (Some (i, ts)) None) x e in
     let c = cond_some (infix_fits guard floor level b.0) (Some (b.0, ts)) x b.2 in
-    let outer = both (infix_stands guard b.0 && nat_le floor (left_level b.0)) (nat_le (level_of b.0) level) c.0 in
-    let inner = both (infix_stands guard b.0) (nat_le floor (left_level b.0)) outer.0 in
+    let outer = both (infix_is_there guard b.0 && nat_le floor (left_level b.0)) (nat_le (level_of b.0) level) c.0 in
+    let inner = both (infix_is_there guard b.0) (nat_le floor (left_level b.0)) outer.0 in
     subst (λ (y : Infix × List NumberedToken). (u : NumberedToken) × (infix_of u.kind ≡ Some y.0) × (t ∷ ts ≡ u ∷ y.1)
-    × IsTrue (infix_stands guard y.0) × (floor ≤ left_level y.0) × (level_of y.0 ≤ level)) (some_is (b.0, ts) x c.1)
+    × IsTrue (infix_is_there guard y.0) × (floor ≤ left_level y.0) × (level_of y.0 ≤ level)) (some_is (b.0, ts) x c.1)
     (t, b.1, refl, inner.0, leb-true _ _ inner.1, leb-true _ _ outer.1)
 
 pub infix_here : (guard : Bool) (floor level : ℕ) (i : Infix) (t : NumberedToken) (ts : List NumberedToken)
-    → infix_of t.kind ≡ Some i → IsTrue (infix_stands guard i) → floor ≤ left_level i → level_of i ≤ level
+    → infix_of t.kind ≡ Some i → IsTrue (infix_is_there guard i) → floor ≤ left_level i → level_of i ≤ level
     → infix_ahead guard floor level (t ∷ ts) ≡ Some (i, ts)
-infix_here guard floor level i t ts e stands low high =
+infix_here guard floor level i t ts e is_there low high =
     let one = le-leb floor (left_level i) low in
     let two = le-leb (level_of i) level high in
-    let fits : infix_fits guard floor level i ≡ true = both_true _ _ (both_true _ _ stands one) two in
+    let fits : infix_fits guard floor level i ≡ true = both_true _ _ (both_true _ _ is_there one) two in
     rw (e, fits) refl
 
 -- an infix that needs a tighter left operand, or binds less tightly than this level

@@ -12,12 +12,12 @@ use Rattle.pf_syntax.specs.ExprPattern as s
 use Rattle.pf_syntax.specs.ExprPattern.{ExprPattern}
 use Rattle.pf_syntax.specs.Expr as p
 use Rattle.pf_syntax.specs.Expr.{Expr, Condition, Branches, expr_depth, condition_depth, branches_depth}
-use Rattle.pf_syntax.specs.Forms.{may_stand}
+use Rattle.pf_syntax.specs.Forms.{may_be_there}
 use Rattle.pf_syntax.specs.declared.forms.Form.TheVariants.{Deciding, Choosing, Receiving}
 use Rattle.pf_tokens.specs.NumberedTokens.{NumberedKind, integer, atom, variable, anonymous, text, own_module, dot}
 use Rattle.pf_tokens.specs.NumberedTokens.{mark, reserved, NumberedToken}
 use Rattle.pf_grammar.specs.Grammar.{TokenNames, IsAtom, Before, Guarded, level_of, left_level, right_level, Joined}
-use Rattle.pf_grammar.specs.Grammar.{call_stands, top, element as body_level, unguarded, DerivesExprPattern, Derives}
+use Rattle.pf_grammar.specs.Grammar.{call_is_there, top, element as body_level, unguarded, DerivesExprPattern, Derives}
 use Rattle.pf_grammar.specs.Grammar.{DerivesGuard, DerivesBranches}
 use Rattle.pf_grammar.specs.declared.infix.Infix.{Infix}
 use Rattle.pf_grammar.specs.declared.infix.Infix.TheVariants.{Operator, AndAlso, OrElse, Send}
@@ -53,7 +53,7 @@ use Rattle.pf_grammar.specs.Parse.{
   clause,
   branches_of,
   branches,
-  call_behind,
+  call_after,
   call_parse_step,
   atom_or_call,
   parenthesized,
@@ -206,25 +206,26 @@ arity_is (e ∷ es) = let more = arity_is es in omega (arith, more)
 module _ (n : TokenNames) (g : Bool) (d : ℕ) (r : Readers) (reads : Reads n d r) (inner : Parse Expr)
     (inner_sound : SoundFor inner (Fits n g top d)) where
   -- what is read after the first token
-  abbrev PartBehind : NumberedToken → List NumberedToken → Expr × List NumberedToken → Type 0
-  PartBehind t ts x = Took (Fits n g 0 (suc d) x.0) (t ∷ ts) x.1
+  abbrev PartAfter : NumberedToken → List NumberedToken → Expr × List NumberedToken → Type 0
+  PartAfter t ts x = Took (Fits n g 0 (suc d) x.0) (t ∷ ts) x.1
 
   call_sound : (t : NumberedToken) (ts : List NumberedToken) (a : ℕ) → IsAtom n a t → (o : Option (List NumberedToken))
       → after_kind (mark marks.OpenParenthesis) ts ≡ o → (x : Expr × List NumberedToken)
-      → call_parse_step n g inner a t.at ts o ≡ Some x → PartBehind t ts x
+      → call_parse_step n g inner a t.at ts o ≡ Some x → PartAfter t ts x
   call_sound t ts a h None e x f = took_is (Fits n g 0 (suc d)) (t ∷ ts) (p.atom a, ts) x f
       (record { front = t ∷ []; parts = refl; holds = ((t, h, refl), omega arith) })
   call_sound t ts a h (Some rest) e x f =
-      let b = bind_some (until (mark marks.CloseParenthesis) inner rest) (λ y. call_behind n g a t.at y.0 y.1) x f in
-      let stands = cond_some (call_stands n g a (length b.0.0)) (Some (p.call a t.at (exprs_of b.0.0), b.0.1)) x b.2 in
+      let b = bind_some (until (mark marks.CloseParenthesis) inner rest) (λ y. call_after n g a t.at y.0 y.1) x f in
+      let is_there = cond_some (call_is_there n g a (length b.0.0))
+      (Some (p.call a t.at (exprs_of b.0.0), b.0.1)) x b.2 in
       let m = after_some (mark marks.OpenParenthesis) ts rest e in
       let u = until_sound Expr (mark marks.CloseParenthesis) (Fits n g top d) inner inner_sound rest b.0 b.1 in
       let c = u.holds in
       let all = all_from n g d b.0.0 c.0 c.4 in
-      let may : IsTrue (call_stands n g a (arity_of (exprs_of b.0.0))) =
-      ap (call_stands n g a) (arity_is b.0.0) ∙ stands.0 in
+      let may : IsTrue (call_is_there n g a (arity_of (exprs_of b.0.0))) =
+      ap (call_is_there n g a) (arity_is b.0.0) ∙ is_there.0 in
       let tail : ts ≡ (m.0 ∷ u.front) ++ b.0.1 = m.2 ∙ ap (λ (l : List NumberedToken). m.0 ∷ l) u.parts in
-      took_is (Fits n g 0 (suc d)) (t ∷ ts) (p.call a t.at (exprs_of b.0.0), b.0.1) x stands.1
+      took_is (Fits n g 0 (suc d)) (t ∷ ts) (p.call a t.at (exprs_of b.0.0), b.0.1) x is_there.1
       (record {
         front = t ∷ m.0 ∷ u.front;
         parts = ap (λ (l : List NumberedToken). t ∷ l) tail;
@@ -236,13 +237,13 @@ module _ (n : TokenNames) (g : Bool) (d : ℕ) (r : Readers) (reads : Reads n d 
 
   atom_or_call_sound : (t : NumberedToken) (ts : List NumberedToken) (o : Option ℕ)
       → ((a : ℕ) → o ≡ Some a → IsAtom n a t) → (x : Expr × List NumberedToken)
-      → atom_or_call n g inner o t.at ts ≡ Some x → PartBehind t ts x
+      → atom_or_call n g inner o t.at ts ≡ Some x → PartAfter t ts x
   atom_or_call_sound t ts None h x f = absurd cc
   atom_or_call_sound t ts (Some a) h x f = call_sound t ts a (h a refl)
       (after_kind (mark marks.OpenParenthesis) ts) refl x f
 
   parenthesized_sound : (t : NumberedToken) (ts : List NumberedToken) → t.kind ≡ mark marks.OpenParenthesis
-      → (x : Expr × List NumberedToken) → parenthesized inner ts ≡ Some x → PartBehind t ts x
+      → (x : Expr × List NumberedToken) → parenthesized inner ts ≡ Some x → PartAfter t ts x
   parenthesized_sound t ts h x f =
       let b = bind_some (inner ts) (λ y. after_kind (mark marks.CloseParenthesis) y.1 >>= λ rest.
       Some (p.parentheses y.0, rest)) x f in
@@ -260,7 +261,7 @@ module _ (n : TokenNames) (g : Bool) (d : ℕ) (r : Readers) (reads : Reads n d 
       })
 
   tuple_sound : (t : NumberedToken) (ts : List NumberedToken) → t.kind ≡ mark marks.OpenBrace
-      → (x : Expr × List NumberedToken) → tuple inner ts ≡ Some x → PartBehind t ts x
+      → (x : Expr × List NumberedToken) → tuple inner ts ≡ Some x → PartAfter t ts x
   tuple_sound t ts h x f =
       let b = bind_some (until (mark marks.CloseBrace) inner ts) (λ y. Some (p.tuple (exprs_of y.0), y.1)) x f in
       let u = until_sound Expr (mark marks.CloseBrace) (Fits n g top d) inner inner_sound ts b.0 b.1 in
@@ -288,7 +289,7 @@ module _ (n : TokenNames) (g : Bool) (d : ℕ) (r : Readers) (reads : Reads n d 
       )
 
   list_sound : (t : NumberedToken) (ts : List NumberedToken) → t.kind ≡ mark marks.OpenBracket
-      → (x : Expr × List NumberedToken) → list inner ts ≡ Some x → PartBehind t ts x
+      → (x : Expr × List NumberedToken) → list inner ts ≡ Some x → PartAfter t ts x
   list_sound t ts h x f =
       let b = bind_some (listed inner ts) (λ y. Some (listed_expression y.0, y.1)) x f in
       let u = listed_sound Expr (Fits n g top d) inner inner_sound ts b.0 b.1 in
@@ -301,14 +302,14 @@ module _ (n : TokenNames) (g : Bool) (d : ℕ) (r : Readers) (reads : Reads n d 
       })
 
   marked_sound : (t : NumberedToken) (ts : List NumberedToken) (m : TokenMark) → t.kind ≡ mark m
-      → (x : Expr × List NumberedToken) → marked inner m ts ≡ Some x → PartBehind t ts x
+      → (x : Expr × List NumberedToken) → marked inner m ts ≡ Some x → PartAfter t ts x
   marked_sound t ts marks.OpenParenthesis h x f = parenthesized_sound t ts h x f
   marked_sound t ts marks.OpenBrace h x f = tuple_sound t ts h x f
   marked_sound t ts marks.OpenBracket h x f = list_sound t ts h x f
   marked_sound t ts _ h x f = absurd cc
 
-  case_sound : (t : NumberedToken) (ts : List NumberedToken) → IsTrue (may_stand g Deciding)
-      → t.kind ≡ reserved words.Case → (x : Expr × List NumberedToken) → case_of r inner ts ≡ Some x → PartBehind t ts x
+  case_sound : (t : NumberedToken) (ts : List NumberedToken) → IsTrue (may_be_there g Deciding)
+      → t.kind ≡ reserved words.Case → (x : Expr × List NumberedToken) → case_of r inner ts ≡ Some x → PartAfter t ts x
   case_sound t ts may h x f =
       let a = bind_some (inner ts) (λ y. after_kind (reserved words.Of) y.1 >>= λ rest. branches r false rest >>= λ bs.
       Some (p.case y.0 bs.0, bs.1)) x f in
@@ -350,8 +351,9 @@ module _ (n : TokenNames) (g : Bool) (d : ℕ) (r : Readers) (reads : Reads n d 
         );
       })
 
-  if_sound : (t : NumberedToken) (ts : List NumberedToken) → IsTrue (may_stand g Choosing) → t.kind ≡ reserved words.If
-      → (x : Expr × List NumberedToken) → if_of r ts ≡ Some x → PartBehind t ts x
+  if_sound : (t : NumberedToken) (ts : List NumberedToken) → IsTrue (may_be_there g Choosing)
+      → t.kind ≡ reserved words.If
+      → (x : Expr × List NumberedToken) → if_of r ts ≡ Some x → PartAfter t ts x
   if_sound t ts may h x f =
       let c = bind_some (branches r true ts) (λ bs. Some (p.if_expression bs.0, bs.1)) x f in
       let bs = branches_sound n d r reads true ts c.0 c.1 in
@@ -364,9 +366,9 @@ module _ (n : TokenNames) (g : Bool) (d : ℕ) (r : Readers) (reads : Reads n d 
             ((may, (t, bs.front, h, refl, fits.0)), omega (arith, fits.1));
       })
 
-  receive_sound : (t : NumberedToken) (ts : List NumberedToken) → IsTrue (may_stand g Receiving)
+  receive_sound : (t : NumberedToken) (ts : List NumberedToken) → IsTrue (may_be_there g Receiving)
       → t.kind ≡ reserved words.Receive → (x : Expr × List NumberedToken) → receive_parse r ts ≡ Some x
-      → PartBehind t ts x
+      → PartAfter t ts x
   receive_sound t ts may h x f =
       let c = bind_some (branches r false ts) (λ bs. Some (p.receive bs.0, bs.1)) x f in
       let bs = branches_sound n d r reads false ts c.0 c.1 in
@@ -380,17 +382,17 @@ module _ (n : TokenNames) (g : Bool) (d : ℕ) (r : Readers) (reads : Reads n d 
       })
 
   worded_sound : (t : NumberedToken) (ts : List NumberedToken) (w : Reserved) → t.kind ≡ reserved w
-      → (x : Expr × List NumberedToken) → reserved_parse r g inner w ts ≡ Some x → PartBehind t ts x
-  worded_sound t ts words.Case h x f = let c = cond_some (may_stand g Deciding) (case_of r inner ts) x f in
+      → (x : Expr × List NumberedToken) → reserved_parse r g inner w ts ≡ Some x → PartAfter t ts x
+  worded_sound t ts words.Case h x f = let c = cond_some (may_be_there g Deciding) (case_of r inner ts) x f in
       case_sound t ts c.0 h x c.1
-  worded_sound t ts words.If h x f = let c = cond_some (may_stand g Choosing) (if_of r ts) x f in
+  worded_sound t ts words.If h x f = let c = cond_some (may_be_there g Choosing) (if_of r ts) x f in
       if_sound t ts c.0 h x c.1
-  worded_sound t ts words.Receive h x f = let c = cond_some (may_stand g Receiving) (receive_parse r ts) x f in
+  worded_sound t ts words.Receive h x f = let c = cond_some (may_be_there g Receiving) (receive_parse r ts) x f in
       receive_sound t ts c.0 h x c.1
   worded_sound t ts _ h x f = absurd cc
 
   kind_sound : (t : NumberedToken) (ts : List NumberedToken) (kind : NumberedKind) → t.kind ≡ kind
-      → (x : Expr × List NumberedToken) → prim_kind n r g inner kind t.at ts ≡ Some x → PartBehind t ts x
+      → (x : Expr × List NumberedToken) → prim_kind n r g inner kind t.at ts ≡ Some x → PartAfter t ts x
   kind_sound t ts (integer k) e x f = took_is (Fits n g 0 (suc d)) (t ∷ ts) (p.integer (pos k), ts) x f
       (record { front = t ∷ []; parts = refl; holds = ((k, refl, (t, e, refl)), omega arith) })
   kind_sound t ts (text cs) e x f =

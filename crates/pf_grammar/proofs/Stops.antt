@@ -12,8 +12,8 @@ use Rattle.pf_syntax.specs.Expr as p
 use Rattle.pf_syntax.specs.Expr.{Expr, Exprs, no_exprs, expr, expr_depth, exprs_depth}
 use Rattle.pf_tokens.specs.NumberedTokens.{NumberedKind, integer, atom, variable, anonymous, text, own_module, mark}
 use Rattle.pf_tokens.specs.NumberedTokens.{reserved, NumberedToken}
-use Rattle.pf_grammar.specs.Grammar.{TokenNames, IsAtom, IsOne, Behind, Apart, HasPattern, HasExpression, infix_of}
-use Rattle.pf_grammar.specs.Grammar.{level_of, left_level, right_level, infix_stands, top, DerivesExprPattern}
+use Rattle.pf_grammar.specs.Grammar.{TokenNames, IsAtom, IsOne, After, Apart, HasPattern, HasExpression, infix_of}
+use Rattle.pf_grammar.specs.Grammar.{level_of, left_level, right_level, infix_is_there, top, DerivesExprPattern}
 use Rattle.pf_grammar.specs.Grammar.{DerivesExprPatterns, Derives, DerivesAll}
 use Rattle.pf_grammar.specs.declared.infix.Infix.{Infix}
 use Rattle.pf_grammar.specs.declared.infix.Infix.TheVariants.{Operator, AndAlso, OrElse, Send}
@@ -32,7 +32,7 @@ infix_first (t ∷ ts) = infix_of t.kind
 
 -- an infix that comes first and is allowed binds less tightly than this level; and no `(` comes first
 pub record Stops (g : Bool) (level : ℕ) (rest : List NumberedToken) : Type 0 where
-  pub no_infix : (i : Infix) → infix_first rest ≡ Some i → IsTrue (infix_stands g i) → level < level_of i
+  pub no_infix : (i : Infix) → infix_first rest ≡ Some i → IsTrue (infix_is_there g i) → level < level_of i
   pub no_call : after_kind (mark marks.OpenParenthesis) rest ≡ None
 
 -- what ends an expression of a level ends one of a level below it
@@ -70,15 +70,15 @@ pub stops_ahead : (g : Bool) (floor level : ℕ) (rest : List NumberedToken) →
 stops_ahead g floor level [] stops = refl
 stops_ahead g floor level (t ∷ ts) stops = of_infix (infix_of t.kind) refl
   where
-    may_stand : (i : Infix) (b : Bool) → infix_of t.kind ≡ Some i → infix_stands g i ≡ b
+    may_be_there : (i : Infix) (b : Bool) → infix_of t.kind ≡ Some i → infix_is_there g i ≡ b
         → infix_ahead g floor level (t ∷ ts) ≡ None
-    may_stand i true e f = infix_level g floor level i t ts e (stops.no_infix i e f)
-    may_stand i false e f = let fits : infix_fits g floor level i ≡ false = first_no _ _ (first_no _ _ f) in
+    may_be_there i true e f = infix_level g floor level i t ts e (stops.no_infix i e f)
+    may_be_there i false e f = let fits : infix_fits g floor level i ≡ false = first_no _ _ (first_no _ _ f) in
         rw (e, fits) refl
 
     of_infix : (o : Option Infix) → infix_of t.kind ≡ o → infix_ahead g floor level (t ∷ ts) ≡ None
     of_infix None e = infix_none g floor level t ts e
-    of_infix (Some i) e = may_stand i (infix_stands g i) e refl
+    of_infix (Some i) e = may_be_there i (infix_is_there g i) e refl
 
 -- an infix ends the right operand of its left operand
 pub spine_stops : (i j : Infix) → level_of j ≤ left_level i → right_level j < level_of i
@@ -196,7 +196,7 @@ part_starts n g (p.receive bs) front h = let b = h.1 in
 
 integer_starts : (z : ℤ) (front : List NumberedToken) (k : ℕ)
     → ((z ≡ pos k) × IsOne (integer k) front)
-    ⊎ ((z ≡ neg_ℤ (pos k)) × Behind (mark marks.Minus) (IsOne (integer k)) front) → Starts true front
+    ⊎ ((z ≡ neg_ℤ (pos k)) × After (mark marks.Minus) (IsOne (integer k)) front) → Starts true front
 integer_starts z front k (inl h) = let i = h.1 in starts_with true (integer k) i.0 [] front i.2 i.1 refl
 integer_starts z front k (inr h) = let b = h.1 in starts_with true (mark marks.Minus) b.0 b.1 front b.3 b.2 refl
 
@@ -232,7 +232,7 @@ expression_starts n g e level front h = starts_more front (part_starts n g e fro
 -- ---- patterns are expressions
 
 integer_expression : (n : TokenNames) (g : Bool) (z : ℤ) (ts : List NumberedToken) (k : ℕ)
-    → ((z ≡ pos k) × IsOne (integer k) ts) ⊎ ((z ≡ neg_ℤ (pos k)) × Behind (mark marks.Minus) (IsOne (integer k)) ts)
+    → ((z ≡ pos k) × IsOne (integer k) ts) ⊎ ((z ≡ neg_ℤ (pos k)) × After (mark marks.Minus) (IsOne (integer k)) ts)
     → (e : Expr) × Derives n g e 1 ts × (expr_depth e ≤ 2)
 integer_expression n g z ts k (inl h) = (p.integer z, (k, h.0, h.1), omega arith)
 integer_expression n g z ts k (inr h) = let b = h.1 in

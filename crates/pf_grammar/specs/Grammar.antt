@@ -15,7 +15,7 @@ use Rattle.pf_syntax.specs.Expr.{Expr, Exprs, Condition, Branches, no_exprs, exp
 use Rattle.pf_syntax.specs.Expr.{exprs_depth, condition_depth}
 use Rattle.pf_syntax.specs.SyntaxTree.{Export, Head}
 use Rattle.pf_syntax.specs.Naming.{arity_of}
-use Rattle.pf_syntax.specs.Forms.{builtin_named, may_stand}
+use Rattle.pf_syntax.specs.Forms.{builtin_named, may_be_there}
 use Rattle.pf_syntax.specs.declared.forms.Form.TheVariants.{Appending, Deciding, Choosing, Receiving, Sending, Calling}
 pub use Rattle.pf_syntax.specs.ExprModule.{Tree, tree_of, unguarded}
 use Rattle.pf_tokens.specs.declared.limits.TheConstants.{MOST_NAME_BYTES, MOST_TREE_DEPTH, MOST_TEXT_CHARACTERS}
@@ -39,8 +39,8 @@ abbrev pub IsOne : NumberedKind → List NumberedToken → Type 0
 IsOne s ts = (t : NumberedToken) × (t.kind ≡ s) × (ts ≡ t ∷ [])
 
 -- the tokens are one of this kind of token and a part after it
-abbrev pub Behind : NumberedKind → (List NumberedToken → Type 0) → List NumberedToken → Type 0
-Behind s P ts = (t : NumberedToken) × (more : List NumberedToken) × (t.kind ≡ s) × (ts ≡ t ∷ more) × P more
+abbrev pub After : NumberedKind → (List NumberedToken → Type 0) → List NumberedToken → Type 0
+After s P ts = (t : NumberedToken) × (more : List NumberedToken) × (t.kind ≡ s) × (ts ≡ t ∷ more) × P more
 
 -- the tokens are a part and one of this kind of token after it
 abbrev pub Before : NumberedKind → (List NumberedToken → Type 0) → List NumberedToken → Type 0
@@ -58,7 +58,7 @@ Apart s P Q ts = (xs : List NumberedToken) × (t : NumberedToken) × (ys : List 
 
 -- the tokens are a part between two of these kinds of tokens
 abbrev pub Between : NumberedKind → NumberedKind → (List NumberedToken → Type 0) → List NumberedToken → Type 0
-Between first last P ts = Behind first (Before last P) ts
+Between first last P ts = After first (Before last P) ts
 
 -- ---- names
 
@@ -141,10 +141,10 @@ abbrev pub right_level : Infix → ℕ
 right_level i = greatest_right (binding_of i).grouping (level_of i)
 
 -- whether the infix is allowed, in a guard where the flag says so
-abbrev pub infix_stands : Bool → Infix → Bool
-infix_stands guard (infixes.Operator Append) = may_stand guard Appending
-infix_stands guard infixes.Send = may_stand guard Sending
-infix_stands guard _ = true
+abbrev pub infix_is_there : Bool → Infix → Bool
+infix_is_there guard (infixes.Operator Append) = may_be_there guard Appending
+infix_is_there guard infixes.Send = may_be_there guard Sending
+infix_is_there guard _ = true
 
 -- the tokens are two operands with the infix between them
 abbrev pub Operands : (ℕ → List NumberedToken → Type 0) → (ℕ → List NumberedToken → Type 0) → Infix
@@ -155,7 +155,7 @@ Operands P Q i ts = (xs : List NumberedToken) × (t : NumberedToken) × (ys : Li
 -- the same, where the infix is allowed and an expression of this level may have it
 abbrev pub Joined : Bool → Infix → ℕ → (ℕ → List NumberedToken → Type 0) → (ℕ → List NumberedToken → Type 0)
     → List NumberedToken → Type 0
-Joined guard i level P Q ts = (level_of i ≤ level) × IsTrue (infix_stands guard i) × Operands P Q i ts
+Joined guard i level P Q ts = (level_of i ≤ level) × IsTrue (infix_is_there guard i) × Operands P Q i ts
 
 -- ---- parts that patterns and expressions share
 
@@ -187,7 +187,7 @@ abbrev mutual
   pub DerivesExprPattern : TokenNames → ExprPattern → List NumberedToken → Type 0
   DerivesExprPattern n (s.integer z) ts = (k : ℕ)
       × (((z ≡ pos k) × IsOne (integer k) ts)
-      ⊎ ((z ≡ neg_ℤ (pos k)) × Behind (mark marks.Minus) (IsOne (integer k)) ts))
+      ⊎ ((z ≡ neg_ℤ (pos k)) × After (mark marks.Minus) (IsOne (integer k)) ts))
   DerivesExprPattern n (s.atom a) ts = (t : NumberedToken) × IsAtom n a t × (ts ≡ t ∷ [])
   DerivesExprPattern n (s.text cs) ts = IsText cs ts
   DerivesExprPattern n (s.variable x at) ts = (t : NumberedToken) × (t.kind ≡ variable x) × (t.at ≡ at) × (ts ≡ t ∷ [])
@@ -207,17 +207,17 @@ abbrev mutual
 -- ---- expressions
 
 -- whether a call of this name with this number of arguments is allowed: in a guard, of a pure built-in function alone
-abbrev pub named_stands : Option Builtin → Bool
-named_stands None = false
-named_stands (Some b) = may_stand true (Calling b)
+abbrev pub named_is_there : Option Builtin → Bool
+named_is_there None = false
+named_is_there (Some b) = may_be_there true (Calling b)
 
-abbrev pub call_stands : TokenNames → Bool → ℕ → ℕ → Bool
-call_stands n false f arity = true
-call_stands n true f arity = named_stands (builtin_named (name_of n.atoms f) arity)
+abbrev pub call_is_there : TokenNames → Bool → ℕ → ℕ → Bool
+call_is_there n false f arity = true
+call_is_there n true f arity = named_is_there (builtin_named (name_of n.atoms f) arity)
 
 -- `when` and the guard, or neither
 abbrev pub Guarded : Condition → (List NumberedToken → Type 0) → List NumberedToken → Type 0
-Guarded c G ts = ((c ≡ unguarded) × (ts ≡ [])) ⊎ Behind (reserved words.When) G ts
+Guarded c G ts = ((c ≡ unguarded) × (ts ≡ [])) ⊎ After (reserved words.When) G ts
 
 -- what is before the arrow of a clause: its pattern, with its guard or none; in an `if`, where the flag says so, its
 -- guard alone
@@ -241,8 +241,8 @@ abbrev mutual
       × Bracketed (Apart (mark marks.Bar) (DerivesAll n g es) (Derives n g e top)) ts
   Derives n g (p.call f at es) level ts =
       (t : NumberedToken) × (more : List NumberedToken) × IsAtom n f t × (t.at ≡ at) × (ts ≡ t ∷ more)
-      × IsTrue (call_stands n g f (arity_of es)) × Parenthesized (DerivesAll n g es) more
-  Derives n g (p.negate e) level ts = (1 ≤ level) × Behind (mark marks.Minus) (Derives n g e 0) ts
+      × IsTrue (call_is_there n g f (arity_of es)) × Parenthesized (DerivesAll n g es) more
+  Derives n g (p.negate e) level ts = (1 ≤ level) × After (mark marks.Minus) (Derives n g e 0) ts
   Derives n g (p.binary o a b) level ts = Joined g (infixes.Operator o) level (Derives n g a) (Derives n g b) ts
   Derives n g (p.and_also a b) level ts = Joined g infixes.AndAlso level (Derives n g a) (Derives n g b) ts
   Derives n g (p.or_else a b) level ts = Joined g infixes.OrElse level (Derives n g a) (Derives n g b) ts
@@ -250,13 +250,13 @@ abbrev mutual
   Derives n g (p.match q e) level ts = (element ≤ level) × Apart (mark marks.Match) (DerivesExprPattern n q)
       (Derives n g e element) ts
   Derives n g (p.case e bs) level ts =
-      IsTrue (may_stand g Deciding)
+      IsTrue (may_be_there g Deciding)
       × Between (reserved words.Case) (reserved words.End)
       (Apart (reserved words.Of) (Derives n g e top) (DerivesBranches n false bs)) ts
   Derives n g (p.if_expression bs) level ts =
-      IsTrue (may_stand g Choosing) × Between (reserved words.If) (reserved words.End) (DerivesBranches n true bs) ts
+      IsTrue (may_be_there g Choosing) × Between (reserved words.If) (reserved words.End) (DerivesBranches n true bs) ts
   Derives n g (p.receive bs) level ts =
-      IsTrue (may_stand g Receiving) × Between (reserved words.Receive) (reserved words.End)
+      IsTrue (may_be_there g Receiving) × Between (reserved words.Receive) (reserved words.End)
       (DerivesBranches n false bs) ts
 
   -- expressions with commas between them, or none

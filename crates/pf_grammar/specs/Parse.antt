@@ -16,9 +16,10 @@ use Rattle.pf_syntax.specs.SyntaxTree.{Export, Head}
 use Rattle.pf_tokens.specs.declared.limits.TheConstants.{MOST_NAME_BYTES, MOST_TREE_DEPTH, MOST_TEXT_CHARACTERS}
 use Rattle.pf_tokens.specs.NumberedTokens.{NumberedKind, integer, atom, variable, anonymous, text, own_module, dot}
 use Rattle.pf_tokens.specs.NumberedTokens.{mark, reserved, NumberedToken}
-use Rattle.pf_syntax.specs.Forms.{may_stand}
+use Rattle.pf_syntax.specs.Forms.{may_be_there}
 use Rattle.pf_syntax.specs.declared.forms.Form.TheVariants.{Deciding, Choosing, Receiving}
-use Rattle.pf_grammar.specs.Grammar.{TokenNames, infix_of, level_of, left_level, right_level, infix_stands, call_stands}
+use Rattle.pf_grammar.specs.Grammar.{TokenNames, infix_of, level_of, left_level, right_level, infix_is_there}
+use Rattle.pf_grammar.specs.Grammar.{call_is_there}
 use Rattle.pf_grammar.specs.Grammar.{top, unguarded, Tree}
 use Rattle.pf_grammar.specs.declared.infix.Infix.{Infix}
 use Rattle.pf_grammar.specs.declared.infix.Infix.TheVariants.{Operator, AndAlso, OrElse, Send}
@@ -237,7 +238,7 @@ pattern n (suc d) ts = pattern_with n (pattern n d) ts
 -- the infix that comes first, where it is allowed, a left operand of the level `floor` may have it, and it is of at
 -- most this level; and what follows it
 abbrev pub infix_fits : Bool → ℕ → ℕ → Infix → Bool
-infix_fits guard floor level i = infix_stands guard i && nat_le floor (left_level i) && nat_le (level_of i) level
+infix_fits guard floor level i = infix_is_there guard i && nat_le floor (left_level i) && nat_le (level_of i) level
 
 abbrev pub infix_ahead : Bool → ℕ → ℕ → List NumberedToken → Option (Infix × List NumberedToken)
 infix_ahead guard floor level [] = None
@@ -339,15 +340,15 @@ branches r choice ts =
 
 -- ---- parts. Expressions in them are read by `inner`
 
-abbrev pub call_behind : TokenNames → Bool → ℕ → ℕ → List Expr → List NumberedToken → Option (Expr × List NumberedToken)
-call_behind n guard a at es ts = if call_stands n guard a (length es) then
+abbrev pub call_after : TokenNames → Bool → ℕ → ℕ → List Expr → List NumberedToken → Option (Expr × List NumberedToken)
+call_after n guard a at es ts = if call_is_there n guard a (length es) then
     Some (p.call a at (exprs_of es), ts) else None
 
 abbrev pub call_parse_step : TokenNames → Bool → Parse Expr → ℕ → ℕ → List NumberedToken → Option (List NumberedToken)
     → Option (Expr × List NumberedToken)
 call_parse_step n guard inner a at ts None = Some (p.atom a, ts)
 call_parse_step n guard inner a at ts (Some rest) = until (mark marks.CloseParenthesis) inner rest >>= λ x.
-    call_behind n guard a at x.0 x.1
+    call_after n guard a at x.0 x.1
 
 abbrev pub atom_or_call : TokenNames → Bool → Parse Expr → Option ℕ → ℕ → List NumberedToken
     → Option (Expr × List NumberedToken)
@@ -386,9 +387,9 @@ abbrev pub receive_parse : Readers → Parse Expr
 receive_parse r ts = branches r false ts >>= λ bs. Some (p.receive bs.0, bs.1)
 
 abbrev pub reserved_parse : Readers → Bool → Parse Expr → Reserved → Parse Expr
-reserved_parse r guard inner words.Case ts = if may_stand guard Deciding then case_of r inner ts else None
-reserved_parse r guard inner words.If ts = if may_stand guard Choosing then if_of r ts else None
-reserved_parse r guard inner words.Receive ts = if may_stand guard Receiving then receive_parse r ts else None
+reserved_parse r guard inner words.Case ts = if may_be_there guard Deciding then case_of r inner ts else None
+reserved_parse r guard inner words.If ts = if may_be_there guard Choosing then if_of r ts else None
+reserved_parse r guard inner words.Receive ts = if may_be_there guard Receiving then receive_parse r ts else None
 reserved_parse r guard inner _ ts = None
 
 abbrev pub prim_kind : TokenNames → Readers → Bool → Parse Expr → NumberedKind → ℕ → Parse Expr

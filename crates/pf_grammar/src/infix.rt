@@ -1,12 +1,12 @@
 //! Infixes: what is between two operands (Erlang Reference Manual, "Operator Precedence").
 
 ghost use Rattle.std.specs.Prelude.{◌≡◌, option_map};
-ghost use Rattle.pf_grammar.specs.Grammar.{binding_of, infix_of, infix_stands, left_level, level_of, right_level};
+ghost use Rattle.pf_grammar.specs.Grammar.{binding_of, infix_of, infix_is_there, left_level, level_of, right_level};
 ghost use Rattle.pf_grammar.specs.Parse.{infix_fits};
 ghost use Rattle.pf_tokens.specs.NumberedTokens as NumberedTokens;
 ghost use Rattle.pf_tokens.specs.View.{kind_of};
 
-use pf_syntax::{Form, Operator, may_stand};
+use pf_syntax::{Form, Operator, may_be_there};
 use pf_tokens::{NumberedKind, Reserved, TokenMark};
 
 /// What is between two operands.
@@ -130,12 +130,12 @@ impl Infix {
     }
 
     /// Whether it is allowed, in a guard where the flag says so.
-    pub fn stands(self, guard: bool) -> bool
-        ensures { result ≡ infix_stands guard self }
+    pub fn is_there(self, guard: bool) -> bool
+        ensures { result ≡ infix_is_there guard self }
     {
         match self {
-            Infix::Operator(Operator::Append) => may_stand(guard, Form::Appending),
-            Infix::Send => may_stand(guard, Form::Sending),
+            Infix::Operator(Operator::Append) => may_be_there(guard, Form::Appending),
+            Infix::Send => may_be_there(guard, Form::Sending),
             _ => true,
         }
     }
@@ -144,6 +144,6 @@ impl Infix {
     pub fn fits(self, guard: bool, floor: u32, level: u32) -> bool
         ensures { result ≡ infix_fits guard floor level self }
     {
-        self.stands(guard) && floor <= self.left_level() && self.level() <= level
+        self.is_there(guard) && floor <= self.left_level() && self.level() <= level
     }
 }

@@ -6,8 +6,8 @@ use Rattle.std.proofs.lemmas.List.{drop_all, take_min}
 use Rattle.std.specs.Prelude.{IfSome, Option, None, Some}
 use Rattle.pf_errors.specs.declared.refusal.SourceRefusal.{SourceRefusal}
 use Rattle.pf_check.specs.Reads.{Reads, refused}
-use Rattle.pf_hints.specs.Mended.{IsMended}
-use Rattle.pf_hints.specs.Faults.{IsFault, mended, part_of}
+use Rattle.pf_hints.specs.Fixed.{IsFixed}
+use Rattle.pf_hints.specs.Faults.{IsFault, fixed, part_of}
 
 drop_min : (n : ℕ) (xs : List ℕ) → drop (min n (length xs)) xs ≡ drop n xs
 drop_min n xs = elim (cases_lt (length xs) n) [
@@ -18,15 +18,15 @@ drop_min n xs = elim (cases_lt (length xs) n) [
 ]
 
 -- cut out between bounds
-pub cut_out : (source : List ℕ) (start end : ℕ) (behind part : List ℕ)
-    → behind ≡ drop (min start (length source)) source
-    → part ≡ take (min (end - start) (length behind)) behind → part ≡ part_of source start end
-cut_out source start end behind part is cut =
-    cut ∙ take_min (end - start) behind ∙ ap (take (end - start)) (is ∙ drop_min start source)
+pub cut_out : (source : List ℕ) (start end : ℕ) (after part : List ℕ)
+    → after ≡ drop (min start (length source)) source
+    → part ≡ take (min (end - start) (length after)) after → part ≡ part_of source start end
+cut_out source start end after part is cut =
+    cut ∙ take_min (end - start) after ∙ ap (take (end - start)) (is ∙ drop_min start source)
 
 -- what a source is refused for once faults are taken out of it
-pub faults_of_rest : (source rest : List ℕ) (found : Option SourceRefusal) → IsMended source rest
+pub faults_of_rest : (source rest : List ℕ) (found : Option SourceRefusal) → IsFixed source rest
     → IfSome found (λ r. Reads rest (refused r.code r.offset))
     → IfSome found (λ r. IsFault source r.code r.offset)
 faults_of_rest source rest None out h = tt
-faults_of_rest source rest (Some r) out h = mended rest r.offset r.code out h
+faults_of_rest source rest (Some r) out h = fixed rest r.offset r.code out h

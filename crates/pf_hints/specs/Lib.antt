@@ -1,3 +1,3 @@
 pub mod Advised
-pub mod Mended
+pub mod Fixed
 pub mod Faults

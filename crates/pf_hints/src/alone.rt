@@ -41,13 +41,13 @@ pub(crate) fn first_refusal(
 fn part_of(source: &[u8], start: usize, end: usize) -> &[u8]
     ensures { result.now ≡ part_of source.now start end }
 {
-    let (_front, behind) = source.split_at(start.min(source.len()));
-    let (part, _rest) = behind.split_at(end.saturating_sub(start).min(behind.len()));
+    let (_front, after) = source.split_at(start.min(source.len()));
+    let (part, _rest) = after.split_at(end.saturating_sub(start).min(after.len()));
     part
 }
 
 /// A part of a source, after a head of a module.
-fn behind_head(alloc: Global, source: &[u8], start: usize, end: usize) -> Result<Vec<u8>, NoMemory>
+fn after_head(alloc: Global, source: &[u8], start: usize, end: usize) -> Result<Vec<u8>, NoMemory>
     ensures { IfOk result (λ v. v.items ≡ HEAD.now ++ part_of source.now start end) }
 {
     let mut alone = Vec::from_slice(alloc, HEAD.as_bytes())?;
@@ -64,15 +64,15 @@ pub(crate) fn refusal_of_form(
 ) -> Result<Option<SourceRefusal>, NoMemory>
     ensures { IfOk result (λ found. IfSome found (λ r. IsFault source.now r.code r.offset)) }
 {
-    let alone = behind_head(alloc, source, start, end)?;
+    let alone = after_head(alloc, source, start, end)?;
     let Some(SourceRefusal { code, offset }) = first_refusal(alloc, &alone, true)? else {
         return Ok(None);
     };
     let within = offset.saturating_sub(HEAD.len());
     let front = start.min(source.len());
-    let behind = within.min(source.len() - front);
+    let after = within.min(source.len() - front);
     Ok(Some(SourceRefusal {
         code,
-        offset: front + behind,
+        offset: front + after,
     }))
 }

@@ -84,7 +84,7 @@ fn colon(place: &SourcePlace<'_>) -> FoundCure {
     let name = place.text(front);
     let function = place.text(place.piece(1));
     let cure = match place.kind(front) {
-        _ if matches!(place.byte_behind(), b'=' | b':') => COLON,
+        _ if matches!(place.byte_after(), b'=' | b':') => COLON,
         Some(PieceKind::Variable) if name == b"MODULE".as_slice() => {
             let position = place.start(place.before(2));
             return FoundCure {
@@ -116,7 +116,7 @@ fn colon(place: &SourcePlace<'_>) -> FoundCure {
 /// What is said of a `#`.
 fn hash(place: &SourcePlace<'_>) -> FoundCure {
     let position = place.start(place.before(1));
-    match (place.byte_behind(), place.byte_before()) {
+    match (place.byte_after(), place.byte_before()) {
         (b'{', _) => place.here(MAP),
         (_, b'0'..=b'9') => FoundCure {
             position,
@@ -129,7 +129,7 @@ fn hash(place: &SourcePlace<'_>) -> FoundCure {
 /// What is said of a dot that ends no form.
 fn dot(place: &SourcePlace<'_>) -> FoundCure {
     let position = place.start(place.before(1));
-    match (place.byte_before(), place.byte_behind()) {
+    match (place.byte_before(), place.byte_after()) {
         (b'0'..=b'9', b'0'..=b'9') => FoundCure {
             position,
             cure: FLOAT,
@@ -144,7 +144,7 @@ pub(crate) fn byte_cure(place: &SourcePlace<'_>) -> Option<FoundCure> {
         b'#' => Some(hash(place)),
         b':' => Some(colon(place)),
         b'.' => Some(dot(place)),
-        b'?' if place.byte_behind() == b'=' => Some(place.here(MAYBE)),
+        b'?' if place.byte_after() == b'=' => Some(place.here(MAYBE)),
         b'?' => Some(place.here(MACRO)),
         b'&' => Some(place.here(AMPERSAND)),
         b'\\' => Some(place.here(ESCAPE)),

@@ -22,6 +22,6 @@ pub use advice::advise;
 pub use mending::{form_ends, mend};
 
 mod alone;
-mod telling;
+mod reporting;
 
-pub use telling::{MOST_TOLD, faults};
+pub use reporting::{MOST_REPORTED, faults};

@@ -1,7 +1,7 @@
 //! Forms of a source, and a source out of which a function's fault is taken.
 
 ghost use Rattle.std.specs.Prelude.{◌≡◌, ◌++◌, ◌∷◌, [], ℕ, List, IfOk, IfSome, IsTrue, length};
-ghost use Rattle.pf_hints.specs.Mended.{IsMended, is_filler};
+ghost use Rattle.pf_hints.specs.Fixed.{IsFixed, is_filler};
 
 use crate::pieces::{PieceKind, SourcePiece, cut};
 use crate::place::SourcePlace;
@@ -23,10 +23,10 @@ pub fn form_ends(alloc: Global, source: &[u8]) -> Result<Vec<usize>, NoMemory>
 }
 
 /// Writes a byte where there is one.
-#[tactic(auto, using(crate::proofs::Fillers::mended_at, crate::proofs::Fillers::mended_not))]
+#[tactic(auto, using(crate::proofs::Fillers::fixed_at, crate::proofs::Fillers::fixed_not))]
 fn put(source: &mut Vec<u8>, at: usize, byte: u8)
     requires { IsTrue (is_filler byte) }
-    ensures { IsMended source.old.items source.new.items }
+    ensures { IsFixed source.old.items source.new.items }
 {
     if at < source.len() {
         source[at] = byte;
@@ -34,9 +34,9 @@ fn put(source: &mut Vec<u8>, at: usize, byte: u8)
 }
 
 /// Makes a blank of a byte, unless it is a line end.
-#[tactic(auto, using(crate::proofs::Fillers::mended_not))]
+#[tactic(auto, using(crate::proofs::Fillers::fixed_not))]
 fn blank_byte(source: &mut Vec<u8>, at: usize)
-    ensures { IsMended source.old.items source.new.items }
+    ensures { IsFixed source.old.items source.new.items }
 {
     let stays = source.get(at) == Some(&b'\n');
     if stays {
@@ -47,7 +47,7 @@ fn blank_byte(source: &mut Vec<u8>, at: usize)
 
 /// Makes blanks of what is from here to there; line ends stay.
 fn blank(source: &mut Vec<u8>, start: usize, end: usize)
-    ensures { IsMended source.old.items source.new.items }
+    ensures { IsFixed source.old.items source.new.items }
 {
     for at in start..end {
         blank_byte(source, at);
@@ -91,10 +91,10 @@ fn bare_byte(head: &mut HeadProgress, byte: u8) -> Option<u8>
 }
 
 /// Writes what is at a piece of a head without its patterns, if anything is.
-#[tactic(auto, using(crate::proofs::Fillers::mended_not))]
+#[tactic(auto, using(crate::proofs::Fillers::fixed_not))]
 fn put_bare(source: &mut Vec<u8>, at: usize, bare: Option<u8>)
     requires { IfSome bare (λ b. IsTrue (is_filler b)) }
-    ensures { IsMended source.old.items source.new.items }
+    ensures { IsFixed source.old.items source.new.items }
 {
     let Some(byte) = bare else {
         return;
@@ -104,7 +104,7 @@ fn put_bare(source: &mut Vec<u8>, at: usize, bare: Option<u8>)
 
 /// Writes a body of one integer.
 fn put_body(source: &mut Vec<u8>, at: usize)
-    ensures { IsMended source.old.items source.new.items }
+    ensures { IsFixed source.old.items source.new.items }
 {
     put(source, at, b'-');
     put(source, at.saturating_add(1), b'>');
@@ -114,7 +114,7 @@ fn put_body(source: &mut Vec<u8>, at: usize)
 /// Writes the head of a function without its patterns, and after it a body of one integer; the pieces begin after the
 /// function's name.
 fn put_head(source: &mut Vec<u8>, old: &[u8], pieces: &[SourcePiece])
-    ensures { IsMended source.old.items source.new.items }
+    ensures { IsFixed source.old.items source.new.items }
 {
     let mut head = HeadProgress {
         depth: 0,
@@ -148,9 +148,9 @@ fn parameters<'p>(old: &[u8], form: &'p [SourcePiece]) -> Option<&'p [SourcePiec
 }
 
 /// Gives a function a body of one integer, and no patterns.
-#[tactic(auto, using(crate::proofs::Fillers::mended_not))]
+#[tactic(auto, using(crate::proofs::Fillers::fixed_not))]
 fn stub(source: &mut Vec<u8>, old: &[u8], form: &[SourcePiece]) -> bool
-    ensures { IsMended source.old.items source.new.items }
+    ensures { IsFixed source.old.items source.new.items }
 {
     let Some(pieces) = parameters(old, form) else {
         return false;
@@ -164,9 +164,9 @@ fn stub(source: &mut Vec<u8>, old: &[u8], form: &[SourcePiece]) -> bool
 }
 
 /// Makes blanks of a form and of its dot.
-#[tactic(auto, using(crate::proofs::Fillers::mended_not))]
+#[tactic(auto, using(crate::proofs::Fillers::fixed_not))]
 fn blank_form(source: &mut Vec<u8>, form: &[SourcePiece]) -> bool
-    ensures { IsMended source.old.items source.new.items }
+    ensures { IsFixed source.old.items source.new.items }
 {
     let (Some(first), Some(dot)) = (form.first(), form.last()) else {
         return false;
@@ -178,9 +178,9 @@ fn blank_form(source: &mut Vec<u8>, form: &[SourcePiece]) -> bool
 /// Takes a fault of names or variables out of a source: the function that has it keeps its name and its number of
 /// arguments, and has a body of one integer; a function that is defined twice and an export form are blanked. Nothing
 /// is done, and `false` answered, in the first form and where there is no form. The source keeps its length.
-#[tactic(auto, using(crate::proofs::Fillers::mended_not))]
+#[tactic(auto, using(crate::proofs::Fillers::fixed_not))]
 pub fn mend(alloc: Global, source: &mut Vec<u8>, refusal: SourceRefusal) -> Result<bool, NoMemory>
-    ensures { IsMended source.old.items source.new.items }
+    ensures { IsFixed source.old.items source.new.items }
 {
     let old = Vec::from_slice(alloc, source)?;
     let place = SourcePlace::new(alloc, &old, refusal.offset)?;

@@ -69,14 +69,14 @@ impl<'a> SourcePlace<'a> {
     }
 
     /// The byte after the offset.
-    pub(crate) fn byte_behind(&self) -> u8 {
+    pub(crate) fn byte_after(&self) -> u8 {
         self.byte(self.offset.saturating_add(1))
     }
 
     /// Whether this is at the offset.
     pub(crate) fn has(&self, text: &str) -> bool {
-        let behind = self.source.get(self.offset..).unwrap_or(&[]);
-        behind.starts_with(text.as_bytes())
+        let after = self.source.get(self.offset..).unwrap_or(&[]);
+        after.starts_with(text.as_bytes())
     }
 
     /// The piece so many before the one at the offset.

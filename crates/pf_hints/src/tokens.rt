@@ -175,7 +175,7 @@ const NO_COMMA: Cure = Cure {
     write: "X = f(), g(X)",
 };
 
-const NOTHING_BEHIND: Cure = Cure {
+const NOTHING_AFTER: Cure = Cure {
     word: ",",
     says: "Nothing follows this before what closes: take it out.",
     instead: "case X of 1 -> a; 2 -> b; end",
@@ -294,8 +294,8 @@ fn mark(place: &SourcePlace<'_>, level: Level) -> Option<FoundCure> {
         b'|' if place.byte_before() == b'|' => {
             found_at(place.offset.saturating_sub(1), Some(COMPREHENSION))
         }
-        b'<' if place.byte_behind() == b'-' => Some(place.here(COMPREHENSION)),
-        b'<' if place.byte_behind() == b'<' => Some(place.here(BINARY)),
+        b'<' if place.byte_after() == b'-' => Some(place.here(COMPREHENSION)),
+        b'<' if place.byte_after() == b'<' => Some(place.here(BINARY)),
         b'=' if is_match(place) => Some(place.here(matching(place, level))),
         b'(' => parenthesis(place, level),
         b'+' | b'-' | b'*' => found_at(place.offset, sign(place, level)),
@@ -354,8 +354,8 @@ fn order(place: &SourcePlace<'_>, level: Level) -> Option<FoundCure> {
     match place.kind(place.piece(0)) {
         _ if has_left && begins_form(place) => ending(place, level),
         _ if closes && has_left => closing(place, level),
-        Some(PieceKind::Dot) if is_comma => found_at(place.start(front), Some(NOTHING_BEHIND)),
-        Some(_) if closes && is_comma => found_at(place.start(front), Some(NOTHING_BEHIND)),
+        Some(PieceKind::Dot) if is_comma => found_at(place.start(front), Some(NOTHING_AFTER)),
+        Some(_) if closes && is_comma => found_at(place.start(front), Some(NOTHING_AFTER)),
         Some(PieceKind::Word | PieceKind::Variable | PieceKind::Number | PieceKind::Quoted)
             if has_left => { found_at(place.end_of(front), Some(NO_COMMA)) }
         _ => None,

@@ -66,8 +66,8 @@ unequal m n d = elim (eqb_tells m n) [
 ]
 
 -- outcomes are distinguished by their hashes
-pub told_apart : (a b : Outcome) → (outcome_hash a ≢ outcome_hash b) → same_outcome a b ≡ false
-told_apart a b d = elim (either (same_outcome a b)) [
+pub distinguished : (a b : Outcome) → (outcome_hash a ≢ outcome_hash b) → same_outcome a b ≡ false
+distinguished a b d = elim (either (same_outcome a b)) [
   | inl s ↦ absurd (d (ap outcome_hash (outcomes a b s)))
   | inr e ↦ e
 ]
@@ -161,20 +161,20 @@ swapped y r _ (there x xs h) = elim (either (is_like x r)) [
   ]
 ]
 
-joined_behind : (xs ys : List OutcomeRow) (r : OutcomeRow) → HasLike r xs
+joined_after : (xs ys : List OutcomeRow) (r : OutcomeRow) → HasLike r xs
     → rows_joined (with_row xs r) ys ≡ with_row (rows_joined xs ys) r
-joined_behind xs [] r h = refl
-joined_behind xs (y ∷ ys) r h = ap (λ zs. rows_joined zs ys) (swapped y r xs h) ∙ joined_behind (with_row xs y) ys r
+joined_after xs [] r h = refl
+joined_after xs (y ∷ ys) r h = ap (λ zs. rows_joined zs ys) (swapped y r xs h) ∙ joined_after (with_row xs y) ys r
     (still_has y r xs h)
 
 -- what a row counts more is counted after it
-counts_behind : (xs : List OutcomeRow) (y r : OutcomeRow) → is_like y r ≡ true
+counts_after : (xs : List OutcomeRow) (y r : OutcomeRow) → is_like y r ≡ true
     → with_row xs (more_often y r.count) ≡ with_row (with_row xs y) r
-counts_behind [] y r e = sym (at_like y [] r e)
-counts_behind (x ∷ xs) y r e = elim (either (is_like x y)) [
+counts_after [] y r e = sym (at_like y [] r e)
+counts_after (x ∷ xs) y r e = elim (either (is_like x y)) [
   | inl f ↦ at_like x xs (more_often y r.count) f ∙ ap (λ z. z ∷ xs) (more_once x y.count r.count)
       ∙ sym (ap (λ zs. with_row zs r) (at_like x xs y f) ∙ at_like (more_often x y.count) xs r (alike x y r f ∙ e))
-  | inr f ↦ past_unlike x xs (more_often y r.count) f ∙ ap (λ zs. x ∷ zs) (counts_behind xs y r e)
+  | inr f ↦ past_unlike x xs (more_often y r.count) f ∙ ap (λ zs. x ∷ zs) (counts_after xs y r e)
       ∙ sym (ap (λ zs. with_row zs r) (past_unlike x xs y f) ∙ past_unlike x (with_row xs y) r
       (sym (alike_right x y r e) ∙ f))
 ]
@@ -184,8 +184,8 @@ pub joined_more : (xs ys : List OutcomeRow) (r : OutcomeRow)
     → rows_joined xs (with_row ys r) ≡ with_row (rows_joined xs ys) r
 joined_more xs [] r = refl
 joined_more xs (y ∷ ys) r = elim (either (is_like y r)) [
-  | inl e ↦ ap (rows_joined xs) (at_like y ys r e) ∙ ap (λ zs. rows_joined zs ys) (counts_behind xs y r e)
-      ∙ joined_behind (with_row xs y) ys r (has_it xs y r e)
+  | inl e ↦ ap (rows_joined xs) (at_like y ys r e) ∙ ap (λ zs. rows_joined zs ys) (counts_after xs y r e)
+      ∙ joined_after (with_row xs y) ys r (has_it xs y r e)
   | inr e ↦ ap (rows_joined xs) (past_unlike y ys r e) ∙ joined_more (with_row xs y) ys r
 ]
 

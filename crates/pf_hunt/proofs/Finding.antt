@@ -11,7 +11,7 @@ use Rattle.pf_hunt.specs.RowHashes.{hashes_in, row_hash}
 use Rattle.pf_hunt.specs.Rows.{is_like, same_outcome, same_verdict}
 use Rattle.pf_hunt.specs.Views.{row_of}
 use Rattle.pf_hunt.specs.declared.row.OutcomeRow.{OutcomeRow}
-use Rattle.pf_hunt.proofs.Counting.{told_apart}
+use Rattle.pf_hunt.proofs.Counting.{distinguished}
 
 -- where the places end that are still to be looked at
 abbrev pub end_of : (next : Option ℕ) → ℕ
@@ -40,15 +40,15 @@ module _ (xs : List OutcomeRow) (y : OutcomeRow) where
   unlike : (k : ℕ) (x : OutcomeRow) → slice_get xs k ≡ Some x → (slice_get (hashes_in xs) k ≢ Some (row_hash y))
       → is_like (row_of x) (row_of y) ≡ false
   unlike k x e d =
-      let stands : slice_get (hashes_in xs) k ≡ Some (row_hash x) = slice_get-map row_hash xs k
+      let is_there : slice_get (hashes_in xs) k ≡ Some (row_hash x) = slice_get-map row_hash xs k
       ∙ ap (option_map row_hash) e in
-      let differ : outcome_hash x.outcome ≢ outcome_hash y.outcome = λ q. d (stands ∙ ap (λ n. Some n) q) in
+      let differ : outcome_hash x.outcome ≢ outcome_hash y.outcome = λ q. d (is_there ∙ ap (λ n. Some n) q) in
       and_right (same_verdict x.verdict y.verdict) (same_outcome x.outcome y.outcome)
-      (told_apart x.outcome y.outcome differ)
+      (distinguished x.outcome y.outcome differ)
 
-  none_behind : (b : ℕ) (next : Option ℕ) → IsLastBefore (hashes_in xs) (row_hash y) b next → NoneLike (end_of next) b
-  none_behind b None h k x from to e = unlike k x e (h k from to)
-  none_behind b (Some i) h k x from to e = unlike k x e (h.2 k from to)
+  none_after : (b : ℕ) (next : Option ℕ) → IsLastBefore (hashes_in xs) (row_hash y) b next → NoneLike (end_of next) b
+  none_after b None h k x from to e = unlike k x e (h k from to)
+  none_after b (Some i) h k x from to e = unlike k x e (h.2 k from to)
 
   pub has_its_hash : (b : ℕ) (next : Option ℕ) → IsLastBefore (hashes_in xs) (row_hash y) b next → HasItsHash next
   has_its_hash b None h = tt
@@ -84,16 +84,16 @@ module _ (xs : List OutcomeRow) (y : OutcomeRow) where
   -- nothing was looked at yet
   pub none_yet : (next : Option ℕ) → IsLastBefore (hashes_in xs) (row_hash y) (length xs) next
       → IsFirstFrom (end_of next) None
-  none_yet next h = none_behind (length xs) next h
+  none_yet next h = none_after (length xs) next h
 
   -- one row more was looked at
   pub one_looked_at : (i : ℕ) (x : OutcomeRow) (next o : Option ℕ) (b : Bool) → slice_get xs i ≡ Some x
       → b ≡ is_like (row_of x) (row_of y)
       → IsLastBefore (hashes_in xs) (row_hash y) i next → IsFirstFrom (suc i) o
       → IsFirstFrom (end_of next) (if b then Some i else o)
-  one_looked_at i x next o true e l h f = (none_behind i next h, (x, e, sym l))
+  one_looked_at i x next o true e l h f = (none_after i next h, (x, e, sym l))
   one_looked_at i x next None false e l h f =
-      none_across (end_of next) i (length xs) (none_behind i next h)
+      none_across (end_of next) i (length xs) (none_after i next h)
       (none_across i (suc i) (length xs) (none_at i x e (sym l)) f)
   one_looked_at i x next (Some j) false e l h f =
-      (none_across (end_of next) i j (none_behind i next h) (none_across i (suc i) j (none_at i x e (sym l)) f.0), f.1)
+      (none_across (end_of next) i j (none_after i next h) (none_across i (suc i) j (none_at i x e (sym l)) f.0), f.1)

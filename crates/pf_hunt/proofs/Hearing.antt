@@ -43,15 +43,15 @@ module _ {T : Type 0} (Heard : T → List Notice → Type 0) where
         (λ ns g. at_end c ns g over) h
 
     module _ (o p q : T) (c d n : ℕ) (answer : Pace) (so_far : HearsSome Heard o (HuntGoesOn has m a b c) p)
-        (told : Hears Heard p (seeds_run (d - a) n answer ∷ []) q) (past : c < d) (is : has d n) where
+        (reported : Hears Heard p (seeds_run (d - a) n answer ∷ []) q) (past : c < d) (is : has d n) where
       pub block_run : d ≤ b → (d < b → stops m answer ≡ false) → HearsSome Heard o (HuntGoesOn has m a b d) q
       block_run within on =
-          hears_then (HuntGoesOn has m a b c) (HuntGoesOn has m a b d) o p q _ so_far told
+          hears_then (HuntGoesOn has m a b c) (HuntGoesOn has m a b d) o p q _ so_far reported
           (λ ns h. and_block c d n answer ns h past within is on)
 
       pub stopped_there : d < b → stops m answer ≡ true → HearsSome Heard o (EndsHunt has m a b d) q
       stopped_there before stop =
-          hears_then (HuntGoesOn has m a b c) (EndsHunt has m a b d) o p q _ so_far told
+          hears_then (HuntGoesOn has m a b c) (EndsHunt has m a b d) o p q _ so_far reported
           (λ ns h. stopped c d n answer ns h past before is stop)
 
   -- ---- the least seed that fails
@@ -61,8 +61,8 @@ module _ {T : Type 0} (Heard : T → List Notice → Type 0) where
         → IsFirstSo so w j c d (Some f) → d ≤ b
         → HearsSome Heard o (HuntGoesOn has_none m a b c) p → Hears Heard p (seeds_run (d - a) 1 answer ∷ []) q
         → HearsSome Heard o (Searches m a b b (Some f)) q
-    found_at so w j o p q c d answer _ (first s r from to means is before) within so_far told =
-        hears_then (HuntGoesOn has_none m a b c) (Searches m a b b (Some (s, r))) o p q _ so_far told
+    found_at so w j o p q c d answer _ (first s r from to means is before) within so_far reported =
+        hears_then (HuntGoesOn has_none m a b c) (Searches m a b b (Some (s, r))) o p q _ so_far reported
         (λ ns h. found c d s r answer ns h from to within)
 
     -- in its block, which was the last
@@ -72,9 +72,9 @@ module _ {T : Type 0} (Heard : T → List Notice → Type 0) where
         → HearsSome Heard o (HuntGoesOn has_none m a b c) p
         → Hears Heard p (seeds_run (d - a) 1 answer ∷ []) q
         → HearsSome Heard o (Searches m a b b (option_map failure_of x)) q
-    found_there leaks w j o p q c d answer None some least within so_far told = absurd (cc)
-    found_there leaks w j o p q c d answer (Some f) some least within so_far told =
-        found_at (fails leaks) w j o p q c d answer (failure_of f) least within so_far told
+    found_there leaks w j o p q c d answer None some least within so_far reported = absurd (cc)
+    found_there leaks w j o p q c d answer (Some f) some least within so_far reported =
+        found_at (fails leaks) w j o p q c d answer (failure_of f) least within so_far reported
 
     pub none_there : (o p : T) (c : ℕ) (x : Option FailingSeed) → is_some x ≡ false
         → HearsSome Heard o (EndsHunt has_none m a b c) p

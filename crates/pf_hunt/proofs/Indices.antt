@@ -12,8 +12,8 @@ use Rattle.pf_hunt.proofs.Counting.{at_like, past_unlike}
 
 module _ (y : OutcomeRow) where
   -- past the first row
-  behind : (x : OutcomeRow) (xs : List OutcomeRow) (i : ℕ) → NoneBefore (x ∷ xs) y (suc i) → NoneBefore xs y i
-  behind x xs i h k z l e = h (suc k) z (omega arith) e
+  after : (x : OutcomeRow) (xs : List OutcomeRow) (i : ℕ) → NoneBefore (x ∷ xs) y (suc i) → NoneBefore xs y i
+  after x xs i h k z l e = h (suc k) z (omega arith) e
 
   -- one row more that is not like it
   pub one_row_more : (xs : List OutcomeRow) (i : ℕ) (x : OutcomeRow) → NoneBefore xs y i → slice_get xs i ≡ Some x
@@ -26,11 +26,11 @@ module _ (y : OutcomeRow) where
         ap (λ v. is_like (row_of v) (row_of y)) q ∙ l
   ]
 
-  pub stands_behind : (xs : List OutcomeRow) → NoneBefore xs y (length xs)
+  pub is_later_there : (xs : List OutcomeRow) → NoneBefore xs y (length xs)
       → rows_in (xs ++ y ∷ []) ≡ with_row (rows_in xs) (row_of y)
-  stands_behind [] h = refl
-  stands_behind (x ∷ xs) h =
-      ap (λ zs. row_of x ∷ zs) (stands_behind xs (behind x xs (length xs) h))
+  is_later_there [] h = refl
+  is_later_there (x ∷ xs) h =
+      ap (λ zs. row_of x ∷ zs) (is_later_there xs (after x xs (length xs) h))
       ∙ sym (past_unlike (row_of x) (rows_in xs) (row_of y) (h 0 x (omega arith) refl))
 
   pub is_added : (xs : List OutcomeRow) (i : ℕ) (x z : OutcomeRow) → NoneBefore xs y i → slice_get xs i ≡ Some x
@@ -42,7 +42,7 @@ module _ (y : OutcomeRow) where
       ap (λ v. v ∷ rows_in xs) (f ∙ ap (λ v. more_often (row_of v) y.count) (sym q))
       ∙ sym (at_like (row_of w) (rows_in xs) (row_of y) (ap (λ v. is_like (row_of v) (row_of y)) q ∙ l))
   is_added (w ∷ xs) (suc i) x z h e l f =
-      ap (λ zs. row_of w ∷ zs) (is_added xs i x z (behind w xs i h) e l f)
+      ap (λ zs. row_of w ∷ zs) (is_added xs i x z (after w xs i h) e l f)
       ∙ sym (past_unlike (row_of w) (rows_in xs) (row_of y) (h 0 w (omega arith) refl))
 
 -- the hashes of the rows, once one counts more, and once there is one more after them

@@ -16,8 +16,8 @@ use Rattle.pf_hunt.specs.declared.seeded.Hunt.{Hunt}
 use Rattle.pf_hunt.proofs.Firsts.{first_there, in_first, in_second, looks_past, no_seeds, none_at, none_of, one_first}
 
 -- a seed of a leak, with how many wait
-abbrev pub told_leak : ℕ × Report → ℕ × ℕ
-told_leak p = (p.0, waiting_in p.1)
+abbrev pub reported_leak : ℕ × Report → ℕ × ℕ
+reported_leak p = (p.0, waiting_in p.1)
 
 module _ (w : Strategy) (j : Job) where
   -- ---- one seed
@@ -46,9 +46,9 @@ module _ (w : Strategy) (j : Job) where
 
   pub leaks_in_second : (a c b : ℕ) (o : Option (ℕ × ℕ)) → a ≤ c → FirstLeaking w j a c None → FirstLeaking w j c b o
       → FirstLeaking w j a b o
-  leaks_in_second a c b o k (Some p, h, e) behind = absurd (cc)
-  leaks_in_second a c b o k (None, h, e) behind =
-      (behind.0, in_second is_leak w j a c b behind.0 k (none_of is_leak w j a c h) behind.1, behind.2)
+  leaks_in_second a c b o k (Some p, h, e) after = absurd (cc)
+  leaks_in_second a c b o k (None, h, e) after =
+      (after.0, in_second is_leak w j a c b after.0 k (none_of is_leak w j a c h) after.1, after.2)
 
   -- to where the seeds end
   pub leaks_there : (a b s : ℕ) (o : Option (ℕ × ℕ)) → FirstLeaking w j a s o → (s ≡ a) ⊎ (s ≤ b) → b ≤ s
@@ -56,7 +56,7 @@ module _ (w : Strategy) (j : Job) where
   leaks_there a b s o h at l = (h.0, first_there is_leak w j a b s h.0 h.1 at l, h.2)
 
   pub one_leak : (a b : ℕ) (x y : Option (ℕ × ℕ)) → FirstLeaking w j a b x → FirstLeaking w j a b y → x ≡ y
-  one_leak a b x y h k = h.2 ∙ ap (option_map told_leak) (one_first is_leak w j a b h.0 k.0 h.1 k.1) ∙ sym k.2
+  one_leak a b x y h k = h.2 ∙ ap (option_map reported_leak) (one_first is_leak w j a b h.0 k.0 h.1 k.1) ∙ sym k.2
 
 -- ---- what is known of seeds
 

@@ -12,6 +12,7 @@ use crate::failure::Searched;
 use crate::leak::{Leak, earlier};
 use crate::observer::HuntObserver;
 use crate::pace::Pace;
+use crate::range::HuntRange;
 use crate::seeded::Hunt;
 use crate::tallied::Tallied;
 use crate::tally::Tally;
@@ -51,7 +52,7 @@ fn stops(may_stop: bool, pace: Pace) -> bool
 }
 
 /// Reports a leak to an observer, if there is one.
-fn tell_leak<O: HuntObserver>(leak: Option<Leak>, observer: &mut O)
+fn notify_leak<O: HuntObserver>(leak: Option<Leak>, observer: &mut O)
     ensures { Hears O.Heard observer.old (leak_notice (option_map leak_of leak)) observer.new }
 {
     if let Some(leak) = leak {
@@ -64,36 +65,35 @@ fn search_blocks<R: Threads + Sync, O: HuntObserver>(
     rt: &R,
     alloc: Global,
     hunt: &Hunt,
-    from: u64,
-    end: u64,
-    may_stop: bool,
-    workers: u64,
+    range: HuntRange,
     observer: &mut O,
 ) -> Result<Searched, NoMemory>
-    ensures known { IfOk result (λ s. FindsFailure hunt.now from s.end s) }
-    ensures reach { IfOk result (λ s. SearchedTo may_stop from end s.end) }
+    ensures known { IfOk result (λ s. FindsFailure hunt.now range.first s.end s) }
+    ensures reach { IfOk result (λ s. SearchedTo range.may_stop range.first range.end s.end) }
     ensures heard { IfOk result (λ s. HearsSome O.Heard observer.old
-        (Searches may_stop from end s.end (option_map failure_of s.failure)) observer.new) }
-    ensures cut { OnErr result (HearsSome O.Heard observer.old (CutNotices has_none may_stop from end) observer.new) }
+        (Searches range.may_stop range.first range.end s.end (option_map failure_of s.failure)) observer.new) }
+    ensures cut { OnErr result (HearsSome O.Heard observer.old
+        (CutNotices has_none range.may_stop range.first range.end) observer.new) }
 {
     let team = Team {
         first: 0,
-        size: workers,
+        size: range.workers,
     };
     let mut leak = None;
-    let mut at = from;
+    let mut at = range.first;
     let mut each = 1;
-    while at < end {
-        let next = block_end(at, end, each, workers);
+    while at < range.end {
+        let next = block_end(at, range.end, each, range.workers);
         let block = first_of_block(rt, alloc, hunt, at, next, team)?;
         leak = earlier(leak, block.leak);
         let failure = block.failure;
         if failure.is_some() {
-            observer.progress(next - from, 1);
+            observer.progress(next - range.first, 1);
+            let end = range.end;
             return Ok(Searched { failure, leak, end });
         }
-        let pace = observer.progress(next - from, 0);
-        if next < end && stops(may_stop, pace) {
+        let pace = observer.progress(next - range.first, 0);
+        if next < range.end && stops(range.may_stop, pace) {
             let end = next;
             return Ok(Searched { failure, leak, end });
         }
@@ -101,31 +101,30 @@ fn search_blocks<R: Threads + Sync, O: HuntObserver>(
         each = next_size(each, pace);
     }
     let failure = None;
+    let end = range.end;
     Ok(Searched { failure, leak, end })
 }
 
-/// The least seed from a first to before an end whose run fails, by the given number of workers, and the least of those
-/// up to it whose root returned while processes still waited, which the observer receives. It receives, too, how far
-/// the hunt got; if the hunt may stop, it does so once the observer says it, and what is known is returned.
+/// The least of the seeds that a hunt goes over whose run fails, and the least of those up to it whose root returned
+/// while processes still waited, which the observer receives. It receives, too, how far the hunt got; if the hunt may
+/// stop, it does so once the observer says it, and what is known is returned.
 pub fn first_failing<R: Threads + Sync, O: HuntObserver>(
     rt: &R,
     alloc: Global,
     hunt: &Hunt,
-    from: u64,
-    end: u64,
-    may_stop: bool,
-    workers: u64,
+    range: HuntRange,
     observer: &mut O,
 ) -> Result<Searched, NoMemory>
-    ensures known { IfOk result (λ s. FindsFailure hunt.now from s.end s) }
-    ensures reach { IfOk result (λ s. SearchedTo may_stop from end s.end) }
+    ensures known { IfOk result (λ s. FindsFailure hunt.now range.first s.end s) }
+    ensures reach { IfOk result (λ s. SearchedTo range.may_stop range.first range.end s.end) }
     ensures heard { IfOk result (λ s. HearsSome O.Heard observer.old
-        (SearchNotices hunt.now.strategy hunt.now.job.asked may_stop from end s.end (option_map failure_of s.failure))
-        observer.new) }
-    ensures cut { OnErr result (HearsSome O.Heard observer.old (CutNotices has_none may_stop from end) observer.new) }
+        (SearchNotices hunt.now.strategy hunt.now.job.asked range.may_stop range.first range.end s.end
+        (option_map failure_of s.failure)) observer.new) }
+    ensures cut { OnErr result (HearsSome O.Heard observer.old
+        (CutNotices has_none range.may_stop range.first range.end) observer.new) }
 {
-    let searched = search_blocks(rt, alloc, hunt, from, end, may_stop, workers, observer)?;
-    tell_leak(searched.leak, observer);
+    let searched = search_blocks(rt, alloc, hunt, range, observer)?;
+    notify_leak(searched.leak, observer);
     Ok(searched)
 }
 
@@ -134,34 +133,33 @@ fn tally_blocks<R: Threads + Sync, O: HuntObserver>(
     rt: &R,
     alloc: Global,
     hunt: &Hunt,
-    from: u64,
-    end: u64,
-    may_stop: bool,
-    workers: u64,
+    range: HuntRange,
     observer: &mut O,
 ) -> Result<Tallied, NoMemory>
-    ensures known { IfOk result (λ t. TalliesAll hunt.now from t.end t) }
-    ensures reach { IfOk result (λ t. SearchedTo may_stop from end t.end) }
+    ensures known { IfOk result (λ t. TalliesAll hunt.now range.first t.end t) }
+    ensures reach { IfOk result (λ t. SearchedTo range.may_stop range.first range.end t.end) }
     ensures heard { IfOk result (λ t. HearsSome O.Heard observer.old
-        (EndsHunt (HasFailures hunt.now.strategy hunt.now.job.asked from) may_stop from end t.end) observer.new) }
+        (EndsHunt (HasFailures hunt.now.strategy hunt.now.job.asked range.first) range.may_stop range.first range.end
+        t.end) observer.new) }
     ensures cut { OnErr result (HearsSome O.Heard observer.old
-        (CutNotices (HasFailures hunt.now.strategy hunt.now.job.asked from) may_stop from end) observer.new) }
+        (CutNotices (HasFailures hunt.now.strategy hunt.now.job.asked range.first) range.may_stop range.first
+        range.end) observer.new) }
 {
     let team = Team {
         first: 0,
-        size: workers,
+        size: range.workers,
     };
     let mut tally = Tally::new(alloc);
     let mut leak = None;
-    let mut at = from;
+    let mut at = range.first;
     let mut each = 1;
-    while at < end {
-        let next = block_end(at, end, each, workers);
+    while at < range.end {
+        let next = block_end(at, range.end, each, range.workers);
         let block = tally_of_block(rt, alloc, hunt, at, next, team)?;
         leak = earlier(leak, block.leak);
         tally.join(block.tally)?;
-        let pace = observer.progress(next - from, tally.failures());
-        if next < end && stops(may_stop, pace) {
+        let pace = observer.progress(next - range.first, tally.failures());
+        if next < range.end && stops(range.may_stop, pace) {
             return Ok(Tallied {
                 tally,
                 leak,
@@ -171,31 +169,30 @@ fn tally_blocks<R: Threads + Sync, O: HuntObserver>(
         at = next;
         each = next_size(each, pace);
     }
+    let end = range.end;
     Ok(Tallied { tally, leak, end })
 }
 
-/// The rows of the runs by the seeds from a first to before an end, by the given number of workers, and the least of
-/// these whose root returned while processes still waited, which the observer receives. It receives, too, how far the
-/// hunt got; if the hunt may stop, it does so once the observer says it, and the rows are those of the seeds that were
-/// run.
+/// The rows of the runs by the seeds that a hunt goes over, and the least of these whose root returned while processes
+/// still waited, which the observer receives. It receives, too, how far the hunt got; if the hunt may stop, it does so
+/// once the observer says it, and the rows are those of the seeds that were run.
 pub fn tally_all<R: Threads + Sync, O: HuntObserver>(
     rt: &R,
     alloc: Global,
     hunt: &Hunt,
-    from: u64,
-    end: u64,
-    may_stop: bool,
-    workers: u64,
+    range: HuntRange,
     observer: &mut O,
 ) -> Result<Tallied, NoMemory>
-    ensures known { IfOk result (λ t. TalliesAll hunt.now from t.end t) }
-    ensures reach { IfOk result (λ t. SearchedTo may_stop from end t.end) }
+    ensures known { IfOk result (λ t. TalliesAll hunt.now range.first t.end t) }
+    ensures reach { IfOk result (λ t. SearchedTo range.may_stop range.first range.end t.end) }
     ensures heard { IfOk result (λ t. HearsSome O.Heard observer.old
-        (TallyNotices hunt.now.strategy hunt.now.job.asked may_stop from end t.end) observer.new) }
+        (TallyNotices hunt.now.strategy hunt.now.job.asked range.may_stop range.first range.end t.end)
+        observer.new) }
     ensures cut { OnErr result (HearsSome O.Heard observer.old
-        (CutNotices (HasFailures hunt.now.strategy hunt.now.job.asked from) may_stop from end) observer.new) }
+        (CutNotices (HasFailures hunt.now.strategy hunt.now.job.asked range.first) range.may_stop range.first
+        range.end) observer.new) }
 {
-    let tallied = tally_blocks(rt, alloc, hunt, from, end, may_stop, workers, observer)?;
-    tell_leak(tallied.leak, observer);
+    let tallied = tally_blocks(rt, alloc, hunt, range, observer)?;
+    notify_leak(tallied.leak, observer);
     Ok(tallied)
 }

@@ -63,9 +63,9 @@ fn with_elements(mut hash: u64, elements: &[Term]) -> u64
     ensures { result ≡ values_hash hash (values_of elements.now) }
 {
     let mut rest = elements;
-    while let Some((first, behind)) = rest.split_first() {
+    while let Some((first, after)) = rest.split_first() {
         hash = with_term(hash, first);
-        rest = behind;
+        rest = after;
     }
     hash
 }
@@ -76,9 +76,9 @@ fn with_list(mut hash: u64, list: &List) -> u64
     ensures { result ≡ values_hash hash (elements_of list.now) }
 {
     let mut rest = list;
-    while let Some((first, behind)) = rest.split() {
+    while let Some((first, after)) = rest.split() {
         hash = with_term(hash, first);
-        rest = behind;
+        rest = after;
     }
     hash
 }
@@ -88,9 +88,9 @@ fn with_pids(mut hash: u64, pids: &[u32]) -> u64
     ensures { result ≡ numbers_hash hash pids.now }
 {
     let mut rest = pids;
-    while let Some((first, behind)) = rest.split_first() {
+    while let Some((first, after)) = rest.split_first() {
         hash = mixed(hash, u64::from(*first));
-        rest = behind;
+        rest = after;
     }
     hash
 }

@@ -4,15 +4,13 @@ ghost use Rattle.std.specs.Prelude.{◌≡◌, All, IfOk};
 ghost use Rattle.pf_model.specs.Meaning.{Means};
 ghost use Rattle.pf_model.specs.Reports.{view_of_report};
 ghost use Rattle.pf_request.specs.Job.{asked_by_seed};
-ghost use Rattle.pf_sched.specs.Judging.{Judges};
 ghost use Rattle.pf_strategy.specs.Strategies.{MeansBySeed};
+ghost use Rattle.pf_strategy.specs.declared.strategy.Strategy.TheVariants.{Uniform};
 ghost use Rattle.pf_hunt.specs.Judging.{JudgesBySeed};
 
 use pf_errors::NoMemory;
 use pf_model::report::Report;
-use pf_sched::{
-    Job, Judged, Scratch, judged_by_priorities, judged_run, report_by_priorities, report_of_run,
-};
+use pf_sched::{Job, Judged, Scratch, judged_run, report_of_run};
 use pf_strategy::Strategy;
 use std::alloc::Global;
 
@@ -55,7 +53,7 @@ fn run_by_words(
 ) -> Result<Report, NoMemory>
     ensures { IfOk result (λ r. Means (asked_by_seed job.now.asked seed) (view_of_report r)) }
 {
-    report_of_run(alloc, &job.by_seed(seed)?, scratch)
+    report_of_run(alloc, &job.by_seed(seed)?, None, scratch)
 }
 
 /// What that report says but for its events.
@@ -65,9 +63,9 @@ fn judged_by_words(
     scratch: &mut Scratch,
     seed: u64,
 ) -> Result<Judged, NoMemory>
-    ensures { IfOk result (λ v. Judges (asked_by_seed job.now.asked seed) v) }
+    ensures { IfOk result (λ v. JudgesBySeed Uniform job.now.asked seed v) }
 {
-    judged_run(alloc, &job.by_seed(seed)?, scratch)
+    judged_run(alloc, &job.by_seed(seed)?, None, scratch)
 }
 
 /// The report that the job of a hunt means by a seed, in place of the job's own choices. What is in the scratch makes
@@ -82,7 +80,7 @@ pub fn run_by_seed(
 {
     match hunt.strategy {
         Strategy::Uniform => run_by_words(alloc, &hunt.job, scratch, seed),
-        Strategy::Priorities => report_by_priorities(alloc, &hunt.job, seed, scratch),
+        Strategy::Priorities => report_of_run(alloc, &hunt.job, Some(seed), scratch),
     }
 }
 
@@ -100,6 +98,6 @@ pub(crate) fn judged_by_seed(
     let job = hunt.job_of(worker);
     match hunt.strategy {
         Strategy::Uniform => judged_by_words(alloc, job, scratch, seed),
-        Strategy::Priorities => judged_by_priorities(alloc, job, seed, scratch),
+        Strategy::Priorities => judged_run(alloc, job, Some(seed), scratch),
     }
 }

@@ -92,11 +92,11 @@ impl Tally {
     }
 
     /// Counts what the rows of the part after this one count.
-    pub fn join(&mut self, behind: Tally) -> Result<(), NoMemory>
-        requires { seeds_counted (rows_of self.old) + seeds_counted (rows_of behind) < 2 ^ 64 }
-        ensures { OnOk result (rows_of self.new ≡ rows_joined (rows_of self.old) (rows_of behind)) }
+    pub fn join(&mut self, after: Tally) -> Result<(), NoMemory>
+        requires { seeds_counted (rows_of self.old) + seeds_counted (rows_of after) < 2 ^ 64 }
+        ensures { OnOk result (rows_of self.new ≡ rows_joined (rows_of self.old) (rows_of after)) }
     {
-        for row in behind.rows {
+        for row in after.rows {
             self.add(row)?;
         }
         Ok(())

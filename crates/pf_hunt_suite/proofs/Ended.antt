@@ -14,21 +14,21 @@ use Rattle.pf_hunt_suite.specs.declared.end.RootEnd.TheVariants.{Fails, NoFailur
 module _ (h : HuntArgs) (j : Job) (ns : List Notice) where
   pub ends_failing : (c s : ℕ) (r : Report) → IsLeastOfRoot h j c (Some (s, r)) → Notifies h j c (Some (s, r)) ns
       → JobEnds h j (Fails s) ns
-  ends_failing c s r least told =
-      let e = over_where_found (is_some h.time) h.seeds.0 h.seeds.1 c (s, r) told.0 told.2 in
+  ends_failing c s r least reported =
+      let e = over_where_found (is_some h.time) h.seeds.0 h.seeds.1 c (s, r) reported.0 reported.2 in
       fails s r ns (subst (λ b. IsLeastOfRoot h j b (Some (s, r))) e least)
-      (subst (λ b. Notifies h j b (Some (s, r)) ns) e told)
+      (subst (λ b. Notifies h j b (Some (s, r)) ns) e reported)
 
   pub ends_whole : (c : ℕ) → c ≡ h.seeds.1 → IsLeastOfRoot h j c None → Notifies h j c None ns
       → JobEnds h j (NoFailure (h.seeds.1 - h.seeds.0)) ns
-  ends_whole c e least told = none_fails ns (subst (λ b. IsLeastOfRoot h j b None) e least)
-      (subst (λ b. Notifies h j b None ns) e told)
+  ends_whole c e least reported = none_fails ns (subst (λ b. IsLeastOfRoot h j b None) e least)
+      (subst (λ b. Notifies h j b None ns) e reported)
 
   pub ends_stopped : (c : ℕ) → SearchedTo (is_some h.time) h.seeds.0 h.seeds.1 c → (c ≡ h.seeds.1 → ⊥)
       → IsLeastOfRoot h j c None → Notifies h j c None ns
       → JobEnds h j (Stopped (c - h.seeds.0)) ns
-  ends_stopped _ to_end n least told = absurd (n refl)
-  ends_stopped _ (less_far c may past before) n least told = stopped c ns may past before least told
+  ends_stopped _ to_end n least reported = absurd (n refl)
+  ends_stopped _ (less_far c may past before) n least reported = stopped c ns may past before least reported
 
 -- no seed was run before memory ran out
 pub cut_at_once : {T : Type 0} (Heard : T → List Notice → Type 0) (may_stop : Bool) (a b : ℕ) (o : T)

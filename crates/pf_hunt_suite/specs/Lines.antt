@@ -22,11 +22,11 @@ abbrev pub root_name : (file root : List ℕ) → List ℕ
 root_name file root = file ++ codes " " ++ atom_text root
 
 -- what is reported comes after a name
-abbrev pub told_line : (name told : List ℕ) → List ℕ
-told_line name told = name ++ codes ": " ++ line told
+abbrev pub reported_line : (name reported : List ℕ) → List ℕ
+reported_line name reported = name ++ codes ": " ++ line reported
 
 abbrev pub root_line : (file root : List ℕ) → RootEnd → List ℕ
-root_line file root e = told_line (root_name file root) (root_end_text e)
+root_line file root e = reported_line (root_name file root) (root_end_text e)
 
 abbrev pub rootless_text : List ℕ
 rootless_text = codes "no exported function without arguments"

@@ -14,7 +14,7 @@ use crate::end::RootEnd;
 use pf_check::ReadModule;
 use pf_cli::HuntArgs;
 use pf_errors::{NoMemory, OrNoMemory};
-use pf_hunt::{Hunt, HuntObserver, Searched, first_failing, other_jobs};
+use pf_hunt::{Hunt, HuntObserver, HuntRange, Searched, first_failing, other_jobs};
 use pf_request::{Request, ShortBytes};
 use pf_sched::{Job, JobRefusal};
 use std::alloc::Global;
@@ -69,25 +69,34 @@ fn end_of(args: &HuntArgs, searched: &Searched) -> RootEnd
     }
 }
 
-/// How the hunt of the job of a root ends, by the given number of workers.
+/// A root that is hunted: what the hunt asks for, the module and the name of the root, and how many workers share the
+/// seeds.
+#[derive(Clone, Copy)]
+pub struct RootHunt<'a> {
+    pub args: &'a HuntArgs<'a>,
+    pub module: &'a ReadModule,
+    pub root: &'a [u8],
+    pub workers: u64,
+}
+
+/// How the hunt of the job of a root ends.
 fn hunt_job<T: Threads + Sync, O: HuntObserver>(
     rt: &T,
     alloc: Global,
-    args: &HuntArgs,
-    module: &ReadModule,
-    root: &[u8],
+    hunted: &RootHunt,
     job: Job,
-    workers: u64,
     observer: &mut O,
 ) -> Result<RootEnd, NoMemory>
     ensures ends { IfOk result (λ e. HearsSome O.Heard observer.old
-        (JobEnds (view_of_hunt_args args.now) job e) observer.new) }
+        (JobEnds (view_of_hunt_args hunted.now.args.now) job e) observer.new) }
     ensures cut { OnErr result (HearsSome O.Heard observer.old
-        (CutNotices has_none (is_some args.now.time) args.now.first args.now.end) observer.new) }
+        (CutNotices has_none (is_some hunted.now.args.now.time) hunted.now.args.now.first hunted.now.args.now.end)
+        observer.new) }
 {
-    let request = request_for(alloc, args, root)?;
+    let RootHunt { args, workers, .. } = *hunted;
+    let request = request_for(alloc, args, hunted.root)?;
     let most = workers.min(args.end.saturating_sub(args.first));
-    let others = other_jobs(alloc, &job, module, &request, most)?;
+    let others = other_jobs(alloc, &job, hunted.module, &request, most)?;
     let hunt = Hunt {
         job,
         others,
@@ -95,30 +104,32 @@ fn hunt_job<T: Threads + Sync, O: HuntObserver>(
         leaks: args.leaks,
     };
     let may_stop = args.time.is_some();
-    let searched = first_failing(
-        rt, alloc, &hunt, args.first, args.end, may_stop, workers, observer,
-    )?;
+    let range = HuntRange {
+        first: args.first,
+        end: args.end,
+        may_stop,
+        workers,
+    };
+    let searched = first_failing(rt, alloc, &hunt, range, observer)?;
     Ok(end_of(args, &searched))
 }
 
-/// How the hunt of a root of a module ends, by the given number of workers, and what is reported to the observer on the
-/// way. If the hunt is one for a time, it ends once the observer says so, and never before a first block of seeds.
+/// How the hunt of a root of a module ends, and what is reported to the observer on the way. If the hunt is one for a
+/// time, it ends once the observer says so, and never before a first block of seeds.
 pub fn hunt_root<T: Threads + Sync, O: HuntObserver>(
     rt: &T,
     alloc: Global,
-    args: &HuntArgs,
-    module: &ReadModule,
-    root: &[u8],
-    workers: u64,
+    hunted: &RootHunt,
     observer: &mut O,
 ) -> Result<RootEnd, NoMemory>
     ensures ends { IfOk result (λ e. HearsSome O.Heard observer.old
-        (RootEnds (view_of_hunt_args args.now) root.now «module».now e) observer.new) }
+        (RootEnds (view_of_hunt_args hunted.now.args.now) hunted.now.root.now hunted.now.module.now e) observer.new) }
     ensures cut { OnErr result (HearsSome O.Heard observer.old
-        (CutNotices has_none (is_some args.now.time) args.now.first args.now.end) observer.new) }
+        (CutNotices has_none (is_some hunted.now.args.now.time) hunted.now.args.now.first hunted.now.args.now.end)
+        observer.new) }
 {
-    match job_for(alloc, args, module, root) {
-        Ok(job) => hunt_job(rt, alloc, args, module, root, job, workers, observer),
+    match job_for(alloc, hunted.args, hunted.module, hunted.root) {
+        Ok(job) => hunt_job(rt, alloc, hunted, job, observer),
         Err(OrNoMemory::Fault(refusal)) => Ok(RootEnd::Refused(refusal.code())),
         Err(OrNoMemory::NoMemory) => Err(NoMemory),
     }

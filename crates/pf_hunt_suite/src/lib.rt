@@ -10,7 +10,7 @@ mod source;
 mod summary;
 
 pub use end::{RootEnd, SuiteCounts};
-pub use hunt::{hunt_root, request_for};
+pub use hunt::{RootHunt, hunt_root, request_for};
 pub use lines::{line_of_refusal, line_of_root, line_of_rootless, root_name};
 pub use source::{Hunted, read_hunted};
 pub use summary::Suite;

@@ -2,7 +2,7 @@
 
 ghost use Rattle.std.specs.Prelude.{◌≡◌, IfOk};
 ghost use Rattle.pf_errors.specs.Codes.{refusal_text};
-ghost use Rattle.pf_hunt_suite.specs.Lines.{root_line, root_name, rootless_text, told_line};
+ghost use Rattle.pf_hunt_suite.specs.Lines.{root_line, root_name, rootless_text, reported_line};
 
 use crate::end::RootEnd;
 use pf_errors::{NoMemory, SourceRefusal};
@@ -22,20 +22,20 @@ pub fn root_name(alloc: Global, file: &str, root: &[u8]) -> Result<Vec<u8>, NoMe
 }
 
 /// A line: what is reported comes after a name.
-fn told_line(mut name: Vec<u8>, told: &str) -> Result<Vec<u8>, NoMemory>
-    ensures { IfOk result (λ v. v.items ≡ told_line name.items told.now) }
+fn reported_line(mut name: Vec<u8>, reported: &str) -> Result<Vec<u8>, NoMemory>
+    ensures { IfOk result (λ v. v.items ≡ reported_line name.items reported.now) }
 {
     put(&mut name, b": ")?;
-    put(&mut name, told.as_bytes())?;
+    put(&mut name, reported.as_bytes())?;
     put_byte(&mut name, b'\n')?;
     Ok(name)
 }
 
 /// The same of a file.
-fn file_line(alloc: Global, file: &str, told: &str) -> Result<Vec<u8>, NoMemory>
-    ensures { IfOk result (λ v. v.items ≡ told_line file.now told.now) }
+fn file_line(alloc: Global, file: &str, reported: &str) -> Result<Vec<u8>, NoMemory>
+    ensures { IfOk result (λ v. v.items ≡ reported_line file.now reported.now) }
 {
-    told_line(Vec::from_slice(alloc, file.as_bytes())?, told)
+    reported_line(Vec::from_slice(alloc, file.as_bytes())?, reported)
 }
 
 /// The line of a root that was hunted.
@@ -47,8 +47,8 @@ pub fn line_of_root(
 ) -> Result<Vec<u8>, NoMemory>
     ensures { IfOk result (λ v. v.items ≡ root_line file.now root.now end) }
 {
-    let told = format!(in alloc; "{end}")?;
-    told_line(root_name(alloc, file, root)?, &told)
+    let reported = format!(in alloc; "{end}")?;
+    reported_line(root_name(alloc, file, root)?, &reported)
 }
 
 /// The line of a source that is refused.
@@ -57,15 +57,15 @@ pub fn line_of_refusal(
     file: &str,
     refusal: SourceRefusal,
 ) -> Result<Vec<u8>, NoMemory>
-    ensures { IfOk result (λ v. v.items ≡ told_line file.now (refusal_text refusal.code refusal.offset)) }
+    ensures { IfOk result (λ v. v.items ≡ reported_line file.now (refusal_text refusal.code refusal.offset)) }
 {
-    let told = format!(in alloc; "{refusal}")?;
-    file_line(alloc, file, &told)
+    let reported = format!(in alloc; "{refusal}")?;
+    file_line(alloc, file, &reported)
 }
 
 /// The line of a source that has no root.
 pub fn line_of_rootless(alloc: Global, file: &str) -> Result<Vec<u8>, NoMemory>
-    ensures { IfOk result (λ v. v.items ≡ told_line file.now rootless_text) }
+    ensures { IfOk result (λ v. v.items ≡ reported_line file.now rootless_text) }
 {
     file_line(alloc, file, "no exported function without arguments")
 }

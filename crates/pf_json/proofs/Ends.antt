@@ -14,7 +14,7 @@ use Rattle.json.specs.Print.{begins, ends, escape, escape_byte, escape_letter, p
 use Rattle.json.specs.Print.{token_text}
 use Rattle.pf_json.specs.Facts.{Fact, Value, number, text, truth}
 use Rattle.pf_json.specs.Laws.{is_line_end}
-use Rattle.pf_json.specs.Lines.{HeldText, behind_line, objects_from, with_byte}
+use Rattle.pf_json.specs.Lines.{HeldText, after_line, objects_from, with_byte}
 use Rattle.pf_json.specs.Objects.{fact_tokens, facts_at, object_line, object_tokens, value_token}
 
 -- no byte of a text is a line end
@@ -133,14 +133,14 @@ facts_are_clean (f ∷ fs) = (
 ends_both : (xs ys : List ℕ) → count_by is_line_end (xs ++ ys) ≡ count_by is_line_end xs + count_by is_line_end ys
 ends_both xs ys = sum_by-append (λ b. cond (is_line_end b) 1 0) xs ys
 
-ends_behind : (b : ℕ) (bs : List ℕ) → count_by is_line_end (b ∷ bs) ≡ cond (b == 10) 1 0 + count_by is_line_end bs
-ends_behind b bs = ends_both (b ∷ []) bs ∙ ap (λ (n : ℕ). n + count_by is_line_end bs) (zero-add (cond (b == 10) 1 0))
+ends_after : (b : ℕ) (bs : List ℕ) → count_by is_line_end (b ∷ bs) ≡ cond (b == 10) 1 0 + count_by is_line_end bs
+ends_after b bs = ends_both (b ∷ []) bs ∙ ap (λ (n : ℕ). n + count_by is_line_end bs) (zero-add (cond (b == 10) 1 0))
 
 clean_has_none : (bs : List ℕ) → Clean bs → count_by is_line_end bs ≡ 0
 clean_has_none [] h = refl
 clean_has_none (b ∷ bs) h =
     let none : cond {A = ℕ} (b == 10) 1 0 ≡ 0 = ap (λ (c : Bool). cond {A = ℕ} c 1 0) (ne_eqb b 10 h.0) in
-    omega (arith, ends_behind b bs, none, clean_has_none bs h.1)
+    omega (arith, ends_after b bs, none, clean_has_none bs h.1)
 
 one_end : (facts : List Fact) → count_by is_line_end (object_line facts) ≡ 1
 one_end facts =
@@ -160,7 +160,7 @@ end_by_end false line x y rest l e d = d ∙ sym (zero-add (count_by is_line_end
 pub line_by_line : (h : HeldText) (t : List ℕ) → count_by is_line_end (objects_from h t) ≡ count_by is_line_end t
 line_by_line h [] = refl
 line_by_line h (b ∷ bs) =
-    end_by_end (b == 10) (object_line (facts_at h.place h.line)) (objects_from (behind_line h) bs)
+    end_by_end (b == 10) (object_line (facts_at h.place h.line)) (objects_from (after_line h) bs)
     (objects_from (with_byte h b) bs) bs
-    (one_end (facts_at h.place h.line)) (line_by_line (behind_line h) bs) (line_by_line (with_byte h b) bs)
-    ∙ sym (ends_behind b bs)
+    (one_end (facts_at h.place h.line)) (line_by_line (after_line h) bs) (line_by_line (with_byte h b) bs)
+    ∙ sym (ends_after b bs)

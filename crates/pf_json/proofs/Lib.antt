@@ -1,4 +1,4 @@
-pub mod Behind
+pub mod After
 pub mod Ends
 pub mod Pieces
 pub mod Starts

@@ -9,10 +9,10 @@ use Rattle.pf_json.specs.Views.{view_of_fact, views_of}
 use Rattle.pf_json.specs.declared.facts.Fact.{Fact}
 
 -- a beginning, each fact and an end, after other tokens, are an object after them
-pub object_behind : (before : List Token) (fs : List Fact)
+pub object_after : (before : List Token) (fs : List Fact)
     → before ++ token.begin_object ∷ [] ++ flat_map (λ f. fact_tokens (view_of_fact f)) fs ++ token.end_object ∷ []
     ≡ before ++ object_tokens (views_of fs)
-object_behind before fs =
+object_after before fs =
     ap (λ (ts : List Token). ts ++ token.end_object ∷ [])
     (append_assoc before (token.begin_object ∷ []) (flat_map (λ f. fact_tokens (view_of_fact f)) fs))
     ∙ (append_assoc before (token.begin_object ∷ flat_map (λ f. fact_tokens (view_of_fact f)) fs)

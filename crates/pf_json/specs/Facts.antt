@@ -59,16 +59,16 @@ pub data ShapePart : Type 0 where
   -- all the rest, by the rule of words: a word alone, or one before the others
   says : ShapePart
   -- nothing, and yet this is reported
-  tells : Fact → ShapePart
+  reports : Fact → ShapePart
 
 -- what follows words at the front of a text
 abbrev pub after_words : (front t : List ℕ) → Option (List ℕ)
 after_words front t = if starts_with nat_eq t front then Some (drop (length front) t) else None
 
 -- what follows the first n bytes, with a fact of these if they are right
-abbrev pub told_if : Bool → Value → (key t : List ℕ) → (n : ℕ) → Option (List ℕ × Option Fact)
-told_if true value key t n = Some (drop n t, Some (fact key value))
-told_if false value key t n = None
+abbrev pub reported_if : Bool → Value → (key t : List ℕ) → (n : ℕ) → Option (List ℕ × Option Fact)
+reported_if true value key t n = Some (drop n t, Some (fact key value))
+reported_if false value key t n = None
 
 abbrev pub is_capital : ℕ → Bool
 is_capital b = nat_le 65 b && nat_le b 90
@@ -78,24 +78,24 @@ is_code [] = false
 is_code (b ∷ bs) = is_capital b && is_numeral bs
 
 abbrev pub counted_fact : (key t : List ℕ) → (n : ℕ) → Option (List ℕ × Option Fact)
-counted_fact key t n = told_if (is_numeral (take n t)) (fact_value (take n t)) key t n
+counted_fact key t n = reported_if (is_numeral (take n t)) (fact_value (take n t)) key t n
 
 abbrev pub word_fact : (key t : List ℕ) → (n : ℕ) → Option (List ℕ × Option Fact)
-word_fact key t n = told_if (nat_lt 0 n) (text (take n t)) key t n
+word_fact key t n = reported_if (nat_lt 0 n) (text (take n t)) key t n
 
 abbrev pub coded : (key t : List ℕ) → (n : ℕ) → Option (List ℕ × Option Fact)
-coded key t n = told_if (is_code (take n t)) (text (take n t)) key t n
+coded key t n = reported_if (is_code (take n t)) (text (take n t)) key t n
 
 -- what follows a part at the front of a text, and what the part reports; nothing if it isn't there
 abbrev pub part_step : ShapePart → List ℕ → Option (List ℕ × Option Fact)
-part_step (words w) t = option_map (λ behind. (behind, None)) (after_words w t)
+part_step (words w) t = option_map (λ following. (following, None)) (after_words w t)
 part_step (maybe w) t = Some (unwrap_or (after_words w t) t, None)
 part_step (count key) t = counted_fact key t (prefix_len is_digit t)
 part_step (word key) t = word_fact key t (prefix_len is_no_blank t)
 part_step (code key) t = coded key t (1 + prefix_len is_digit (drop 1 t))
 part_step (rest key) t = Some ([], Some (fact key (text t)))
 part_step says t = Some ([], Some (said t))
-part_step (tells f) t = Some (t, Some f)
+part_step (reports f) t = Some (t, Some f)
 
 abbrev pub with_fact : Option Fact → List Fact → List Fact
 with_fact None fs = fs

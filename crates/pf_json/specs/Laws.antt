@@ -1,13 +1,13 @@
 -- What holds of the objects of all texts.
 use Rattle.std.specs.Prelude.{◌≡◌, ◌==◌, ℕ, Bool, List, ◌++◌}
 use Rattle.std.specs.List.{count_by}
-use Rattle.pf_json.specs.Lines.{HeldText, held_behind, objects_from}
+use Rattle.pf_json.specs.Lines.{HeldText, held_after, objects_from}
 
 -- the objects of a text are those of its pieces, the second of which begins with what is held after the first
 abbrev pub InPieces : Type 0
 InPieces = (h : HeldText) (front back : List ℕ)
-    → (objects_from h (front ++ back) ≡ objects_from h front ++ objects_from (held_behind h front) back)
-    × (held_behind h (front ++ back) ≡ held_behind (held_behind h front) back)
+    → (objects_from h (front ++ back) ≡ objects_from h front ++ objects_from (held_after h front) back)
+    × (held_after h (front ++ back) ≡ held_after (held_after h front) back)
 
 abbrev pub is_line_end : ℕ → Bool
 is_line_end b = b == 10

@@ -16,20 +16,20 @@ nothing_written = record { place = Report; line = [] }
 abbrev pub with_byte : HeldText → ℕ → HeldText
 with_byte h b = record h { line = h.line ++ b ∷ [] }
 
-abbrev pub behind_line : HeldText → HeldText
-behind_line h = record { place = next h.place h.line; line = [] }
+abbrev pub after_line : HeldText → HeldText
+after_line h = record { place = next h.place h.line; line = [] }
 
 -- the objects of the lines that end in a text, the first of which begins with what is held
 abbrev pub objects_from : HeldText → List ℕ → List ℕ
 objects_from h [] = []
 objects_from h (b ∷ text) =
-    if b == 10 then object_line (facts_at h.place h.line) ++ objects_from (behind_line h) text
+    if b == 10 then object_line (facts_at h.place h.line) ++ objects_from (after_line h) text
     else objects_from (with_byte h b) text
 
 -- what is held after a text
-abbrev pub held_behind : HeldText → List ℕ → HeldText
-held_behind h [] = h
-held_behind h (b ∷ text) = if b == 10 then held_behind (behind_line h) text else held_behind (with_byte h b) text
+abbrev pub held_after : HeldText → List ℕ → HeldText
+held_after h [] = h
+held_after h (b ∷ text) = if b == 10 then held_after (after_line h) text else held_after (with_byte h b) text
 
 -- the objects of the whole lines of a text, one for each, in their order; what comes after the last line end has none
 abbrev pub json_lines : List ℕ → List ℕ

@@ -36,10 +36,10 @@ both_facts (Some fs) (Some gs) = Some (fs ++ gs)
 both_facts _ _ = None
 
 -- what is reported of a root, or of a file
-abbrev pub root_facts : (name told : List ℕ) → Option (List Fact)
-root_facts name told =
-    or_else (both_facts (of_root name) (facts_by_first root_shapes told))
-    (both_facts (Some (of_file name ∷ [])) (facts_by_first file_shapes told))
+abbrev pub root_facts : (name reported : List ℕ) → Option (List Fact)
+root_facts name reported =
+    or_else (both_facts (of_root name) (facts_by_first root_shapes reported))
+    (both_facts (Some (of_file name ∷ [])) (facts_by_first file_shapes reported))
 
 abbrev pub named_at : (line : List ℕ) → (n : ℕ) → Option (List Fact)
 named_at line n = root_facts (take n line) (drop (n + 2) line)

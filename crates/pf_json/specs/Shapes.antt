@@ -1,7 +1,7 @@
 -- The shapes of lines that report several facts, or one in words of their own.
 use Rattle.std.specs.Prelude.{true, false, List, [], ◌∷◌, codes}
 use Rattle.pf_json.specs.Facts.{ShapePart, fact, number, text, truth, words, maybe, count, word, code, rest, says}
-use Rattle.pf_json.specs.Facts.{tells}
+use Rattle.pf_json.specs.Facts.{reports}
 
 -- ---- lines of a report
 
@@ -14,7 +14,7 @@ event_shape =
 
 -- `no verdict`, beside `property holds` and `property fails`
 abbrev pub no_verdict : List ShapePart
-no_verdict = words (codes "no verdict") ∷ tells (fact (codes "property") (text (codes "no verdict"))) ∷ []
+no_verdict = words (codes "no verdict") ∷ reports (fact (codes "property") (text (codes "no verdict"))) ∷ []
 
 -- `schedule 0,2,1`: always a text
 abbrev pub schedule : List ShapePart
@@ -24,12 +24,12 @@ schedule = words (codes "schedule ") ∷ rest (codes "schedule") ∷ []
 
 -- `no failure in 200 seeds`
 abbrev pub no_failure : List ShapePart
-no_failure = tells (fact (codes "failure") (truth false)) ∷ words (codes "no failure in ") ∷ count (codes "seeds")
+no_failure = reports (fact (codes "failure") (truth false)) ∷ words (codes "no failure in ") ∷ count (codes "seeds")
     ∷ words (codes " seeds") ∷ []
 
--- `stopped behind 512 seeds`
+-- `stopped following 512 seeds`
 abbrev pub stopped : List ShapePart
-stopped = tells (fact (codes "stopped") (truth true)) ∷ words (codes "stopped behind ") ∷ count (codes "seeds")
+stopped = reports (fact (codes "stopped") (truth true)) ∷ words (codes "stopped behind ") ∷ count (codes "seeds")
     ∷ words (codes " seeds") ∷ []
 
 -- by how many seeds an outcome is met, the least of them, and the outcome
@@ -39,15 +39,15 @@ by_seeds = count (codes "seeds") ∷ words (codes " seeds, least ") ∷ count (c
 
 -- `holds 3 seeds, least 0: finished ok`
 abbrev pub row_holds : List ShapePart
-row_holds = tells (fact (codes "property") (text (codes "holds"))) ∷ words (codes "holds ") ∷ by_seeds
+row_holds = reports (fact (codes "property") (text (codes "holds"))) ∷ words (codes "holds ") ∷ by_seeds
 
 -- `fails 2 seeds, least 1: deadlock <0>`
 abbrev pub row_fails : List ShapePart
-row_fails = tells (fact (codes "property") (text (codes "fails"))) ∷ words (codes "fails ") ∷ by_seeds
+row_fails = reports (fact (codes "property") (text (codes "fails"))) ∷ words (codes "fails ") ∷ by_seeds
 
 -- `no verdict 1 seeds, least 7: memory`
 abbrev pub row_without : List ShapePart
-row_without = tells (fact (codes "property") (text (codes "no verdict"))) ∷ words (codes "no verdict ") ∷ by_seeds
+row_without = reports (fact (codes "property") (text (codes "no verdict"))) ∷ words (codes "no verdict ") ∷ by_seeds
 
 -- `2 files, 3 roots: 1 fails, 0 refused`
 abbrev pub summary : List ShapePart
@@ -82,7 +82,7 @@ write = words (codes "  write       ") ∷ rest (codes "write") ∷ []
 
 -- an empty line
 abbrev pub blank_line : List ShapePart
-blank_line = tells (fact (codes "blank") (truth true)) ∷ []
+blank_line = reports (fact (codes "blank") (truth true)) ∷ []
 
 abbrev pub shapes : List (List ShapePart)
 shapes =
@@ -94,19 +94,19 @@ shapes =
 
 -- `seed 0 fails`
 abbrev pub seed_fails : List ShapePart
-seed_fails = tells (fact (codes "failure") (truth true)) ∷ words (codes "seed ") ∷ count (codes "seed")
+seed_fails = reports (fact (codes "failure") (truth true)) ∷ words (codes "seed ") ∷ count (codes "seed")
     ∷ words (codes " fails") ∷ []
 
--- `stopped behind 512 seeds, no failure`
+-- `stopped following 512 seeds, no failure`
 abbrev pub stopped_well : List ShapePart
 stopped_well =
-    tells (fact (codes "stopped") (truth true)) ∷ tells (fact (codes "failure") (truth false))
+    reports (fact (codes "stopped") (truth true)) ∷ reports (fact (codes "failure") (truth false))
     ∷ words (codes "stopped behind ")
     ∷ count (codes "seeds") ∷ words (codes " seeds, no failure") ∷ []
 
 -- `no exported function without arguments`
 abbrev pub rootless : List ShapePart
-rootless = words (codes "no exported function without arguments") ∷ tells (fact (codes "roots") (number 0)) ∷ []
+rootless = words (codes "no exported function without arguments") ∷ reports (fact (codes "roots") (number 0)) ∷ []
 
 -- what is reported of a root
 abbrev pub root_shapes : List (List ShapePart)

@@ -7,7 +7,7 @@ use Rattle.pf_json.specs.declared.facts.Value.TheVariants.{Number, Text, Truth}
 use Rattle.pf_json.specs.declared.facts.Fact.{Fact}
 use Rattle.pf_json.specs.declared.parts.TakenPart.{TakenPart}
 use Rattle.pf_json.specs.declared.parts.ShapePart.{ShapePart}
-use Rattle.pf_json.specs.declared.parts.ShapePart.TheVariants.{Words, Maybe, Count, Word, Code, Rest, Says, Tells}
+use Rattle.pf_json.specs.declared.parts.ShapePart.TheVariants.{Words, Maybe, Count, Word, Code, Rest, Says, Reports}
 
 abbrev pub view_of_value : Value → facts.Value
 view_of_value (Number n) = number n
@@ -28,7 +28,7 @@ view_of_part (Word key) = facts.word key.now
 view_of_part (Code key) = facts.code key.now
 view_of_part (Rest key) = facts.rest key.now
 view_of_part Says = facts.says
-view_of_part (Tells f) = facts.tells (view_of_fact f)
+view_of_part (Reports f) = facts.reports (view_of_fact f)
 
 abbrev pub view_of_taken : TakenPart → List ℕ × Option facts.Fact
 view_of_taken s = (s.rest.now, option_map view_of_fact s.fact)

@@ -3,7 +3,7 @@
 ghost use Rattle.std.specs.Prelude.{◌≡◌, IfOk, OnErr, OnOk};
 ghost use Rattle.std.specs.Io.KnownBytes.{Appends};
 ghost use Rattle.pf_streams.specs.Streams.{AppendsFront};
-ghost use Rattle.pf_json.specs.Lines.{held_behind, objects_from};
+ghost use Rattle.pf_json.specs.Lines.{held_after, objects_from};
 ghost use Rattle.pf_json.specs.Writers.{view_of_held};
 
 use crate::objects::{next, with_line};
@@ -28,7 +28,7 @@ struct TurnedLine {
 /// The objects of the lines that end in a text, the first of which begins with what is held.
 fn turn(alloc: Global, held: &HeldText, text: &[u8]) -> Result<TurnedLine, AllocError>
     ensures out { IfOk result (λ t. t.out.items ≡ objects_from (view_of_held held.now) text.now) }
-    ensures held { IfOk result (λ t. view_of_held t.held ≡ held_behind (view_of_held held.now) text.now) }
+    ensures held { IfOk result (λ t. view_of_held t.held ≡ held_after (view_of_held held.now) text.now) }
 {
     let mut out = Vec::new(alloc);
     let mut place = held.place;
@@ -92,7 +92,7 @@ impl<W: Write> Write for JsonLines<W> {
     ghost use Rattle.std.specs.Io.{WritesAtMost};
     ghost use Rattle.std.specs.Io.KnownBytes.{Appends, Keeps, WriteAppends};
     ghost use Rattle.pf_streams.specs.Streams.{AppendsFront};
-    ghost use Rattle.pf_json.specs.Lines.{held_behind, objects_from};
+    ghost use Rattle.pf_json.specs.Lines.{held_after, objects_from};
     ghost use Rattle.pf_json.specs.Writers.{held_text_of};
 
     /// Takes the whole text, and writes the objects of the lines that end in it. Where that fails, a beginning of them
@@ -103,7 +103,7 @@ impl<W: Write> Write for JsonLines<W> {
         ensures whole { IfOk result (λ n. n ≡ length buf.now) }
         ensures objects { OnOk result (Appends (W.contents self.old.inner) (W.contents self.new.inner)
             (objects_from (held_text_of self.old) buf.now)) }
-        ensures held { OnOk result (held_text_of self.new ≡ held_behind (held_text_of self.old) buf.now) }
+        ensures held { OnOk result (held_text_of self.new ≡ held_after (held_text_of self.old) buf.now) }
         ensures front { OnErr result (AppendsFront (W.contents self.old.inner) (W.contents self.new.inner)
             (objects_from (held_text_of self.old) buf.now)) }
     {

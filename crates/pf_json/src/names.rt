@@ -82,18 +82,18 @@ fn joined<'a>(
 }
 
 /// What is reported of a root.
-fn told_of_root<'a>(
+fn reported_of_root<'a>(
     alloc: Global,
     name: &'a [u8],
-    told: &'a [u8],
+    reported: &'a [u8],
 ) -> Result<Option<Vec<Fact<'a>>>, AllocError>
     ensures { IfOk result (λ fs. option_map (λ v. views_of v.items) fs
-        ≡ both_facts (of_root name.entry.now) (facts_by_first root_shapes told.entry.now)) }
+        ≡ both_facts (of_root name.entry.now) (facts_by_first root_shapes reported.entry.now)) }
 {
     let Some((file, root)) = of_root(name) else {
         return Ok(None);
     };
-    let Some(back) = facts_by_first(alloc, &ROOT_SHAPES, told)? else {
+    let Some(back) = facts_by_first(alloc, &ROOT_SHAPES, reported)? else {
         return Ok(None);
     };
     let facts = joined(alloc, &[file, root], &back)?;
@@ -101,15 +101,15 @@ fn told_of_root<'a>(
 }
 
 /// What is reported of a file.
-fn told_of_file<'a>(
+fn reported_of_file<'a>(
     alloc: Global,
     name: &'a [u8],
-    told: &'a [u8],
+    reported: &'a [u8],
 ) -> Result<Option<Vec<Fact<'a>>>, AllocError>
     ensures { IfOk result (λ fs. option_map (λ v. views_of v.items) fs
-        ≡ both_facts (Some (of_file name.entry.now ∷ [])) (facts_by_first file_shapes told.entry.now)) }
+        ≡ both_facts (Some (of_file name.entry.now ∷ [])) (facts_by_first file_shapes reported.entry.now)) }
 {
-    let Some(back) = facts_by_first(alloc, &FILE_SHAPES, told)? else {
+    let Some(back) = facts_by_first(alloc, &FILE_SHAPES, reported)? else {
         return Ok(None);
     };
     let facts = joined(alloc, &[of_file(name)], &back)?;
@@ -117,16 +117,16 @@ fn told_of_file<'a>(
 }
 
 /// What is reported of a root or a file.
-fn told_of<'a>(
+fn reported_of<'a>(
     alloc: Global,
     name: &'a [u8],
-    told: &'a [u8],
+    reported: &'a [u8],
 ) -> Result<Option<Vec<Fact<'a>>>, AllocError>
-    ensures { IfOk result (λ fs. option_map (λ v. views_of v.items) fs ≡ root_facts name.entry.now told.entry.now) }
+    ensures { IfOk result (λ fs. option_map (λ v. views_of v.items) fs ≡ root_facts name.entry.now reported.entry.now) }
 {
-    match told_of_root(alloc, name, told)? {
+    match reported_of_root(alloc, name, reported)? {
         Some(facts) => Ok(Some(facts)),
-        None => told_of_file(alloc, name, told),
+        None => reported_of_file(alloc, name, reported),
     }
 }
 
@@ -137,5 +137,5 @@ pub(crate) fn named(alloc: Global, line: &[u8]) -> Result<Option<Vec<Fact<'_>>>,
     let Some(end) = last_start(b": ", line) else {
         return Ok(None);
     };
-    told_of(alloc, &line[..end], &line[end + 2..])
+    reported_of(alloc, &line[..end], &line[end + 2..])
 }

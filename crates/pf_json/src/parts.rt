@@ -30,7 +30,7 @@ pub(crate) enum ShapePart<'a> {
     /// All the rest, by the rule of words: a word alone, or one before the others.
     Says,
     /// Nothing, and yet this is reported.
-    Tells(Fact<'a>),
+    Reports(Fact<'a>),
 }
 
 /// What follows a part, and what the part reports.
@@ -60,7 +60,7 @@ fn digits(text: &[u8]) -> usize
 }
 
 /// A fact of the first bytes of a text, and what follows them.
-fn told<'a>(key: &'a [u8], value: Value<'a>, rest: &'a [u8]) -> Option<TakenPart<'a>>
+fn reported<'a>(key: &'a [u8], value: Value<'a>, rest: &'a [u8]) -> Option<TakenPart<'a>>
     ensures { option_map view_of_taken result
         ≡ Some (rest.entry.now, Some (fact key.entry.now (view_of_value value.entry))) }
 {
@@ -75,7 +75,7 @@ fn counted<'a>(key: &'a [u8], text: &'a [u8]) -> Option<TakenPart<'a>>
 {
     let (number, rest) = text.split_at(digits(text));
     if is_numeral(number) {
-        told(key, value_of(number), rest)
+        reported(key, value_of(number), rest)
     } else {
         None
     }
@@ -90,7 +90,7 @@ fn worded<'a>(key: &'a [u8], text: &'a [u8]) -> Option<TakenPart<'a>>
     if word.is_empty() {
         None
     } else {
-        told(key, Value::Text(word), rest)
+        reported(key, Value::Text(word), rest)
     }
 }
 
@@ -109,10 +109,10 @@ fn coded<'a>(key: &'a [u8], text: &'a [u8]) -> Option<TakenPart<'a>>
     ensures { option_map view_of_taken result
         ≡ coded key.entry.now text.entry.now (1 + prefix_len is_digit (drop 1 text.entry.now)) }
 {
-    let (_, behind) = text.split_first()?;
-    let (code, rest) = text.split_at(1 + digits(behind));
+    let (_, following) = text.split_first()?;
+    let (code, rest) = text.split_at(1 + digits(following));
     if is_code(code) {
-        told(key, Value::Text(code), rest)
+        reported(key, Value::Text(code), rest)
     } else {
         None
     }
@@ -134,12 +134,12 @@ fn step<'a>(part: ShapePart<'a>, text: &'a [u8]) -> Option<TakenPart<'a>>
         ShapePart::Count(key) => counted(key, text),
         ShapePart::Word(key) => worded(key, text),
         ShapePart::Code(key) => coded(key, text),
-        ShapePart::Rest(key) => told(key, Value::Text(text), b""),
+        ShapePart::Rest(key) => reported(key, Value::Text(text), b""),
         ShapePart::Says => {
             let fact = Some(said(text));
             Some(TakenPart { rest: b"", fact })
         }
-        ShapePart::Tells(fact) => {
+        ShapePart::Reports(fact) => {
             let fact = Some(fact);
             Some(TakenPart { rest: text, fact })
         }

@@ -16,7 +16,7 @@ const EVENT: [ShapePart<'static>; 7] = [
 
 const NO_VERDICT: [ShapePart<'static>; 2] = [
     ShapePart::Words(b"no verdict"),
-    ShapePart::Tells(Fact {
+    ShapePart::Reports(Fact {
         key: b"property",
         value: Value::Text(b"no verdict"),
     }),
@@ -30,7 +30,7 @@ const SCHEDULE: [ShapePart<'static>; 2] = [
 
 /// `no failure in 200 seeds`
 const NO_FAILURE: [ShapePart<'static>; 4] = [
-    ShapePart::Tells(Fact {
+    ShapePart::Reports(Fact {
         key: b"failure",
         value: Value::Truth(false),
     }),
@@ -39,9 +39,9 @@ const NO_FAILURE: [ShapePart<'static>; 4] = [
     ShapePart::Words(b" seeds"),
 ];
 
-/// `stopped behind 512 seeds`
+/// `stopped following 512 seeds`
 const STOPPED: [ShapePart<'static>; 4] = [
-    ShapePart::Tells(Fact {
+    ShapePart::Reports(Fact {
         key: b"stopped",
         value: Value::Truth(true),
     }),
@@ -52,7 +52,7 @@ const STOPPED: [ShapePart<'static>; 4] = [
 
 /// `holds 3 seeds, least 0: finished ok`
 const ROW_HOLDS: [ShapePart<'static>; 7] = [
-    ShapePart::Tells(Fact {
+    ShapePart::Reports(Fact {
         key: b"property",
         value: Value::Text(b"holds"),
     }),
@@ -66,7 +66,7 @@ const ROW_HOLDS: [ShapePart<'static>; 7] = [
 
 /// `fails 2 seeds, least 1: deadlock <0>`
 const ROW_FAILS: [ShapePart<'static>; 7] = [
-    ShapePart::Tells(Fact {
+    ShapePart::Reports(Fact {
         key: b"property",
         value: Value::Text(b"fails"),
     }),
@@ -80,7 +80,7 @@ const ROW_FAILS: [ShapePart<'static>; 7] = [
 
 /// `no verdict 1 seeds, least 7: memory`
 const ROW_WITHOUT: [ShapePart<'static>; 7] = [
-    ShapePart::Tells(Fact {
+    ShapePart::Reports(Fact {
         key: b"property",
         value: Value::Text(b"no verdict"),
     }),
@@ -141,7 +141,7 @@ const WRITE: [ShapePart<'static>; 2] = [
 ];
 
 /// An empty line.
-const BLANK: [ShapePart<'static>; 1] = [ShapePart::Tells(Fact {
+const BLANK: [ShapePart<'static>; 1] = [ShapePart::Reports(Fact {
     key: b"blank",
     value: Value::Truth(true),
 })];
@@ -167,7 +167,7 @@ pub(crate) const SHAPES: [&[ShapePart<'static>]; 15] = [
 
 /// `seed 0 fails`
 const SEED_FAILS: [ShapePart<'static>; 4] = [
-    ShapePart::Tells(Fact {
+    ShapePart::Reports(Fact {
         key: b"failure",
         value: Value::Truth(true),
     }),
@@ -176,13 +176,13 @@ const SEED_FAILS: [ShapePart<'static>; 4] = [
     ShapePart::Words(b" fails"),
 ];
 
-/// `stopped behind 512 seeds, no failure`
+/// `stopped following 512 seeds, no failure`
 const STOPPED_WELL: [ShapePart<'static>; 5] = [
-    ShapePart::Tells(Fact {
+    ShapePart::Reports(Fact {
         key: b"stopped",
         value: Value::Truth(true),
     }),
-    ShapePart::Tells(Fact {
+    ShapePart::Reports(Fact {
         key: b"failure",
         value: Value::Truth(false),
     }),
@@ -194,7 +194,7 @@ const STOPPED_WELL: [ShapePart<'static>; 5] = [
 /// `no exported function without arguments`
 const ROOTLESS: [ShapePart<'static>; 2] = [
     ShapePart::Words(b"no exported function without arguments"),
-    ShapePart::Tells(Fact {
+    ShapePart::Reports(Fact {
         key: b"roots",
         value: Value::Number(0),
     }),

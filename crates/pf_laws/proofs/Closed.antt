@@ -28,7 +28,7 @@ use Rattle.pf_laws.specs.ReadModules.{ReadModulesAreClosed}
 use Rattle.pf_lower.proofs.Exists.{left_empty, right_empty}
 use Rattle.pf_check.proofs.NoFaults.{none_unlike}
 use Rattle.pf_laws.proofs.Builtins.{named_is_right}
-use Rattle.pf_laws.proofs.Closing.{StandRight, head_closes}
+use Rattle.pf_laws.proofs.Closing.{AreRight, head_closes}
 
 -- what is at an index of a list has its like at the same index of the other
 like : {A B : Type 0} (R : A → B → Type 0) (xs : List A) (ys : List B) (i : ℕ) (x : A) → Pairwise R xs ys
@@ -80,8 +80,8 @@ module _ (atoms : List (List ℕ)) (m : Tree) (fs : Program)
       let r = like (FunctionIs names m.exports) m.functions fs i _ all (slice_get-get_or m.functions i [] p.0) in
       ap (option_map (λ g. g.arity)) r.1 ∙ ap (λ j. Some j) (named_takes f k _ r.0 p.1 r.2)
 
-  stand_right : StandRight fs names
-  stand_right = record { own = own_has; built_in = λ f k b e. named_is_right (name_of atoms f) k b e }
+  are_right : AreRight fs names
+  are_right = record { own = own_has; built_in = λ f k b e. named_is_right (name_of atoms f) k b e }
 
   -- ---- functions
 
@@ -92,7 +92,7 @@ module _ (atoms : List (List ℕ)) (m : Tree) (fs : Program)
   clauses_closed k (x ∷ hs) [] h d = absurd h
   clauses_closed k (x ∷ hs) (c ∷ cs) h d =
       All-cons (FunctionClauseIsClosed fs k) c cs
-      (subst (λ j. FunctionClauseIsClosed fs j c) (d zero x (omega arith)) (head_closes fs names stand_right x c h.0))
+      (subst (λ j. FunctionClauseIsClosed fs j c) (d zero x (omega arith)) (head_closes fs names are_right x c h.0))
       (clauses_closed k hs cs h.1 (λ i y l. d (suc i) y (omega arith)))
 
   abbrev IsClosedFunction : Function → Type 0

@@ -17,13 +17,13 @@ use Rattle.pf_model.specs.Closed.{builtin_arity, IsClosed, AllAreClosed, Clauses
 use Rattle.pf_model.specs.Closed.{FunctionClauseIsClosed}
 use Rattle.pf_laws.proofs.Bindings.{many, pattern_binds, patterns_bind}
 
-behind_closed : (n k : ℕ) (ys : Patterns) (y : Pattern) → k ≡ n + all_bind ys → PatternsAreClosed n ys
+after_closed : (n k : ℕ) (ys : Patterns) (y : Pattern) → k ≡ n + all_bind ys → PatternsAreClosed n ys
     → PatternIsClosed k y
     → PatternsAreClosed n (with_pattern ys y) × (all_bind (with_pattern ys y) ≡ all_bind ys + binds y)
-behind_closed n k no_patterns y q h c = let d : k ≡ n = omega arith in
+after_closed n k no_patterns y q h c = let d : k ≡ n = omega arith in
     ((subst (λ i. PatternIsClosed i y) d c, tt), omega arith)
-behind_closed n k (pattern p ps) y q h c =
-    let r = behind_closed (n + binds p) k ps y (omega arith) h.1 c in let d = r.1 in ((h.0, r.0), omega arith)
+after_closed n k (pattern p ps) y q h c =
+    let r = after_closed (n + binds p) k ps y (omega arith) h.1 c in let d = r.1 in ((h.0, r.0), omega arith)
 
 module _ (fs : Program) where
   conses_closed : (n : ℕ) (xs : Trees) (x : Tree) → AllAreClosed fs n xs → IsClosed fs n x → IsClosed fs n (conses xs x)
@@ -36,7 +36,7 @@ module _ (fs : Program) where
   ending_closed n (pattern y ys) x h k = (h, k)
 
   -- names of functions stand for functions with that number of arguments
-  pub record StandRight (n : Names) : Type 0 where
+  pub record AreRight (n : Names) : Type 0 where
     pub own : (f k i : ℕ) → n.own_of f k ≡ Some i → HasArity fs i k
     pub built_in : (f k : ℕ) (b : Builtin) → n.builtin_of f k ≡ Some b → builtin_arity b ≡ k
 
@@ -56,7 +56,7 @@ module _ (fs : Program) where
   moved : (k n : ℕ) (x : Tree) → k ≡ n → IsClosed fs k x → IsClosed fs n x
   moved k n x q h = subst (λ i. IsClosed fs i x) q h
 
-  module _ (n : Names) (right : StandRight n) where
+  module _ (n : Names) (right : AreRight n) where
     two_close : (g : Scope) (a b : Expr) (x y : Tree) → Closes g a x → Closes (after g a) b y
         → (IsClosed fs (many g) x × IsClosed fs (many g) y) × (many (after (after g a) b) ≡ many g)
     two_close g a b x y h k = ((h.0, moved (many (after g a)) (many g) y h.1 k.0), k.1 ∙ h.1)
@@ -107,7 +107,7 @@ module _ (fs : Program) where
       element_closes _ _ _ _ (e.match g q a ys y x h k) =
           let r = element_closes g a ys x h in
           let s = pattern_binds n (after g a) q y k in
-          let t = behind_closed (many g) (many (after g a)) ys y r.2 r.0 s.0 in
+          let t = after_closed (many g) (many (after g a)) ys y r.2 r.0 s.0 in
           let c = r.2 in let d = s.1 in let f = t.1 in (t.0, r.1, omega arith)
 
       body_closes : (g : Scope) (es : Exprs) (x : Tree) → BodyIs n g es x → IsClosed fs (many g) x

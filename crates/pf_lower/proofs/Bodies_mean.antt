@@ -22,8 +22,9 @@ use Rattle.pf_syntax.specs.Naming.{ElementIs, BodyIs, GuardIs, BranchesAre, with
 use Rattle.pf_syntax.specs.Module.{Checked, Tables, pattern_at}
 use Rattle.pf_syntax.specs.Over.{part_over, patterns_at, alternatives_over, guard_from, clauses_over}
 use Rattle.pf_syntax.specs.Within.{PatternRepresents, OperandRepresents, ClauseRepresents}
-use Rattle.pf_syntax.proofs.Extends.{Extends, patterns_kept, part_kept, guard_kept, all_patterns_stand, part_stands}
-use Rattle.pf_syntax.proofs.Extends.{pattern_stands, guard_stands}
+use Rattle.pf_syntax.proofs.Extends.{Extends, patterns_kept, part_kept, guard_kept, all_patterns_are_there}
+use Rattle.pf_syntax.proofs.Extends.{part_is_there}
+use Rattle.pf_syntax.proofs.Extends.{pattern_is_there, guard_is_there}
 use Rattle.pf_syntax.specs.declared.node.PatternId.{PatternId}
 use Rattle.pf_syntax.specs.declared.node.Operand.{Operand}
 use Rattle.pf_syntax.specs.declared.node.Alternative.{Alternative}
@@ -117,21 +118,21 @@ forgotten names q es =
 
 -- ---- elements
 
-patterns_behind : (t : Tables) (ys : List PatternId) (y : PatternId)
+patterns_after : (t : Tables) (ys : List PatternId) (y : PatternId)
     → patterns_at t (ys ++ y ∷ []) ≡ with_pattern (patterns_at t ys) (pattern_at t y.0)
-patterns_behind t [] y = refl
-patterns_behind t (x ∷ ys) y = ap (pattern (pattern_at t x.0)) (patterns_behind t ys y)
+patterns_after t [] y = refl
+patterns_after t (x ∷ ys) y = ap (pattern (pattern_at t x.0)) (patterns_after t ys y)
 
 module _ (fs : List (List Head)) where
   pub element_means_on : (t u : Checked) → Grown t u → (names : List ℕ) (e : Expr) (ys : List PatternId) (x : Operand)
       → ElementMeans fs t names e ys x → ElementMeans fs u names e ys x
   element_means_on t u on names e ys x h =
       let front : patterns_at u.tables ys ≡ patterns_at t.tables ys =
-      patterns_kept t.tables u.tables on.tables ys h.patterns_stand in
-      let value : part_over u.tables x ≡ part_over t.tables x = part_kept t.tables u.tables on.tables x h.stands in
+      patterns_kept t.tables u.tables on.tables ys h.patterns_are_there in
+      let value : part_over u.tables x ≡ part_over t.tables x = part_kept t.tables u.tables on.tables x h.is_there in
       record {
-        patterns_stand = all_patterns_stand t.tables u.tables on.tables ys h.patterns_stand;
-        stands = part_stands t.tables u.tables on.tables x h.stands;
+        patterns_are_there = all_patterns_are_there t.tables u.tables on.tables ys h.patterns_are_there;
+        is_there = part_is_there t.tables u.tables on.tables x h.is_there;
         means =
             becomes_on (λ n v. ElementBecomes n names e (patterns_at u.tables ys) v) fs t u _ _ on value
             (subst (λ v. ElementBecomes (names_of_module t.atoms fs) names e v (part_over t.tables x))
@@ -145,8 +146,8 @@ module _ (fs : List (List Head)) where
     grown = d.grown;
     bound_is = d.bound_is ∙ sym (plain_bound e names plain);
     answer = record {
-      patterns_stand = All-nil (PatternRepresents m1.tables);
-      stands = d.answer.stands;
+      patterns_are_there = All-nil (PatternRepresents m1.tables);
+      is_there = d.answer.is_there;
       means = λ g h f k. w.plain g e _ (d.answer.means g h (plain_formed e plain f) k);
     };
   }
@@ -163,9 +164,9 @@ module _ (fs : List (List Head)) where
         grown = grown_on m0 m1 m2 d.grown r.grown;
         bound_is = r.bound_is ∙ ap (λ n. bound_by n q) d.bound_is;
         answer = record {
-          patterns_stand = All-append (PatternRepresents m2.tables) ys (y ∷ []) inner.patterns_stand
-              (All-cons (PatternRepresents m2.tables) y [] r.answer.stands (All-nil (PatternRepresents m2.tables)));
-          stands = inner.stands;
+          patterns_are_there = All-append (PatternRepresents m2.tables) ys (y ∷ []) inner.patterns_are_there
+              (All-cons (PatternRepresents m2.tables) y [] r.answer.is_there (All-nil (PatternRepresents m2.tables)));
+          is_there = inner.is_there;
           means = λ g h f k.
               let here : expr_faults (names_of_module m2.atoms fs) g a ≡ [] =
               left_empty (expr_faults (names_of_module m2.atoms fs) g a) _ k in
@@ -174,7 +175,7 @@ module _ (fs : List (List Head)) where
               let seen : (after g a).bound ≡ b1 = element_bound (names_of_module m2.atoms fs) g a f.2 here
               ∙ ap (λ n. bound_after n a) h ∙ sym d.bound_is in
               subst (λ v. ElementIs (names_of_module m2.atoms fs) g (p.match q a) v (part_over m2.tables x))
-              (sym (patterns_behind m2.tables ys y))
+              (sym (patterns_after m2.tables ys y))
               (w.match g q a _ _ _ (inner.means g h f.2 here) (r.answer.means (after g a) seen f.1 later));
         };
       })
@@ -217,15 +218,15 @@ module _ (fs : List (List Head)) (b : NodeTable) where
 
   -- ---- bodies
 
-  pub each_stands : (t : Checked) (names : List ℕ) (ids : List ExprId) (xs : List Element)
+  pub each_is_there : (t : Checked) (names : List ℕ) (ids : List ExprId) (xs : List Element)
       → EachElementMeans fs b t names ids xs → All (ElementRepresents t.tables) xs
-  each_stands t names [] [] h = All-nil (ElementRepresents t.tables)
-  each_stands t names (id ∷ ids) (x ∷ xs) h = All-cons (ElementRepresents t.tables) x xs (
-    h.0.patterns_stand,
-    h.0.stands,
-  ) (each_stands t (next_element names id) ids xs h.1)
-  each_stands t names [] (x ∷ xs) h = absurd h
-  each_stands t names (id ∷ ids) [] h = absurd h
+  each_is_there t names [] [] h = All-nil (ElementRepresents t.tables)
+  each_is_there t names (id ∷ ids) (x ∷ xs) h = All-cons (ElementRepresents t.tables) x xs (
+    h.0.patterns_are_there,
+    h.0.is_there,
+  ) (each_is_there t (next_element names id) ids xs h.1)
+  each_is_there t names [] (x ∷ xs) h = absurd h
+  each_is_there t names (id ∷ ids) [] h = absurd h
 
   no_elements : (t : Checked) (names : List ℕ) (ids : List ExprId) (xs : List Element) → xs ≡ []
       → EachElementMeans fs b t names ids xs → HasFirst (exprs_at b ids) → ⊥
@@ -263,7 +264,7 @@ module _ (fs : List (List Head)) (b : NodeTable) where
   no_body m0 m1 bound wanted names ids xs x st e d = record {
     grown = d.grown;
     bound_is = d.bound_is;
-    answer = record { stands = st; means = λ g h i f k. absurd (no_elements m1 names ids xs e d.answer i) };
+    answer = record { is_there = st; means = λ g h i f k. absurd (no_elements m1 names ids xs e d.answer i) };
   }
 
 binds_kept : (t u : Tables) → Extends t u → (es : List Element) (x : Tree) → All (ElementRepresents t) es
@@ -276,10 +277,10 @@ binds_kept t u on (e ∷ es) x h =
     let rest = binds_kept t u on es x (All-tail (ElementRepresents t) e es h) in
     cc
 
-pub elements_stand_on : (t u : Tables) → Extends t u → (es : List Element) → All (ElementRepresents t) es
+pub elements_are_there_on : (t u : Tables) → Extends t u → (es : List Element) → All (ElementRepresents t) es
     → All (ElementRepresents u) es
-elements_stand_on t u on es h = All-weaker (ElementRepresents t) (ElementRepresents u)
-    (λ e s. (all_patterns_stand t u on e.patterns.items s.0, part_stands t u on e.value s.1)) es h
+elements_are_there_on t u on es h = All-weaker (ElementRepresents t) (ElementRepresents u)
+    (λ e s. (all_patterns_are_there t u on e.patterns.items s.0, part_is_there t u on e.value s.1)) es h
 
 pub body_done : (fs : List (List Head)) (b : NodeTable) (m0 m1 m2 m3 : Checked) (bound wanted names : List ℕ)
     (ids : List ExprId) (xs front : List Element) (last : Element) (end x : Operand)
@@ -290,18 +291,18 @@ pub body_done : (fs : List (List Head)) (b : NodeTable) (m0 m1 m2 m3 : Checked) 
 body_done fs b m0 m1 m2 m3 bound wanted names ids xs front last end x e d put_end put =
     let each : EachElementMeans fs b m1 names ids (front ++ last ∷ []) =
     subst (EachElementMeans fs b m1 names ids) e d.answer in
-    let stand = All-pop (ElementRepresents m1.tables) xs front (Some last) e
-    (each_stands fs b m1 names ids xs d.answer) in
+    let are_there = All-pop (ElementRepresents m1.tables) xs front (Some last) e
+    (each_is_there fs b m1 names ids xs d.answer) in
     let whole : bound_elements m2.tables front (part_over m2.tables end) ≡ bound_elements m1.tables front
     (ending (patterns_at m1.tables last.patterns.items) (part_over m1.tables last.value)) =
     ap (bound_elements m2.tables front) put_end.is ∙ binds_kept m1.tables m2.tables put_end.grown.tables
-    front _ stand.0 in
+    front _ are_there.0 in
     let on = grown_on m1 m2 m3 put_end.grown put.grown in
     record {
       grown = grown_on m0 m1 m3 d.grown on;
       bound_is = d.bound_is;
       answer = record {
-        stands = put.stands;
+        is_there = put.is_there;
         means = becomes_on (λ n y. BodyBecomes n names (exprs_at b ids) y) fs m1 m3 _ _ on (put.is ∙ whole)
             (λ g h i f k. body_is fs b m1 names ids front last each g h f k);
       };
@@ -347,13 +348,13 @@ module _ (fs : List (List Head)) (b : NodeTable) where
   abbrev AlternativeRepresents : Tables → Alternative → Type 0
   AlternativeRepresents t a = All (OperandRepresents t) a.tests.items
 
-  alternatives_stand : (t : Checked) (names : List ℕ) (gs : List Tests) (ds : List Alternative)
+  alternatives_are_there : (t : Checked) (names : List ℕ) (gs : List Tests) (ds : List Alternative)
       → Threaded next_tests (EachTests t) names gs ds → All (AlternativeRepresents t.tables) ds
-  alternatives_stand t names [] [] h = All-nil (AlternativeRepresents t.tables)
-  alternatives_stand t names (g ∷ gs) (d ∷ ds) h = All-cons (AlternativeRepresents t.tables) d ds h.0.stands
-      (alternatives_stand t names gs ds h.1)
-  alternatives_stand t names [] (d ∷ ds) h = absurd h
-  alternatives_stand t names (g ∷ gs) [] h = absurd h
+  alternatives_are_there t names [] [] h = All-nil (AlternativeRepresents t.tables)
+  alternatives_are_there t names (g ∷ gs) (d ∷ ds) h = All-cons (AlternativeRepresents t.tables) d ds h.0.is_there
+      (alternatives_are_there t names gs ds h.1)
+  alternatives_are_there t names [] (d ∷ ds) h = absurd h
+  alternatives_are_there t names (g ∷ gs) [] h = absurd h
 
   alternatives_mean : (t : Checked) (names : List ℕ) (gs : List Tests) (ds : List Alternative)
       → Threaded next_tests (EachTests t) names gs ds
@@ -386,7 +387,7 @@ module _ (fs : List (List Head)) (b : NodeTable) where
     grown = grown_itself m;
     bound_is = refl;
     answer = record {
-      stands = subst (All (AlternativeRepresents m.tables)) (sym none) (All-nil (AlternativeRepresents m.tables));
+      is_there = subst (All (AlternativeRepresents m.tables)) (sym none) (All-nil (AlternativeRepresents m.tables));
       means = λ s _ some f k.
           subst (λ ds. GuardIs (names_of_module m.atoms fs) s c (guard_from m.tables ds)) (sym none)
           (subst (λ x. GuardIs (names_of_module m.atoms fs) s x no_guard) (sym e)
@@ -408,7 +409,7 @@ module _ (fs : List (List Head)) (b : NodeTable) where
         grown = whole.grown;
         bound_is = whole.bound_is ∙ all_next_tests names gs;
         answer = record {
-          stands = alternatives_stand m1 names gs d.alternatives.items whole.answer;
+          is_there = alternatives_are_there m1 names gs d.alternatives.items whole.answer;
           means = guard_means m1 names gs d.alternatives.items whole.answer;
         };
       }
@@ -435,7 +436,7 @@ module _ (fs : List (List Head)) (b : NodeTable) where
             (p3.bound_is ∙ ap (λ n. all_bound_after n (exprs_at b r.body.items)) at2) ∙ forgotten names q
             (exprs_at b r.body.items);
         answer = record {
-          stands = (asked.stands, guarded.stands, p3.answer.stands);
+          is_there = (asked.is_there, guarded.is_there, p3.answer.is_there);
           pattern = asked.means;
           guard = λ g e here some f k. guarded.means (after_expr_pattern g q)
               (expr_pattern_bound g q here ∙ ap (λ n. bound_by n q) e ∙ sym p1.bound_is) some f k;
@@ -454,26 +455,26 @@ module _ (fs : List (List Head)) (b : NodeTable) where
       → EachBranch u names r c
   each_branch_on t u on names r c h =
       record {
-        stands = (
-          pattern_stands t.tables u.tables on.tables c.pattern h.stands.0,
-          guard_stands t.tables u.tables on.tables c.guard h.stands.1,
-          part_stands t.tables u.tables on.tables c.body h.stands.2,
+        is_there = (
+          pattern_is_there t.tables u.tables on.tables c.pattern h.is_there.0,
+          guard_is_there t.tables u.tables on.tables c.guard h.is_there.1,
+          part_is_there t.tables u.tables on.tables c.body h.is_there.2,
         );
         pattern = becomes_on (λ n y. ExprPatternBecomes n names (expr_pattern_at b r.expr_pattern.0) y) fs t u _ _ on
-            (on.tables.patterns c.pattern.0 h.stands.0) h.pattern;
+            (on.tables.patterns c.pattern.0 h.is_there.0) h.pattern;
         guard = becomes_on (λ n d. BranchGuardBecomes n b names r d) fs t u _ _ on
-            (guard_kept t.tables u.tables on.tables c.guard h.stands.1) h.guard;
+            (guard_kept t.tables u.tables on.tables c.guard h.is_there.1) h.guard;
         body = becomes_on (λ n x. BranchBodyBecomes n b names r x) fs t u _ _ on
-            (part_kept t.tables u.tables on.tables c.body h.stands.2) h.body;
+            (part_kept t.tables u.tables on.tables c.body h.is_there.2) h.body;
       }
 
-  branches_stand : (t : Checked) (names : List ℕ) (rs : List Branch) (cs : List Clause)
+  branches_are_there : (t : Checked) (names : List ℕ) (rs : List Branch) (cs : List Clause)
       → Threaded next_branch (EachBranch t) names rs cs → All (ClauseRepresents t.tables) cs
-  branches_stand t names [] [] h = All-nil (ClauseRepresents t.tables)
-  branches_stand t names (r ∷ rs) (c ∷ cs) h = All-cons (ClauseRepresents t.tables) c cs h.0.stands
-      (branches_stand t names rs cs h.1)
-  branches_stand t names [] (c ∷ cs) h = absurd h
-  branches_stand t names (r ∷ rs) [] h = absurd h
+  branches_are_there t names [] [] h = All-nil (ClauseRepresents t.tables)
+  branches_are_there t names (r ∷ rs) (c ∷ cs) h = All-cons (ClauseRepresents t.tables) c cs h.0.is_there
+      (branches_are_there t names rs cs h.1)
+  branches_are_there t names [] (c ∷ cs) h = absurd h
+  branches_are_there t names (r ∷ rs) [] h = absurd h
 
   branches_mean : (t : Checked) (names : List ℕ) (rs : List Branch) (cs : List Clause)
       → Threaded next_branch (EachBranch t) names rs cs
@@ -520,7 +521,7 @@ module _ (fs : List (List Head)) (b : NodeTable) where
         grown = whole.grown;
         bound_is = whole.bound_is ∙ all_next_branch names rs;
         answer = record {
-          stands = branches_stand m1 names rs cs whole.answer;
+          is_there = branches_are_there m1 names rs cs whole.answer;
           means = branches_mean m1 names rs cs whole.answer;
         };
       }

@@ -96,7 +96,7 @@ module _ (fs : List (List Head)) (b : NodeTable) where
       → Threaded next_expr_pattern (EachExprPattern t) names ids ys
       → ExprPatternsMean fs t names (expr_patterns_at b ids) ys
   expr_patterns_mean t names [] [] h = record {
-    stands = All-nil (PatternRepresents t.tables);
+    is_there = All-nil (PatternRepresents t.tables);
     means = λ g e f k.
         w.no_more_expr_patterns g;
   }
@@ -104,7 +104,7 @@ module _ (fs : List (List Head)) (b : NodeTable) where
       let q = expr_pattern_at b id.0 in
       let rest = expr_patterns_mean t (next_expr_pattern names id) ids ys h.1 in
       record {
-        stands = All-cons (PatternRepresents t.tables) y ys h.0.stands rest.stands;
+        is_there = All-cons (PatternRepresents t.tables) y ys h.0.is_there rest.is_there;
         means = λ g e f k.
             let here : expr_pattern_faults g q ≡ [] = left_empty (expr_pattern_faults g q) _ k in
             let later : expr_patterns_faults (after_expr_pattern g q) (expr_patterns_at b ids) ≡ [] =

@@ -131,8 +131,9 @@ module _ (fs : List (List Head)) where
   pub expr_here : (m : Checked) (names : List ℕ) (e e' : Expr) (x : Operand) → e' ≡ e → OperandRepresents m.tables x
       → ExprBecomes (names_of_module m.atoms fs) names e' (part_over m.tables x)
       → Lowers m m names names (λ t. ExprMeans fs t names e x)
-  expr_here m names e e' x same stands means = subst (λ s. Lowers m m names names (λ t. ExprMeans fs t names s x)) same
-      (record { grown = grown_itself m; bound_is = refl; answer = record { stands = stands; means = means } })
+  expr_here m names e e' x same is_there means = subst
+      (λ s. Lowers m m names names (λ t. ExprMeans fs t names s x)) same
+      (record { grown = grown_itself m; bound_is = refl; answer = record { is_there = is_there; means = means } })
 
   -- what was done after something else that bound nothing
   pub after_lowers : (m0 m1 m2 : Checked) (b1 b2 names : List ℕ) (e e' : Expr) (x : Operand) → Grown m0 m1
@@ -155,7 +156,7 @@ module _ (fs : List (List Head)) where
         grown = d.grown;
         bound_is = d.bound_is;
         answer =
-            record { stands = d.answer.stands; means = λ g h f k. w.parentheses g a _ (d.answer.means g h f k) };
+            record { is_there = d.answer.is_there; means = λ g h f k. w.parentheses g a _ (d.answer.means g h f k) };
       })
 
   -- two operands
@@ -259,12 +260,16 @@ module _ (fs : List (List Head)) (b : NodeTable) where
   exprs_mean : (t : Checked) (names : List ℕ) (ids : List ExprId) (xs : List Operand)
       → Threaded next_expr (EachExpr t) names ids xs
       → ExprsMean fs t names (exprs_at b ids) xs
-  exprs_mean t names [] [] h = record { stands = All-nil (OperandRepresents t.tables); means = λ g e f k. w.no_more g }
+  exprs_mean t names [] [] h = record {
+    is_there = All-nil (OperandRepresents t.tables);
+    means =
+        λ g e f k. w.no_more g;
+  }
   exprs_mean t names (id ∷ ids) (x ∷ xs) h =
       let e0 = expr_at b id.0 in
       let rest = exprs_mean t names ids xs h.1 in
       record {
-        stands = All-cons (OperandRepresents t.tables) x xs h.0.stands rest.stands;
+        is_there = All-cons (OperandRepresents t.tables) x xs h.0.is_there rest.is_there;
         means = λ g e f k.
             let here : expr_faults (names_of_module t.atoms fs) g e0 ≡ [] =
             left_empty (expr_faults (names_of_module t.atoms fs) g e0) _ k in

@@ -8,9 +8,11 @@ use Rattle.pf_syntax.specs.Tree.{Tree}
 use Rattle.pf_syntax.specs.Naming.{Names}
 use Rattle.pf_syntax.specs.Module.{Checked}
 use Rattle.pf_syntax.specs.Over.{with_pattern, with_tree, with_tables}
-use Rattle.pf_syntax.proofs.Extends.{extends_itself, extends_on, extends_pattern, extends_tree, part_kept, part_stands}
-use Rattle.pf_syntax.proofs.Extends.{parts_kept, all_parts_stand, pattern_stands, patterns_kept, all_patterns_stand}
-use Rattle.pf_syntax.proofs.Extends.{guard_kept, guard_stands}
+use Rattle.pf_syntax.proofs.Extends.{extends_itself, extends_on, extends_pattern, extends_tree, part_kept}
+use Rattle.pf_syntax.proofs.Extends.{part_is_there}
+use Rattle.pf_syntax.proofs.Extends.{parts_kept, all_parts_are_there, pattern_is_there, patterns_kept}
+use Rattle.pf_syntax.proofs.Extends.{all_patterns_are_there}
+use Rattle.pf_syntax.proofs.Extends.{guard_kept, guard_is_there}
 use Rattle.pf_syntax.specs.declared.node.PatternId.{PatternId}
 use Rattle.pf_syntax.specs.declared.node.PatternNode.{PatternNode}
 use Rattle.pf_syntax.specs.declared.node.Operand.{Operand}
@@ -51,37 +53,37 @@ module _ (fs : List (List Head)) (t u : Checked) (e : Grown t u) (names : List �
   pub expr_pattern_means_on : (q : ExprPattern) (y : PatternId) → ExprPatternMeans fs t names q y
       → ExprPatternMeans fs u names q y
   expr_pattern_means_on q y h = record {
-    stands = pattern_stands t.tables u.tables e.tables y h.stands;
-    means = becomes_on (λ n z. ExprPatternBecomes n names q z) fs t u _ _ e (e.tables.patterns y.0 h.stands) h.means;
+    is_there = pattern_is_there t.tables u.tables e.tables y h.is_there;
+    means = becomes_on (λ n z. ExprPatternBecomes n names q z) fs t u _ _ e (e.tables.patterns y.0 h.is_there) h.means;
   }
 
   pub expr_patterns_mean_on : (qs : ExprPatterns) (ys : List PatternId) → ExprPatternsMean fs t names qs ys
       → ExprPatternsMean fs u names qs ys
   expr_patterns_mean_on qs ys h = record {
-    stands = all_patterns_stand t.tables u.tables e.tables ys h.stands;
+    is_there = all_patterns_are_there t.tables u.tables e.tables ys h.is_there;
     means = becomes_on (λ n z. ExprPatternsBecome n names qs z) fs t u _ _ e
-        (patterns_kept t.tables u.tables e.tables ys h.stands) h.means;
+        (patterns_kept t.tables u.tables e.tables ys h.is_there) h.means;
   }
 
   pub expr_means_on : (x : Expr) (y : Operand) → ExprMeans fs t names x y → ExprMeans fs u names x y
   expr_means_on x y h = record {
-    stands = part_stands t.tables u.tables e.tables y h.stands;
+    is_there = part_is_there t.tables u.tables e.tables y h.is_there;
     means = becomes_on (λ n z. ExprBecomes n names x z) fs t u _ _ e
-        (part_kept t.tables u.tables e.tables y h.stands) h.means;
+        (part_kept t.tables u.tables e.tables y h.is_there) h.means;
   }
 
   pub exprs_mean_on : (xs : Exprs) (ys : List Operand) → ExprsMean fs t names xs ys → ExprsMean fs u names xs ys
   exprs_mean_on xs ys h = record {
-    stands = all_parts_stand t.tables u.tables e.tables ys h.stands;
+    is_there = all_parts_are_there t.tables u.tables e.tables ys h.is_there;
     means = becomes_on (λ n z. ExprsBecome n names xs z) fs t u _ _ e
-        (parts_kept t.tables u.tables e.tables ys h.stands) h.means;
+        (parts_kept t.tables u.tables e.tables ys h.is_there) h.means;
   }
 
   pub guard_means_on : (c : Condition) (d : Guard) → GuardMeans fs t names c d → GuardMeans fs u names c d
   guard_means_on c d h = record {
-    stands = guard_stands t.tables u.tables e.tables d h.stands;
+    is_there = guard_is_there t.tables u.tables e.tables d h.is_there;
     means = becomes_on (λ n z. GuardBecomes n names c z) fs t u _ _ e
-        (guard_kept t.tables u.tables e.tables d h.stands) h.means;
+        (guard_kept t.tables u.tables e.tables d h.is_there) h.means;
   }
 
 -- what holds of an answer makes something else hold of it
@@ -101,7 +103,7 @@ expr_pattern_put fs m0 m1 m2 b names q q' y p same bound grown means put =
       grown = grown_on m0 m1 m2 grown put.grown;
       bound_is = bound;
       answer = record {
-        stands = put.stands;
+        is_there = put.is_there;
         means = becomes_on (λ n z. ExprPatternBecomes n names q' z) fs m1 m2 _ _ put.grown put.is means;
       };
     })
@@ -117,7 +119,7 @@ expr_put fs m0 m1 m2 b names e e' y x same bound grown means put =
       grown = grown_on m0 m1 m2 grown put.grown;
       bound_is = bound;
       answer = record {
-        stands = put.stands;
+        is_there = put.is_there;
         means = becomes_on (λ n z. ExprBecomes n names e' z) fs m1 m2 _ _ put.grown put.is means;
       };
     })

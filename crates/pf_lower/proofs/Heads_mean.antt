@@ -12,8 +12,8 @@ use Rattle.pf_syntax.specs.Tree.{Function as Made}
 use Rattle.pf_syntax.specs.Module.{Checked}
 use Rattle.pf_syntax.specs.Over.{patterns_at, guard_over, part_over, function_clause_over}
 use Rattle.pf_syntax.specs.Within.{FunctionClauseRepresents, GuardRepresents, OperandRepresents}
-use Rattle.pf_syntax.proofs.Extends.{patterns_kept, all_patterns_stand, guard_kept, guard_stands, part_kept}
-use Rattle.pf_syntax.proofs.Extends.{part_stands}
+use Rattle.pf_syntax.proofs.Extends.{patterns_kept, all_patterns_are_there, guard_kept, guard_is_there, part_kept}
+use Rattle.pf_syntax.proofs.Extends.{part_is_there}
 use Rattle.pf_syntax.specs.declared.node.PatternId.{PatternId}
 use Rattle.pf_syntax.specs.declared.node.Operand.{Operand}
 use Rattle.pf_syntax.specs.declared.node.Guard.{Guard}
@@ -57,10 +57,10 @@ module _ (fs : List (List Head)) (b : NodeTable) where
         grown = grown_on m0 m1 m3 p1.grown on13;
         bound_is = cut;
         answer = record {
-          stands = (
-            subst (λ l. All (λ q. q.0 < length m3.tables.patterns) l) (sym cys) asked.stands,
-            subst (λ g. GuardRepresents m3.tables g) (sym cd) guarded.stands,
-            subst (λ y. OperandRepresents m3.tables y) (sym cx) p3.answer.stands,
+          is_there = (
+            subst (λ l. All (λ q. q.0 < length m3.tables.patterns) l) (sym cys) asked.is_there,
+            subst (λ g. GuardRepresents m3.tables g) (sym cd) guarded.is_there,
+            subst (λ y. OperandRepresents m3.tables y) (sym cx) p3.answer.is_there,
           );
           means = λ f k.
               let two : expr_patterns_faults no_scope qs ++ condition_faults n s c1 ≡ [] =
@@ -92,17 +92,17 @@ module _ (fs : List (List Head)) (b : NodeTable) where
       → EachHead t names h c → EachHead u names h c
   each_head_on t u on names h c m =
       let front : patterns_at u.tables c.parameters.items ≡ patterns_at t.tables c.parameters.items =
-      patterns_kept t.tables u.tables on.tables c.parameters.items m.stands.0 in
+      patterns_kept t.tables u.tables on.tables c.parameters.items m.is_there.0 in
       let middle : guard_over u.tables c.guard ≡ guard_over t.tables c.guard =
-      guard_kept t.tables u.tables on.tables c.guard m.stands.1 in
+      guard_kept t.tables u.tables on.tables c.guard m.is_there.1 in
       let end : part_over u.tables c.body ≡ part_over t.tables c.body =
-      part_kept t.tables u.tables on.tables c.body m.stands.2 in
+      part_kept t.tables u.tables on.tables c.body m.is_there.2 in
       let whole : function_clause_over u.tables c ≡ function_clause_over t.tables c = cc in
       record {
-        stands = (
-          all_patterns_stand t.tables u.tables on.tables c.parameters.items m.stands.0,
-          guard_stands t.tables u.tables on.tables c.guard m.stands.1,
-          part_stands t.tables u.tables on.tables c.body m.stands.2,
+        is_there = (
+          all_patterns_are_there t.tables u.tables on.tables c.parameters.items m.is_there.0,
+          guard_is_there t.tables u.tables on.tables c.guard m.is_there.1,
+          part_is_there t.tables u.tables on.tables c.body m.is_there.2,
         );
         means = becomes_on (λ n x. HeadFormed (head_over b h) → head_faults n (head_over b h) ≡ []
             → HeadIs n (head_over b h) x) fs t u _ _ on whole m.means;
@@ -110,12 +110,12 @@ module _ (fs : List (List Head)) (b : NodeTable) where
 
   heads_mean : (t : Checked) (names : List ℕ) (hs : List HeadNode) (cs : List FunctionClause)
       → Threaded next_head (EachHead t) names hs cs → HeadsMean fs t (map (head_over b) hs) cs
-  heads_mean t names [] [] h = record { stands = All-nil (FunctionClauseRepresents t.tables); means = λ f k. tt }
+  heads_mean t names [] [] h = record { is_there = All-nil (FunctionClauseRepresents t.tables); means = λ f k. tt }
   heads_mean t names (x ∷ hs) (c ∷ cs) h =
       let n = names_of_module t.atoms fs in
       let rest = heads_mean t [] hs cs h.1 in
       record {
-        stands = All-cons (FunctionClauseRepresents t.tables) c cs h.0.stands rest.stands;
+        is_there = All-cons (FunctionClauseRepresents t.tables) c cs h.0.is_there rest.is_there;
         means = λ f k. (
           h.0.means (All-head HeadFormed (head_over b x) (map (head_over b) hs) f)
               (left_empty (head_faults n (head_over b x)) _ k),
@@ -158,7 +158,7 @@ module _ (fs : List (List Head)) (b : NodeTable) where
         answer =
             let inner : HeadsMean fs m1 (h ∷ rest) f.clauses.items =
             subst (λ l. HeadsMean fs m1 l f.clauses.items) is d.answer in
-            record { stands = inner.stands; means = λ g k. (name, arity, exported, inner.means g k) };
+            record { is_there = inner.is_there; means = λ g k. (name, arity, exported, inner.means g k) };
       })
 
   pub no_function : (exports : List Export) (m0 m1 : Checked) (now : List ℕ) (hs : List Head) (f : Function) → hs ≡ []
@@ -170,7 +170,7 @@ module _ (fs : List (List Head)) (b : NodeTable) where
         grown = d.grown;
         bound_is = d.bound_is;
         answer =
-            record { stands = d.answer.stands; means = λ g k. absurd g };
+            record { is_there = d.answer.is_there; means = λ g k. absurd g };
       })
 
 -- ---- modules

@@ -58,9 +58,9 @@ found_at x (y ∷ ks) e = by (y == x) refl e (found_at x ks)
 
 -- ---- one more name
 
-pub behind : (ks : List ℕ) (x : ℕ) → slice_get (ks ++ x ∷ []) (length ks) ≡ Some x
-behind [] x = refl
-behind (y ∷ ks) x = behind ks x
+pub after : (ks : List ℕ) (x : ℕ) → slice_get (ks ++ x ∷ []) (length ks) ≡ Some x
+after [] x = refl
+after (y ∷ ks) x = after ks x
 
 in_front : (ks : List ℕ) (x k y : ℕ) → slice_get ks k ≡ Some y → slice_get (ks ++ x ∷ []) k ≡ Some y
 in_front [] x k y e = absurd cc
@@ -107,14 +107,14 @@ looked ks ps x None p h = unnoted ks ps x p (by (slice_index ps x) h)
     by : (n : ℕ) → ¬ (1 ≤ n) → n ≡ 0
     by zero h = refl
     by (suc n) h = absurd (h (omega arith))
-looked ks ps x (Some k) p h = let one = h.1 in let much = h.0 in p.stands k x (omega arith)
+looked ks ps x (Some k) p h = let one = h.1 in let much = h.0 in p.is_there k x (omega arith)
 
 -- a list with the same numbers does as well
 pub lengthened : (ks ps qs : List ℕ) → HasSlots ks ps → ((x : ℕ) → slice_index qs x ≡ slice_index ps x) → HasSlots ks qs
 lengthened ks ps qs p same = record {
   room = p.room;
   noted = λ k x e. same x ∙ p.noted k x e;
-  stands = λ k x e. p.stands k x (sym (same x) ∙ e);
+  is_there = λ k x e. p.is_there k x (sym (same x) ∙ e);
 }
 
 -- the last name leaves, and the list has 0 for it
@@ -123,11 +123,11 @@ unbound ks ps x p = record {
   room = let long = length-append ks (x ∷ []) in let room = p.room in omega arith;
   noted = λ k y e.
       get_or-set_other ps x y 0 0 (λ s. other k y e s) ∙ p.noted k y (in_front ks x k y e);
-  stands = λ k y e. by k y (cases_eq y x) e;
+  is_there = λ k y e. by k y (cases_eq y x) e;
 }
   where
     last : slice_index ps x ≡ length ks + 1
-    last = p.noted (length ks) x (behind ks x)
+    last = p.noted (length ks) x (after ks x)
 
     other : (k y : ℕ) → slice_get ks k ≡ Some y → y ≡ x → ⊥
     other k y e s =
@@ -138,11 +138,11 @@ unbound ks ps x p = record {
     by : (k y : ℕ) → (y ≡ x) ⊎ (y ≡ x → ⊥) → slice_index (set ps x 0) y ≡ k + 1 → slice_get ks k ≡ Some y
     by k y (inl s) e =
         let zeros : slice_index (set ps x 0) y ≡ 0 = ap (slice_index (set ps x 0)) s ∙ get_or-set_same ps x 0 0
-        (past (ks ++ x ∷ []) ps (length ks) x p (behind ks x)) in
+        (past (ks ++ x ∷ []) ps (length ks) x p (after ks x)) in
         absurd (omega arith)
     by k y (inr d) e =
         let was = sym (get_or-set_other ps x y 0 0 d) ∙ e in
-        elim (front_or_last ks x k y (p.stands k y was)) [ inl h ↦ h | inr h ↦ absurd (d h.1) ]
+        elim (front_or_last ks x k y (p.is_there k y was)) [ inl h ↦ h | inr h ↦ absurd (d h.1) ]
 
 -- a name that isn't bound comes last, and the list has its slot and one
 pub bound : (ks ps : List ℕ) (x : ℕ) → HasSlots ks ps → has ks x ≡ false → length ks + 1 < 2 ^ 32 → x < length ps
@@ -150,7 +150,7 @@ pub bound : (ks ps : List ℕ) (x : ℕ) → HasSlots ks ps → has ks x ≡ fal
 bound ks ps x p new room within = record {
   room = let long = length-append ks (x ∷ []) in omega arith;
   noted = λ k y e. noted k y (front_or_last ks x k y e);
-  stands = λ k y e. stands k y (cases_eq y x) e;
+  is_there = λ k y e. is_there k y (cases_eq y x) e;
 }
   where
     here : slice_index (set ps x (length ks + 1)) x ≡ length ks + 1
@@ -164,11 +164,11 @@ bound ks ps x p new room within = record {
     noted k y (inl h) = get_or-set_other ps x y (length ks + 1) 0 (λ s. other k y h s) ∙ p.noted k y h
     noted k y (inr h) = ap (slice_index (set ps x (length ks + 1))) h.1 ∙ here ∙ ap (λ n. n + 1) (sym h.0)
 
-    stands : (k y : ℕ) → (y ≡ x) ⊎ (y ≡ x → ⊥) → slice_index (set ps x (length ks + 1)) y ≡ k + 1
+    is_there : (k y : ℕ) → (y ≡ x) ⊎ (y ≡ x → ⊥) → slice_index (set ps x (length ks + 1)) y ≡ k + 1
         → slice_get (ks ++ x ∷ []) k ≡ Some y
-    stands k y (inl s) e =
+    is_there k y (inl s) e =
         let at : slice_index (set ps x (length ks + 1)) y ≡ length ks + 1 =
         ap (slice_index (set ps x (length ks + 1))) s ∙ here in
         let last : k ≡ length ks = omega arith in
-        ap (slice_get (ks ++ x ∷ [])) last ∙ behind ks x ∙ ap (λ n. Some n) (sym s)
-    stands k y (inr d) e = in_front ks x k y (p.stands k y (sym (get_or-set_other ps x y (length ks + 1) 0 d) ∙ e))
+        ap (slice_get (ks ++ x ∷ [])) last ∙ after ks x ∙ ap (λ n. Some n) (sym s)
+    is_there k y (inr d) e = in_front ks x k y (p.is_there k y (sym (get_or-set_other ps x y (length ks + 1) 0 d) ∙ e))

@@ -56,7 +56,7 @@ module _ (n : Names) (b : NodeTable) (names : List ℕ) (r : Branch) where
 -- a clause of a construct
 pub record BranchMeans (fs : List (List Head)) (b : NodeTable) (m : Checked) (names : List ℕ) (r : Branch)
     (c : Clause) : Type 0 where
-  pub stands : ClauseRepresents m.tables c
+  pub is_there : ClauseRepresents m.tables c
   pub pattern : ExprPatternBecomes (names_of_module m.atoms fs) names (expr_pattern_at b r.expr_pattern.0)
       (pattern_at m.tables c.pattern.0)
   pub guard : BranchGuardBecomes (names_of_module m.atoms fs) b names r (guard_over m.tables c.guard)

@@ -61,36 +61,36 @@ module _ (n : Names) (names : List ℕ) where
 
 module _ (fs : List (List Head)) (m : Checked) (names : List ℕ) where
   pub record ExprPatternMeans (q : ExprPattern) (y : PatternId) : Type 0 where
-    pub stands : PatternRepresents m.tables y
+    pub is_there : PatternRepresents m.tables y
     pub means : ExprPatternBecomes (names_of_module m.atoms fs) names q (pattern_at m.tables y.0)
 
   pub record ExprPatternsMean (qs : ExprPatterns) (ys : List PatternId) : Type 0 where
-    pub stands : All (PatternRepresents m.tables) ys
+    pub is_there : All (PatternRepresents m.tables) ys
     pub means : ExprPatternsBecome (names_of_module m.atoms fs) names qs (patterns_at m.tables ys)
 
   pub record ExprMeans (e : Expr) (x : Operand) : Type 0 where
-    pub stands : OperandRepresents m.tables x
+    pub is_there : OperandRepresents m.tables x
     pub means : ExprBecomes (names_of_module m.atoms fs) names e (part_over m.tables x)
 
   pub record ExprsMean (es : Exprs) (xs : List Operand) : Type 0 where
-    pub stands : All (OperandRepresents m.tables) xs
+    pub is_there : All (OperandRepresents m.tables) xs
     pub means : ExprsBecome (names_of_module m.atoms fs) names es (parts_over m.tables xs)
 
   pub record ElementMeans (e : Expr) (ys : List PatternId) (x : Operand) : Type 0 where
-    pub patterns_stand : All (PatternRepresents m.tables) ys
-    pub stands : OperandRepresents m.tables x
+    pub patterns_are_there : All (PatternRepresents m.tables) ys
+    pub is_there : OperandRepresents m.tables x
     pub means : ElementBecomes (names_of_module m.atoms fs) names e (patterns_at m.tables ys) (part_over m.tables x)
 
   pub record BodyMeans (es : Exprs) (x : Operand) : Type 0 where
-    pub stands : OperandRepresents m.tables x
+    pub is_there : OperandRepresents m.tables x
     pub means : BodyBecomes (names_of_module m.atoms fs) names es (part_over m.tables x)
 
   pub record GuardMeans (c : Condition) (d : Guard) : Type 0 where
-    pub stands : GuardRepresents m.tables d
+    pub is_there : GuardRepresents m.tables d
     pub means : GuardBecomes (names_of_module m.atoms fs) names c (guard_over m.tables d)
 
   pub record BranchesMean (bs : Branches) (cs : List Clause) : Type 0 where
-    pub stands : All (ClauseRepresents m.tables) cs
+    pub is_there : All (ClauseRepresents m.tables) cs
     pub means : BranchesBecome (names_of_module m.atoms fs) names bs (clauses_over m.tables cs)
 
 -- ---- what a call lowered: the module grew, these names became bound, and the answer means this in the new module

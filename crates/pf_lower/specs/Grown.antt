@@ -18,11 +18,11 @@ pub record Grown (old new : Checked) : Type 0 where
 -- a pattern is in the tables now
 pub record PatternPut (old new : Checked) (y : Pattern) (q : PatternId) : Type 0 where
   pub grown : Grown old new
-  pub stands : PatternRepresents new.tables q
+  pub is_there : PatternRepresents new.tables q
   pub is : pattern_at new.tables q.0 ≡ y
 
 -- a tree is in the tables now
 pub record PartPut (old new : Checked) (y : Tree) (x : Operand) : Type 0 where
   pub grown : Grown old new
-  pub stands : OperandRepresents new.tables x
+  pub is_there : OperandRepresents new.tables x
   pub is : part_over new.tables x ≡ y

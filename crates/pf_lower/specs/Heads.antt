@@ -19,20 +19,20 @@ first_of None other = other
 
 -- a clause of a function
 pub record HeadMeans (fs : List (List Head)) (m : Checked) (h : Head) (c : FunctionClause) : Type 0 where
-  pub stands : FunctionClauseRepresents m.tables c
+  pub is_there : FunctionClauseRepresents m.tables c
   pub means : HeadFormed h → head_faults (names_of_module m.atoms fs) h ≡ []
       → HeadIs (names_of_module m.atoms fs) h (function_clause_over m.tables c)
 
 -- all clauses of a function
 pub record HeadsMean (fs : List (List Head)) (m : Checked) (hs : List Head) (cs : List FunctionClause) : Type 0 where
-  pub stands : All (FunctionClauseRepresents m.tables) cs
+  pub is_there : All (FunctionClauseRepresents m.tables) cs
   pub means : All HeadFormed hs → flat_map (head_faults (names_of_module m.atoms fs)) hs ≡ []
       → Pairwise (HeadIs (names_of_module m.atoms fs)) hs (map (function_clause_over m.tables) cs)
 
 -- a function
 pub record FunctionMeans (fs : List (List Head)) (exports : List Export) (m : Checked) (hs : List Head)
     (f : Function) : Type 0 where
-  pub stands : FunctionRepresents m.tables f
+  pub is_there : FunctionRepresents m.tables f
   pub means : FunctionFormed hs → flat_map (head_faults (names_of_module m.atoms fs)) hs ≡ []
       → FunctionIs (names_of_module m.atoms fs) exports hs (function_over m.tables f)
 

@@ -5,4 +5,4 @@ use Rattle.std.specs.Prelude.{◌≡◌, ℕ, ◌+◌, ◌<◌, ◌^◌, List, l
 pub record HasSlots (names slots : List ℕ) : Type 0 where
   pub room : length names < 2 ^ 32
   pub noted : (k x : ℕ) → slice_get names k ≡ Some x → slice_index slots x ≡ k + 1
-  pub stands : (k x : ℕ) → slice_index slots x ≡ k + 1 → slice_get names k ≡ Some x
+  pub is_there : (k x : ℕ) → slice_index slots x ≡ k + 1 → slice_get names k ≡ Some x

@@ -38,8 +38,8 @@ pub(crate) fn put_binds(
     elements: Vec<Element>,
     rest: Operand,
 ) -> Result<Operand, NoMemory>
-    requires elements_stand { All (ElementRepresents module.old.tables) elements.items }
-    requires rest_stands { OperandRepresents module.old.tables rest }
+    requires elements_are_there { All (ElementRepresents module.old.tables) elements.items }
+    requires rest_is_there { OperandRepresents module.old.tables rest }
     ensures { IfOk result (λ x. PartPut module.old module.new
         (bound_elements module.old.tables elements.items (part_over module.old.tables rest)) x) }
 {

@@ -8,7 +8,7 @@ ghost use Rattle.pf_syntax.specs.Tree.{lit};
 ghost use Rattle.pf_syntax.specs.Module.{pattern_at};
 ghost use Rattle.pf_syntax.specs.Over.{part_over, parts_over, pattern_over, patterns_at, tree_over};
 ghost use Rattle.pf_syntax.specs.Naming.{conses, conses_of};
-ghost use Rattle.pf_syntax.specs.Within.{OperandRepresents, PartsStand, PatternPartsStand, PatternRepresents};
+ghost use Rattle.pf_syntax.specs.Within.{OperandRepresents, PartsAreThere, PatternPartsAreThere, PatternRepresents};
 ghost use Rattle.pf_lower.specs.Grown.{PartPut, PatternPut};
 
 use pf_errors::NoMemory;
@@ -17,7 +17,7 @@ use pf_terms::Term;
 
 /// Adds a pattern after its parts.
 pub(crate) fn put_pattern(module: &mut Module, node: PatternNode) -> Result<PatternId, NoMemory>
-    requires { PatternPartsStand module.old.tables node }
+    requires { PatternPartsAreThere module.old.tables node }
     ensures { IfOk result (λ p. PatternPut module.old module.new (pattern_over module.old.tables node) p) }
 {
     let id = module.add_pattern(node)?;
@@ -39,8 +39,8 @@ pub(crate) fn put_list_pattern(
     elements: Vec<PatternId>,
     tail: PatternId,
 ) -> Result<PatternId, NoMemory>
-    requires elements_stand { All (PatternRepresents module.old.tables) elements.items }
-    requires tail_stands { PatternRepresents module.old.tables tail }
+    requires elements_are_there { All (PatternRepresents module.old.tables) elements.items }
+    requires tail_is_there { PatternRepresents module.old.tables tail }
     ensures { IfOk result (λ p. PatternPut module.old module.new
         (conses_of (patterns_at module.old.tables elements.items) (pattern_at module.old.tables tail.0)) p) }
 {
@@ -54,7 +54,7 @@ pub(crate) fn put_list_pattern(
 
 /// Adds a node after its parts.
 pub(crate) fn put_node(module: &mut Module, node: Node) -> Result<Operand, NoMemory>
-    requires { PartsStand module.old.tables node }
+    requires { PartsAreThere module.old.tables node }
     ensures { IfOk result (λ x. PartPut module.old module.new (tree_over module.old.tables node) x) }
 {
     let id = module.add_node(node)?;
@@ -75,8 +75,8 @@ pub(crate) fn put_list(
     elements: Vec<Operand>,
     tail: Operand,
 ) -> Result<Operand, NoMemory>
-    requires elements_stand { All (OperandRepresents module.old.tables) elements.items }
-    requires tail_stands { OperandRepresents module.old.tables tail }
+    requires elements_are_there { All (OperandRepresents module.old.tables) elements.items }
+    requires tail_is_there { OperandRepresents module.old.tables tail }
     ensures { IfOk result (λ x. PartPut module.old module.new
         (conses (parts_over module.old.tables elements.items) (part_over module.old.tables tail)) x) }
 {

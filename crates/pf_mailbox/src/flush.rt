@@ -3,14 +3,14 @@
 ghost use Rattle.std.specs.Prelude.{◌≡◌, map};
 ghost use Rattle.std.specs.List.{list_any};
 ghost use Rattle.pf_terms.specs.Term.{value_of};
-ghost use Rattle.pf_model.specs.Flush.{flushed, tells_of};
+ghost use Rattle.pf_model.specs.Flush.{flushed, reports_of};
 
 use pf_nodes::{MailList, Pool};
 use pf_terms::Term;
 
 /// Whether a message is about a reference: a tuple of five elements, the second of which it is.
-fn tells_of(message: &Term, reference: u64) -> bool
-    ensures { result ≡ tells_of reference (value_of message.now) }
+fn reports_of(message: &Term, reference: u64) -> bool
+    ensures { result ≡ reports_of reference (value_of message.now) }
 {
     let Term::Tuple(elements) = message else {
         return false;
@@ -27,14 +27,18 @@ fn tells_of(message: &Term, reference: u64) -> bool
 
 /// Takes out the first message about a reference, where the mark is at the front, and leaves it there; whether there
 /// was one.
-pub(crate) fn take_told(list: &mut MailList<Term>, pool: &mut Pool<Term>, reference: u64) -> bool
+pub(crate) fn take_reported(
+    list: &mut MailList<Term>,
+    pool: &mut Pool<Term>,
+    reference: u64,
+) -> bool
     requires { list.old.mark ≡ 0 }
     ensures flushed { map value_of list.new.items ≡ flushed reference (map value_of list.old.items) }
     ensures mark { list.new.mark ≡ 0 }
-    ensures told { result ≡ list_any (tells_of reference) (map value_of list.old.items) }
+    ensures reported { result ≡ list_any (reports_of reference) (map value_of list.old.items) }
 {
     while let Some(message) = list.marked() {
-        if tells_of(message, reference) {
+        if reports_of(message, reference) {
             let _message = list.take_marked(pool);
             list.reset_mark();
             return true;

@@ -35,11 +35,11 @@ row_all : (a : ℕ) (P : ℕ × ℕ → Type 0) (r : SenderRow) → ((b : ℕ) (
 row_all a P [] h = All-nil P
 row_all a P (p ∷ ps) h =
     All-cons P (a, p.0) (heads_of a ps) (h p.0 p.1 (rw (eq-eqb p.0 p.0 refl) refl))
-    (row_all a P ps (λ b q e. behind b q e (b == p.0) refl))
+    (row_all a P ps (λ b q e. after b q e (b == p.0) refl))
   where
-    behind : (b : ℕ) (q : Queue) → got b ps ≡ Some q → (e : Bool) → (b == p.0) ≡ e → P (a, b)
-    behind b q g true e = h b p.1 (rw e refl)
-    behind b q g false e = h b q (rw e g)
+    after : (b : ℕ) (q : Queue) → got b ps ≡ Some q → (e : Bool) → (b == p.0) ≡ e → P (a, b)
+    after b q g true e = h b p.1 (rw e refl)
+    after b q g false e = h b q (rw e g)
 
 heads_all : (P : ℕ × ℕ → Type 0) (n : ℕ) (cs : Channels)
     → ((a b : ℕ) (q : Queue) → got b (row_of a cs) ≡ Some q → P (n + a, b))

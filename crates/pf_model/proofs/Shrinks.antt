@@ -16,15 +16,15 @@ AllSmaller ns cs = All (λ c. IsSmaller c ns) cs
 sum_cons : (n : ℕ) (ns : List ℕ) → sum (n ∷ ns) ≡ n + sum ns
 sum_cons n ns = sum_by-cons (λ x. x) n ns
 
-smaller_behind : (n : ℕ) (ms ns : List ℕ) → IsSmaller ms ns → IsSmaller (n ∷ ms) (n ∷ ns)
-smaller_behind n ms ns (inl h) = inl (omega arith)
-smaller_behind n ms ns (inr h) =
+smaller_after : (n : ℕ) (ms ns : List ℕ) → IsSmaller ms ns → IsSmaller (n ∷ ms) (n ∷ ns)
+smaller_after n ms ns (inl h) = inl (omega arith)
+smaller_after n ms ns (inr h) =
     let l = h.0 in let s = h.1 in let a = sum_cons n ms in let b = sum_cons n ns in inr (omega arith, omega arith)
 
-all_behind : (n : ℕ) (ns : List ℕ) (cs : List (List ℕ)) → AllSmaller ns cs → AllSmaller (n ∷ ns) (with_beginnings n cs)
-all_behind n ns cs h =
+all_after : (n : ℕ) (ns : List ℕ) (cs : List (List ℕ)) → AllSmaller ns cs → AllSmaller (n ∷ ns) (with_beginnings n cs)
+all_after n ns cs h =
     All-map (λ c. IsSmaller c (n ∷ ns)) (λ c. n ∷ c) cs
-    (All-weaker (λ c. IsSmaller c ns) (λ c. IsSmaller (n ∷ c) (n ∷ ns)) (λ c. smaller_behind n c ns) cs h)
+    (All-weaker (λ c. IsSmaller c ns) (λ c. IsSmaller (n ∷ c) (n ∷ ns)) (λ c. smaller_after n c ns) cs h)
 
 smaller_of_smaller : (ls ms ns : List ℕ) → IsSmaller ls ms → IsSmaller ms ns → IsSmaller ls ns
 smaller_of_smaller ls ms ns (inl h) (inl k) = inl (omega arith)
@@ -39,14 +39,14 @@ without_last_smaller : (ns : List ℕ) → AllSmaller ns (without_last ns)
 without_last_smaller [] = All-nil (λ c. IsSmaller c [])
 without_last_smaller (n ∷ []) = All-cons (λ c. IsSmaller c (n ∷ [])) [] [] (inl (omega arith))
     (All-nil (λ c. IsSmaller c (n ∷ [])))
-without_last_smaller (n ∷ m ∷ ns) = all_behind n (m ∷ ns) (without_last (m ∷ ns)) (without_last_smaller (m ∷ ns))
+without_last_smaller (n ∷ m ∷ ns) = all_after n (m ∷ ns) (without_last (m ∷ ns)) (without_last_smaller (m ∷ ns))
 
 without_one_smaller : (ns : List ℕ) → AllSmaller ns (without_one ns)
 without_one_smaller [] = All-nil (λ c. IsSmaller c [])
 without_one_smaller (n ∷ []) = All-nil (λ c. IsSmaller c (n ∷ []))
 without_one_smaller (n ∷ m ∷ ns) =
     All-cons (λ c. IsSmaller c (n ∷ m ∷ ns)) (m ∷ ns) (with_beginnings n (without_one (m ∷ ns))) (inl (omega arith))
-    (all_behind n (m ∷ ns) (without_one (m ∷ ns)) (without_one_smaller (m ∷ ns)))
+    (all_after n (m ∷ ns) (without_one (m ∷ ns)) (without_one_smaller (m ∷ ns)))
 
 half_smaller : (n : ℕ) (ns : List ℕ) → IsSmaller (suc n / 2 ∷ ns) (suc n ∷ ns)
 half_smaller n ns =
@@ -56,10 +56,10 @@ half_smaller n ns =
 
 halved_smaller : (ns : List ℕ) → AllSmaller ns (halved ns)
 halved_smaller [] = All-nil (λ c. IsSmaller c [])
-halved_smaller (zero ∷ ns) = all_behind zero ns (halved ns) (halved_smaller ns)
+halved_smaller (zero ∷ ns) = all_after zero ns (halved ns) (halved_smaller ns)
 halved_smaller (suc n ∷ ns) =
     All-cons (λ c. IsSmaller c (suc n ∷ ns)) (suc n / 2 ∷ ns) (with_beginnings (suc n) (halved ns)) (half_smaller n ns)
-    (all_behind (suc n) ns (halved ns) (halved_smaller ns))
+    (all_after (suc n) ns (halved ns) (halved_smaller ns))
 
 candidates_smaller : (ns : List ℕ) → AllSmaller ns (candidates ns)
 candidates_smaller ns =

@@ -60,8 +60,8 @@ is_failure None = false
 is_failure (Some b) = if b then false else true
 
 -- the function that says of each schedule whether the job fails by it
-abbrev pub TellsFailures : Job → (List ℕ → Bool) → Type 0
-TellsFailures j fails = (ns : List ℕ) (r : Report) → Means (by_schedule j ns) r → fails ns ≡ is_failure r.verdict
+abbrev pub ReportsFailures : Job → (List ℕ → Bool) → Type 0
+ReportsFailures j fails = (ns : List ℕ) (r : Report) → Means (by_schedule j ns) r → fails ns ≡ is_failure r.verdict
 
 -- the result of a job with runs: the schedule that was found and its report, or that the given schedule doesn't fail
 pub data Result : Type 0 where
@@ -75,7 +75,7 @@ pub data IsResult (j : Job) : Result → Type 0 where
   plain : (r : Report) → j.runs ≡ zero → Means j r → IsResult j (report r)
   smaller : (k : ℕ) (ns : List ℕ) (fails : List ℕ → Bool) (f : Found) (r : Report) → j.runs ≡ suc k
       → j.choices ≡ schedule ns
-      → TellsFailures j fails → shrunk fails (suc k) ns ≡ Some f → Means (by_schedule j f.schedule) r
+      → ReportsFailures j fails → shrunk fails (suc k) ns ≡ Some f → Means (by_schedule j f.schedule) r
       → IsResult j (shrunk_to f r)
   no_failure : (k : ℕ) (ns : List ℕ) (fails : List ℕ → Bool) → j.runs ≡ suc k → j.choices ≡ schedule ns
-      → TellsFailures j fails → shrunk fails (suc k) ns ≡ None → IsResult j nothing_fails
+      → ReportsFailures j fails → shrunk fails (suc k) ns ≡ None → IsResult j nothing_fails

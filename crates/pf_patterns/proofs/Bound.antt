@@ -52,9 +52,9 @@ mutual
 -- ---- where they are
 
 -- what comes after the bindings of a part
-pub behind : (all xs ys : ValueScope) (n m : ℕ) → m ≡ n + length xs → IsBoundFrom all n (xs ++ ys)
+pub after : (all xs ys : ValueScope) (n m : ℕ) → m ≡ n + length xs → IsBoundFrom all n (xs ++ ys)
     → IsBoundFrom all m ys
-behind all xs ys n m e h = record {
+after all xs ys n m e h = record {
   rest = h.rest;
   is = ap (λ k. drop k all) e ∙ sym (drop-drop (length xs) n all) ∙ ap (drop (length xs))
       (h.is ∙ append_assoc xs ys h.rest) ∙ drop-append_seam xs (ys ++ h.rest);
@@ -89,14 +89,14 @@ too_many_walked w n t [] [] e h = absurd (omega arith)
 too_many_walked w n t [] (u ∷ ts) e h = record { fit = refl; count = tt }
 
 -- all bindings are at the beginning
-pub whole_stands : (p : Pattern) (v : Value) → nodes v ≤ MOST_NODES → IsBoundFrom (bindings p v) 0 (bindings p v)
-whole_stands p v h = record { rest = []; is = sym (append-nil (bindings p v)); few = omega (arith, few_bindings p v) }
+pub whole_is_there : (p : Pattern) (v : Value) → nodes v ≤ MOST_NODES → IsBoundFrom (bindings p v) 0 (bindings p v)
+whole_is_there p v h = record { rest = []; is = sym (append-nil (bindings p v)); few = omega (arith, few_bindings p v) }
 
 -- what comes after the first element of a list
-pub tail_stands : (all : ValueScope) (p q : Pattern) (us ws : Values) (w : Value) (n m : ℕ) → us ≡ more w ws
+pub tail_is_there : (all : ValueScope) (p q : Pattern) (us ws : Values) (w : Value) (n m : ℕ) → us ≡ more w ws
     → m ≡ n + length (bindings p w) → IsBoundFrom all n (bindings (cons_of p q) (list us))
     → IsBoundFrom all m (bindings q (list ws))
-tail_stands all p q us ws w n m e k h = behind all (bindings p w) (bindings q (list ws)) n m k
+tail_is_there all p q us ws w n m e k h = after all (bindings p w) (bindings q (list ws)) n m k
     (subst (λ vs. IsBoundFrom all n (bindings (cons_of p q) (list vs))) e h)
 
 -- the items after the first, as a slice has them
@@ -104,21 +104,21 @@ rest_is : {A : Type 0} (x : A) (xs : List A) → take (length (x ∷ xs) - 1) (d
 rest_is x xs = let z : length (x ∷ xs) - 1 ≡ length xs = omega arith in ap (λ k. take k xs) z ∙ take-length xs
 
 -- the values after the first, each with its pattern
-pub others_stand : (all : ValueScope) (t : Tables) (ps : List PatternId) (ts : List Term) (d : PatternId) (u : Term)
+pub others_are_there : (all : ValueScope) (t : Tables) (ps : List PatternId) (ts : List Term) (d : PatternId) (u : Term)
     (n m : ℕ) → 1 ≤ length ps → 1 ≤ length ts → u ≡ get_or ts 0 u
     → m ≡ n + length (bindings (pattern_at t (get_or ps 0 d).0) (value_of u))
     → IsBoundFrom all n (all_bindings (patterns_at t ps) (values_of ts))
     → IsBoundFrom all m (all_bindings (patterns_at t (take (length ps - 1) (drop 1 ps)))
     (values_of (take (length ts - 1) (drop 1 ts))))
-others_stand all t [] ts d u n m h k e i s = absurd (omega arith)
-others_stand all t (p ∷ ps) [] d u n m h k e i s = absurd (omega arith)
-others_stand all t (p ∷ ps) (v ∷ ts) d u n m h k e i s =
+others_are_there all t [] ts d u n m h k e i s = absurd (omega arith)
+others_are_there all t (p ∷ ps) [] d u n m h k e i s = absurd (omega arith)
+others_are_there all t (p ∷ ps) (v ∷ ts) d u n m h k e i s =
     let c : m ≡ n + length (bindings (pattern_at t p.0) (value_of v)) =
     i ∙ ap (λ x. n + length (bindings (pattern_at t p.0) (value_of x))) e in
     subst (λ l. IsBoundFrom all m (all_bindings (patterns_at t l)
     (values_of (take (length (v ∷ ts) - 1) (drop 1 (v ∷ ts)))))) (sym (rest_is p ps))
     (subst (λ l. IsBoundFrom all m (all_bindings (patterns_at t ps) (values_of l))) (sym (rest_is v ts))
-    (behind all (bindings (pattern_at t p.0) (value_of v)) (all_bindings (patterns_at t ps) (values_of ts)) n m c s))
+    (after all (bindings (pattern_at t p.0) (value_of v)) (all_bindings (patterns_at t ps) (values_of ts)) n m c s))
 
 -- fewer patterns are smaller
 pub others_smaller : (t : Tables) (ps : List PatternId) → 1 ≤ length ps

@@ -52,8 +52,8 @@ IsAtPart w n p v = IsBoundFrom (all_of w) n (bindings p v)
 abbrev pub WalkedAt : PatternWalk → ℕ → Pattern → Value → Option ℕ → Type 0
 WalkedAt w n p v result = Walked w n (bindings p v) (fit p v) result
 
-abbrev pub AllStandAt : PatternWalk → ℕ → Patterns → Values → Type 0
-AllStandAt w n ps vs = IsBoundFrom (all_of w) n (all_bindings ps vs)
+abbrev pub AllAreAt : PatternWalk → ℕ → Patterns → Values → Type 0
+AllAreAt w n ps vs = IsBoundFrom (all_of w) n (all_bindings ps vs)
 
 abbrev pub AllWalkedAt : PatternWalk → ℕ → Patterns → Values → Option ℕ → Type 0
 AllWalkedAt w n ps vs result = Walked w n (all_bindings ps vs) (fit_all ps vs) result

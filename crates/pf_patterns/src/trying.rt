@@ -8,7 +8,7 @@ ghost use Rattle.pf_syntax.specs.Module.{literal_at, pattern_at};
 ghost use Rattle.pf_patterns.specs.Fit as spec;
 ghost use Rattle.pf_patterns.specs.Slots.{activation};
 ghost use Rattle.pf_patterns.specs.Bindings.{seen_value};
-ghost use Rattle.pf_patterns.specs.Walks.{cons_at, part_at, pattern_parts, scope_at, AllStandAt, AllWalkedAt, IsAtPart};
+ghost use Rattle.pf_patterns.specs.Walks.{cons_at, part_at, pattern_parts, scope_at, AllAreAt, AllWalkedAt, IsAtPart};
 ghost use Rattle.pf_patterns.specs.Walks.{WalkedAt};
 
 use crate::finding::find;
@@ -124,7 +124,7 @@ fn fits_cons(
 /// Whether each value fits its pattern, from left to right.
 #[cycle(walk)]
 fn fits_all(walk: &PatternWalk, parts: &[PatternId], values: &[Term], bound: usize) -> Option<usize>
-    requires { AllStandAt walk.now bound (pattern_parts walk.now parts.now) (values_of values.now) }
+    requires { AllAreAt walk.now bound (pattern_parts walk.now parts.now) (values_of values.now) }
     ensures { AllWalkedAt walk.now bound (pattern_parts walk.now parts.now) (values_of values.now) result }
 {
     match parts {

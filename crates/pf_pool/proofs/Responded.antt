@@ -35,7 +35,7 @@ use Rattle.pf_world.specs.Memory.{MayTakeMemory, out_of_memory, refused_in, Resp
 use Rattle.pf_pool.specs.declared.response.Response.{Response}
 use Rattle.pf_pool.specs.declared.response.Response.TheVariants as response
 use Rattle.pf_pool.specs.Deques.{Parks, TakesOldest}
-use Rattle.pf_pool.specs.Hands.{held_of_worker, is_free, hand_holds, holds_going, SlicesHand, RunCameTo, TakesFinished}
+use Rattle.pf_pool.specs.Hands.{held_of_worker, is_free, hand_holds, holds_going, SlicesHand, RunReached, TakesFinished}
 use Rattle.pf_pool.specs.Hands.{TakesUpRun, take_effect}
 use Rattle.pf_pool.specs.Profile.{IsRight, ForRight}
 use Rattle.pf_pool.specs.Responses.{SimulatesStep, view_of_response, work_response}
@@ -290,11 +290,11 @@ module _ (s : World) (w v q : ℕ) where
         record { desks = x.0; hands = slice_set s.hands w None; deques = s.deques },
         answer work_done,
       )) h
-  emptied (Some d) false w' h = let told : work_done ≡ not_now = ap (λ (x : Desks × Answer). x.1) h in absurd (cc)
+  emptied (Some d) false w' h = let reported : work_done ≡ not_now = ap (λ (x : Desks × Answer). x.1) h in absurd (cc)
   emptied None false w' h =
       ap (λ (x : Desks × Answer). (record { desks = x.0; hands = slice_set s.hands w None; deques = s.deques }, stray))
       h
-  emptied None true w' h = let told : not_now ≡ work_done = ap (λ (x : Desks × Answer). x.1) h in absurd (cc)
+  emptied None true w' h = let reported : not_now ≡ work_done = ap (λ (x : Desks × Answer). x.1) h in absurd (cc)
 
 module _ (s : World) (w q t : ℕ) (h : Hand) (rs : Deque) (i : slice_get s.hands w ≡ Some h)
     (j : slice_get s.deques w ≡ Some rs) where
@@ -302,14 +302,14 @@ module _ (s : World) (w q t : ℕ) (h : Hand) (rs : Deque) (i : slice_get s.hand
       → view_of_response r ≡ work_response b → SimulatesHandBack s.desks q t b w'
       → SimulatesStep s (worker_does w q t HandBack) (Ok r)
       (record { desks = w'; hands = slice_set s.hands w None; deques = s.deques })
-  back_responds b r w' hand_holds told back p right =
+  back_responds b r w' hand_holds reported back p right =
       let o = hand_back_step (desk_at q s.desks) t in
       with_its_effect p s w q t HandBack (Some (hand_emptied o))
       (at_hand p s w q t HandBack h rs (Some (hand_emptied o)) refl i j
       (back_does p q t (desk_at q s.desks) h rs hand_holds))
       ∙ emptied s w w q o b w' back
       ∙ ap (λ (x : chores.Response). (record { desks = w'; hands = slice_set s.hands w None; deques = s.deques }, x))
-      (sym told)
+      (sym reported)
 
 -- what is filed is of the trial's job: so it is stray only if the trial isn't running
 filed : (q t : ℕ) (w w' : Desks) (f : FinishedView) (b : Bool) → JobAt (desk_at q w).trials t f.job
@@ -332,14 +332,14 @@ module _ (s : World) (w q t : ℕ) (rs : Deque) (j : slice_get s.deques w ≡ So
       → JobAt (desk_at q s.desks).trials t f.job → view_of_response r ≡ work_response b
       → SimulatesFile s.desks q t f b w'
       → SimulatesStep s (worker_does w q t File) (Ok r) (record { desks = w'; hands = hs'; deques = s.deques })
-  file_responds f b r hs' w' taken own told files p right =
+  file_responds f b r hs' w' taken own reported files p right =
       let x = taken.0 in
       let o = file_step p.profile (desk_at q s.desks) t (mark_of f.result) in
       with_its_effect p s w q t File (Some (hand_emptied o))
       (at_hand p s w q t File (Some x) rs (Some (hand_emptied o)) refl taken.1 j
       (file_does p q t (desk_at q s.desks) x rs (mark_of f.result) taken.2.run taken.2.progress))
       ∙ emptied s w w q o b w' (filed q t s.desks w' f b own files p.profile right.desks)
-      ∙ (λ z. (record { desks = w'; hands = sym taken.3 z; deques = s.deques }, sym told z))
+      ∙ (λ z. (record { desks = w'; hands = sym taken.3 z; deques = s.deques }, sym reported z))
 
 -- ---- a run is taken from a deque
 

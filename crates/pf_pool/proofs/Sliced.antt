@@ -25,10 +25,10 @@ use Rattle.pf_pool.specs.Runs.{Slices, is_memory, is_out_of_memory, job_of_progr
 -- ---- marks
 
 -- what isn't whole ran out of memory
-pub told_memory : (b : Bool) (j : Job) (r : Result) → MatchBool b (IsResult j.asked r) (r ≡ without_memory)
+pub reported_memory : (b : Bool) (j : Job) (r : Result) → MatchBool b (IsResult j.asked r) (r ≡ without_memory)
     → not b ≡ is_memory (mark_of r)
-told_memory true j r h = sym (ap is_memory (result_whole j.asked r h))
-told_memory false j r h = sym (ap (λ (x : Result). is_memory (mark_of x)) h)
+reported_memory true j r h = sym (ap is_memory (result_whole j.asked r h))
+reported_memory false j r h = sym (ap (λ (x : Result). is_memory (mark_of x)) h)
 
 -- ---- slices
 

@@ -49,7 +49,7 @@ SlicesHand n (Some x) (Ok r) h' = (view_of_response r ≡ answer work_done) × F
 SlicesHand n (Some x) (Err e) h' = ForRight (λ p. h' ≡ Some (out_of_memory x))
 
 -- the result of a run of the trial of a ticket
-pub record RunCameTo (q t : ℕ) (x : ClaimedRun) (f : FinishedView) : Type 0 where
+pub record RunReached (q t : ℕ) (x : ClaimedRun) (f : FinishedView) : Type 0 where
   pub run : is_run_of q t x ≡ true
   pub progress : x.progress ≡ over (mark_of f.result)
   pub job : x.job ≡ f.job
@@ -57,7 +57,7 @@ pub record RunCameTo (q t : ℕ) (x : ClaimedRun) (f : FinishedView) : Type 0 wh
 -- TakesFinished w q t hs f hs': the result of the run of a ticket is taken from a worker's hand, which is empty then;
 -- or the worker doesn't hold that run, or it isn't over, and all stays as it was
 abbrev pub TakesFinished : (worker project ticket : ℕ) → List Hand → Option FinishedView → List Hand → Type 0
-TakesFinished w q t hs (Some f) hs' = (x : ClaimedRun) × (slice_get hs w ≡ Some (Some x)) × RunCameTo q t x f
+TakesFinished w q t hs (Some f) hs' = (x : ClaimedRun) × (slice_get hs w ≡ Some (Some x)) × RunReached q t x f
     × (hs' ≡ slice_set hs w None)
 TakesFinished w q t hs None hs' = ((hand_holds q t (held_of_worker hs w) ≡ false)
     ⊎ (holds_going q t (held_of_worker hs w) ≡ true)) × (hs' ≡ hs)

@@ -6,20 +6,23 @@ use Rattle.std.proofs.lemmas.List.{at_drop_more, at_drop_all, drop_more}
 use Rattle.std.proofs.lemmas.Option.{get_or_from_slice_get, none-some, slice_get_within}
 
 -- more were added, and so less is left to add
-pub go_on : {X : Type 0} (before after more rest behind whole : List X) → after ≡ before ++ more → rest ≡ more ++ behind
+pub go_on : {X : Type 0} (before after more rest following whole : List X) → after ≡ before ++ more
+    → rest ≡ more ++ following
     → before ++ rest ≡ whole
-    → after ++ behind ≡ whole
-go_on before after more rest behind whole added left so_far =
-    ap (λ xs. xs ++ behind) added ∙ append_assoc before more behind ∙ ap (λ xs. before ++ xs) (sym left) ∙ so_far
+    → after ++ following ≡ whole
+go_on before after more rest following whole added left so_far =
+    ap (λ xs. xs ++ following) added ∙ append_assoc before more following ∙ ap (λ xs. before ++ xs) (sym left) ∙ so_far
 
 -- nothing is left to add
 pub all_added : {X : Type 0} (before rest whole : List X) → rest ≡ [] → before ++ rest ≡ whole → before ≡ whole
 all_added before rest whole none so_far = sym (append-nil before) ∙ ap (λ xs. before ++ xs) (sym none) ∙ so_far
 
 -- two additions in turn
-pub in_turn : {X : Type 0} (first second third more behind : List X) → second ≡ first ++ more → third ≡ second ++ behind
-    → third ≡ first ++ (more ++ behind)
-in_turn first second third more behind one two = two ∙ ap (λ xs. xs ++ behind) one ∙ append_assoc first more behind
+pub in_turn : {X : Type 0} (first second third more following : List X) → second ≡ first ++ more
+    → third ≡ second ++ following
+    → third ≡ first ++ (more ++ following)
+in_turn first second third more following one two = two ∙ ap (λ xs. xs ++ following) one
+    ∙ append_assoc first more following
 
 -- ---- lists that are walked by index
 

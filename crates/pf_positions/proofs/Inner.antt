@@ -88,9 +88,9 @@ several_operands n ps (inr (inr p)) = sym (ap operands p.1)
 pub next_of : (t : Tables) (n : Node) (ps rest : List Operand) (done : ℕ) (u : Tree) (found : Option Tree)
     → tree_over t n ≡ u → ps ≡ operands n
     → rest ≡ drop done ps → found ≡ find takes_step (map (part_over t) rest) → found ≡ next_part done u
-next_of t n ps rest done u found nu are behind is =
+next_of t n ps rest done u found nu are following is =
     is
-    ∙ ap (λ (xs : List Operand). find takes_step (map (part_over t) xs)) (behind ∙ ap (drop done) are)
+    ∙ ap (λ (xs : List Operand). find takes_step (map (part_over t) xs)) (following ∙ ap (drop done) are)
     ∙ ap (find takes_step) (sym (drop-map (part_over t) done (operands n)))
     ∙ ap (λ (ts : List Tree). find takes_step (drop done ts)) (sym (parts_of t n))
     ∙ ap (next_part done) nu

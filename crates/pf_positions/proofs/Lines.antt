@@ -41,9 +41,9 @@ pub sooner : (ts : List PlacedToken) (a b end : ℕ) → a ≤ b → IsOrdered b
 sooner [] a b end le h = omega arith
 sooner (t ∷ ts) a b end le h = (omega (arith, h.0), h.1, h.2)
 
-pub ends_behind : (ts : List PlacedToken) (a end : ℕ) → IsOrdered a ts end → a ≤ end
-ends_behind [] a end h = h
-ends_behind (t ∷ ts) a end h = let k = ends_behind ts t.end end h.2 in omega (arith, h.0, h.1)
+pub ends_after : (ts : List PlacedToken) (a end : ℕ) → IsOrdered a ts end → a ≤ end
+ends_after [] a end h = h
+ends_after (t ∷ ts) a end h = let k = ends_after ts t.end end h.2 in omega (arith, h.0, h.1)
 
 -- the tokens of the functions are in order too
 chosen_ordered : (b : Bool) (ts us : List PlacedToken) (a end : ℕ) → IsOrdered a ts end → IsOrdered a us end

@@ -13,8 +13,8 @@ use Rattle.pf_positions.specs.declared.spot.Spot.{Spot}
 use Rattle.pf_positions.specs.declared.written.WrittenSign.{WrittenSign}
 use Rattle.pf_positions.specs.declared.places.Position.{Position}
 use Rattle.pf_positions.specs.Signs.{sign_number}
-use Rattle.pf_positions.specs.Placed.{AreAmong, AreAmongBelow, IsPlaceAt, spots_with_sign, has_number, line_behind}
-use Rattle.pf_positions.specs.Placed.{spot_node, place_in, told_lines}
+use Rattle.pf_positions.specs.Placed.{AreAmong, AreAmongBelow, IsPlaceAt, spots_with_sign, has_number, line_after}
+use Rattle.pf_positions.specs.Placed.{spot_node, place_in, reported_lines}
 
 -- the places of the signs below a number, and of the spots before an index that have the sign of this number
 pub record SoFar (number : ℕ) (spots : List Spot) (ws : List WrittenSign) (index : ℕ)
@@ -99,7 +99,7 @@ other_sign number spots ws index places s at other a = record {
   below = a.below;
   here = λ i n u lt h e k. elim (cases_lt i index) [
     | inl before ↦ a.here i n u before h e k
-    | inr behind ↦ (let same : i ≡ index = omega arith in
+    | inr following ↦ (let same : i ≡ index = omega arith in
         let is : u ≡ s = same_Some u s (sym h ∙ ap (slice_get spots) same ∙ at) in
         let num : sign_number s.sign ≡ number = ap (λ (x : Spot). sign_number x.sign) (sym is) ∙ e in
         absurd (grind (arith, nat_tests, other, num)))
@@ -116,7 +116,7 @@ no_node number spots ws index places s at none a = record {
   below = a.below;
   here = λ i n u lt h e k. elim (cases_lt i index) [
     | inl before ↦ a.here i n u before h e k
-    | inr behind ↦ (let same : i ≡ index = omega arith in
+    | inr following ↦ (let same : i ≡ index = omega arith in
         let is : u ≡ s = same_Some u s (sym h ∙ ap (slice_get spots) same ∙ at) in
         absurd (none-some n (sym none ∙ ap spot_node (sym is) ∙ k)))
   ];
@@ -138,20 +138,20 @@ some_kept before after node place put n some = kept (n == node) (place_in before
 pub put_here : (number : ℕ) (spots : List Spot) (ws : List WrittenSign) (index : ℕ)
     (before after : List (Option Position)) (s : Spot) (node : ℕ) (place : Position)
     → slice_get spots index ≡ Some s → spot_node s ≡ Some node
-    → place ≡ record { function = s.function; line = line_behind spots ws (take index spots) s.sign }
+    → place ≡ record { function = s.function; line = line_after spots ws (take index spots) s.sign }
     → IsPut before after node place → SoFar number spots ws index before → SoFar number spots ws (index + 1) after
 put_here number spots ws index before after s node place at is_node is_place put a = record {
   each = λ n p h. elim (cases_eq n node) [
     | inl same ↦ (let here : place_in after n ≡ Some place = put n ∙ grind (arith, nat_tests, same) in
         let is : p ≡ place = same_Some p place (sym h ∙ here) in
-        (index, record { spot = s; stands = at; node = is_node ∙ ap Some (sym same); place = is ∙ is_place }))
+        (index, record { spot = s; is_there = at; node = is_node ∙ ap Some (sym same); place = is ∙ is_place }))
     | inr other ↦ (let there : place_in after n ≡ place_in before n = put n ∙ grind (arith, nat_tests, other) in
         a.each n p (sym there ∙ h))
   ];
   below = λ i n u h lt k. some_kept before after node place put n (a.below i n u h lt k);
   here = λ i n u lt h e k. elim (cases_lt i index) [
     | inl earlier ↦ some_kept before after node place put n (a.here i n u earlier h e k)
-    | inr behind ↦ (let same : i ≡ index = omega arith in
+    | inr following ↦ (let same : i ≡ index = omega arith in
         let is : u ≡ s = same_Some u s (sym h ∙ ap (slice_get spots) same ∙ at) in
         let there : n ≡ node = same_Some n node (sym k ∙ ap spot_node is ∙ is_node) in
         let here : place_in after n ≡ Some place = put n ∙ grind (arith, nat_tests, there) in
@@ -168,12 +168,12 @@ no_spot = record { sign = Receive; function = record { 0 = 0 }; node = None }
 -- the line of this rank is that of the spot
 pub line_is : (number : ℕ) (spots : List Spot) (ws : List WrittenSign) (i : ℕ) (s : Sign) (shown lines : List ℕ)
     (rank : ℕ) (line : Option ℕ)
-    → has_number number s ≡ true → shown ≡ lines → lines ≡ told_lines number spots ws
+    → has_number number s ≡ true → shown ≡ lines → lines ≡ reported_lines number spots ws
     → rank ≡ spots_with_sign number (take i spots) → line ≡ slice_get shown rank
-    → line ≡ line_behind spots ws (take i spots) s
+    → line ≡ line_after spots ws (take i spots) s
 line_is number spots ws i s shown lines rank line has same are ranked read =
     let is : number ≡ sign_number s = grind (arith, nat_tests, has) in
     read
     ∙ ap (λ (ls : List ℕ). slice_get ls rank) (same ∙ are)
-    ∙ ap (slice_get (told_lines number spots ws)) ranked
-    ∙ ap (λ (n : ℕ). slice_get (told_lines n spots ws) (spots_with_sign n (take i spots))) is
+    ∙ ap (slice_get (reported_lines number spots ws)) ranked
+    ∙ ap (λ (n : ℕ). slice_get (reported_lines n spots ws) (spots_with_sign n (take i spots))) is

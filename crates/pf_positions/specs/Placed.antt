@@ -24,13 +24,14 @@ abbrev pub sign_lines : ℕ → List WrittenSign → List ℕ
 sign_lines n ws = map (λ w. w.line) (filter (λ w. has_number n w.sign) ws)
 
 -- the same, where the sign is written as often as there are spots of it; else none is reported
-abbrev pub told_lines : ℕ → List Spot → List WrittenSign → List ℕ
-told_lines n spots ws = if length (sign_lines n ws) == spots_with_sign n spots then sign_lines n ws else []
+abbrev pub reported_lines : ℕ → List Spot → List WrittenSign → List ℕ
+reported_lines n spots ws = if length (sign_lines n ws) == spots_with_sign n spots then sign_lines n ws else []
 
 -- the line of the spot after these: its sign is written there, after as many of its kind as there are spots of it
 -- before
-abbrev pub line_behind : (spots : List Spot) (ws : List WrittenSign) (before : List Spot) → Sign → Option ℕ
-line_behind spots ws before s = slice_get (told_lines (sign_number s) spots ws) (spots_with_sign (sign_number s) before)
+abbrev pub line_after : (spots : List Spot) (ws : List WrittenSign) (before : List Spot) → Sign → Option ℕ
+line_after spots ws before s = slice_get (reported_lines (sign_number s) spots ws)
+    (spots_with_sign (sign_number s) before)
 
 -- the number of the node that a spot is the sign of
 abbrev pub spot_node : Spot → Option ℕ
@@ -39,9 +40,9 @@ spot_node s = option_map (λ n. n.0) s.node
 -- a place is that of the spot of this index, which is the sign of this node
 pub record IsPlaceAt (spots : List Spot) (ws : List WrittenSign) (i n : ℕ) (p : Position) : Type 0 where
   pub spot : Spot
-  pub stands : slice_get spots i ≡ Some spot
+  pub is_there : slice_get spots i ≡ Some spot
   pub node : spot_node spot ≡ Some n
-  pub place : p ≡ record { function = spot.function; line = line_behind spots ws (take i spots) spot.sign }
+  pub place : p ≡ record { function = spot.function; line = line_after spots ws (take i spots) spot.sign }
 
 -- the place of a node, if there is one
 abbrev pub place_in : List (Option Position) → ℕ → Option Position

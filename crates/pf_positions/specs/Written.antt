@@ -56,17 +56,17 @@ opens (token.mark marks.OpenParenthesis) = true
 opens k = false
 
 -- a name is a sign if a parenthesis opens after it
-abbrev pub name_sign : (behind : List PlacedToken) → Option Sign
+abbrev pub name_sign : (following : List PlacedToken) → Option Sign
 name_sign [] = None
 name_sign (t ∷ ts) = if opens t.kind then Some signs.Name else None
 
 -- the sign that a token is before these others
-abbrev pub token_sign : TokenKind → (behind : List PlacedToken) → Option Sign
-token_sign (token.mark m) behind = mark_sign m
-token_sign (token.reserved r) behind = word_sign r
-token_sign (token.atom name) behind = name_sign behind
-token_sign token.own_module behind = name_sign behind
-token_sign k behind = None
+abbrev pub token_sign : TokenKind → (following : List PlacedToken) → Option Sign
+token_sign (token.mark m) following = mark_sign m
+token_sign (token.reserved r) following = word_sign r
+token_sign (token.atom name) following = name_sign following
+token_sign token.own_module following = name_sign following
+token_sign k following = None
 
 -- ---- sources
 

@@ -22,7 +22,7 @@ fn node_of(module: &Module, operand: Operand) -> Option<NodeId>
 }
 
 /// The operands after those that are done.
-fn behind(operands: &[Operand], done: usize) -> &[Operand]
+fn following(operands: &[Operand], done: usize) -> &[Operand]
     ensures { result.now ≡ drop done operands.now }
 {
     &operands[done.min(operands.len())..]
@@ -48,17 +48,17 @@ fn next_part(module: &Module, id: NodeId, done: usize) -> Option<NodeId>
 {
     match module.node(id)? {
         Node::Tuple(parts) | Node::Call(_, parts) | Node::Builtin(_, parts) => {
-            first_node(module, behind(parts.as_slice(), done))
+            first_node(module, following(parts.as_slice(), done))
         }
         Node::Cons(a, b) | Node::Binary(_, a, b) | Node::Send(a, b) => {
-            first_node(module, behind(&[*a, *b], done))
+            first_node(module, following(&[*a, *b], done))
         }
         Node::Negate(a)
         | Node::AndAlso(a, _)
         | Node::OrElse(a, _)
         | Node::Match(_, a)
         | Node::Bind(_, a, _)
-        | Node::Case(a, _) => first_node(module, behind(&[*a], done)),
+        | Node::Case(a, _) => first_node(module, following(&[*a], done)),
         Node::If(_) | Node::Receive(_) => None,
     }
 }
@@ -69,10 +69,10 @@ pub(crate) fn innermost(module: &Module, node: NodeId, done: Option<u32>) -> Nod
         (tree_at module.now.tables result.0) }
 {
     let mut at = node;
-    let mut behind = done.unwrap_or(0) as usize;
-    while let Some(part) = next_part(module, at, behind) {
+    let mut following = done.unwrap_or(0) as usize;
+    while let Some(part) = next_part(module, at, following) {
         at = part;
-        behind = 0;
+        following = 0;
     }
     at
 }

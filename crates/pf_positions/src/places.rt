@@ -4,7 +4,7 @@ ghost use Rattle.std.specs.Prelude.{◌≡◌, ◌+◌, ◌==◌, [], ℕ, IfOk,
 ghost use Rattle.pf_syntax.specs.Module.{tree_at};
 ghost use Rattle.pf_positions.specs.Innermost.{IsInnermostAt};
 ghost use Rattle.pf_positions.specs.Placed.{AreAmongBelow, ArePlaces, spots_with_sign, has_number, sign_lines};
-ghost use Rattle.pf_positions.specs.Placed.{place_in, told_lines};
+ghost use Rattle.pf_positions.specs.Placed.{place_in, reported_lines};
 
 use crate::functions::spots_of;
 use crate::innermost::innermost;
@@ -69,13 +69,13 @@ fn lines_of(alloc: Global, written: &[WrittenSign], number: u8) -> Result<Vec<u3
 }
 
 /// The same, where the sign is written as often as there are spots of it; else none is reported.
-fn told_lines(
+fn reported_lines(
     alloc: Global,
     spots: &[Spot],
     written: &[WrittenSign],
     number: u8,
 ) -> Result<Vec<u32>, NoMemory>
-    ensures { IfOk result (λ lines. lines.items ≡ told_lines number spots.now written.now) }
+    ensures { IfOk result (λ lines. lines.items ≡ reported_lines number spots.now written.now) }
 {
     let lines = lines_of(alloc, written, number)?;
     if lines.len() == count_of(spots, number) {
@@ -116,7 +116,7 @@ impl Positions {
         requires { AreAmongBelow number spots.now written.now self.old }
         ensures { OnOk result (AreAmongBelow (number + 1) spots.now written.now self.new) }
     {
-        let lines = told_lines(alloc, spots, written, number)?;
+        let lines = reported_lines(alloc, spots, written, number)?;
         let mut rank = 0;
         for spot in spots {
             if has_number(spot.sign, number) {

@@ -57,23 +57,23 @@ fn word_sign(word: Reserved) -> Option<Sign>
 }
 
 /// A name is a sign if a parenthesis opens after it.
-fn name_sign(behind: &[Token]) -> Option<Sign>
-    ensures { result ≡ name_sign (map placed_of behind.now) }
+fn name_sign(following: &[Token]) -> Option<Sign>
+    ensures { result ≡ name_sign (map placed_of following.now) }
 {
-    match behind.first()?.kind {
+    match following.first()?.kind {
         TokenForm::Mark(TokenMark::OpenParenthesis) => Some(Sign::Name),
         _ => None,
     }
 }
 
 /// The sign that a token is before these others.
-fn token_sign(kind: &TokenForm, behind: &[Token]) -> Option<Sign>
-    ensures { result ≡ token_sign (kind_of kind.now) (map placed_of behind.now) }
+fn token_sign(kind: &TokenForm, following: &[Token]) -> Option<Sign>
+    ensures { result ≡ token_sign (kind_of kind.now) (map placed_of following.now) }
 {
     match kind {
         TokenForm::Mark(mark) => mark_sign(*mark),
         TokenForm::Reserved(word) => word_sign(*word),
-        TokenForm::Atom(_) | TokenForm::Module => name_sign(behind),
+        TokenForm::Atom(_) | TokenForm::Module => name_sign(following),
         _ => None,
     }
 }

@@ -60,7 +60,7 @@ pub record At (k : KnownRun) (d : Configuration) (h : RunLeadsTo k d) (i : ℕ) 
   pub marked : Marked (module_of_run k) (choose_by_picks h.picks) d h.made 0 k.limit (start k.root.0 k.edition)
       h.transitions h.steps i here s.steps made
   pub module_is : s.checked ≡ checked_of k
-  pub stands : s.standing ≡ Some here
+  pub is_there : s.standing ≡ Some here
   pub begun : AreBegun k here fs
 
 abbrev pub root_of : KnownRun → Begun
@@ -85,7 +85,7 @@ at_start k d h s fs e g =
           h.transitions h.steps zero (start k.root.0 k.edition) n 0)
           (sym (ap (λ z. z.steps) e)) (here 0 k.limit (start k.root.0 k.edition) h.transitions h.steps h.goes);
       module_is = ap (λ z. z.checked) e;
-      stands = ap (λ z. z.standing) e;
+      is_there = ap (λ z. z.standing) e;
       begun = subst (AreBegun k (start k.root.0 k.edition)) (sym g)
           (record { count = refl; pids = λ p b q. (root_began k p b q).0; each = λ p b q. (root_began k p b q).1 });
     }
@@ -137,7 +137,7 @@ module _ (k : KnownRun) (d : Configuration) (h : RunLeadsTo k d) (i : ℕ) (s : 
     actor = same_Some went.0 t.actor (sym went.1 ∙ chosen_there)
 
     before : passes.before ≡ a.here
-    before = same_Some passes.before a.here (sym passes.was ∙ a.stands)
+    before = same_Some passes.before a.here (sym passes.was ∙ a.is_there)
 
     as_it_passes : Passes m (k.limit - s.steps) a.here t.actor passes.passed
     as_it_passes =
@@ -157,8 +157,8 @@ module _ (k : KnownRun) (d : Configuration) (h : RunLeadsTo k d) (i : ℕ) (s : 
     abbrev pub after : Configuration
     after = b.passed.after
 
-    pub stands : s'.standing ≡ Some after
-    stands = ap (λ z. z.standing) passes.becomes ∙ ap (λ z. Some z.after) same
+    pub is_there : s'.standing ≡ Some after
+    is_there = ap (λ z. z.standing) passes.becomes ∙ ap (λ z. Some z.after) same
 
     shows : l ≡ b.passed.label
     shows = passes.label ∙ ap (λ z. z.label) same
@@ -203,7 +203,7 @@ module _ (k : KnownRun) (d : Configuration) (h : RunLeadsTo k d) (i : ℕ) (s : 
           marked = next;
           module_is = ap (λ z. z.checked) passes.becomes
               ∙ a.module_is;
-          stands = stands;
+          is_there = is_there;
           begun = g;
         }
 
@@ -244,7 +244,7 @@ module _ (k : KnownRun) (d : Configuration) (h : RunLeadsTo k d) (i : ℕ) (s : 
               event = e;
               is = at;
               begins = ap begun_in event_shows ∙ n ∙ ap (λ z. Some z) its_pid;
-              behind = after;
+              following = after;
               comes = comes;
               calls = subst (λ z. IsCalled (checked_of k) (of after.core z).state f) its_pid
                   (subst (λ z. IsCalled z (of after.core pid).state f) its_module calls);
@@ -277,6 +277,6 @@ followed k d h i f a few most =
     let same = at_last k d h i f.system f.begun.items a all in
     record {
       module_is = a.module_is;
-      stands = a.stands ∙ ap (λ z. Some z) same;
+      is_there = a.is_there ∙ ap (λ z. Some z) same;
       begun = subst (λ z. AreBegun k z f.begun.items) same a.begun;
     }

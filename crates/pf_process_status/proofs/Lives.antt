@@ -57,8 +57,8 @@ and_one None bs = bs
 and_one (Some p) bs = bs ++ true ∷ []
 
 -- who lives after what an actor shows, if these did before
-abbrev pub behind : Actor → Label → List Bool → List Bool
-behind x l bs = and_one (begun_in l) (without (who_ends x l) bs)
+abbrev pub following : Actor → Label → List Bool → List Bool
+following x l bs = and_one (begun_in l) (without (who_ends x l) bs)
 
 -- a process that begins has this pid
 abbrev pub IsNext : Label → ℕ → Type 0
@@ -97,7 +97,7 @@ ends_here c a e = set_map lives a c.processes (fresh (ended e) [])
 -- of what an action of a process makes: the process lives, and who lives else is shown
 record Steady (c : Core) (a : ℕ) (x : Acted) : Type 0 where
   here : lives (of x.left.core a) ≡ true
-  shows : lives_in x.left.core ≡ behind (actors.Process a) x.label (lives_in c)
+  shows : lives_in x.left.core ≡ following (actors.Process a) x.label (lives_in c)
   next : IsNext x.label (length c.processes)
 
 begun_lives : (o : Option ℕ) (vs : Values) → is_alive (begun o vs) ≡ true
@@ -233,7 +233,7 @@ module _ (c : Core) (a : ℕ) (here : lives (of c a) ≡ true) where
 
 -- a deed shows who lives after it
 record Shows (x : Actor) (c : Core) (d : Deed) : Type 0 where
-  shows : lives_in d.left.core ≡ behind x d.label (lives_in c)
+  shows : lives_in d.left.core ≡ following x d.label (lives_in c)
   next : IsNext d.label (length c.processes)
 
 module _ (a : ℕ) (c : Core) (here : lives (of c a) ≡ true) where
@@ -347,7 +347,8 @@ exit_by_link_shows c b here a r = either a b c (has a (of c b).links) (exit_at d
 
     linked : Strikes a b c (exit_at d a b true r)
     linked = record {
-      shows = there.shows ∙ ap (behind (actors.Channel a b) (exit_at d a b true r).label) (kept c b unlinked here here);
+      shows = there.shows ∙ ap (following (actors.Channel a b) (exit_at d a b true r).label)
+          (kept c b unlinked here here);
       next = subst (IsNext (exit_at d a b true r).label) (set_length b c.processes unlinked) there.next;
     }
 
@@ -381,7 +382,7 @@ delivered_shows c a b s = by (is_alive (of c b).state) refl
 
 -- who lives after a transition is shown
 pub pass_lives : (m : Module) (n : ℕ) (c : Configuration) (x : Actor) (p : Passed) → Passes m n c x p
-    → lives_in p.after.core ≡ behind x p.label (lives_in c.core)
+    → lives_in p.after.core ≡ following x p.label (lives_in c.core)
 pass_lives m n c _ _ (turn a k d t) =
     (turn_shows a c.core (turn_lives m a c.core n (of c.core a).state d k t) m n (of c.core a).state d k t).shows
 pass_lives m n c _ _ (delivery a b s cs e) = (delivered_shows c.core a b s).shows
@@ -421,9 +422,9 @@ spared_and_one q None bs h = h
 spared_and_one q (Some p) bs h = spared_more q bs h
 
 -- a process that an event doesn't end lives on
-pub spared_behind : (q : ℕ) (x : Actor) (l : Label) (bs : List Bool) → (who_ends x l ≡ Some q → ⊥) → Spared q bs
-    → Spared q (behind x l bs)
-spared_behind q x l bs n h = spared_and_one q (begun_in l) (without (who_ends x l) bs)
+pub spared_after : (q : ℕ) (x : Actor) (l : Label) (bs : List Bool) → (who_ends x l ≡ Some q → ⊥) → Spared q bs
+    → Spared q (following x l bs)
+spared_after q x l bs n h = spared_and_one q (begun_in l) (without (who_ends x l) bs)
     (spared_without q (who_ends x l) bs n h)
 
 -- ---- how many there are
@@ -440,8 +441,8 @@ length_and_one : (o : Option ℕ) (bs : List Bool) → length (and_one o bs) ≡
 length_and_one None bs = refl
 length_and_one (Some p) bs = more_length bs true
 
-length_behind : (x : Actor) (l : Label) (bs : List Bool) → length (behind x l bs) ≡ as_many (begun_in l) (length bs)
-length_behind x l bs = length_and_one (begun_in l) (without (who_ends x l) bs) ∙ ap (as_many (begun_in l))
+length_after : (x : Actor) (l : Label) (bs : List Bool) → length (following x l bs) ≡ as_many (begun_in l) (length bs)
+length_after x l bs = length_and_one (begun_in l) (without (who_ends x l) bs) ∙ ap (as_many (begun_in l))
     (length_without (who_ends x l) bs)
 
 -- there is one process more after a transition that begins one, and as many after all others
@@ -449,4 +450,4 @@ pub pass_count : (m : Module) (n : ℕ) (c : Configuration) (x : Actor) (p : Pas
     → length p.after.core.processes ≡ as_many (begun_in p.label) (length c.core.processes)
 pass_count m n c x p h =
     sym (length-map p.after.core.processes lives) ∙ ap length (pass_lives m n c x p h)
-    ∙ length_behind x p.label (lives_in c.core) ∙ ap (as_many (begun_in p.label)) (length-map c.core.processes lives)
+    ∙ length_after x p.label (lives_in c.core) ∙ ap (as_many (begun_in p.label)) (length-map c.core.processes lives)

@@ -8,7 +8,7 @@ use Rattle.pf_model.specs.Configuration.{Configuration, Process, is_alive, of, p
 use Rattle.pf_model.specs.Module.{Module}
 use Rattle.pf_model.specs.Runs.{Goes, stays, more, next_state, Transition, start}
 use Rattle.pf_process_status.specs.Fates.{who_ends}
-use Rattle.pf_process_status.proofs.Lives.{Spared, lives, lives_in, pass_lives, spared_behind}
+use Rattle.pf_process_status.proofs.Lives.{Spared, lives, lives_in, pass_lives, spared_after}
 
 -- ---- who lives
 
@@ -23,7 +23,7 @@ goes_spared m q choose _ _ _ _ _ _ _ (stays s n c) none h = h
 goes_spared m q choose _ _ _ _ _ _ _ (more s n c x p ts d k t e pass rest) none h =
     goes_spared m q choose (next_state choose s c) (suc n - p.used) p.after ts d k t rest (λ i u. none (suc i) u)
     (subst (Spared q) (sym (pass_lives m (suc n) c x p pass))
-    (spared_behind q x p.label (lives_in c.core) (none zero _ refl) h))
+    (spared_after q x p.label (lives_in c.core) (none zero _ refl) h))
 
 lives_at : (ps : List Process) (q : ℕ) → q < length ps → Spared q (map lives ps) → lives (process_at q ps) ≡ true
 lives_at [] q l h = absurd (omega arith)

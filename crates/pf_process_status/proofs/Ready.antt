@@ -57,7 +57,7 @@ or_waits (ending r) h e = absurd (cc)
 or_waits (ended x) h e = absurd (cc)
 
 -- where a process that lives is
-pub stands_there : (P : Point → Type 0) (s : ProcessState) (o : Option Point) → is_alive s ≡ true
+pub is_there_still : (P : Point → Type 0) (s : ProcessState) (o : Option Point) → is_alive s ≡ true
     → MatchOption o (is_alive s ≡ false) P → P (unwrap_or o p.Nowhere)
-stands_there P s None h e = let never : true ≡ false = sym h ∙ e in absurd (cc)
-stands_there P s (Some x) h e = e
+is_there_still P s None h e = let never : true ≡ false = sym h ∙ e in absurd (cc)
+is_there_still P s (Some x) h e = e

@@ -13,7 +13,7 @@ use Rattle.pf_system.proofs.Bodies.{more_length}
 use Rattle.pf_process_status.specs.Fates.{AreStandings, Began, EndsAt, HasEnded, LivesSo}
 use Rattle.pf_process_status.specs.Followed.{AreByPid, IsFollowed}
 use Rattle.pf_process_status.specs.Known.{RunLeadsTo, checked_of, module_of_run, events_of}
-use Rattle.pf_process_status.specs.Put.{AreAtEnd, ArePlaced, AreStanding, IsAlike, NoneBelow, TellEnds}
+use Rattle.pf_process_status.specs.Put.{AreAtEnd, ArePlaced, AreStanding, IsAlike, NoneBelow, ReportsEnds}
 use Rattle.pf_process_status.specs.declared.follow.Begun.{Begun}
 use Rattle.pf_process_status.specs.declared.follow.Followed.{Followed}
 use Rattle.pf_process_status.specs.declared.known.KnownRun.{KnownRun}
@@ -95,9 +95,10 @@ module _ (k : KnownRun) (d : Configuration) (h : RunLeadsTo k d) where
       there
 
   -- a process that no event ended lives, and all others ended
-  pub stand : (xs ys zs : List ProcessStatus) → AreAtEnd k d xs → TellEnds (events_of k) (length (events_of k)) xs ys
+  pub are_there : (xs ys zs : List ProcessStatus) → AreAtEnd k d xs
+      → ReportsEnds (events_of k) (length (events_of k)) xs ys
       → ArePlaced ys zs → AreStandings k d zs
-  stand xs ys zs a t b = record {
+  are_there xs ys zs a t b = record {
     count = b.count ∙ t.count ∙ a.count;
     pids = λ p z s.
         let q = b.each p z s in

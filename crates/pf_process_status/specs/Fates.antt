@@ -103,9 +103,9 @@ pub record BeganBy (k : KnownRun) (p : ℕ) (f : Option FunctionId) : Type 0 whe
   pub event : Event
   pub is : slice_get (events_of k) number ≡ Some event
   pub begins : begun_in event.label ≡ Some p
-  pub behind : Configuration
-  pub comes : Comes k (take (suc number) (events_of k)) behind
-  pub calls : IsCalled (checked_of k) (of behind.core p).state f
+  pub following : Configuration
+  pub comes : Comes k (take (suc number) (events_of k)) following
+  pub calls : IsCalled (checked_of k) (of following.core p).state f
 
 -- the function in whose call a process began, if it began in one: the root is called at the start
 abbrev pub Began : KnownRun → (p : ℕ) → Option FunctionId → Type 0

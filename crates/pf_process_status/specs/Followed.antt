@@ -32,5 +32,5 @@ pub record AreBegun (k : KnownRun) (c : Configuration) (bs : List Begun) : Type 
 -- a run of a module was made to this configuration, and it is known in whose calls its processes began
 pub record IsFollowed (k : KnownRun) (d : Configuration) (f : Followed) : Type 0 where
   pub module_is : f.system.checked ≡ checked_of k
-  pub stands : f.system.standing ≡ Some d
+  pub is_there : f.system.standing ≡ Some d
   pub begun : AreBegun k d f.begun.items

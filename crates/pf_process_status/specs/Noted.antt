@@ -92,7 +92,7 @@ TakePoints fs xs =
 
 -- the processes that failed in these events have the places that were noted as the events were made, of each failure
 -- one
-pub record TellPoints (es : List Event) (xs : List ProcessStatus) : Type 0 where
+pub record ReportsPoints (es : List Event) (xs : List ProcessStatus) : Type 0 where
   pub notes : Notes
   pub made : AreMade es (length es) notes
   pub noted : AreNoted es (length es) notes.failed.items

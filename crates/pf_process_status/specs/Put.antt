@@ -47,8 +47,8 @@ NoneBelow es n p = (i : ℕ) (e : Event) → i < n → slice_get es i ≡ Some e
 
 -- a process that an event below this number ended has the fate of one that ended, and all others have the one that they
 -- had
-abbrev pub TellEnds : List Event → ℕ → List ProcessStatus → List ProcessStatus → Type 0
-TellEnds es n = Are (λ p x y. HasEnded es p y ⊎ ((y ≡ x) × NoneBelow es n p))
+abbrev pub ReportsEnds : List Event → ℕ → List ProcessStatus → List ProcessStatus → Type 0
+ReportsEnds es n = Are (λ p x y. HasEnded es p y ⊎ ((y ≡ x) × NoneBelow es n p))
 
 -- the fate is the same but for the point at which a process failed
 abbrev pub IsAlike : ProcessFate → ProcessFate → Type 0

@@ -107,19 +107,46 @@ pub(crate) struct Notes {
     raised: Vec<FailedProcess>,
 }
 
-/// Makes an event again: the point before its last step, if it is asked for.
+/// Whether the point before the last step of an event is asked for: its action raised, or a process failed in it.
+fn asks_point(event: &Event) -> bool {
+    raised_in(event).is_some() || failed_in(event).is_some()
+}
+
+/// How many events have to be made again to come to the last of which the point is asked for.
+fn events_to_make(events: &[Event]) -> usize {
+    let mut count = 0;
+    for event in 0..events.len() {
+        if asks_point(&events[event]) {
+            count = event.saturating_add(1);
+        }
+    }
+    count
+}
+
+/// A run that is made again, and how many of its events are: nothing is asked of those after them.
+#[derive(Drop)]
+struct RemadeRun {
+    system: System,
+    events: usize,
+}
+
+/// Makes an event again, if that has to be: the point before its last step, if it is asked for.
 fn made(
     alloc: Global,
     run: &KnownRun,
-    system: &mut System,
-    told: &Event,
-    asked: bool,
+    again: &mut RemadeRun,
+    event: usize,
+    reported: &Event,
 ) -> Result<Option<Point>, NoMemory> {
-    if asked {
-        return last_point(alloc, system, told.choice, run.limit);
+    if event >= again.events {
+        return Ok(None);
+    }
+    let system = &mut again.system;
+    if asks_point(reported) {
+        return last_point(alloc, system, reported.choice, run.limit);
     }
     let mut shown = Label::Waits;
-    go(alloc, system, told.choice, run.limit, &mut shown)?;
+    go(alloc, system, reported.choice, run.limit, &mut shown)?;
     Ok(None)
 }
 
@@ -178,47 +205,49 @@ impl Notes {
         &mut self,
         alloc: Global,
         run: &KnownRun,
-        system: &mut System,
+        again: &mut RemadeRun,
         event: usize,
-        told: &Event,
+        reported: &Event,
     ) -> Result<(), NoMemory>
-        ensures { OnOk result (IsMade event (view_of_event told.now) self.old self.new) }
+        ensures { OnOk result (IsMade event (view_of_event reported.now) self.old self.new) }
     {
-        let raising = raised_in(told);
-        let failing = failed_in(told);
-        let asked = raising.is_some() || failing.is_some();
-        let point = made(alloc, run, system, told, asked)?;
+        let raising = raised_in(reported);
+        let failing = failed_in(reported);
+        let point = made(alloc, run, again, event, reported)?;
         self.note(event, raising, failing, point)
     }
 
-    /// Makes the events of a run again, and notes who failed in them.
+    /// Makes the events of a run again as far as that has to be, and notes who failed in them.
     fn make_all(
         &mut self,
         alloc: Global,
         run: &KnownRun,
-        system: &mut System,
+        again: &mut RemadeRun,
     ) -> Result<(), NoMemory>
         requires failed { self.old.failed.items ≡ [] }
         requires raised { self.old.raised.items ≡ [] }
         ensures { OnOk result (AreMade (events_of run.now) (length (events_of run.now)) self.new) }
     {
         for event in 0..run.events.len() {
-            self.make(alloc, run, system, event, &run.events[event])?;
+            self.make(alloc, run, again, event, &run.events[event])?;
         }
         Ok(())
     }
 }
 
-/// Makes a run again: who failed in it, and where.
+/// Makes a run again up to where the last process failed or action raised: who failed in it, and where.
 pub(crate) fn failures(alloc: Global, run: &KnownRun) -> Result<Notes, NoMemory>
     requires { IsEdition run.now.edition }
     ensures { IfOk result (λ notes. AreMade (events_of run.now) (length (events_of run.now)) notes) }
 {
-    let mut system = System::new(alloc, run.module, run.root, run.edition)?;
+    let mut again = RemadeRun {
+        system: System::new(alloc, run.module, run.root, run.edition)?,
+        events: events_to_make(run.events),
+    };
     let mut notes = Notes {
         failed: Vec::new(alloc),
         raised: Vec::new(alloc),
     };
-    notes.make_all(alloc, run, &mut system)?;
+    notes.make_all(alloc, run, &mut again)?;
     Ok(notes)
 }

@@ -133,10 +133,10 @@ fn put_reason(out: &mut Vec<u8>, run: &KnownRun, event: usize) -> Result<(), NoM
     ensures { OnOk result (out.new.items ≡ out.old.items
         ++ reason_text run.now.module.now.value.atoms (slice_get (events_of run.now) event)) }
 {
-    let Some(told) = run.events.get(event) else {
+    let Some(reported) = run.events.get(event) else {
         return Ok(());
     };
-    if let Label::Ends(reason) = &told.label {
+    if let Label::Ends(reason) = &reported.label {
         put(out, b" with ")?;
         put_term(out, run.module.atoms(), reason)?;
     }

@@ -8,8 +8,8 @@ ghost use Rattle.pf_process_status.specs.Fates.{AreStandings, EndsAt, HasEnded, 
 ghost use Rattle.pf_process_status.specs.Followed.{AreByPid};
 ghost use Rattle.pf_process_status.specs.Known.{RunLeadsTo, events_of};
 ghost use Rattle.pf_process_status.specs.Lines.{AreNames, name_text};
-ghost use Rattle.pf_process_status.specs.Put.{AreAtEnd, ArePlaced, AreStanding, IsPut, TellEnds, failed_at};
-ghost use Rattle.pf_process_status.specs.Noted.{PutsPoint, TakePoints, TellPoints};
+ghost use Rattle.pf_process_status.specs.Put.{AreAtEnd, ArePlaced, AreStanding, IsPut, ReportsEnds, failed_at};
+ghost use Rattle.pf_process_status.specs.Noted.{PutsPoint, TakePoints, ReportsPoints};
 ghost use Rattle.pf_process_status.specs.declared.standing.ProcessStatus.{ProcessStatus};
 
 use crate::ends::{EndedProcess, ProcessEnd, ended_in};
@@ -81,7 +81,7 @@ fn put_fate(standings: &mut Vec<ProcessStatus>, pid: u32, fate: ProcessFate)
 
 /// Puts who ended.
 fn put_ends(standings: &mut Vec<ProcessStatus>, run: &KnownRun)
-    ensures { TellEnds (events_of run.now) (length (events_of run.now))
+    ensures { ReportsEnds (events_of run.now) (length (events_of run.now))
         standings.old.items standings.new.items }
 {
     for event in 0..run.events.len() {
@@ -137,9 +137,9 @@ fn standing_so_far(alloc: Global, run: &KnownRun) -> Result<Vec<ProcessStatus>, 
 /// The processes of a run when it is over, by pid: the run is made again by its choices, twice.
 pub fn standings(alloc: Global, run: &KnownRun) -> Result<Vec<ProcessStatus>, NoMemory>
     requires { IsEdition run.now.edition }
-    ensures stand { IfOk result (λ v. (d : Configuration) → RunLeadsTo run.now d
+    ensures are_there { IfOk result (λ v. (d : Configuration) → RunLeadsTo run.now d
         → AreStandings run.now d v.items) }
-    ensures points { IfOk result (λ v. TellPoints (events_of run.now) v.items) }
+    ensures points { IfOk result (λ v. ReportsPoints (events_of run.now) v.items) }
 {
     let mut standings = standing_so_far(alloc, run)?;
     put_ends(&mut standings, run);

@@ -11,7 +11,7 @@ use Rattle.pf_errors.specs.declared.fault.OrNoMemory.TheVariants.{Fault}
 use Rattle.pf_tokens.specs.TokenKinds.{TokenKind, PlacedToken, own_module}
 use Rattle.pf_tokens.specs.Rules.{HasTokens}
 use Rattle.pf_tokens.specs.Scan.{Read, tokens}
-use Rattle.pf_tokens.proofs.Texts.{Tells, tokens_tell}
+use Rattle.pf_tokens.proofs.Texts.{Reports, tokens_report}
 use Rattle.pf_syntax.specs.Pattern.{Pattern}
 use Rattle.pf_syntax.specs.ExprPattern.{ExprPattern}
 use Rattle.pf_tokens.specs.NumberedTokens.{atoms_after, numbered_after}
@@ -21,7 +21,7 @@ use Rattle.pf_lower.proofs.Patterns_alone.{some_alone}
 use Rattle.pf_model.specs.Properties.{Property, returns, returns_true, no_crash, no_deadlock, within_limit, never}
 use Rattle.pf_property.specs.Texts.{IsPropertyOf, ReadsPattern, ReadsProperty}
 use Rattle.pf_property.proofs.Patterns_read.{no_tokens, without_pattern}
-use Rattle.pf_property.proofs.One.{none_behind}
+use Rattle.pf_property.proofs.One.{none_after}
 
 -- ---- `?MODULE`
 
@@ -68,15 +68,15 @@ module _ (names : List (List ℕ)) where
 
       by_module : LacksModule ts ⊎ (LacksModule ts → ⊥) → PatternOrNone
       by_module (inl lacks) = by_reading lacks (read_by (atoms_after names ts) (numbered_after names ts)) refl
-      by_module (inr stands) = none_derives (λ q d. stands d.no_module)
+      by_module (inr is_there) = none_derives (λ q d. is_there d.no_module)
 
-    by_tokens : (read : Read (List PlacedToken)) → Tells text read → PatternOrNone
+    by_tokens : (read : Read (List PlacedToken)) → Reports text read → PatternOrNone
     by_tokens (Ok ts) has = by_module ts has (lacks_or_has ts)
     by_tokens (Err e) fault = inr (λ p r. no_tokens text (record { code = e.0; offset = e.1 }) fault
         (r.tokens, r.has_tokens))
 
     pattern_or_none : PatternOrNone
-    pattern_or_none = by_tokens (tokens text) (tokens_tell text)
+    pattern_or_none = by_tokens (tokens text) (tokens_report text)
 
   -- ---- properties
 
@@ -91,9 +91,9 @@ module _ (names : List (List ℕ)) where
         by true e = inl ((bytes_eq-Decides bytes word).0 e)
         by false e = inr (λ h. let same = (bytes_eq-Decides bytes word).1 h in cc)
 
-    behind : (text : List ℕ) → bytes ≡ codes "never:" ++ text → PatternOrNone text → Outcomes
-    behind text e (inl found) = (Some (never found.0), (text, e, found.1))
-    behind text e (inr none) = (None, none_behind names bytes text e none)
+    after : (text : List ℕ) → bytes ≡ codes "never:" ++ text → PatternOrNone text → Outcomes
+    after text e (inl found) = (Some (never found.0), (text, e, found.1))
+    after text e (inr none) = (None, none_after names bytes text e none)
 
     prefix_or_none : ((text : List ℕ) × (bytes ≡ codes "never:" ++ text)) ⊎ ((text : List ℕ)
         → bytes ≡ codes "never:" ++ text → ⊥)
@@ -137,7 +137,7 @@ module _ (names : List (List ℕ)) where
                                   | inl h ↦ (Some within_limit, h)
                                   | inr e ↦
                                       elim prefix_or_none [
-                                        | inl h ↦ behind h.0 h.1 (pattern_or_none h.0)
+                                        | inl h ↦ after h.0 h.1 (pattern_or_none h.0)
                                         | inr f ↦
                                             (None, none_of_all a b c d e f)
                                       ]

@@ -29,8 +29,8 @@ IsBare within_limit = Unit {0}
 IsBare (never p) = ⊥
 
 -- what bytes are but for a pattern, where they are a property
-abbrev told : List ℕ → Property
-told bytes =
+abbrev reported : List ℕ → Property
+reported bytes =
     if bytes_eq bytes (codes "returns") then returns
     else if bytes_eq bytes (codes "true") then returns_true
     else if bytes_eq bytes (codes "nocrash") then no_crash
@@ -50,16 +50,16 @@ same_rest : (text other : List ℕ) → codes "never:" ++ text ≡ codes "never:
 same_rest text other e = cc
 
 module _ (names : List (List ℕ)) (bytes : List ℕ) where
-  tells : (p : Property) → ReadsProperty names bytes p → bare p ≡ told bytes
-  tells returns e = sym (ap told e)
-  tells returns_true e = sym (ap told e)
-  tells no_crash e = sym (ap told e)
-  tells no_deadlock e = sym (ap told e)
-  tells within_limit e = sym (ap told e)
-  tells (never p) h = sym (ap told h.1)
+  reports : (p : Property) → ReadsProperty names bytes p → bare p ≡ reported bytes
+  reports returns e = sym (ap reported e)
+  reports returns_true e = sym (ap reported e)
+  reports no_crash e = sym (ap reported e)
+  reports no_deadlock e = sym (ap reported e)
+  reports within_limit e = sym (ap reported e)
+  reports (never p) h = sym (ap reported h.1)
 
   alike : (p q : Property) → ReadsProperty names bytes p → ReadsProperty names bytes q → bare p ≡ bare q
-  alike p q a b = tells p a ∙ sym (tells q b)
+  alike p q a b = reports p a ∙ sym (reports q b)
 
   pub at_most_one : (p q : Property) → ReadsProperty names bytes p → ReadsProperty names bytes q → p ≡ q
   at_most_one returns q a b = sym (only q returns tt (alike q returns b a))
@@ -77,17 +77,17 @@ module _ (names : List (List ℕ)) (bytes : List ℕ) where
       ap never (one_pattern names a.0 x y a.2 (subst (λ text. ReadsPattern names text y) rest b.2))
 
   -- no pattern follows `never:`, so the bytes are no property
-  pub none_behind : (text : List ℕ) → bytes ≡ codes "never:" ++ text → ((p : Pattern) → ReadsPattern names text p → ⊥)
+  pub none_after : (text : List ℕ) → bytes ≡ codes "never:" ++ text → ((p : Pattern) → ReadsPattern names text p → ⊥)
       → (p : Property) → ReadsProperty names bytes p → ⊥
-  none_behind text e none returns h = subst IsBare (tells returns h ∙ ap told e) tt
-  none_behind text e none returns_true h = subst IsBare (tells returns_true h ∙ ap told e) tt
-  none_behind text e none no_crash h = subst IsBare (tells no_crash h ∙ ap told e) tt
-  none_behind text e none no_deadlock h = subst IsBare (tells no_deadlock h ∙ ap told e) tt
-  none_behind text e none within_limit h = subst IsBare (tells within_limit h ∙ ap told e) tt
-  none_behind text e none (never p) h = none p
+  none_after text e none returns h = subst IsBare (reports returns h ∙ ap reported e) tt
+  none_after text e none returns_true h = subst IsBare (reports returns_true h ∙ ap reported e) tt
+  none_after text e none no_crash h = subst IsBare (reports no_crash h ∙ ap reported e) tt
+  none_after text e none no_deadlock h = subst IsBare (reports no_deadlock h ∙ ap reported e) tt
+  none_after text e none within_limit h = subst IsBare (reports within_limit h ∙ ap reported e) tt
+  none_after text e none (never p) h = none p
       (subst (λ rest. ReadsPattern names rest p) (same_rest h.0 text (sym h.1 ∙ e)) h.2)
 
-  pub refused_behind : (text : List ℕ) → bytes ≡ codes "never:" ++ text → (f : OrNoMemory Code)
+  pub refused_after : (text : List ℕ) → bytes ≡ codes "never:" ++ text → (f : OrNoMemory Code)
       → IsNoPatternText names text f → IsNoPropertyText names bytes f
-  refused_behind text e NoMemory h = tt
-  refused_behind text e (Fault c) h = (h.0, none_behind text e h.1)
+  refused_after text e NoMemory h = tt
+  refused_after text e (Fault c) h = (h.0, none_after text e h.1)

@@ -11,11 +11,11 @@ use Rattle.pf_syntax.specs.declared.expr.Head.{Head}
 use Rattle.pf_syntax.specs.declared.expr.Tests.{Tests}
 use Rattle.pf_syntax.specs.declared.expr.ExprPatternId.{ExprPatternId}
 use Rattle.pf_syntax.specs.declared.expr.ExprId.{ExprId}
-use Rattle.pf_syntax.proofs.NodeTableExtends.{GoesOn, all_exprs_stand, condition_kept, head_kept, head_stands}
+use Rattle.pf_syntax.proofs.NodeTableExtends.{GoesOn, all_exprs_are_there, condition_kept, head_kept, head_is_there}
 use Rattle.pf_grammar.specs.Parse.{expr_patterns_of, exprs_of, branches_of, condition_of}
 use Rattle.pf_reader.specs.declared.part.FrontPart.{FrontPart}
 use Rattle.pf_reader.specs.Given.{expr_pattern_of, expr_of, clause_of, view_of_front, view_of_tests, FrontRepresents}
-use Rattle.pf_reader.specs.Given.{TestsStand}
+use Rattle.pf_reader.specs.Given.{TestsAreThere}
 
 -- where each keeps its meaning, all do
 pub seen_alike : {X A : Type 0} (P : X → Type 0) (f g : X → A) → ((x : X) → P x → f x ≡ g x) → (xs : List X) → All P xs
@@ -36,9 +36,9 @@ module _ (b c : NodeTable) (on : GoesOn b c) where
   exprs_alike es h = seen_alike (ExprRepresents b) (expr_of c) (expr_of b) (λ e s. on.exprs e.0 s) es h
 
 -- one more that is there
-pub pushed_stands : {X : Type 0} (P : X → Type 0) (xs ys : List X) (x : X) → ys ≡ xs ++ x ∷ [] → All P xs
+pub pushed_is_there : {X : Type 0} (P : X → Type 0) (xs ys : List X) (x : X) → ys ≡ xs ++ x ∷ [] → All P xs
     → P x → All P ys
-pushed_stands P xs ys x e h p = subst (All P) (sym e) (All-push P xs x h p)
+pushed_is_there P xs ys x e h p = subst (All P) (sym e) (All-push P xs x h p)
 
 -- parts in a row, as they are read and as the table of nodes has them
 pub expr_patterns_in_row : (b : NodeTable) (qs : List ExprPatternId)
@@ -52,14 +52,15 @@ exprs_in_row b (e ∷ es) = let r = exprs_in_row b es in cc
 
 -- ---- guards
 
-pub tests_alike : (b c : NodeTable) → GoesOn b c → (gs : List Tests) → All (TestsStand b) gs
+pub tests_alike : (b c : NodeTable) → GoesOn b c → (gs : List Tests) → All (TestsAreThere b) gs
     → map (view_of_tests c) gs ≡ map (view_of_tests b) gs
-tests_alike b c on gs h = seen_alike (TestsStand b) (view_of_tests c) (view_of_tests b)
+tests_alike b c on gs h = seen_alike (TestsAreThere b) (view_of_tests c) (view_of_tests b)
     (λ g s. exprs_alike b c on g.tests.items s) gs h
 
-pub all_tests_stand : (b c : NodeTable) → GoesOn b c → (gs : List Tests) → All (TestsStand b) gs → All (TestsStand c) gs
-all_tests_stand b c on gs h = All-weaker (TestsStand b) (TestsStand c)
-    (λ g s. all_exprs_stand b c on g.tests.items s) gs h
+pub all_tests_are_there : (b c : NodeTable) → GoesOn b c → (gs : List Tests) → All (TestsAreThere b) gs
+    → All (TestsAreThere c) gs
+all_tests_are_there b c on gs h = All-weaker (TestsAreThere b) (TestsAreThere c)
+    (λ g s. all_exprs_are_there b c on g.tests.items s) gs h
 
 pub alternatives_in_row : (b : NodeTable) (gs : List Tests)
     → alternatives_at b gs ≡ condition_of (map (view_of_tests b) gs)
@@ -102,6 +103,6 @@ pub heads_alike : (b c : NodeTable) → GoesOn b c → (xs : List Head) → All 
     → map (head_over c) xs ≡ map (head_over b) xs
 heads_alike b c on xs h = seen_alike (HeadRepresents b) (head_over c) (head_over b) (head_kept b c on) xs h
 
-pub all_heads_stand : (b c : NodeTable) → GoesOn b c → (xs : List Head) → All (HeadRepresents b) xs
+pub all_heads_are_there : (b c : NodeTable) → GoesOn b c → (xs : List Head) → All (HeadRepresents b) xs
     → All (HeadRepresents c) xs
-all_heads_stand b c on xs h = All-weaker (HeadRepresents b) (HeadRepresents c) (head_stands b c on) xs h
+all_heads_are_there b c on xs h = All-weaker (HeadRepresents b) (HeadRepresents c) (head_is_there b c on) xs h

@@ -6,7 +6,7 @@ use Rattle.pf_tokens.specs.declared.words.Reserved.TheVariants as words
 use Rattle.pf_syntax.specs.Expr as p
 use Rattle.pf_syntax.specs.Expr.{Expr, Exprs, Condition, Branches}
 use Rattle.pf_tokens.specs.NumberedTokens.{NumberedToken, mark, reserved}
-use Rattle.pf_grammar.specs.Grammar.{TokenNames, call_stands}
+use Rattle.pf_grammar.specs.Grammar.{TokenNames, call_is_there}
 use Rattle.pf_grammar.specs.Parse.{Parse, ParsedClause, ClauseFront, Readers, after_kind, body_parse, branches}
 use Rattle.pf_grammar.specs.Parse.{branches_of, call_parse_step, case_of, clause, condition_of, front, guard, items}
 use Rattle.pf_grammar.specs.Parse.{list, marked, guard_tests, until, exprs_of}
@@ -35,12 +35,12 @@ tuple_is inner first ts rest es all f row read = rw (f, read, row) refl
 module _ (n : TokenNames) (in_guard : Bool) (inner : Parse Expr) (a at arity : ℕ) (ts next rest : List NumberedToken)
     (es : List Expr) (opens : after_kind (mark marks.OpenParenthesis) ts ≡ Some next)
     (read : until (mark marks.CloseParenthesis) inner next ≡ Some (es, rest)) (count : length es ≡ arity) where
-  pub call_is : (all : Exprs) → all ≡ exprs_of es → call_stands n in_guard a arity ≡ true
+  pub call_is : (all : Exprs) → all ≡ exprs_of es → call_is_there n in_guard a arity ≡ true
       → call_parse_step n in_guard inner a at ts (after_kind (mark marks.OpenParenthesis) ts)
       ≡ Some (p.call a at all, rest)
   call_is all row s = rw (opens, read, count, s, row) refl
 
-  pub call_refused : call_stands n in_guard a arity ≡ false
+  pub call_refused : call_is_there n in_guard a arity ≡ false
       → call_parse_step n in_guard inner a at ts (after_kind (mark marks.OpenParenthesis) ts) ≡ None
   call_refused s = rw (opens, read, count, s) refl
 

@@ -61,8 +61,8 @@ seen_expr_pattern b p = (expr_pattern_at b p.expr_pattern.0, tokens_in p.rest)
 abbrev pub view_of_tests : NodeTable → Tests → List Expr
 view_of_tests b g = map (expr_of b) g.tests.items
 
-abbrev pub TestsStand : NodeTable → Tests → Type 0
-TestsStand b g = All (ExprRepresents b) g.tests.items
+abbrev pub TestsAreThere : NodeTable → Tests → Type 0
+TestsAreThere b g = All (ExprRepresents b) g.tests.items
 
 -- what is before the arrow of a clause, and the tokens after it
 abbrev pub view_of_front : NodeTable → FrontPart → ClauseFront × List NumberedToken

@@ -9,7 +9,7 @@ ghost use Rattle.pf_reader.specs.View.{names_of, tokens_in};
 ghost use Rattle.pf_reader.specs.Given.{with_front, Gives};
 
 use crate::fault::{ReadFault, Syntax};
-use crate::token::{ReadingContext, Tokens, behind, read_name, read_number, skip, skip_word};
+use crate::token::{ReadingContext, Tokens, expect, read_name, read_number, skip, skip_word};
 use pf_errors::{NoMemory, OrNoMemory};
 use pf_syntax::{Export, SyntaxTree};
 use pf_tokens::{NumberedKind, TokenMark};
@@ -24,7 +24,7 @@ fn read_entry<'a, 't>(
         (entry (names_of context.entry) (tokens_in tokens.entry)) }
 {
     let (ident, rest) = read_name(context, tokens)?;
-    let rest = behind(rest, NumberedKind::Mark(TokenMark::Slash))?;
+    let rest = expect(rest, NumberedKind::Mark(TokenMark::Slash))?;
     match read_number(rest) {
         Some((arity, rest)) => Ok((
             Export {
@@ -50,10 +50,10 @@ fn read_entries<'a, 't>(
     let mut found = Vec::new(alloc);
     let mut rest = tokens;
     for _ in 0..tokens.list.len() {
-        let (entry, behind_it) = read_entry(context, rest)?;
+        let (entry, after_it) = read_entry(context, rest)?;
         found.push(entry)?;
-        let Some(after) = skip(behind_it, NumberedKind::Mark(TokenMark::Comma)) else {
-            return Ok((found, behind_it));
+        let Some(after) = skip(after_it, NumberedKind::Mark(TokenMark::Comma)) else {
+            return Ok((found, after_it));
         };
         rest = after;
     }
@@ -73,7 +73,7 @@ fn read_entry_list<'a, 't>(
         return Ok((Vec::new(alloc), rest));
     }
     let (entries, rest) = read_entries(alloc, context, tokens)?;
-    let rest = behind(rest, NumberedKind::Mark(TokenMark::CloseBracket))?;
+    let rest = expect(rest, NumberedKind::Mark(TokenMark::CloseBracket))?;
     Ok((entries, rest))
 }
 
@@ -89,11 +89,11 @@ fn read_export<'a, 't>(
     let Some(rest) = skip_word(context.atoms, b"export", tokens) else {
         return Err(OrNoMemory::Fault(Syntax));
     };
-    let rest = behind(rest, NumberedKind::Mark(TokenMark::OpenParenthesis))?;
-    let rest = behind(rest, NumberedKind::Mark(TokenMark::OpenBracket))?;
+    let rest = expect(rest, NumberedKind::Mark(TokenMark::OpenParenthesis))?;
+    let rest = expect(rest, NumberedKind::Mark(TokenMark::OpenBracket))?;
     let (entries, rest) = read_entry_list(alloc, context, rest)?;
-    let rest = behind(rest, NumberedKind::Mark(TokenMark::CloseParenthesis))?;
-    let rest = behind(rest, NumberedKind::Dot)?;
+    let rest = expect(rest, NumberedKind::Mark(TokenMark::CloseParenthesis))?;
+    let rest = expect(rest, NumberedKind::Dot)?;
     Ok((entries, rest))
 }
 

@@ -1,13 +1,13 @@
 //! Expressions. Each call below takes the depth that an expression may still have, which bounds the recursion too.
 
-ghost use Rattle.std.specs.Prelude.{◌≡◌, ◌<◌, length, IfErr, IfOk, map, false, true};
+ghost use Rattle.std.specs.Prelude.{◌≡◌, ◌<◌, length, IfOk, map, false, true};
 ghost use Rattle.std.specs.List.{All};
 ghost use Rattle.pf_syntax.specs.SyntaxTree.{NodeTable};
 ghost use Rattle.pf_syntax.specs.SyntaxTreeOver.{branches_over, condition_over, BranchRepresents, ConditionRepresents};
 ghost use Rattle.pf_syntax.specs.SyntaxTreeOver.{ExprRepresents};
 ghost use Rattle.pf_tokens.specs.declared.marks.TokenMark.TheVariants.{Comma, OpenParenthesis, Semicolon};
 ghost use Rattle.pf_tokens.specs.NumberedTokens.{mark};
-ghost use Rattle.pf_grammar.specs.Grammar.{top, unguarded};
+ghost use Rattle.pf_grammar.specs.Grammar.{top};
 ghost use Rattle.pf_reader.specs.ListItems.{item_at};
 ghost use Rattle.pf_grammar.specs.Parse.{after_kind, body_parse, branches, call_parse_step, case_of, clause, element};
 ghost use Rattle.pf_grammar.specs.Parse.{parse_expr, front, guard, items, list, marked, prim, readers, unary, until};
@@ -19,29 +19,18 @@ ghost use Rattle.pf_reader.specs.Given.{Grown};
 use crate::expr_pattern::{read_expr_pattern, read_match_ahead};
 use crate::fault::{ReadFault, Syntax};
 use crate::operator::{infix_ahead, joined};
-use crate::part::{FrontPart, ReadOperand, put, put_expr_pattern, put_text, put_within};
-use crate::token::{ReadingContext, Tokens, behind, skip};
-use pf_errors::{NoMemory, OrNoMemory};
+use crate::part::{FrontPart, ReadOperand, put, put_expr_pattern, put_text, put_within, unguarded};
+use crate::token::{ReadingContext, Tokens, expect, skip};
+use pf_errors::OrNoMemory;
 use pf_syntax::{
-    Branch, Condition, ExprId, ExprNode, ExprPatternNode, Form, Ident, SyntaxTree, Tests, may_stand,
+    Branch, Condition, ExprId, ExprNode, ExprPatternNode, Form, Ident, SyntaxTree, Tests,
+    may_be_there,
 };
 use pf_tokens::{NumberedKind, Reserved, TokenMark};
 use std::alloc::Global;
 
 /// The level of a whole expression.
 const TOP: u32 = 8;
-
-/// No guard: one alternative with no test.
-fn unguarded(alloc: Global) -> Result<Condition, NoMemory>
-    ensures meaning { IfOk result (λ g. (b : NodeTable) → condition_over b g ≡ unguarded) }
-    ensures stands { IfOk result (λ g. (b : NodeTable) → ConditionRepresents b g) }
-{
-    let mut alternatives = Vec::new(alloc);
-    alternatives.push(Tests {
-        tests: Vec::new(alloc),
-    })?;
-    Ok(Condition { alternatives })
-}
 
 /// A part that no infix opens.
 #[cycle(expr)]
@@ -55,7 +44,7 @@ fn read_prim<'a, 't>(
 ) -> Result<ReadOperand<'a, 't>, ReadFault>
     requires { 0 < limit }
     ensures grown { Grown syntax.old syntax.new }
-    ensures stands { IfOk result (λ x. ExprRepresents syntax.new.node_table x.expr) }
+    ensures is_there { IfOk result (λ x. ExprRepresents syntax.new.node_table x.expr) }
     ensures given { Gives (expression_seen syntax.new.node_table) result
         (prim (names_of context.entry) guard limit (tokens_in tokens.entry)) }
 {
@@ -99,7 +88,7 @@ fn read_named<'a, 't>(
     tokens: Tokens<'a, 't>,
 ) -> Result<ReadOperand<'a, 't>, ReadFault>
     ensures grown { Grown syntax.old syntax.new }
-    ensures stands { IfOk result (λ x. ExprRepresents syntax.new.node_table x.expr) }
+    ensures is_there { IfOk result (λ x. ExprRepresents syntax.new.node_table x.expr) }
     ensures given { Gives (expression_seen syntax.new.node_table) result
         (call_parse_step (names_of context.entry) guard
         (parse_expr (names_of context.entry) guard limit top) ident.name.0 ident.offset (tokens_in tokens.entry)
@@ -111,7 +100,7 @@ fn read_named<'a, 't>(
     let item = Item::Expression(guard);
     let last = TokenMark::CloseParenthesis;
     let (arguments, rest) = read_until(alloc, context, syntax, item, limit, last, rest)?;
-    if !context.call_stands(guard, ident.name, arguments.len()) {
+    if !context.call_is_there(guard, ident.name, arguments.len()) {
         return Err(OrNoMemory::Fault(Syntax));
     }
     put(syntax, ExprNode::Call(ident, arguments), rest)
@@ -129,14 +118,14 @@ fn read_marked<'a, 't>(
     tokens: Tokens<'a, 't>,
 ) -> Result<ReadOperand<'a, 't>, ReadFault>
     ensures grown { Grown syntax.old syntax.new }
-    ensures stands { IfOk result (λ x. ExprRepresents syntax.new.node_table x.expr) }
+    ensures is_there { IfOk result (λ x. ExprRepresents syntax.new.node_table x.expr) }
     ensures given { Gives (expression_seen syntax.new.node_table) result
         (marked (parse_expr (names_of context.entry) guard limit top) first (tokens_in tokens.entry)) }
 {
     match first {
         TokenMark::OpenParenthesis => {
             let part = read_level(alloc, context, syntax, guard, limit, TOP, tokens)?;
-            let rest = behind(part.rest, NumberedKind::Mark(TokenMark::CloseParenthesis))?;
+            let rest = expect(part.rest, NumberedKind::Mark(TokenMark::CloseParenthesis))?;
             let node = ExprNode::Parentheses(part.expr);
             put(syntax, node, rest)
         }
@@ -162,7 +151,7 @@ fn read_list<'a, 't>(
     tokens: Tokens<'a, 't>,
 ) -> Result<ReadOperand<'a, 't>, ReadFault>
     ensures grown { Grown syntax.old syntax.new }
-    ensures stands { IfOk result (λ x. ExprRepresents syntax.new.node_table x.expr) }
+    ensures is_there { IfOk result (λ x. ExprRepresents syntax.new.node_table x.expr) }
     ensures given { Gives (expression_seen syntax.new.node_table) result
         (list (parse_expr (names_of context.entry) guard limit top) (tokens_in tokens.entry)) }
 {
@@ -173,12 +162,12 @@ fn read_list<'a, 't>(
     let (parts, rest) = read_items(alloc, context, syntax, item, limit, tokens)?;
     match skip(rest, NumberedKind::Mark(TokenMark::Bar)) {
         None => {
-            let rest = behind(rest, NumberedKind::Mark(TokenMark::CloseBracket))?;
+            let rest = expect(rest, NumberedKind::Mark(TokenMark::CloseBracket))?;
             put(syntax, ExprNode::List(parts), rest)
         }
         Some(rest) => {
             let tail = read_level(alloc, context, syntax, guard, limit, TOP, rest)?;
-            let rest = behind(tail.rest, NumberedKind::Mark(TokenMark::CloseBracket))?;
+            let rest = expect(tail.rest, NumberedKind::Mark(TokenMark::CloseBracket))?;
             let node = ExprNode::ListOn(parts, tail.expr);
             put(syntax, node, rest)
         }
@@ -197,7 +186,7 @@ fn read_unary<'a, 't>(
 ) -> Result<ReadOperand<'a, 't>, ReadFault>
     requires { 0 < limit }
     ensures grown { Grown syntax.old syntax.new }
-    ensures stands { IfOk result (λ x. ExprRepresents syntax.new.node_table x.expr) }
+    ensures is_there { IfOk result (λ x. ExprRepresents syntax.new.node_table x.expr) }
     ensures given { Gives (expression_seen syntax.new.node_table) result
         (unary (prim (names_of context.entry) guard limit) limit (tokens_in tokens.entry)) }
 {
@@ -223,7 +212,7 @@ fn read_level<'a, 't>(
     tokens: Tokens<'a, 't>,
 ) -> Result<ReadOperand<'a, 't>, ReadFault>
     ensures grown { Grown syntax.old syntax.new }
-    ensures stands { IfOk result (λ x. ExprRepresents syntax.new.node_table x.expr) }
+    ensures is_there { IfOk result (λ x. ExprRepresents syntax.new.node_table x.expr) }
     ensures given { Gives (expression_seen syntax.new.node_table) result
         (parse_expr (names_of context.entry) guard limit level (tokens_in tokens.entry)) }
 {
@@ -265,7 +254,7 @@ fn read_element<'a, 't>(
     tokens: Tokens<'a, 't>,
 ) -> Result<ReadOperand<'a, 't>, ReadFault>
     ensures grown { Grown syntax.old syntax.new }
-    ensures stands { IfOk result (λ x. ExprRepresents syntax.new.node_table x.expr) }
+    ensures is_there { IfOk result (λ x. ExprRepresents syntax.new.node_table x.expr) }
     ensures given { Gives (expression_seen syntax.new.node_table) result
         (element (names_of context.entry) limit (tokens_in tokens.entry)) }
 {
@@ -293,7 +282,7 @@ fn read_item<'a, 't>(
     tokens: Tokens<'a, 't>,
 ) -> Result<ReadOperand<'a, 't>, ReadFault>
     ensures grown { Grown syntax.old syntax.new }
-    ensures stands { IfOk result (λ x. ExprRepresents syntax.new.node_table x.expr) }
+    ensures is_there { IfOk result (λ x. ExprRepresents syntax.new.node_table x.expr) }
     ensures given { Gives (expression_seen syntax.new.node_table) result
         (item_at (names_of context.entry) item limit (tokens_in tokens.entry)) }
 {
@@ -314,7 +303,7 @@ fn read_items<'a, 't>(
     tokens: Tokens<'a, 't>,
 ) -> Result<(Vec<ExprId>, Tokens<'a, 't>), ReadFault>
     ensures grown { Grown syntax.old syntax.new }
-    ensures stands { IfOk result (λ x. All (ExprRepresents syntax.new.node_table) x.0.items) }
+    ensures is_there { IfOk result (λ x. All (ExprRepresents syntax.new.node_table) x.0.items) }
     ensures given { Gives (λ x. (
       map
           (expr_of syntax.new.node_table) x.0.items,
@@ -348,7 +337,7 @@ fn read_until<'a, 't>(
     tokens: Tokens<'a, 't>,
 ) -> Result<(Vec<ExprId>, Tokens<'a, 't>), ReadFault>
     ensures grown { Grown syntax.old syntax.new }
-    ensures stands { IfOk result (λ x. All (ExprRepresents syntax.new.node_table) x.0.items) }
+    ensures is_there { IfOk result (λ x. All (ExprRepresents syntax.new.node_table) x.0.items) }
     ensures given { Gives (λ x. (
       map
           (expr_of syntax.new.node_table) x.0.items,
@@ -360,7 +349,7 @@ fn read_until<'a, 't>(
         return Ok((Vec::new(alloc), rest));
     }
     let (parts, rest) = read_items(alloc, context, syntax, item, limit, tokens)?;
-    let rest = behind(rest, NumberedKind::Mark(last))?;
+    let rest = expect(rest, NumberedKind::Mark(last))?;
     Ok((parts, rest))
 }
 
@@ -373,7 +362,7 @@ pub(crate) fn read_body<'a, 't>(
     tokens: Tokens<'a, 't>,
 ) -> Result<(Vec<ExprId>, Tokens<'a, 't>), ReadFault>
     ensures grown { Grown syntax.old syntax.new }
-    ensures stands { IfOk result (λ x. All (ExprRepresents syntax.new.node_table) x.0.items) }
+    ensures is_there { IfOk result (λ x. All (ExprRepresents syntax.new.node_table) x.0.items) }
     ensures given { Gives (λ x. (
       map
           (expr_of syntax.new.node_table) x.0.items,
@@ -394,7 +383,7 @@ fn read_guard<'a, 't>(
     tokens: Tokens<'a, 't>,
 ) -> Result<(Condition, Tokens<'a, 't>), ReadFault>
     ensures grown { Grown syntax.old syntax.new }
-    ensures stands { IfOk result (λ x. ConditionRepresents syntax.new.node_table x.0) }
+    ensures is_there { IfOk result (λ x. ConditionRepresents syntax.new.node_table x.0) }
     ensures given { Gives (λ x. (condition_over syntax.new.node_table x.0, tokens_in x.1)) result
         (guard (parse_expr (names_of context.entry) true limit top) (tokens_in tokens.entry)) }
 {
@@ -402,10 +391,10 @@ fn read_guard<'a, 't>(
     let mut rest = tokens;
     for _ in 0..tokens.list.len() {
         let item = Item::Expression(true);
-        let (tests, behind_it) = read_items(alloc, context, syntax, item, limit, rest)?;
+        let (tests, after_it) = read_items(alloc, context, syntax, item, limit, rest)?;
         alternatives.push(Tests { tests })?;
-        let Some(after) = skip(behind_it, NumberedKind::Mark(TokenMark::Semicolon)) else {
-            return Ok((Condition { alternatives }, behind_it));
+        let Some(after) = skip(after_it, NumberedKind::Mark(TokenMark::Semicolon)) else {
+            return Ok((Condition { alternatives }, after_it));
         };
         rest = after;
     }
@@ -422,7 +411,7 @@ pub(crate) fn read_when<'a, 't>(
     tokens: Tokens<'a, 't>,
 ) -> Result<(Condition, Tokens<'a, 't>), ReadFault>
     ensures grown { Grown syntax.old syntax.new }
-    ensures stands { IfOk result (λ x. ConditionRepresents syntax.new.node_table x.0) }
+    ensures is_there { IfOk result (λ x. ConditionRepresents syntax.new.node_table x.0) }
     ensures given { Gives (λ x. (condition_over syntax.new.node_table x.0, tokens_in x.1)) result
         (when (parse_expr (names_of context.entry) true limit top) (tokens_in tokens.entry)) }
 {
@@ -446,7 +435,7 @@ fn read_front<'a, 't>(
     tokens: Tokens<'a, 't>,
 ) -> Result<FrontPart<'a, 't>, ReadFault>
     ensures grown { Grown syntax.old syntax.new }
-    ensures stands { IfOk result (λ x. FrontRepresents syntax.new.node_table x) }
+    ensures is_there { IfOk result (λ x. FrontRepresents syntax.new.node_table x) }
     ensures given { Gives (view_of_front syntax.new.node_table) result
         (front (readers (names_of context.entry) limit) choice (tokens_in tokens.entry)) }
 {
@@ -482,12 +471,12 @@ fn read_clause<'a, 't>(
     tokens: Tokens<'a, 't>,
 ) -> Result<(Branch, Tokens<'a, 't>), ReadFault>
     ensures grown { Grown syntax.old syntax.new }
-    ensures stands { IfOk result (λ x. BranchRepresents syntax.new.node_table x.0) }
+    ensures is_there { IfOk result (λ x. BranchRepresents syntax.new.node_table x.0) }
     ensures given { Gives (λ x. (clause_of syntax.new.node_table x.0, tokens_in x.1)) result
         (clause (readers (names_of context.entry) limit) choice (tokens_in tokens.entry)) }
 {
     let front = read_front(alloc, context, syntax, choice, limit, tokens)?;
-    let rest = behind(front.rest, NumberedKind::Mark(TokenMark::Arrow))?;
+    let rest = expect(front.rest, NumberedKind::Mark(TokenMark::Arrow))?;
     let (body, rest) = read_items(alloc, context, syntax, Item::Element, limit, rest)?;
     let branch = Branch {
         expr_pattern: front.expr_pattern,
@@ -508,7 +497,7 @@ fn read_clauses<'a, 't>(
     tokens: Tokens<'a, 't>,
 ) -> Result<(Vec<Branch>, Tokens<'a, 't>), ReadFault>
     ensures grown { Grown syntax.old syntax.new }
-    ensures stands { IfOk result (λ x. All (BranchRepresents syntax.new.node_table) x.0.items) }
+    ensures is_there { IfOk result (λ x. All (BranchRepresents syntax.new.node_table) x.0.items) }
     ensures given { Gives (λ x. (map (clause_of syntax.new.node_table) x.0.items, tokens_in x.1)) result
         (items (mark Semicolon) (clause (readers (names_of context.entry) limit) choice)
         (length (tokens_in tokens.entry)) (tokens_in tokens.entry)) }
@@ -516,10 +505,10 @@ fn read_clauses<'a, 't>(
     let mut found = Vec::new(alloc);
     let mut rest = tokens;
     for _ in 0..tokens.list.len() {
-        let (branch, behind_it) = read_clause(alloc, context, syntax, choice, limit, rest)?;
+        let (branch, after_it) = read_clause(alloc, context, syntax, choice, limit, rest)?;
         found.push(branch)?;
-        let Some(after) = skip(behind_it, NumberedKind::Mark(TokenMark::Semicolon)) else {
-            return Ok((found, behind_it));
+        let Some(after) = skip(after_it, NumberedKind::Mark(TokenMark::Semicolon)) else {
+            return Ok((found, after_it));
         };
         rest = after;
     }
@@ -537,12 +526,12 @@ fn read_branches<'a, 't>(
     tokens: Tokens<'a, 't>,
 ) -> Result<(Vec<Branch>, Tokens<'a, 't>), ReadFault>
     ensures grown { Grown syntax.old syntax.new }
-    ensures stands { IfOk result (λ x. All (BranchRepresents syntax.new.node_table) x.0.items) }
+    ensures is_there { IfOk result (λ x. All (BranchRepresents syntax.new.node_table) x.0.items) }
     ensures given { Gives (λ x. (branches_over syntax.new.node_table x.0.items, tokens_in x.1)) result
         (branches (readers (names_of context.entry) limit) choice (tokens_in tokens.entry)) }
 {
     let (found, rest) = read_clauses(alloc, context, syntax, choice, limit, tokens)?;
-    let rest = behind(rest, NumberedKind::Reserved(Reserved::End))?;
+    let rest = expect(rest, NumberedKind::Reserved(Reserved::End))?;
     Ok((found, rest))
 }
 
@@ -557,13 +546,13 @@ fn read_case<'a, 't>(
     tokens: Tokens<'a, 't>,
 ) -> Result<ReadOperand<'a, 't>, ReadFault>
     ensures grown { Grown syntax.old syntax.new }
-    ensures stands { IfOk result (λ x. ExprRepresents syntax.new.node_table x.expr) }
+    ensures is_there { IfOk result (λ x. ExprRepresents syntax.new.node_table x.expr) }
     ensures given { Gives (expression_seen syntax.new.node_table) result
         (case_of (readers (names_of context.entry) limit) (parse_expr (names_of context.entry) guard limit top)
         (tokens_in tokens.entry)) }
 {
     let subject = read_level(alloc, context, syntax, guard, limit, TOP, tokens)?;
-    let rest = behind(subject.rest, NumberedKind::Reserved(Reserved::Of))?;
+    let rest = expect(subject.rest, NumberedKind::Reserved(Reserved::Of))?;
     let (found, rest) = read_branches(alloc, context, syntax, false, limit, rest)?;
     let node = ExprNode::Case(subject.expr, found);
     put(syntax, node, rest)
@@ -581,20 +570,20 @@ fn read_worded<'a, 't>(
     tokens: Tokens<'a, 't>,
 ) -> Result<ReadOperand<'a, 't>, ReadFault>
     ensures grown { Grown syntax.old syntax.new }
-    ensures stands { IfOk result (λ x. ExprRepresents syntax.new.node_table x.expr) }
+    ensures is_there { IfOk result (λ x. ExprRepresents syntax.new.node_table x.expr) }
     ensures given { Gives (expression_seen syntax.new.node_table) result
         (reserved_parse (readers (names_of context.entry) limit) guard
         (parse_expr (names_of context.entry) guard limit top) first (tokens_in tokens.entry)) }
 {
     match first {
-        Reserved::Case if may_stand(guard, Form::Deciding) => {
+        Reserved::Case if may_be_there(guard, Form::Deciding) => {
             read_case(alloc, context, syntax, guard, limit, tokens)
         }
-        Reserved::If if may_stand(guard, Form::Choosing) => {
+        Reserved::If if may_be_there(guard, Form::Choosing) => {
             let (found, rest) = read_branches(alloc, context, syntax, true, limit, tokens)?;
             put(syntax, ExprNode::If(found), rest)
         }
-        Reserved::Receive if may_stand(guard, Form::Receiving) => {
+        Reserved::Receive if may_be_there(guard, Form::Receiving) => {
             let (found, rest) = read_branches(alloc, context, syntax, false, limit, tokens)?;
             put(syntax, ExprNode::Receive(found), rest)
         }

@@ -13,7 +13,7 @@ ghost use Rattle.pf_reader.specs.Given.{seen_expr_pattern, expr_pattern_of, Give
 
 use crate::fault::{ReadFault, Syntax};
 use crate::part::{ExprPatternPart, put_expr_pattern, put_expr_pattern_text};
-use crate::token::{ReadingContext, Tokens, behind, read_number, skip};
+use crate::token::{ReadingContext, Tokens, expect, read_number, skip};
 use pf_errors::{NoMemory, OrNoMemory};
 use pf_syntax::{ExprPatternId, ExprPatternNode, Ident, SyntaxTree};
 use pf_tokens::{NumberedKind, TokenMark};
@@ -25,7 +25,7 @@ fn read_negative<'a, 't>(
     tokens: Tokens<'a, 't>,
 ) -> Result<ExprPatternPart<'a, 't>, ReadFault>
     ensures grown { Grown syntax.old syntax.new }
-    ensures stands { IfOk result (λ p. ExprPatternRepresents syntax.new.node_table p.expr_pattern) }
+    ensures is_there { IfOk result (λ p. ExprPatternRepresents syntax.new.node_table p.expr_pattern) }
     ensures given { Gives (seen_expr_pattern syntax.new.node_table) result
         (negative (tokens_in tokens.entry)) }
 {
@@ -49,7 +49,7 @@ pub(crate) fn read_expr_pattern<'a, 't>(
     tokens: Tokens<'a, 't>,
 ) -> Result<ExprPatternPart<'a, 't>, ReadFault>
     ensures grown { Grown syntax.old syntax.new }
-    ensures stands { IfOk result (λ p. ExprPatternRepresents syntax.new.node_table p.expr_pattern) }
+    ensures is_there { IfOk result (λ p. ExprPatternRepresents syntax.new.node_table p.expr_pattern) }
     ensures given { Gives (seen_expr_pattern syntax.new.node_table) result
         (pattern (names_of context.entry) limit (tokens_in tokens.entry)) }
 {
@@ -69,7 +69,7 @@ fn read_begun<'a, 't>(
     tokens: Tokens<'a, 't>,
 ) -> Result<ExprPatternPart<'a, 't>, ReadFault>
     ensures grown { Grown syntax.old syntax.new }
-    ensures stands { IfOk result (λ p. ExprPatternRepresents syntax.new.node_table p.expr_pattern) }
+    ensures is_there { IfOk result (λ p. ExprPatternRepresents syntax.new.node_table p.expr_pattern) }
     ensures given { Gives (seen_expr_pattern syntax.new.node_table) result
         (pattern_with (names_of context.entry) (pattern (names_of context.entry) limit)
         (tokens_in tokens.entry)) }
@@ -110,7 +110,7 @@ fn read_marked<'a, 't>(
     tokens: Tokens<'a, 't>,
 ) -> Result<ExprPatternPart<'a, 't>, ReadFault>
     ensures grown { Grown syntax.old syntax.new }
-    ensures stands { IfOk result (λ p. ExprPatternRepresents syntax.new.node_table p.expr_pattern) }
+    ensures is_there { IfOk result (λ p. ExprPatternRepresents syntax.new.node_table p.expr_pattern) }
     ensures given { Gives (seen_expr_pattern syntax.new.node_table) result
         (marked_expr_pattern (pattern (names_of context.entry) limit) first (tokens_in tokens.entry)) }
 {
@@ -142,7 +142,7 @@ fn read_list<'a, 't>(
     tokens: Tokens<'a, 't>,
 ) -> Result<ExprPatternPart<'a, 't>, ReadFault>
     ensures grown { Grown syntax.old syntax.new }
-    ensures stands { IfOk result (λ p. ExprPatternRepresents syntax.new.node_table p.expr_pattern) }
+    ensures is_there { IfOk result (λ p. ExprPatternRepresents syntax.new.node_table p.expr_pattern) }
     ensures given { Gives (seen_expr_pattern syntax.new.node_table) result
         (list_expr_pattern (pattern (names_of context.entry) limit) (tokens_in tokens.entry)) }
 {
@@ -152,12 +152,12 @@ fn read_list<'a, 't>(
     let (parts, rest) = read_expr_pattern_items(alloc, context, syntax, limit, tokens)?;
     match skip(rest, NumberedKind::Mark(TokenMark::Bar)) {
         None => {
-            let rest = behind(rest, NumberedKind::Mark(TokenMark::CloseBracket))?;
+            let rest = expect(rest, NumberedKind::Mark(TokenMark::CloseBracket))?;
             put_expr_pattern(syntax, ExprPatternNode::List(parts), rest)
         }
         Some(rest) => {
             let tail = read_expr_pattern(alloc, context, syntax, limit, rest)?;
-            let rest = behind(tail.rest, NumberedKind::Mark(TokenMark::CloseBracket))?;
+            let rest = expect(tail.rest, NumberedKind::Mark(TokenMark::CloseBracket))?;
             let node = ExprPatternNode::ListOn(parts, tail.expr_pattern);
             put_expr_pattern(syntax, node, rest)
         }
@@ -174,7 +174,7 @@ fn read_expr_pattern_items<'a, 't>(
     tokens: Tokens<'a, 't>,
 ) -> Result<(Vec<ExprPatternId>, Tokens<'a, 't>), ReadFault>
     ensures grown { Grown syntax.old syntax.new }
-    ensures stands { IfOk result (λ x. All (ExprPatternRepresents syntax.new.node_table) x.0.items) }
+    ensures is_there { IfOk result (λ x. All (ExprPatternRepresents syntax.new.node_table) x.0.items) }
     ensures given { Gives (λ x. (
       map
           (expr_pattern_of syntax.new.node_table) x.0.items,
@@ -207,7 +207,7 @@ pub(crate) fn read_expr_patterns<'a, 't>(
     tokens: Tokens<'a, 't>,
 ) -> Result<(Vec<ExprPatternId>, Tokens<'a, 't>), ReadFault>
     ensures grown { Grown syntax.old syntax.new }
-    ensures stands { IfOk result (λ x. All (ExprPatternRepresents syntax.new.node_table) x.0.items) }
+    ensures is_there { IfOk result (λ x. All (ExprPatternRepresents syntax.new.node_table) x.0.items) }
     ensures given { Gives (λ x. (
       map
           (expr_pattern_of syntax.new.node_table) x.0.items,
@@ -219,7 +219,7 @@ pub(crate) fn read_expr_patterns<'a, 't>(
         return Ok((Vec::new(alloc), rest));
     }
     let (parts, rest) = read_expr_pattern_items(alloc, context, syntax, limit, tokens)?;
-    let rest = behind(rest, NumberedKind::Mark(last))?;
+    let rest = expect(rest, NumberedKind::Mark(last))?;
     Ok((parts, rest))
 }
 
@@ -246,7 +246,7 @@ pub(crate) fn read_match_ahead<'a, 't>(
     tokens: Tokens<'a, 't>,
 ) -> Result<Option<ExprPatternPart<'a, 't>>, NoMemory>
     ensures grown { Grown syntax.old syntax.new }
-    ensures stands { IfOk result (λ o. IfSome o
+    ensures is_there { IfOk result (λ o. IfSome o
         (λ p. ExprPatternRepresents syntax.new.node_table p.expr_pattern)) }
     ensures given { IfOk result (λ o. option_map (seen_expr_pattern syntax.new.node_table) o ≡ match_ahead
         (pattern (names_of context.entry) limit) (tokens_in tokens.entry)) }

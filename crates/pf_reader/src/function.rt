@@ -4,7 +4,7 @@ ghost use Rattle.std.specs.Prelude.{◌≡◌, length, map, IfOk};
 ghost use Rattle.std.specs.List.{All};
 ghost use Rattle.pf_tokens.specs.declared.marks.TokenMark.TheVariants.{Semicolon};
 ghost use Rattle.pf_tokens.specs.NumberedTokens.{mark};
-ghost use Rattle.pf_syntax.specs.SyntaxTreeOver.{head_over, heads_over, HeadRepresents, HeadsStand};
+ghost use Rattle.pf_syntax.specs.SyntaxTreeOver.{head_over, heads_over, HeadRepresents, HeadsAreThere};
 ghost use Rattle.pf_grammar.specs.Parse.{function, functions, head_parse, items};
 ghost use Rattle.pf_reader.specs.View.{names_of, tokens_in};
 ghost use Rattle.pf_reader.specs.Given.{with_first, Gives, Grown};
@@ -12,7 +12,7 @@ ghost use Rattle.pf_reader.specs.Given.{with_first, Gives, Grown};
 use crate::expr::{read_body, read_when};
 use crate::expr_pattern::read_expr_patterns;
 use crate::fault::{ReadFault, Syntax};
-use crate::token::{ReadingContext, Tokens, behind, read_name, skip};
+use crate::token::{ReadingContext, Tokens, expect, read_name, skip};
 use pf_errors::OrNoMemory;
 use pf_syntax::{ExprFunction, Head, SyntaxTree};
 use pf_tokens::{MOST_TREE_DEPTH, NumberedKind, TokenMark};
@@ -26,17 +26,17 @@ fn read_head<'a, 't>(
     tokens: Tokens<'a, 't>,
 ) -> Result<(Head, Tokens<'a, 't>), ReadFault>
     ensures grown { Grown syntax.old syntax.new }
-    ensures stands { IfOk result (λ x. HeadRepresents syntax.new.node_table x.0) }
+    ensures is_there { IfOk result (λ x. HeadRepresents syntax.new.node_table x.0) }
     ensures given { Gives (λ x. (head_over syntax.new.node_table x.0, tokens_in x.1)) result
         (head_parse (names_of context.entry) (tokens_in tokens.entry)) }
 {
     let limit = MOST_TREE_DEPTH;
     let last = TokenMark::CloseParenthesis;
     let (ident, rest) = read_name(context, tokens)?;
-    let rest = behind(rest, NumberedKind::Mark(TokenMark::OpenParenthesis))?;
+    let rest = expect(rest, NumberedKind::Mark(TokenMark::OpenParenthesis))?;
     let (parameters, rest) = read_expr_patterns(alloc, context, syntax, limit, last, rest)?;
     let (condition, rest) = read_when(alloc, context, syntax, limit, rest)?;
-    let rest = behind(rest, NumberedKind::Mark(TokenMark::Arrow))?;
+    let rest = expect(rest, NumberedKind::Mark(TokenMark::Arrow))?;
     let (body, rest) = read_body(alloc, context, syntax, limit, rest)?;
     let head = Head {
         ident,
@@ -55,7 +55,7 @@ fn read_heads<'a, 't>(
     tokens: Tokens<'a, 't>,
 ) -> Result<(Vec<Head>, Tokens<'a, 't>), ReadFault>
     ensures grown { Grown syntax.old syntax.new }
-    ensures stands { IfOk result (λ x. All (HeadRepresents syntax.new.node_table) x.0.items) }
+    ensures is_there { IfOk result (λ x. All (HeadRepresents syntax.new.node_table) x.0.items) }
     ensures given { Gives (λ x. (map (head_over syntax.new.node_table) x.0.items, tokens_in x.1)) result
         (items (mark Semicolon) (head_parse (names_of context.entry)) (length (tokens_in tokens.entry))
         (tokens_in tokens.entry)) }
@@ -63,10 +63,10 @@ fn read_heads<'a, 't>(
     let mut found = Vec::new(alloc);
     let mut rest = tokens;
     for _ in 0..tokens.list.len() {
-        let (head, behind_it) = read_head(alloc, context, syntax, rest)?;
+        let (head, after_it) = read_head(alloc, context, syntax, rest)?;
         found.push(head)?;
-        let Some(after) = skip(behind_it, NumberedKind::Mark(TokenMark::Semicolon)) else {
-            return Ok((found, behind_it));
+        let Some(after) = skip(after_it, NumberedKind::Mark(TokenMark::Semicolon)) else {
+            return Ok((found, after_it));
         };
         rest = after;
     }
@@ -81,12 +81,12 @@ fn read_function<'a, 't>(
     tokens: Tokens<'a, 't>,
 ) -> Result<(ExprFunction, Tokens<'a, 't>), ReadFault>
     ensures grown { Grown syntax.old syntax.new }
-    ensures stands { IfOk result (λ x. HeadsStand syntax.new.node_table x.0) }
+    ensures is_there { IfOk result (λ x. HeadsAreThere syntax.new.node_table x.0) }
     ensures given { Gives (λ x. (heads_over syntax.new.node_table x.0, tokens_in x.1)) result
         (function (names_of context.entry) (tokens_in tokens.entry)) }
 {
     let (heads, rest) = read_heads(alloc, context, syntax, tokens)?;
-    let rest = behind(rest, NumberedKind::Dot)?;
+    let rest = expect(rest, NumberedKind::Dot)?;
     Ok((ExprFunction { heads }, rest))
 }
 

@@ -3,7 +3,7 @@
 ghost use Rattle.std.specs.Prelude.{◌≡◌, option_map};
 ghost use Rattle.pf_grammar.specs.Parse.{infix_ahead, joined_exprs};
 ghost use Rattle.pf_syntax.specs.SyntaxTree.{expr_at, NodeTable};
-ghost use Rattle.pf_syntax.specs.SyntaxTreeOver.{expr_over, ExprPartsStand, ExprRepresents};
+ghost use Rattle.pf_syntax.specs.SyntaxTreeOver.{expr_over, ExprPartsAreThere, ExprRepresents};
 ghost use Rattle.pf_reader.specs.View.{tokens_in};
 
 use crate::token::Tokens;
@@ -14,8 +14,8 @@ use pf_syntax::{ExprId, ExprNode};
 pub(crate) fn joined(joint: Infix, left: ExprId, right: ExprId) -> ExprNode
     ensures meaning { (b : NodeTable) → expr_over b result ≡ joined_exprs joint
         (expr_at b left.0) (expr_at b right.0) }
-    ensures stands { (b : NodeTable) → ExprRepresents b left → ExprRepresents b right
-        → ExprPartsStand b result }
+    ensures is_there { (b : NodeTable) → ExprRepresents b left → ExprRepresents b right
+        → ExprPartsAreThere b result }
 {
     match joint {
         Infix::Operator(operator) => ExprNode::Binary(operator, left, right),

@@ -1,9 +1,12 @@
 //! Parts that were read into a syntax tree, and what follows each of them.
 
 ghost use Rattle.std.specs.Prelude.{◌≡◌, if◌then◌else◌, IfOk, None, Some};
-ghost use Rattle.pf_syntax.specs.SyntaxTreeOver.{expr_over, expr_pattern_over, ExprPartsStand, ExprRepresents};
-ghost use Rattle.pf_syntax.specs.SyntaxTreeOver.{ExprPatternPartsStand, ExprPatternRepresents};
+ghost use Rattle.pf_syntax.specs.SyntaxTreeOver.{expr_over, expr_pattern_over, ExprPartsAreThere, ExprRepresents};
+ghost use Rattle.pf_syntax.specs.SyntaxTree.{NodeTable};
+ghost use Rattle.pf_syntax.specs.SyntaxTreeOver.{condition_over, ConditionRepresents};
+ghost use Rattle.pf_syntax.specs.SyntaxTreeOver.{ExprPatternPartsAreThere, ExprPatternRepresents};
 ghost use Rattle.pf_grammar.specs.Parse.{is_short, within};
+ghost use Rattle.pf_grammar.specs.Grammar.{unguarded};
 ghost use Rattle.pf_syntax.specs.Expr as expressions;
 ghost use Rattle.pf_syntax.specs.ExprPattern as patterns;
 ghost use Rattle.pf_reader.specs.View.{tokens_in};
@@ -11,8 +14,8 @@ ghost use Rattle.pf_reader.specs.Given.{expression_seen, seen_expr_pattern, Give
 
 use crate::fault::{ReadFault, Syntax};
 use crate::token::Tokens;
-use pf_errors::OrNoMemory;
-use pf_syntax::{Condition, ExprId, ExprNode, ExprPatternId, ExprPatternNode, SyntaxTree};
+use pf_errors::{NoMemory, OrNoMemory};
+use pf_syntax::{Condition, ExprId, ExprNode, ExprPatternId, ExprPatternNode, SyntaxTree, Tests};
 use pf_tokens::MOST_TEXT_CHARACTERS;
 use std::alloc::Global;
 
@@ -38,15 +41,27 @@ pub(crate) struct FrontPart<'a, 't> {
     pub rest: Tokens<'a, 't>,
 }
 
+/// No guard: one alternative with no test.
+pub(crate) fn unguarded(alloc: Global) -> Result<Condition, NoMemory>
+    ensures meaning { IfOk result (λ g. (b : NodeTable) → condition_over b g ≡ unguarded) }
+    ensures is_there { IfOk result (λ g. (b : NodeTable) → ConditionRepresents b g) }
+{
+    let mut alternatives = Vec::new(alloc);
+    alternatives.push(Tests {
+        tests: Vec::new(alloc),
+    })?;
+    Ok(Condition { alternatives })
+}
+
 /// Adds a pattern.
 pub(crate) fn put_expr_pattern<'a, 't>(
     syntax: &mut SyntaxTree,
     node: ExprPatternNode,
     rest: Tokens<'a, 't>,
 ) -> Result<ExprPatternPart<'a, 't>, ReadFault>
-    requires { ExprPatternPartsStand syntax.old.node_table node }
+    requires { ExprPatternPartsAreThere syntax.old.node_table node }
     ensures grown { Grown syntax.old syntax.new }
-    ensures stands { IfOk result (λ p. ExprPatternRepresents syntax.new.node_table p.expr_pattern) }
+    ensures is_there { IfOk result (λ p. ExprPatternRepresents syntax.new.node_table p.expr_pattern) }
     ensures given { Gives (seen_expr_pattern syntax.new.node_table) result
         (Some (expr_pattern_over syntax.old.node_table node, tokens_in rest.entry)) }
 {
@@ -60,9 +75,9 @@ pub(crate) fn put<'a, 't>(
     node: ExprNode,
     rest: Tokens<'a, 't>,
 ) -> Result<ReadOperand<'a, 't>, ReadFault>
-    requires { ExprPartsStand syntax.old.node_table node }
+    requires { ExprPartsAreThere syntax.old.node_table node }
     ensures grown { Grown syntax.old syntax.new }
-    ensures stands { IfOk result (λ p. ExprRepresents syntax.new.node_table p.expr) }
+    ensures is_there { IfOk result (λ p. ExprRepresents syntax.new.node_table p.expr) }
     ensures given { Gives (expression_seen syntax.new.node_table) result
         (Some (expr_over syntax.old.node_table node, tokens_in rest.entry)) }
 {
@@ -77,9 +92,9 @@ pub(crate) fn put_within<'a, 't>(
     node: ExprNode,
     rest: Tokens<'a, 't>,
 ) -> Result<ReadOperand<'a, 't>, ReadFault>
-    requires { ExprPartsStand syntax.old.node_table node }
+    requires { ExprPartsAreThere syntax.old.node_table node }
     ensures grown { Grown syntax.old syntax.new }
-    ensures stands { IfOk result (λ p. ExprRepresents syntax.new.node_table p.expr) }
+    ensures is_there { IfOk result (λ p. ExprRepresents syntax.new.node_table p.expr) }
     ensures given { Gives (expression_seen syntax.new.node_table) result
         (within limit (expr_over syntax.old.node_table node) (tokens_in rest.entry)) }
 {
@@ -108,7 +123,7 @@ pub(crate) fn put_expr_pattern_text<'a, 't>(
     rest: Tokens<'a, 't>,
 ) -> Result<ExprPatternPart<'a, 't>, ReadFault>
     ensures grown { Grown syntax.old syntax.new }
-    ensures stands { IfOk result (λ p. ExprPatternRepresents syntax.new.node_table p.expr_pattern) }
+    ensures is_there { IfOk result (λ p. ExprPatternRepresents syntax.new.node_table p.expr_pattern) }
     ensures given { Gives (seen_expr_pattern syntax.new.node_table) result
         (if is_short text.now then Some (patterns.text text.now, tokens_in rest.entry) else None) }
 {
@@ -124,7 +139,7 @@ pub(crate) fn put_text<'a, 't>(
     rest: Tokens<'a, 't>,
 ) -> Result<ReadOperand<'a, 't>, ReadFault>
     ensures grown { Grown syntax.old syntax.new }
-    ensures stands { IfOk result (λ p. ExprRepresents syntax.new.node_table p.expr) }
+    ensures is_there { IfOk result (λ p. ExprRepresents syntax.new.node_table p.expr) }
     ensures given { Gives (expression_seen syntax.new.node_table) result
         (if is_short text.now then Some (expressions.text text.now, tokens_in rest.entry) else None) }
 {

@@ -46,7 +46,7 @@ fn read_alone(
     context: ReadingContext,
     tokens: &[NumberedToken],
 ) -> Result<ReadPattern, ReadFault>
-    ensures stands { IfOk result (λ r. ExprPatternRepresents r.syntax.node_table r.pattern) }
+    ensures is_there { IfOk result (λ r. ExprPatternRepresents r.syntax.node_table r.pattern) }
     ensures given { Gives pattern_of result
         (pattern_alone (pattern (names_of context.entry) MOST_TREE_DEPTH (token_list tokens.now))) }
 {
@@ -71,7 +71,7 @@ pub fn read_pattern(
 ) -> Result<ReadPattern, OrNoMemory<Code>>
     ensures found { IfOk result
         (λ r. DerivesPatternAlone atoms.now (pattern_of r) (map placed_of tokens.now)) }
-    ensures stands { IfOk result (λ r. ExprPatternRepresents r.syntax.node_table r.pattern) }
+    ensures is_there { IfOk result (λ r. ExprPatternRepresents r.syntax.node_table r.pattern) }
 
     // What derives the tokens is read, unless memory runs out.
     ensures only { (q : ExprPattern) → DerivesPatternAlone atoms.now q (map placed_of tokens.now)

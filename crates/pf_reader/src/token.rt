@@ -1,7 +1,7 @@
 //! Single tokens: what follows a kind of token, and the name, the number or the word that a token is.
 
 ghost use Rattle.std.specs.Prelude.{◌≡◌, [], ◌∷◌, option_map, MatchOption};
-ghost use Rattle.pf_grammar.specs.Grammar.{call_stands};
+ghost use Rattle.pf_grammar.specs.Grammar.{call_is_there};
 ghost use Rattle.pf_grammar.specs.Parse.{after_kind, atom_in, is, follows_word, name_with_offset, number, word_parse};
 ghost use Rattle.pf_tokens.specs.View.{kind_of, numbered_token_of};
 ghost use Rattle.pf_reader.specs.View.{names_of, tokens_in};
@@ -9,7 +9,7 @@ ghost use Rattle.pf_reader.specs.Given.{Gives};
 
 use crate::fault::{ReadFault, Syntax};
 use pf_errors::OrNoMemory;
-use pf_syntax::{Form, Ident, builtin_named, may_stand};
+use pf_syntax::{Form, Ident, builtin_named, may_be_there};
 use pf_terms::{AtomId, AtomTable};
 use pf_tokens::{Integer, MOST_NAME_BYTES, NumberedKind, NumberedToken};
 
@@ -72,7 +72,7 @@ pub(crate) fn skip<'a, 't>(tokens: Tokens<'a, 't>, wanted: NumberedKind) -> Opti
 }
 
 /// What follows the kind of token, which must come first.
-pub(crate) fn behind<'a, 't>(
+pub(crate) fn expect<'a, 't>(
     tokens: Tokens<'a, 't>,
     wanted: NumberedKind,
 ) -> Result<Tokens<'a, 't>, ReadFault>
@@ -103,14 +103,14 @@ impl ReadingContext<'_> {
     }
 
     /// Whether a call of this name with this number of arguments is allowed, in a guard where the flag says so.
-    pub(crate) fn call_stands(self, guard: bool, name: AtomId, arity: usize) -> bool
-        ensures { result ≡ call_stands (names_of self.entry) guard name.0 arity }
+    pub(crate) fn call_is_there(self, guard: bool, name: AtomId, arity: usize) -> bool
+        ensures { result ≡ call_is_there (names_of self.entry) guard name.0 arity }
     {
         if !guard {
             return true;
         }
         match builtin_named(self.atoms.name(name), arity as u64) {
-            Some(builtin) => may_stand(true, Form::Calling(builtin)),
+            Some(builtin) => may_be_there(true, Form::Calling(builtin)),
             None => false,
         }
     }

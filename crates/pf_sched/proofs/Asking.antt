@@ -51,13 +51,13 @@ module _ (m : ReadModule) (e : ℕ) (r : Request) where
     )
 
     module _ (q : Property) (reads : ReadsProperty m.code.atoms r.property q) where
-      comes_to : (x : Result Job Code) → bounded r (job_from m e i q r) ≡ x → Asks m e r x
-      comes_to x is = (Some q, reads, ap (λ o. with_root m e o (Some q) r) root ∙ is)
+      leads_to : (x : Result Job Code) → bounded r (job_from m e i q r) ≡ x → Asks m e r x
+      leads_to x is = (Some q, reads, ap (λ o. with_root m e o (Some q) r) root ∙ is)
 
       -- then what is out of its range
       pub out_of_range : is_within r ≡ false → Asks m e r (Err code.OutOfRange)
       out_of_range unfit =
-          comes_to (Err code.OutOfRange)
+          leads_to (Err code.OutOfRange)
           (ap (λ b. if b then (if may_weigh (choices_in r.kind) then Ok (job_from m e i q r)
           else Err code.WeightsOutOfRange) else Err code.OutOfRange) unfit)
 
@@ -65,7 +65,7 @@ module _ (m : ReadModule) (e : ℕ) (r : Request) where
           → (if may_weigh (choices_in r.kind) then Ok (job_from m e i q r) else Err code.WeightsOutOfRange) ≡ x
           → Asks m e r x
       within x fits is =
-          comes_to x
+          leads_to x
           (ap (λ b. if b then (if may_weigh (choices_in r.kind) then Ok (job_from m e i q r)
           else Err code.WeightsOutOfRange) else Err code.OutOfRange) fits ∙ is)
 

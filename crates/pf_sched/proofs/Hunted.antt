@@ -16,32 +16,32 @@ use Rattle.pf_shrink.proofs.Tried.{tried_within_runs, tries_in_order}
 use Rattle.pf_request.specs.Job as request
 use Rattle.pf_sched.specs.Asked.{IsValid}
 use Rattle.pf_sched.specs.Events.{RunsHave, no_runs, HasEvents, of_run, of_shrinking}
-use Rattle.pf_sched.specs.Parts.{IsHuntOf, stands_at}
-use Rattle.pf_sched.specs.Slices.{GoesPast, TellsFound}
+use Rattle.pf_sched.specs.Parts.{IsHuntOf, is_at}
+use Rattle.pf_sched.specs.Slices.{GoesPast, ReportsFound}
 use Rattle.pf_sched.proofs.Asking.{is_profile, within_bounds}
-use Rattle.pf_sched.proofs.Tries.{fails_in, tells_failures, only_fails, few_events, first_run, only_so_many, so_many}
+use Rattle.pf_sched.proofs.Tries.{fails_in, reports_failures, only_fails, few_events, first_run, only_so_many, so_many}
 use Rattle.pf_sched.proofs.Tries.{few, one_more, parts}
 use Rattle.std.proofs.lemmas.Option.{same_Some}
 
 -- ---- where a hunt is
 
-stands_searching : (k : ℕ) (ns : List ℕ) (left : List (List ℕ)) → stands_at (searching k ns left) ≡ Some ns
-stands_searching k ns [] = refl
-stands_searching zero ns (c ∷ cs) = refl
-stands_searching (suc k) ns (c ∷ cs) = refl
+is_there_searching : (k : ℕ) (ns : List ℕ) (left : List (List ℕ)) → is_at (searching k ns left) ≡ Some ns
+is_there_searching k ns [] = refl
+is_there_searching zero ns (c ∷ cs) = refl
+is_there_searching (suc k) ns (c ∷ cs) = refl
 
 -- at the schedule that failed
-pub stands_at_failed : (h : Hunting) (ns : List ℕ) → next_of h ≡ Some ns → stands_at (after_answer true h) ≡ Some ns
-stands_at_failed (begins k ms) ns e = stands_searching k ms (candidates ms) ∙ e
-stands_at_failed (searches k ms c cs) ns e = stands_searching k c (candidates c) ∙ e
-stands_at_failed (ended f) ns e = absurd (cc)
+pub is_there_at_failed : (h : Hunting) (ns : List ℕ) → next_of h ≡ Some ns → is_at (after_answer true h) ≡ Some ns
+is_there_at_failed (begins k ms) ns e = is_there_searching k ms (candidates ms) ∙ e
+is_there_at_failed (searches k ms c cs) ns e = is_there_searching k c (candidates c) ∙ e
+is_there_at_failed (ended f) ns e = absurd (cc)
 
 -- where it was
-pub stands_as_it_was : (h : Hunting) (ns : List ℕ) → next_of h ≡ Some ns
-    → stands_at (after_answer false h) ≡ stands_at h
-stands_as_it_was (begins k ms) ns e = refl
-stands_as_it_was (searches k ms c cs) ns e = stands_searching k ms cs
-stands_as_it_was (ended f) ns e = absurd (cc)
+pub is_there_as_it_was : (h : Hunting) (ns : List ℕ) → next_of h ≡ Some ns
+    → is_at (after_answer false h) ≡ is_at h
+is_there_as_it_was (begins k ms) ns e = refl
+is_there_as_it_was (searches k ms c cs) ns e = is_there_searching k ms cs
+is_there_as_it_was (ended f) ns e = absurd (cc)
 
 -- ---- what a hunt finds
 
@@ -86,49 +86,49 @@ module _ (j : Job) where
         further = k;
         given = ns;
         fails = fails_in j;
-        behind = [];
+        after = [];
         runs = runs;
         choices = choices;
-        tells = tells_failures j;
+        reports = reports_failures j;
         comes = refl;
         events = no_runs;
         order = refl;
       }
 
   module _ (h : Hunting) (before : ℕ) (hunt : IsHuntOf j h before) where
-    told_so : (ns : List ℕ) → next_of h ≡ Some ns → (r : Report) → Means (by_schedule j ns) r
+    reported_so : (ns : List ℕ) → next_of h ≡ Some ns → (r : Report) → Means (by_schedule j ns) r
         → IsHuntOf j (after_answer (hunt.fails ns) h) (before + length r.events)
-    told_so ns e r means =
+    reported_so ns e r means =
         let rest = tried_from hunt.fails (after_answer (hunt.fails ns) h) in
         record {
           further = hunt.further;
           given = hunt.given;
           fails = hunt.fails;
-          behind = hunt.behind ++ ns ∷ [];
+          after = hunt.after ++ ns ∷ [];
           runs = hunt.runs;
           choices = hunt.choices;
-          tells = hunt.tells;
+          reports = hunt.reports;
           comes = comes_on hunt.fails h ns e ∙ hunt.comes;
-          events = one_more j hunt.behind before ns r hunt.events means;
-          order = hunt.order ∙ ap (λ nss. hunt.behind ++ nss) ((tries_in_order hunt.fails h).first ns e)
-              ∙ sym (append_assoc hunt.behind (ns ∷ []) rest);
+          events = one_more j hunt.after before ns r hunt.events means;
+          order = hunt.order ∙ ap (λ nss. hunt.after ++ nss) ((tries_in_order hunt.fails h).first ns e)
+              ∙ sym (append_assoc hunt.after (ns ∷ []) rest);
         }
 
     -- after the answer by the next run's report
-    pub hunt_told : (ns : List ℕ) → next_of h ≡ Some ns → (r : Report) → Means (by_schedule j ns) r
+    pub hunt_reported : (ns : List ℕ) → next_of h ≡ Some ns → (r : Report) → Means (by_schedule j ns) r
         → IsHuntOf j (after_answer (is_failure r.verdict) h) (before + length r.events)
-    hunt_told ns e r means = subst (λ b. IsHuntOf j (after_answer b h) (before + length r.events))
-        (hunt.tells ns r means) (told_so ns e r means)
+    hunt_reported ns e r means = subst (λ b. IsHuntOf j (after_answer b h) (before + length r.events))
+        (hunt.reports ns r means) (reported_so ns e r means)
 
     -- the events of the whole shrinking are those of the runs before it and of those to come
-    all_events : (m : ℕ) → HasEvents j m → RunsHave j (hunt.behind ++ tried_from hunt.fails h) m
+    all_events : (m : ℕ) → HasEvents j m → RunsHave j (hunt.after ++ tried_from hunt.fails h) m
     all_events _ (of_run r e means) = absurd (let some : j.runs ≡ suc hunt.further = hunt.runs in cc)
-    all_events _ (of_shrinking k ns fails m e c tells has) =
+    all_events _ (of_shrinking k ns fails m e c reports has) =
         let counted : suc k ≡ suc hunt.further = sym e ∙ hunt.runs in
         let given : schedule ns ≡ schedule hunt.given = sym c ∙ hunt.choices in
         let same : ns ≡ hunt.given = cc in
         subst (λ nss. RunsHave j nss m)
-        (ap (λ f. tried f (suc k) ns) (only_fails j fails hunt.fails tells hunt.tells)
+        (ap (λ f. tried f (suc k) ns) (only_fails j fails hunt.fails reports hunt.reports)
         ∙ ap (λ n. tried hunt.fails n ns) counted
         ∙ ap (tried hunt.fails (suc hunt.further)) same ∙ hunt.order)
         has
@@ -139,10 +139,10 @@ module _ (j : Job) where
         → (m : ℕ) → HasEvents j m → before + n < m
     hunt_goes_past ns e n past m has =
         let rest = tried_from hunt.fails (after_answer (hunt.fails ns) h) in
-        let p = parts j hunt.behind (tried_from hunt.fails h) m (all_events m has) in
+        let p = parts j hunt.after (tried_from hunt.fails h) m (all_events m has) in
         let x = first_run j ns rest p.later (subst (λ nss. RunsHave j nss p.later)
         ((tries_in_order hunt.fails h).first ns e) p.rest) in
-        let ahead : p.ahead ≡ before = only_so_many j hunt.behind p.ahead before p.first hunt.events in
+        let ahead : p.ahead ≡ before = only_so_many j hunt.after p.ahead before p.first hunt.events in
         let more = past x.report x.means in
         let all = p.sums in
         let next = x.sums in
@@ -152,21 +152,23 @@ module _ (j : Job) where
     pub hunt_has : next_of h ≡ None → HasEvents j before
     hunt_has e =
         let none : tried_from hunt.fails h ≡ [] = (tries_in_order hunt.fails h).none.0 e in
-        let order : hunt.behind ≡ tried hunt.fails (suc hunt.further) hunt.given =
-        sym (append-nil hunt.behind) ∙ ap (λ nss. hunt.behind ++ nss) (sym none) ∙ sym hunt.order in
-        of_shrinking hunt.further hunt.given hunt.fails before hunt.runs hunt.choices hunt.tells
+        let order : hunt.after ≡ tried hunt.fails (suc hunt.further) hunt.given =
+        sym (append-nil hunt.after) ∙ ap (λ nss. hunt.after ++ nss) (sym none) ∙ sym hunt.order in
+        of_shrinking hunt.further hunt.given hunt.fails before hunt.runs hunt.choices hunt.reports
         (subst (λ nss. RunsHave j nss before) order hunt.events)
 
     -- and what was found, with its report, is the job's result
-    pub hunt_comes : next_of h ≡ None → (r : Result) → TellsFound j (found_of h) r → IsResult j r
-    hunt_comes e r tells = by (found_of h) (sym hunt.comes ∙ sym (comes_found hunt.fails h e)) tells
+    pub hunt_comes : next_of h ≡ None → (r : Result) → ReportsFound j (found_of h) r → IsResult j r
+    hunt_comes e r reports = by (found_of h) (sym hunt.comes ∙ sym (comes_found hunt.fails h e)) reports
       where
-        by : (f : Option Found) → shrunk hunt.fails (suc hunt.further) hunt.given ≡ f → TellsFound j f r → IsResult j r
-        by None is told = subst (IsResult j) (sym told)
-            (no_failure hunt.further hunt.given hunt.fails hunt.runs hunt.choices hunt.tells is)
-        by (Some f) is told =
-            subst (IsResult j) (sym told.2) (smaller hunt.further hunt.given hunt.fails f told.0 hunt.runs hunt.choices
-            hunt.tells is told.1)
+        by : (f : Option Found) → shrunk hunt.fails (suc hunt.further) hunt.given ≡ f → ReportsFound j f r
+            → IsResult j r
+        by None is reported = subst (IsResult j) (sym reported)
+            (no_failure hunt.further hunt.given hunt.fails hunt.runs hunt.choices hunt.reports is)
+        by (Some f) is reported =
+            subst (IsResult j) (sym reported.2)
+            (smaller hunt.further hunt.given hunt.fails f reported.0 hunt.runs hunt.choices
+            hunt.reports is reported.1)
 
   -- ---- how many events there can be
 
@@ -174,7 +176,7 @@ module _ (j : Job) where
   pub all_within : (m : ℕ) → HasEvents j m → m ≤ max 1 j.runs * j.limit
   all_within _ (of_run r e means) = let one = few_events j r means in subst (λ k. length r.events ≤ max 1 k * j.limit)
       (sym e) (omega arith)
-  all_within _ (of_shrinking k ns fails m e c tells has) =
+  all_within _ (of_shrinking k ns fails m e c reports has) =
       let all = few j (tried fails (suc k) ns) m has in
       let within = tried_within_runs fails (suc k) ns in
       subst (λ n. m ≤ max 1 n * j.limit) (sym e) (bound m (length (tried fails (suc k) ns)) k j.limit all within)
@@ -193,7 +195,7 @@ module _ (j : Job) where
       shrinking : (k : ℕ) (ns : List ℕ) → j.runs ≡ suc k → j.choices ≡ schedule ns → (m : ℕ) × HasEvents j m
       shrinking k ns e c =
           let s = so_many j (tried (fails_in j) (suc k) ns) in
-          (s.0, of_shrinking k ns (fails_in j) s.0 e c (tells_failures j) s.1)
+          (s.0, of_shrinking k ns (fails_in j) s.0 e c (reports_failures j) s.1)
 
       by : (k : ℕ) → j.runs ≡ k → (j.runs ≡ zero) ⊎ ((ns : List ℕ) × (j.choices ≡ schedule ns))
           → (m : ℕ) × HasEvents j m
@@ -226,11 +228,11 @@ pub few_before : (j : request.Job) → IsValid j → (h : Hunting) (before : ℕ
 few_before j valid h before hunt =
     let bounds = within_bounds j valid in
     let rest = tried_from hunt.fails h in
-    let all : length (tried hunt.fails (suc hunt.further) hunt.given) ≡ length hunt.behind + length rest =
-    ap length hunt.order ∙ length-append hunt.behind rest in
+    let all : length (tried hunt.fails (suc hunt.further) hunt.given) ≡ length hunt.after + length rest =
+    ap length hunt.order ∙ length-append hunt.after rest in
     let tried_few = tried_within_runs hunt.fails (suc hunt.further) hunt.given in
     let asked : j.asked.runs ≡ suc hunt.further = hunt.runs in
-    let runs : length hunt.behind ≤ 1000 = let b = bounds.1 in omega arith in
-    let most = few j.asked hunt.behind before hunt.events in
-    let bound = mul-le (length hunt.behind) j.asked.limit 1000 100000 runs bounds.0 in
+    let runs : length hunt.after ≤ 1000 = let b = bounds.1 in omega arith in
+    let most = few j.asked hunt.after before hunt.events in
+    let bound = mul-le (length hunt.after) j.asked.limit 1000 100000 runs bounds.0 in
     omega arith

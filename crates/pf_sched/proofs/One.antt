@@ -14,7 +14,7 @@ use Rattle.pf_sched.specs.Events.{RunsHave, HasEvents, of_run, of_shrinking}
 use Rattle.pf_sched.specs.One.{OneResult, OneCount, SomeResult, SomeCount}
 use Rattle.pf_sched.proofs.Asking.{is_profile}
 use Rattle.pf_sched.proofs.Hunted.{has_events}
-use Rattle.pf_sched.proofs.Tries.{fails_in, tells_failures, only_fails, only_so_many, so_many}
+use Rattle.pf_sched.proofs.Tries.{fails_in, reports_failures, only_fails, only_so_many, so_many}
 
 -- ---- results
 
@@ -24,25 +24,25 @@ shrunk_so j None = nothing_fails
 shrunk_so j (Some f) = shrunk_to f (evaluated (by_schedule j f.schedule))
 
 -- the result of a job that has one; of what isn't shrunk it is left open
-abbrev comes_to : model.Job → (runs : ℕ) → Choices → Result
-comes_to j zero cs = report (evaluated j)
-comes_to j (suc k) (schedule ns) = shrunk_so j (shrunk (fails_in j) (suc k) ns)
-comes_to j (suc k) (seed n) = nothing_fails
-comes_to j (suc k) (weighted_seed n process channel) = nothing_fails
+abbrev leads_to : model.Job → (runs : ℕ) → Choices → Result
+leads_to j zero cs = report (evaluated j)
+leads_to j (suc k) (schedule ns) = shrunk_so j (shrunk (fails_in j) (suc k) ns)
+leads_to j (suc k) (seed n) = nothing_fails
+leads_to j (suc k) (weighted_seed n process channel) = nothing_fails
 
-comes_so : (j : model.Job) (r : Result) → IsResult j r → comes_to j j.runs j.choices ≡ r
+comes_so : (j : model.Job) (r : Result) → IsResult j r → leads_to j j.runs j.choices ≡ r
 comes_so j _ (plain r one_run means) =
-    ap (λ (n : ℕ). comes_to j n j.choices) one_run ∙ ap report (sym (only_evaluated j r means))
-comes_so j _ (smaller k ns fails f r runs choices tells found means) =
-    (λ i. comes_to j (runs i) (choices i))
+    ap (λ (n : ℕ). leads_to j n j.choices) one_run ∙ ap report (sym (only_evaluated j r means))
+comes_so j _ (smaller k ns fails f r runs choices reports found means) =
+    (λ i. leads_to j (runs i) (choices i))
     ∙ ap (λ (g : List ℕ → Bool). shrunk_so j (shrunk g (suc k) ns))
-    (only_fails j (fails_in j) fails (tells_failures j) tells)
+    (only_fails j (fails_in j) fails (reports_failures j) reports)
     ∙ ap (shrunk_so j) found
     ∙ ap (shrunk_to f) (sym (only_evaluated (by_schedule j f.schedule) r means))
-comes_so j _ (no_failure k ns fails runs choices tells none) =
-    (λ i. comes_to j (runs i) (choices i))
+comes_so j _ (no_failure k ns fails runs choices reports none) =
+    (λ i. leads_to j (runs i) (choices i))
     ∙ ap (λ (g : List ℕ → Bool). shrunk_so j (shrunk g (suc k) ns))
-    (only_fails j (fails_in j) fails (tells_failures j) tells)
+    (only_fails j (fails_in j) fails (reports_failures j) reports)
     ∙ ap (shrunk_so j) none
 
 pub one_result : OneResult
@@ -57,11 +57,11 @@ module _ (j : model.Job) where
       → (r : Result) × IsResult j r
   shrinking k ns runs choices None none = (
     nothing_fails,
-    no_failure k ns (fails_in j) runs choices (tells_failures j) none,
+    no_failure k ns (fails_in j) runs choices (reports_failures j) none,
   )
   shrinking k ns runs choices (Some f) found =
       let m = one_meaning (by_schedule j f.schedule) tt in
-      (shrunk_to f m.0, smaller k ns (fails_in j) f m.0 runs choices (tells_failures j) found m.1)
+      (shrunk_to f m.0, smaller k ns (fails_in j) f m.0 runs choices (reports_failures j) found m.1)
 
   some_of : IsProfile (profile_of j.choices) → (j.runs ≡ zero) ⊎ ((ns : List ℕ) × (j.choices ≡ schedule ns))
       → (k : ℕ) → j.runs ≡ k
@@ -89,10 +89,10 @@ counts_so : (j : model.Job) (n : ℕ) → HasEvents j n → counts_to j j.runs j
 counts_so j _ (of_run r one_run means) =
     ap (λ (k : ℕ). counts_to j k j.choices) one_run ∙ ap (λ (s : model.Report). length s.events)
     (sym (only_evaluated j r means))
-counts_so j _ (of_shrinking k ns fails n runs choices tells have) =
+counts_so j _ (of_shrinking k ns fails n runs choices reports have) =
     (λ i. counts_to j (runs i) (choices i))
     ∙ ap (λ (g : List ℕ → Bool). (so_many j (tried g (suc k) ns)).0)
-    (only_fails j (fails_in j) fails (tells_failures j) tells)
+    (only_fails j (fails_in j) fails (reports_failures j) reports)
     ∙ runs_count j (tried fails (suc k) ns) n have
 
 pub one_count : OneCount

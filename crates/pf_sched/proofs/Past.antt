@@ -88,8 +88,8 @@ module _ {S : Type 0} (m : Module) (choose : Chooser S) where
       × Stops (suc n - p.used - steps) e
   goes_first s n c x p chosen pass us e l u whole stops = by (first_of s (suc n) c us e l u whole)
     where
-      stands : None (suc n) c e l → Stops (suc n) c
-      stands none = subst (λ z. Stops z c) (sub-zero (suc n))
+      is_there : None (suc n) c e l → Stops (suc n) c
+      is_there none = subst (λ z. Stops z c) (sub-zero (suc n))
           (subst (λ z. Stops (suc n - z) c) none.unused (subst (λ z. Stops (suc n - l) z) none.same stops))
 
       never : Stops (suc n) c → ⊥
@@ -101,7 +101,7 @@ module _ {S : Type 0} (m : Module) (choose : Chooser S) where
           × (us ≡ transition (next_choice choose s c) (enabled c) x p ∷ others)
           × Goes m choose (next_state choose s c) (suc n - p.used) p.after others e steps u
           × Stops (suc n - p.used - steps) e
-      by (inl none) = absurd (never (stands none))
+      by (inl none) = absurd (never (is_there none))
       by (inr first) =
           let actor = same_actor first.actor x (sym first.chosen ∙ chosen) in
           let same : first.passed ≡ p =

@@ -17,13 +17,15 @@ use Rattle.pf_sched.specs.declared.shrinking.ShrinkingAdvance.{ShrinkingAdvance}
 use Rattle.pf_sched.specs.declared.shrinking.ShrinkingAdvance.TheVariants as advance
 use Rattle.pf_sched.specs.declared.shrinking.Shrinking.{Shrinking}
 use Rattle.pf_sched.specs.Asked.{IsValid}
-use Rattle.pf_sched.specs.Parts.{IsHuntOf, IsRunBy, IsShrinkingOf, KeepsReport, events_in, events_so_far, stands_at}
+use Rattle.pf_sched.specs.Choosing.{choices}
+use Rattle.pf_sched.specs.Parts.{IsHuntOf, IsRunBy, IsShrinkingOf, KeepsReport, events_in, events_so_far, is_at}
 use Rattle.pf_sched.specs.Slices.{Advances, JobEvaluatesTo, NextRunFollows, ShrinkingGoesOn, IsRunOver, OpensNext}
 use Rattle.pf_sched.specs.Slices.{RunAdvances, runs_left}
 use Rattle.pf_sched.specs.Traces.{Makes}
+use Rattle.pf_sched.proofs.Reported.{for_choices}
 use Rattle.pf_sched.proofs.Sliced.{run_goes_past}
-use Rattle.pf_sched.proofs.Hunted.{HasNoFewer, has_more, hunt_begins, hunt_told, hunt_goes_past, stands_at_failed}
-use Rattle.pf_sched.proofs.Hunted.{stands_as_it_was}
+use Rattle.pf_sched.proofs.Hunted.{HasNoFewer, has_more, hunt_begins, hunt_reported, hunt_goes_past, is_there_at_failed}
+use Rattle.pf_sched.proofs.Hunted.{is_there_as_it_was}
 
 -- ---- the next schedule
 
@@ -62,16 +64,16 @@ module _ (j : meaning.Job) where
   -- that of the schedule that failed, or the one from before
   pub keeps_on : (h : Hunting) (ns : List ℕ) → next_of h ≡ Some ns → (kept : Option WrittenReport) (r : WrittenReport)
       → Means (by_schedule j ns) (report_in r)
-      → AreWritten (name_of j.code.atoms) r.lines → KeepsReport j (stands_at h) kept → (b : Bool)
-      → KeepsReport j (stands_at (after_answer b h)) (if b then Some r else kept)
-  keeps_on h ns e kept r means written k true = subst (λ o. KeepsReport j o (Some r)) (sym (stands_at_failed h ns e))
+      → AreWritten (name_of j.code.atoms) r.lines → KeepsReport j (is_at h) kept → (b : Bool)
+      → KeepsReport j (is_at (after_answer b h)) (if b then Some r else kept)
+  keeps_on h ns e kept r means written k true = subst (λ o. KeepsReport j o (Some r)) (sym (is_there_at_failed h ns e))
       (means, written)
-  keeps_on h ns e kept r means written k false = subst (λ o. KeepsReport j o kept) (sym (stands_as_it_was h ns e)) k
+  keeps_on h ns e kept r means written k false = subst (λ o. KeepsReport j o kept) (sym (is_there_as_it_was h ns e)) k
 
 module _ (j : Job) where
   -- with another run by the same schedule
   pub with_run : (s t : Shrinking) (x : IsShrinkingOf j s) → t ≡ record s { run = t.run }
-      → IsRunBy j (schedule x.next) t.run → IsShrinkingOf j t
+      → IsRunBy j (choices (schedule x.next)) t.run → IsShrinkingOf j t
   with_run s t x e run =
       let same : IsShrinkingOf j (record s { run = t.run }) =
       record { hunt = x.hunt; report = x.report; next = x.next; is_next = x.is_next; run = run } in
@@ -82,12 +84,13 @@ module _ (j : Job) where
       → HasNoFewer j (events_so_far s)
   shrinking_goes_past s x going m has =
       hunt_goes_past j.asked s.hunt s.before x.hunt x.next x.is_next (length (events_in s.run))
-      (λ r means. run_goes_past j (schedule x.next) (events_in s.run) s.run.execution x.run.run going r means) m has
+      (λ r means. run_goes_past j (choices (schedule x.next)) (events_in s.run) s.run.execution x.run.run going r
+      (for_choices j.asked (schedule x.next) r means)) m has
 
   -- before its first event
   pub shrinking_begins : (h : Hunting) (r : Run) (c : ShrinkingProgress) (runs : ℕ) (ns items : List ℕ) → 0 < runs
       → j.asked.runs ≡ runs → j.asked.choices ≡ schedule ns → items ≡ ns
-      → h ≡ begins (runs - 1) items → IsRunBy j (schedule ns) r
+      → h ≡ begins (runs - 1) items → IsRunBy j (choices (schedule ns)) r
       → IsShrinkingOf j (record { hunt = h; run = r; report = None; before = zero; progress = c })
   shrinking_begins h r c runs ns items some asked shrinks same is run =
       let begun : begins (runs - 1) ns ≡ h = ap (begins (runs - 1)) (sym same) ∙ sym is in
@@ -114,26 +117,26 @@ module _ (j : Job) where
   pub hunt_goes_on : (s : Shrinking) (x : IsShrinkingOf j s) (r : WrittenReport)
       → Means (by_schedule j.asked x.next) (report_in r)
       → events_of r.lines ≡ events_in s.run → (h : Hunting) → h ≡ after_answer (is_failure r.verdict) s.hunt
-      → (behind : ℕ) → behind ≡ events_so_far s
-      → IsHuntOf j.asked h behind
-  hunt_goes_on s x r means same h told behind count =
-      let told_it : IsHuntOf j.asked (after_answer (is_failure r.verdict) s.hunt)
+      → (after : ℕ) → after ≡ events_so_far s
+      → IsHuntOf j.asked h after
+  hunt_goes_on s x r means same h reported after count =
+      let reported_it : IsHuntOf j.asked (after_answer (is_failure r.verdict) s.hunt)
       (s.before + length (events_of r.lines)) =
-      hunt_told j.asked s.hunt s.before x.hunt x.next x.is_next (report_in r) means in
-      let at : s.before + length (events_of r.lines) ≡ behind = ap (λ es. s.before + length es) same ∙ sym count in
-      subst (λ z. IsHuntOf j.asked z behind) (sym told)
-      (subst (IsHuntOf j.asked (after_answer (is_failure r.verdict) s.hunt)) at told_it)
+      hunt_reported j.asked s.hunt s.before x.hunt x.next x.is_next (report_in r) means in
+      let at : s.before + length (events_of r.lines) ≡ after = ap (λ es. s.before + length es) same ∙ sym count in
+      subst (λ z. IsHuntOf j.asked z after) (sym reported)
+      (subst (IsHuntOf j.asked (after_answer (is_failure r.verdict) s.hunt)) at reported_it)
 
   -- and the report of its current schedule is kept
   pub report_goes_on : (s : Shrinking) (x : IsShrinkingOf j s) (r : WrittenReport)
       → Means (by_schedule j.asked x.next) (report_in r)
       → AreWritten (name_of j.asked.code.atoms) r.lines → (h : Hunting) → h ≡ after_answer (is_failure r.verdict) s.hunt
       → (kept : Option WrittenReport) → kept ≡ (if is_failure r.verdict then Some r else s.report)
-      → KeepsReport j.asked (stands_at h) kept
-  report_goes_on s x r means written h told kept is =
+      → KeepsReport j.asked (is_at h) kept
+  report_goes_on s x r means written h reported kept is =
       let k = keeps_on j.asked s.hunt x.next x.is_next s.report r means written x.report (is_failure r.verdict) in
-      subst (λ z. KeepsReport j.asked (stands_at z) kept) (sym told)
-      (subst (KeepsReport j.asked (stands_at (after_answer (is_failure r.verdict) s.hunt))) (sym is) k)
+      subst (λ z. KeepsReport j.asked (is_at z) kept) (sym reported)
+      (subst (KeepsReport j.asked (is_at (after_answer (is_failure r.verdict) s.hunt))) (sym is) k)
 
   module _ (s t : Shrinking) (x : IsShrinkingOf j s) (turns : ℕ) (rest : t ≡ record s { run = t.run }) where
     before_same : t.before ≡ s.before
@@ -143,7 +146,7 @@ module _ (j : Job) where
     pub goes_further : IsValid j → (over : Bool) → over ≡ false → RunAdvances j s.run t.run turns over
         → ShrinkingGoesOn j (events_so_far s + turns) (advance.More t)
     goes_further valid over off went =
-        let a = went (schedule x.next) x.run in
+        let a = went (choices (schedule x.next)) x.run in
         let b : Advances (length (events_in s.run)) (length (events_in t.run)) turns false
         (IsRunOver j.asked.limit t.run.execution) =
         subst (λ v. Advances (length (events_in s.run)) (length (events_in t.run)) turns v
@@ -165,7 +168,7 @@ module _ (j : Job) where
 
     pub at_edge : (over : Bool) → over ≡ true → RunAdvances j s.run t.run turns over → AtEdge
     at_edge over on went =
-        let a = went (schedule x.next) x.run in
+        let a = went (choices (schedule x.next)) x.run in
         let b : Advances (length (events_in s.run)) (length (events_in t.run)) turns true
         (IsRunOver j.asked.limit t.run.execution) =
         subst (λ v. Advances (length (events_in s.run)) (length (events_in t.run)) turns v

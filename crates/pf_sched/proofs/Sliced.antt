@@ -5,7 +5,6 @@ use Rattle.std.specs.Prelude.{MatchBool}
 use Rattle.pf_terms.specs.Atoms.{name_of}
 use Rattle.pf_model.specs.Configuration.{Configuration}
 use Rattle.pf_model.specs.Meaning as meaning
-use Rattle.pf_model.specs.Meaning.{Means}
 use Rattle.pf_model.specs.Properties.{some_label}
 use Rattle.pf_model.specs.Runs.{Stops}
 use Rattle.pf_model.specs.Shrinking as shrinking
@@ -13,34 +12,34 @@ use Rattle.pf_property.specs.Judging.{rules_out}
 use Rattle.pf_property.specs.Views.{labels_in, property_of}
 use Rattle.pf_system.specs.View.{SystemView}
 use Rattle.pf_request.specs.Job.{Job}
-use Rattle.pf_trace.specs.Written.{AreWritten, AreWrittenSoFar, events_of, report_in, told_so_far}
+use Rattle.pf_trace.specs.Written.{AreWritten, AreWrittenSoFar, events_of, report_in, reported_so_far}
 use Rattle.pf_trace.specs.declared.lines.WrittenReport.{WrittenReport}
 use Rattle.pf_sched.specs.Asked.{IsValid}
+use Rattle.pf_sched.specs.Choosing.{Choosing, MeansFor, choices}
 use Rattle.pf_sched.specs.Events.{of_run, of_shrinking}
 use Rattle.pf_sched.specs.Parts.{Executes, IsRunBy, IsRunOf, events_in}
 use Rattle.pf_sched.specs.Slices.{Advances, SimulatesEvents, EndsBy, GoesPast, IsRunOver, IsReportBy, RunAdvances}
-use Rattle.pf_sched.specs.Told.{WritesEvents}
+use Rattle.pf_sched.specs.Reported.{WritesEvents}
 use Rattle.pf_sched.specs.Views.{without_memory}
 use Rattle.pf_sched.specs.declared.execution.Execution.{Execution}
 use Rattle.pf_sched.specs.declared.run.Run as code
 use Rattle.pf_sched.specs.declared.trace.Writer.{Writer}
 use Rattle.pf_sched.proofs.Hunted.{HasNoFewer, has_more}
-use Rattle.pf_sched.proofs.Reported.{by_their_chooser, one_stands}
+use Rattle.pf_sched.proofs.Reported.{one_is_there}
 use Rattle.pf_sched.proofs.SoFar.{has_more_to_come}
 
 -- a run that isn't over has more events to come
-pub run_goes_past : (j : Job) (cs : meaning.Choices) (es : List meaning.Event) (x : Execution) → Executes j cs es x
+pub run_goes_past : (j : Job) (w : Choosing) (es : List meaning.Event) (x : Execution) → Executes j w es x
     → (IsRunOver j.asked.limit x → ⊥)
-    → (report : meaning.Report) → Means (record j.asked { choices = cs }) report → length es < length report.events
-run_goes_past j cs es x g going report h =
-    has_more_to_come g.run (λ stops. going (g.run.last, g.run.stands, stops)) report
-    (by_their_chooser j.asked cs report h)
+    → (report : meaning.Report) → MeansFor w j.asked report → length es < length report.events
+run_goes_past j w es x g going report h = has_more_to_come g.run
+    (λ stops. going (g.run.last, g.run.is_there, stops)) report h
 
 -- so has the job, where it is no shrinking
-goes_past : (j : Job) (es : List meaning.Event) (x : Execution) → j.asked.runs ≡ zero → Executes j j.asked.choices es x
-    → (IsRunOver j.asked.limit x → ⊥) → HasNoFewer j (length es)
-goes_past j es x plain g going _ (of_run report e h) = run_goes_past j j.asked.choices es x g going report h
-goes_past j es x plain g going m (of_shrinking k ns fails _ e c tells has) =
+goes_past : (j : Job) (es : List meaning.Event) (x : Execution) → j.asked.runs ≡ zero
+    → Executes j (choices j.asked.choices) es x → (IsRunOver j.asked.limit x → ⊥) → HasNoFewer j (length es)
+goes_past j es x plain g going _ (of_run report e h) = run_goes_past j (choices j.asked.choices) es x g going report h
+goes_past j es x plain g going m (of_shrinking k ns fails _ e c reports has) =
     absurd (let some : j.asked.runs ≡ suc k = e in cc)
 
 -- where n events were made, a test of where the run is says whether it is over
@@ -48,36 +47,36 @@ pub ended : (limit before after turns : ℕ) (x : Execution) (c : Configuration)
     → after ≡ before + turns → (over : Bool)
     → MatchBool over (Stops (limit - x.system.steps) c) (Stops (limit - x.system.steps) c → ⊥)
     → Advances before after turns over (IsRunOver limit x)
-ended limit before after turns x c stands count true stops = (omega arith, omega arith, (c, stands, stops))
-ended limit before after turns x c stands count false goes = (
+ended limit before after turns x c is_there count true stops = (omega arith, omega arith, (c, is_there, stops))
+ended limit before after turns x c is_there count false goes = (
   count,
   λ over. goes (subst (Stops (limit - x.system.steps))
-      (one_stands x.system.standing over.0 c over.1 stands) over.2),
+      (one_is_there x.system.standing over.0 c over.1 is_there) over.2),
 )
 
 -- so it is where the system has other spare nodes
-pub continues_alike : {T : Type 0} (Told : T → meaning.Job → List meaning.Event → Type 0) (limit turns : ℕ)
+pub continues_alike : {T : Type 0} (Reported : T → meaning.Job → List meaning.Event → Type 0) (limit turns : ℕ)
     (old new : Execution) (t u : T) (s r : SystemView) → s ≡ old.system → r ≡ new.system
-    → (over : Bool) → SimulatesEvents Told limit (record old { system = s }) t new u turns over
-    → SimulatesEvents Told limit old t (record new { system = r }) u turns over
-continues_alike Told limit turns old new t u s r e f over went =
-    subst (λ z. SimulatesEvents Told limit old t (record new { system = z }) u turns over) (sym f)
-    (subst (λ z. SimulatesEvents Told limit (record old { system = z }) t new u turns over) e went)
+    → (over : Bool) → SimulatesEvents Reported limit (record old { system = s }) t new u turns over
+    → SimulatesEvents Reported limit old t (record new { system = r }) u turns over
+continues_alike Reported limit turns old new t u s r e f over went =
+    subst (λ z. SimulatesEvents Reported limit old t (record new { system = z }) u turns over) (sym f)
+    (subst (λ z. SimulatesEvents Reported limit (record old { system = z }) t new u turns over) e went)
 
 -- a run has the events that its trace received
 pub advances_written : (j : Job) (turns limit : ℕ) → limit ≡ j.asked.limit → (old new : code.Run) (t u : Writer)
     → property_of t.property.now ≡ j.asked.property
     → t.atoms.now ≡ j.asked.code.atoms → t.written ≡ old.written → u.written ≡ new.written → (over : Bool)
     → SimulatesEvents WritesEvents limit old.execution t new.execution u turns over → RunAdvances j old new turns over
-advances_written j turns limit same old new t u property atoms before after over went cs run = (
+advances_written j turns limit same old new t u property atoms before after over went w run = (
   record {
-    run = subst (λ es. Executes j cs es new.execution) (sym events) w.1;
+    run = subst (λ es. Executes j w es new.execution) (sym events) on.1;
     written = written;
     ruled_out = ruled_out;
   },
   subst (λ n. Advances (length (events_in old)) n turns over (IsRunOver j.asked.limit new.execution))
       (ap length (sym events))
-      (subst (λ l. Advances (length (events_in old)) (length w.0) turns over (IsRunOver l new.execution)) same w.3),
+      (subst (λ l. Advances (length (events_in old)) (length on.0) turns over (IsRunOver l new.execution)) same on.3),
 )
   where
     lines : AreWrittenSoFar (name_of t.atoms.now) t.written.lines
@@ -85,34 +84,34 @@ advances_written j turns limit same old new t u property atoms before after over
         subst (λ x. AreWrittenSoFar (name_of t.atoms.now) x.lines) (sym before)
         (subst (λ ns. AreWrittenSoFar (name_of ns) old.written.lines) (sym atoms) run.written)
 
-    told : WritesEvents t j.asked (events_in old)
-    told = (
+    reported : WritesEvents t j.asked (events_in old)
+    reported = (
       (property, ap (λ x. x.ruled_out) before ∙ run.ruled_out),
       atoms,
-      ap (λ x. told_so_far x.lines) before,
+      ap (λ x. reported_so_far x.lines) before,
       lines,
     )
 
-    w : (es : List meaning.Event) × Executes j cs es new.execution × WritesEvents u j.asked es
+    on : (es : List meaning.Event) × Executes j w es new.execution × WritesEvents u j.asked es
         × Advances (length (events_in old)) (length es) turns over (IsRunOver limit new.execution)
-    w = went j cs (events_in old) (sym same) run.run told
+    on = went j w (events_in old) (sym same) run.run reported
 
-    events : events_in new ≡ w.0
-    events = ap (λ x. told_so_far x.lines) (sym after) ∙ w.2.2
+    events : events_in new ≡ on.0
+    events = ap (λ x. reported_so_far x.lines) (sym after) ∙ on.2.2
 
     written : AreWrittenSoFar (name_of j.asked.code.atoms) new.written.lines
     written =
         subst (λ x. AreWrittenSoFar (name_of j.asked.code.atoms) x.lines) after
-        (subst (λ ns. AreWrittenSoFar (name_of ns) u.written.lines) w.2.1 w.2.3)
+        (subst (λ ns. AreWrittenSoFar (name_of ns) u.written.lines) on.2.1 on.2.3)
 
     ruled_out : new.written.ruled_out ≡ some_label (rules_out j.asked.property) (labels_in (events_in new))
     ruled_out =
-        ap (λ x. x.ruled_out) (sym after) ∙ w.2.0.1
+        ap (λ x. x.ruled_out) (sym after) ∙ on.2.0.1
         ∙ ap (λ es. some_label (rules_out j.asked.property) (labels_in es)) (sym events)
 
 -- if it isn't over the job goes on after n events more, and has more than those
 pub goes_on : (j : Job) → IsValid j → (before turns : ℕ) (run : code.Run) → j.asked.runs ≡ zero
-    → IsRunBy j j.asked.choices run → (over : Bool) → over ≡ false
+    → IsRunBy j (choices j.asked.choices) run → (over : Bool) → over ≡ false
     → Advances before (length (events_in run)) turns over (IsRunOver j.asked.limit run.execution)
     → (length (events_in run) ≡ before + turns) × GoesPast j (before + turns)
 goes_on j valid before turns run plain is over off went =
@@ -126,15 +125,15 @@ goes_on j valid before turns run plain is over off went =
 -- the report of a run that is over is the job's result, where it is no shrinking
 pub run_ends : (j k : Job) → k ≡ j → (run : code.Run) → IsRunOf j run → IsRunOver j.asked.limit run.execution
     → (r : WrittenReport)
-    → ((cs : meaning.Choices) → IsRunBy k cs run → IsRunOver k.asked.limit run.execution
-    → IsReportBy k cs r × (events_of r.lines ≡ events_in run))
+    → ((w : Choosing) → IsRunBy k w run → IsRunOver k.asked.limit run.execution
+    → IsReportBy k w r × (events_of r.lines ≡ events_in run))
     → EndsBy j (length (events_in run)) (shrinking.report (report_in r))
     × AreWritten (name_of j.asked.code.atoms) r.lines
-run_ends j k e run going over r told =
+run_ends j k e run going over r reported =
     let h =
-    subst (λ z. (cs : meaning.Choices) → IsRunBy z cs run → IsRunOver z.asked.limit run.execution
-    → IsReportBy z cs r × (events_of r.lines ≡ events_in run)) e told
-    j.asked.choices going.1 over in
+    subst (λ z. (w : Choosing) → IsRunBy z w run → IsRunOver z.asked.limit run.execution
+    → IsReportBy z w r × (events_of r.lines ≡ events_in run)) e reported
+    (choices j.asked.choices) going.1 over in
     let count : length (events_of r.lines) ≡ length (events_in run) = ap length h.1 in
     let within : length (events_of r.lines) ≤ length (events_in run) = omega arith in (
       (

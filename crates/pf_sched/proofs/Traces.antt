@@ -1,5 +1,5 @@
 -- A run by a chooser, transition by transition.
-use Rattle.std.proofs.Common.{◌≡◌, ℕ, zero, suc, ◌+◌, ◌-◌, ◌<◌, List, [], ◌∷◌, ◌++◌, length, map, Some, refl, sym, ap}
+use Rattle.std.proofs.Common.{◌≡◌, ℕ, suc, ◌+◌, ◌-◌, ◌<◌, List, [], ◌∷◌, ◌++◌, length, map, Some, refl, sym, ap}
 use Rattle.std.proofs.Common.{◌∙◌, subst, arith}
 use Rattle.std.specs.Prelude.{slice_get}
 use Rattle.std.proofs.lemmas.Option.{same_Some}
@@ -9,22 +9,26 @@ use Rattle.pf_choice.specs.Choices.{Chooses, IsAt}
 use Rattle.pf_choice.specs.Chosen.{chosen}
 use Rattle.pf_choice.specs.declared.choices.Choices.{Choices}
 use Rattle.pf_model.specs.Channels.{heads}
-use Rattle.pf_model.specs.Choosers.{Chooser, choose_by_picks}
+use Rattle.pf_model.specs.Choosers.{Chooser}
 use Rattle.pf_model.specs.Configuration.{Configuration}
-use Rattle.pf_model.specs.Meaning as meaning
 use Rattle.pf_model.specs.Meaning.{Event, event_of_transition, picks_of, words_of}
 use Rattle.pf_model.specs.Module.{Module, module_of}
 use Rattle.pf_model.specs.Runs.{enabled, next_choice, next_state, Goes, stays, Passes, ready, start, transition}
 use Rattle.pf_model.specs.Runs.{Transition}
 use Rattle.pf_request.specs.Job.{Job}
+use Rattle.pf_strategy.specs.Priorities.{state_of}
+use Rattle.pf_strategy.specs.Runs.{choose_by_priorities}
 use Rattle.pf_system.specs.Steps.{IsNoteOf, SimulatesTransition}
 use Rattle.pf_system.specs.View.{SystemView}
 use Rattle.pf_system.specs.declared.enabled.Enabled.{Enabled}
 use Rattle.pf_system.proofs.Bodies.{map_more}
+use Rattle.pf_sched.specs.Choosing.{Choosing, chooser_of, choices, first_of, priorities}
+use Rattle.pf_sched.specs.declared.chooser.ActorChooser.TheVariants as code
+use Rattle.pf_sched.specs.declared.chooser.ActorPriorities.{ActorPriorities}
 use Rattle.pf_sched.specs.declared.execution.Execution.{Execution}
 use Rattle.pf_sched.specs.Parts.{Executes}
-use Rattle.pf_sched.specs.Told.{event}
-use Rattle.pf_sched.specs.Traces.{Going, MakesFrom, Went, WentByChoices}
+use Rattle.pf_sched.specs.Reported.{event}
+use Rattle.pf_sched.specs.Traces.{ChoosesFor, Going, IsFirst, Went, WentOn}
 use Rattle.pf_sched.proofs.Longer.{goes_on}
 
 pub length_last : {A : Type 0} (xs : List A) (x : A) → length (xs ++ x ∷ []) ≡ length xs + 1
@@ -51,7 +55,7 @@ module _ {S : Type 0} (choose : Chooser S) (first : S) (j : Job) where
         transitions = [];
         last = c;
         code = k;
-        stands = e;
+        is_there = e;
         goes = subst (λ n. Goes m choose first limit c [] c n first) (sym z) (stays first limit c);
         within = omega arith;
         events = refl;
@@ -66,14 +70,14 @@ module _ {S : Type 0} (choose : Chooser S) (first : S) (j : Job) where
         transitions = g.transitions ++ u ∷ [];
         last = p.passed.after;
         code = ap (λ z. module_of z.checked) p.becomes ∙ g.code;
-        stands = ap (λ z. z.standing) p.becomes;
+        is_there = ap (λ z. z.standing) p.becomes;
         goes =
             subst (Goes m choose first limit c (g.transitions ++ u ∷ []) p.passed.after x'.steps)
             (ap (λ z. z.1) w.chooses)
             (subst (λ n. Goes m choose first limit c (g.transitions ++ u ∷ []) p.passed.after n
             (next_state choose s g.last)) steps longer);
         within = let u = p.within in let z = ap (λ y. y.steps) p.becomes in omega arith;
-        events = ap (λ l. l ++ e ∷ []) g.events ∙ ap (λ y. map event_of_transition g.transitions ++ y ∷ []) tells
+        events = ap (λ l. l ++ e ∷ []) g.events ∙ ap (λ y. map event_of_transition g.transitions ++ y ∷ []) reports
             ∙ sym (map_more event_of_transition g.transitions u);
       }
     where
@@ -90,7 +94,7 @@ module _ {S : Type 0} (choose : Chooser S) (first : S) (j : Job) where
       chosen_is = sym (ap (λ z. z.0) w.chooses)
 
       from_last : p.before ≡ g.last
-      from_last = same_Some p.before g.last (sym p.was ∙ g.stands)
+      from_last = same_Some p.before g.last (sym p.was ∙ g.is_there)
 
       left : limit - x.steps ≡ suc (limit - x.steps - 1)
       left = omega arith
@@ -110,33 +114,33 @@ module _ {S : Type 0} (choose : Chooser S) (first : S) (j : Job) where
       steps : x.steps + p.passed.used ≡ x'.steps
       steps = let z = ap (λ y. y.steps) p.becomes in let u = p.counts in omega arith
 
-      tells : e ≡ event_of_transition u
-      tells =
+      reports : e ≡ event_of_transition u
+      reports =
           ap (λ i. event i e.count e.actor e.label) chosen_is
           ∙ ap (λ n. event k n e.actor e.label) w.counts
           ∙ ap (event k (length (enabled g.last)) e.actor) p.label
 
--- ---- by choices
+-- ---- of a run
 
 -- before the first event
-pub executes_first : (j : Job) (cs : meaning.Choices) (x : Execution)
-    → Going (choose_by_picks (picks_of cs)) zero j [] x.system zero → MakesFrom cs zero x.choices
-    → Executes j cs [] x
-executes_first j cs x going makes = record { at = zero; run = going; choices = makes }
+pub executes_first : (j : Job) (w : Choosing) (x : Execution)
+    → Going (chooser_of w) (first_of w) j [] x.system (first_of w) → IsFirst w x.chooser → Executes j w [] x
+executes_first j w x going is = record { state = first_of w; run = going; is_in = is }
 
 -- one event more
-pub executes_next : (j : Job) (cs : meaning.Choices) (es : List Event) (x x' : Execution) (g : Executes j cs es x)
-    (e : Event) → x.system.steps < j.asked.limit
-    → WentByChoices (j.asked.limit - x.system.steps) g.run.last x e x' → Executes j cs (es ++ e ∷ []) x'
-executes_next j cs es x x' g e some went =
-    let w = went cs g.at g.choices in
+pub executes_next : (j : Job) (w : Choosing) (es : List Event) (x x' : Execution) (g : Executes j w es x) (e : Event)
+    → x.system.steps < j.asked.limit
+    → WentOn (j.asked.limit - x.system.steps) g.run.last x e x' → Executes j w (es ++ e ∷ []) x'
+executes_next j w es x x' g e some went =
+    let t = went w g.state g.is_in in
     record {
-      at = suc g.at;
-      run = next (choose_by_picks (picks_of cs)) zero j es x.system g.at x'.system (suc g.at) g.run e some w.0;
-      choices = w.1;
+      state = t.0;
+      run = next (chooser_of w) (first_of w) j es x.system g.state x'.system t.0 g.run e some
+          t.1;
+      is_in = t.2;
     }
 
--- ---- who may go
+-- ---- what is chosen
 
 module _ (e : Enabled) (c : Configuration) (note : IsNoteOf e c) where
   -- a choice among those that are noted is one among those that may go
@@ -147,16 +151,16 @@ module _ (e : Enabled) (c : Configuration) (note : IsNoteOf e c) where
       subst (λ n. Chooses pcg32 q n (length (heads c.channels)) k q') (a ∙ ap length note.processes)
       (subst (λ n. Chooses pcg32 q procs n k q') (b ∙ ap length note.channels) h)
 
--- which is what the chooser of choices chooses from their number i on
-pub chosen_by_picks : (c : Configuration) (q q' : Choices Lcg) (k : ℕ)
+-- what choices choose, whichever they are
+pub chosen_by_choices : (c : Configuration) (q q' : Choices Lcg) (k : ℕ)
     → Chooses pcg32 q (length (ready c)) (length (heads c.channels)) k q'
-    → (cs : meaning.Choices) (i : ℕ) → MakesFrom cs i q
-    → (choose_by_picks (picks_of cs) i (ready c) (heads c.channels) ≡ (k, suc i)) × MakesFrom cs (suc i) q'
-chosen_by_picks c q q' k h cs i makes =
+    → ChoosesFor (code.Choices q) c k (code.Choices q')
+chosen_by_choices c q q' k h (choices cs) i makes =
     let next : i + 1 ≡ suc i = omega arith in
     let same : k ≡ picks_of cs i (length (ready c)) (length (heads c.channels)) =
     h.choice_is (words_of cs) i makes.at ∙ ap
     (λ p. chosen p (words_of cs i) (length (ready c)) (length (heads c.channels))) makes.profile in (
+      suc i,
       ap (λ n. (n, suc i)) (sym same),
       record {
         at = subst (λ n. IsAt pcg32 (words_of cs) n q') next (h.moves (words_of cs) i makes.at);
@@ -164,3 +168,15 @@ chosen_by_picks c q q' k h cs i makes =
             h.keeps ∙ makes.profile;
       },
     )
+chosen_by_choices c q q' k h (priorities seed) s is = absurd is
+
+-- and what priorities do
+pub chosen_by_priorities : (c : Configuration) (p p' : ActorPriorities) (k : ℕ)
+    → choose_by_priorities (state_of p.priorities) (ready c) (heads c.channels) ≡ (k, state_of p'.priorities)
+    → ChoosesFor (code.Priorities p) c k (code.Priorities p')
+chosen_by_priorities c p p' k h (choices cs) i is = absurd is
+chosen_by_priorities c p p' k h (priorities seed) s is = (
+  state_of p'.priorities,
+  ap (λ z. choose_by_priorities z (ready c) (heads c.channels)) is ∙ h,
+  refl,
+)

@@ -5,7 +5,7 @@ use Rattle.std.proofs.lemmas.List.{length-map}
 use Rattle.pf_model.specs.Choosers.{choose_by_picks}
 use Rattle.pf_model.specs.Meaning.{Job, Report, Means, event_of_transition, picks_of}
 use Rattle.pf_model.specs.Runs.{start}
-use Rattle.pf_model.specs.Shrinking.{by_schedule, is_failure, TellsFailures}
+use Rattle.pf_model.specs.Shrinking.{by_schedule, is_failure, ReportsFailures}
 use Rattle.pf_model.proofs.Meanings.{one_meaning, only_evaluated}
 use Rattle.pf_sched.specs.Events.{RunsHave, no_runs, and_run}
 use Rattle.pf_sched.proofs.Past.{within_steps}
@@ -32,12 +32,12 @@ module _ (j : Job) where
   pub fails_in : List ℕ → Bool
   fails_in ns = is_failure (one_meaning (by_schedule j ns) tt).0.verdict
 
-  pub tells_failures : TellsFailures j fails_in
+  pub reports_failures : ReportsFailures j fails_in
   unfolding fails_in
-  tells_failures ns r h = ap (λ s. is_failure s.verdict) (sym ((one_meaning (by_schedule j ns) tt).2 r h))
+  reports_failures ns r h = ap (λ s. is_failure s.verdict) (sym ((one_meaning (by_schedule j ns) tt).2 r h))
 
   -- one function says so
-  pub only_fails : (f g : List ℕ → Bool) → TellsFailures j f → TellsFailures j g → f ≡ g
+  pub only_fails : (f g : List ℕ → Bool) → ReportsFailures j f → ReportsFailures j g → f ≡ g
   only_fails f g a b = λ i ns. same ns i
     where
       same : (ns : List ℕ) → f ns ≡ g ns

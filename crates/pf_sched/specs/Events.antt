@@ -1,7 +1,7 @@
 -- How many events a job has: those of its run, or of all runs of its shrinking.
 use Rattle.std.specs.Prelude.{◌≡◌, ℕ, zero, suc, ◌+◌, Bool, List, [], ◌∷◌, length}
 use Rattle.pf_model.specs.Meaning.{Job, Report, Means, schedule}
-use Rattle.pf_model.specs.Shrinking.{by_schedule, TellsFailures}
+use Rattle.pf_model.specs.Shrinking.{by_schedule, ReportsFailures}
 use Rattle.pf_shrink.specs.Tried.{tried}
 
 -- the runs of a job by these schedules have n events in all
@@ -14,4 +14,4 @@ pub data RunsHave (j : Job) : List (List ℕ) → ℕ → Type 0 where
 pub data HasEvents (j : Job) : ℕ → Type 0 where
   of_run : (r : Report) → j.runs ≡ zero → Means j r → HasEvents j (length r.events)
   of_shrinking : (k : ℕ) (ns : List ℕ) (fails : List ℕ → Bool) (n : ℕ) → j.runs ≡ suc k → j.choices ≡ schedule ns
-      → TellsFailures j fails → RunsHave j (tried fails (suc k) ns) n → HasEvents j n
+      → ReportsFailures j fails → RunsHave j (tried fails (suc k) ns) n → HasEvents j n

@@ -1,8 +1,8 @@
 -- The result of a job that is one run, but for its events.
-use Rattle.std.specs.Prelude.{◌≡◌, ℕ}
-use Rattle.pf_model.specs.Meaning.{Job, Means, Report}
+use Rattle.std.specs.Prelude.{◌≡◌}
+use Rattle.pf_model.specs.Meaning.{Job, Report}
 use Rattle.pf_model.specs.Reports.{view_of_outcome}
-use Rattle.pf_strategy.specs.Runs.{MeansByPriorities}
+use Rattle.pf_sched.specs.Choosing.{Choosing, MeansFor}
 use Rattle.pf_sched.specs.Waiting.{waiting_in}
 use Rattle.pf_sched.specs.declared.whole.Judged.{Judged}
 
@@ -11,10 +11,6 @@ use Rattle.pf_sched.specs.declared.whole.Judged.{Judged}
 abbrev pub IsJudged : Report → Judged → Type 0
 IsJudged r v = (r.outcome ≡ view_of_outcome v.outcome) × (r.verdict ≡ v.verdict) × (v.waiting ≡ waiting_in r)
 
--- they are those of the report that a job means
-abbrev pub Judges : Job → Judged → Type 0
-Judges j v = (r : Report) × Means j r × IsJudged r v
-
--- they are those of the report that a job means by the priorities of a seed
-abbrev pub JudgesByPriorities : Job → (seed : ℕ) → Judged → Type 0
-JudgesByPriorities j s v = (r : Report) × MeansByPriorities j s r × IsJudged r v
+-- they are those of the report that a job means where this chooses
+abbrev pub Judges : Choosing → Job → Judged → Type 0
+Judges w j v = (r : Report) × MeansFor w j r × IsJudged r v

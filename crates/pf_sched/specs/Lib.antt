@@ -1,7 +1,7 @@
 pub mod Views
 pub mod Asked
 pub mod InJob
-pub mod Told
+pub mod Reported
 pub mod Waiting
 pub mod Evidence
 pub mod Traces
@@ -13,6 +13,6 @@ pub mod InWhole
 pub mod InFinished
 pub mod Slices
 pub mod Judging
-pub mod Guided
+pub mod Choosing
 pub mod Closing
 pub mod Printing

@@ -1,15 +1,14 @@
 -- What is true of a run, of a shrinking so far, and of the end of a job.
 use Rattle.std.specs.Prelude.{◌≡◌, ◌⊎◌, ℕ, zero, suc, ◌+◌, Bool, List, ◌++◌, length, Option, Some, None}
 use Rattle.pf_terms.specs.Atoms.{name_of}
-use Rattle.pf_model.specs.Choosers.{choose_by_picks}
 use Rattle.pf_model.specs.Meaning as meaning
-use Rattle.pf_model.specs.Meaning.{Choices, schedule, Event, Means, picks_of}
+use Rattle.pf_model.specs.Meaning.{schedule, Event, Means}
 use Rattle.pf_model.specs.Properties.{some_label}
 use Rattle.pf_model.specs.Shrinking as shrinking
-use Rattle.pf_model.specs.Shrinking.{by_schedule, shrunk, IsResult, TellsFailures}
+use Rattle.pf_model.specs.Shrinking.{by_schedule, shrunk, IsResult, ReportsFailures}
 use Rattle.pf_property.specs.Judging.{rules_out}
 use Rattle.pf_property.specs.Views.{labels_in}
-use Rattle.pf_trace.specs.Written.{AreWritten, AreWrittenSoFar, report_in, told_so_far}
+use Rattle.pf_trace.specs.Written.{AreWritten, AreWrittenSoFar, report_in, reported_so_far}
 use Rattle.pf_trace.specs.declared.lines.WrittenReport.{WrittenReport}
 use Rattle.pf_shrink.specs.Hunts.{Hunting, begins, searches, ended, next_of, search_result}
 use Rattle.pf_shrink.specs.Tried.{tried, tried_from}
@@ -17,30 +16,31 @@ use Rattle.pf_request.specs.Job.{Job}
 use Rattle.pf_sched.specs.declared.execution.Execution.{Execution}
 use Rattle.pf_sched.specs.declared.run.Run.{Run}
 use Rattle.pf_sched.specs.declared.shrinking.Shrinking.{Shrinking}
+use Rattle.pf_sched.specs.Choosing.{Choosing, StateOf, chooser_of, choices, first_of}
 use Rattle.pf_sched.specs.Events.{RunsHave}
 use Rattle.pf_sched.specs.Views.{without_memory}
-use Rattle.pf_sched.specs.Traces.{Going, MakesFrom}
+use Rattle.pf_sched.specs.Traces.{Going, IsIn}
 
--- a run of a job by these choices so far, with these events, and the number of its next choice
-pub record Executes (j : Job) (cs : Choices) (es : List Event) (x : Execution) : Type 0 where
-  pub at : ℕ
-  pub run : Going (choose_by_picks (picks_of cs)) zero j es x.system at
-  pub choices : MakesFrom cs at x.choices
+-- a run of a job so far where this chooses, with these events, and the state of what chooses
+pub record Executes (j : Job) (w : Choosing) (es : List Event) (x : Execution) : Type 0 where
+  pub state : StateOf w
+  pub run : Going (chooser_of w) (first_of w) j es x.system state
+  pub is_in : IsIn w state x.chooser
 
 -- the events of a run so far
 abbrev pub events_in : Run → List Event
-events_in r = told_so_far r.written.lines
+events_in r = reported_so_far r.written.lines
 
 -- the same with its events, which are written by the names of the module; and whether the label of one rules the
 -- property out
-pub record IsRunBy (j : Job) (cs : Choices) (r : Run) : Type 0 where
-  pub run : Executes j cs (events_in r) r.execution
+pub record IsRunBy (j : Job) (w : Choosing) (r : Run) : Type 0 where
+  pub run : Executes j w (events_in r) r.execution
   pub written : AreWrittenSoFar (name_of j.asked.code.atoms) r.written.lines
   pub ruled_out : r.written.ruled_out ≡ some_label (rules_out j.asked.property) (labels_in (events_in r))
 
 -- the run of a job that is no shrinking
 abbrev pub IsRunOf : Job → Run → Type 0
-IsRunOf j r = (j.asked.runs ≡ zero) × IsRunBy j j.asked.choices r
+IsRunOf j r = (j.asked.runs ≡ zero) × IsRunBy j (choices j.asked.choices) r
 
 -- ---- shrinkings
 
@@ -50,20 +50,20 @@ pub record IsHuntOf (j : meaning.Job) (h : Hunting) (before : ℕ) : Type 0 wher
   pub further : ℕ
   pub given : List ℕ
   pub fails : List ℕ → Bool
-  pub behind : List (List ℕ)
+  pub after : List (List ℕ)
   pub runs : j.runs ≡ suc further
   pub choices : j.choices ≡ schedule given
-  pub tells : TellsFailures j fails
+  pub reports : ReportsFailures j fails
   pub comes : search_result fails h ≡ shrunk fails (suc further) given
-  pub events : RunsHave j behind before
-  pub order : tried fails (suc further) given ≡ behind ++ tried_from fails h
+  pub events : RunsHave j after before
+  pub order : tried fails (suc further) given ≡ after ++ tried_from fails h
 
 -- a hunt's current schedule, which fails, if there is one
-abbrev pub stands_at : Hunting → Option (List ℕ)
-stands_at (begins k ns) = None
-stands_at (searches k ns c cs) = Some ns
-stands_at (ended None) = None
-stands_at (ended (Some f)) = Some f.schedule
+abbrev pub is_at : Hunting → Option (List ℕ)
+is_at (begins k ns) = None
+is_at (searches k ns c cs) = Some ns
+is_at (ended None) = None
+is_at (ended (Some f)) = Some f.schedule
 
 -- the report of a hunt's current schedule is kept, written by the names of the module
 abbrev pub KeepsReport : meaning.Job → Option (List ℕ) → Option WrittenReport → Type 0
@@ -74,10 +74,10 @@ KeepsReport j (Some ns) (Some r) = Means (by_schedule j ns) (report_in r) × Are
 -- a shrinking so far: its hunt, the report of its current schedule, and the run of the next schedule
 pub record IsShrinkingOf (j : Job) (s : Shrinking) : Type 0 where
   pub hunt : IsHuntOf j.asked s.hunt s.before
-  pub report : KeepsReport j.asked (stands_at s.hunt) s.report
+  pub report : KeepsReport j.asked (is_at s.hunt) s.report
   pub next : List ℕ
   pub is_next : next_of s.hunt ≡ Some next
-  pub run : IsRunBy j (schedule next) s.run
+  pub run : IsRunBy j (choices (schedule next)) s.run
 
 -- the events of all its runs so far
 abbrev pub events_so_far : Shrinking → ℕ

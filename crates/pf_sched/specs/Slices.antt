@@ -22,6 +22,7 @@ use Rattle.pf_sched.specs.declared.shrinking.ShrinkingAdvance.TheVariants as adv
 use Rattle.pf_sched.specs.declared.slice.Slice.{Slice}
 use Rattle.pf_sched.specs.declared.slice.Slice.TheVariants.{More, Done}
 use Rattle.pf_sched.specs.Views.{IsWritten, ParkedView, view_of_parked, result_of, without_memory}
+use Rattle.pf_sched.specs.Choosing.{Choosing, MeansFor}
 use Rattle.pf_sched.specs.Events.{HasEvents}
 use Rattle.pf_sched.specs.Parts.{Executes, IsRunBy, IsShrinkingOf, events_in, events_so_far}
 use Rattle.pf_sched.specs.Traces.{Makes}
@@ -51,31 +52,29 @@ Advances before after turns false stops = (after ≡ before + turns) × (stops �
 abbrev pub IsRunOver : (limit : ℕ) → Execution → Type 0
 IsRunOver limit x = (c : Configuration) × (x.system.standing ≡ Some c) × Stops (limit - x.system.steps) c
 
--- a run goes on, whichever job's it is and by whichever choices, and a trace receives all its events
-abbrev pub SimulatesEvents : {T : Type 0} (Told : T → meaning.Job → List Event → Type 0) (limit : ℕ) (old : Execution)
-    (t : T) (new : Execution) (u : T) (turns : ℕ) (over : Bool) → Type 0
-SimulatesEvents Told limit old t new u turns over =
-    (j : Job) (cs : meaning.Choices) (es : List Event) → j.asked.limit ≡ limit → Executes j cs es old
-    → Told t j.asked es
-    → (es' : List Event) × Executes j cs es' new × Told u j.asked es' × Advances (length es) (length es') turns over
+-- a run goes on, whichever job's it is and whatever chooses, and a trace receives all its events
+abbrev pub SimulatesEvents : {T : Type 0} (Reported : T → meaning.Job → List Event → Type 0) (limit : ℕ)
+    (old : Execution) (t : T) (new : Execution) (u : T) (turns : ℕ) (over : Bool) → Type 0
+SimulatesEvents Reported limit old t new u turns over =
+    (j : Job) (w : Choosing) (es : List Event) → j.asked.limit ≡ limit → Executes j w es old → Reported t j.asked es
+    → (es' : List Event) × Executes j w es' new × Reported u j.asked es' × Advances (length es) (length es') turns over
     (IsRunOver limit new)
 
--- a run of a job by these choices is over, and a trace received all its events
-abbrev pub IsComplete : {T : Type 0} (Told : T → meaning.Job → List Event → Type 0) → Job → meaning.Choices
+-- a run of a job where this chooses is over, and a trace received all its events
+abbrev pub IsComplete : {T : Type 0} (Reported : T → meaning.Job → List Event → Type 0) → Job → Choosing
     → Execution → T → Type 0
-IsComplete Told j cs x t = (es : List Event) × Executes j cs es x × Told t j.asked es × IsRunOver j.asked.limit x
+IsComplete Reported j w x t = (es : List Event) × Executes j w es x × Reported t j.asked es × IsRunOver j.asked.limit x
 
--- a run of a job goes on with what is written of its events, by whichever choices
+-- a run of a job goes on with what is written of its events, whatever chooses
 abbrev pub RunAdvances : Job → (old new : Run) (turns : ℕ) (over : Bool) → Type 0
 RunAdvances j old new turns over =
-    (cs : meaning.Choices) → IsRunBy j cs old
-    → IsRunBy j cs new × Advances (length (events_in old)) (length (events_in new)) turns over
+    (w : Choosing) → IsRunBy j w old
+    → IsRunBy j w new × Advances (length (events_in old)) (length (events_in new)) turns over
     (IsRunOver j.asked.limit new.execution)
 
--- a report is the one of a job's run by these choices, written by the names of its module
-abbrev pub IsReportBy : Job → meaning.Choices → WrittenReport → Type 0
-IsReportBy j cs r = Means (record j.asked { choices = cs }) (report_in r)
-    × AreWritten (name_of j.asked.code.atoms) r.lines
+-- a report is the one of a job's run where this chooses, written by the names of its module
+abbrev pub IsReportBy : Job → Choosing → WrittenReport → Type 0
+IsReportBy j w r = MeansFor w j.asked (report_in r) × AreWritten (name_of j.asked.code.atoms) r.lines
 
 -- ---- within a shrinking
 
@@ -87,9 +86,9 @@ OpensNext (Some ns) None = ⊥
 OpensNext (Some ns) (Some q) = Makes (schedule ns) q
 
 -- what a hunt found, with the report of its schedule; or that nothing fails
-abbrev pub TellsFound : meaning.Job → Option Found → shrinking.Result → Type 0
-TellsFound j None r = r ≡ nothing_fails
-TellsFound j (Some f) r = (report : Report) × Means (by_schedule j f.schedule) report × (r ≡ shrunk_to f report)
+abbrev pub ReportsFound : meaning.Job → Option Found → shrinking.Result → Type 0
+ReportsFound j None r = r ≡ nothing_fails
+ReportsFound j (Some f) r = (report : Report) × Means (by_schedule j f.schedule) report × (r ≡ shrunk_to f report)
 
 -- a job has this result after n events, and its report is written by the names of its module
 abbrev pub JobEvaluatesTo : Job → ℕ → JobResult → Type 0

@@ -1,5 +1,5 @@
 -- What a run made of its transitions so far, and which events its trace received.
-use Rattle.std.specs.Prelude.{◌≡◌, ◌≤◌, ℕ, zero, suc, Bool, true, false, List, Option, Some, None, [], length, map}
+use Rattle.std.specs.Prelude.{◌≡◌, ◌≤◌, ℕ, zero, Bool, true, false, List, Option, Some, None, [], length, map}
 use Rattle.std.specs.Prelude.{slice_get}
 use Rattle.rand_pcg.specs.Lcg.{Lcg}
 use Rattle.rand_pcg.specs.Pcg.{pcg32}
@@ -7,19 +7,23 @@ use Rattle.pf_choice.specs.Choices as choice
 use Rattle.pf_choice.specs.Choices.{IsAt}
 use Rattle.pf_choice.specs.declared.choices.Choices.{Choices}
 use Rattle.pf_model.specs.Channels.{heads}
-use Rattle.pf_model.specs.Choosers.{Chooser, choose_by_picks}
+use Rattle.pf_model.specs.Choosers.{Chooser}
 use Rattle.pf_model.specs.Configuration.{Configuration}
 use Rattle.pf_model.specs.Labels.{Label}
 use Rattle.pf_model.specs.Meaning as meaning
-use Rattle.pf_model.specs.Meaning.{Event, picks_of, profile_of, words_of}
+use Rattle.pf_model.specs.Meaning.{Event, profile_of, words_of}
 use Rattle.pf_model.specs.Module.{module_of}
 use Rattle.pf_model.specs.Runs.{Goes, Transition, enabled, ready, start}
 use Rattle.pf_request.specs.Job.{Job}
+use Rattle.pf_strategy.specs.Priorities.{state_of}
 use Rattle.pf_system.specs.Steps.{SimulatesTransition}
 use Rattle.pf_system.specs.View.{SystemView}
+use Rattle.pf_sched.specs.declared.chooser.ActorChooser.{ActorChooser}
+use Rattle.pf_sched.specs.declared.chooser.ActorChooser.TheVariants as code
 use Rattle.pf_sched.specs.declared.execution.Execution.{Execution}
 use Rattle.pf_sched.specs.declared.execution.Chosen.{Chosen}
-use Rattle.pf_sched.specs.Told.{Hears, event}
+use Rattle.pf_sched.specs.Choosing.{Choosing, StateOf, chooser_of, choices, first_of, priorities}
+use Rattle.pf_sched.specs.Reported.{Hears, event}
 
 -- ---- by a chooser
 
@@ -40,12 +44,12 @@ pub record Going {S : Type 0} (choose : Chooser S) (s : S) (j : Job) (es : List 
   pub transitions : List Transition
   pub last : Configuration
   pub code : module_of x.checked ≡ j.asked.code
-  pub stands : x.standing ≡ Some last
+  pub is_there : x.standing ≡ Some last
   pub goes : Goes j.asked.code choose s j.asked.limit (start j.asked.root j.asked.edition) transitions last x.steps t
   pub within : x.steps ≤ j.asked.limit
   pub events : es ≡ map meaning.event_of_transition transitions
 
--- ---- by choices
+-- ---- what chooses in the code
 
 -- choices are those of a job from number i on
 pub record MakesFrom (cs : meaning.Choices) (i : ℕ) (q : Choices Lcg) : Type 0 where
@@ -56,19 +60,39 @@ pub record MakesFrom (cs : meaning.Choices) (i : ℕ) (q : Choices Lcg) : Type 0
 abbrev pub Makes : meaning.Choices → Choices Lcg → Type 0
 Makes cs q = MakesFrom cs zero q
 
--- whichever choices those of a run are, and from whichever number on: the actor that is chosen by the next of them went
-abbrev pub WentByChoices : (left : ℕ) → Configuration → Execution → Event → Execution → Type 0
-WentByChoices left c x e x' =
-    (cs : meaning.Choices) (i : ℕ) → MakesFrom cs i x.choices
-    → Went (choose_by_picks (picks_of cs)) left c x.system i e x'.system (suc i) × MakesFrom cs (suc i) x'.choices
+-- what chooses in a run is the chooser of this, in this state
+abbrev pub IsIn : (w : Choosing) → StateOf w → ActorChooser → Type 0
+IsIn (choices cs) i (code.Choices q) = MakesFrom cs i q
+IsIn (choices cs) i (code.Priorities p) = ⊥
+IsIn (priorities seed) s (code.Choices q) = ⊥
+IsIn (priorities seed) s (code.Priorities p) = s ≡ state_of p.priorities
+
+abbrev pub IsFirst : Choosing → ActorChooser → Type 0
+IsFirst w q = IsIn w (first_of w) q
+
+-- ChoosesFor q c k q': in whichever state of whichever chooser it was, k is the index that this chooses of those who
+-- may go, and it is in the state after that
+abbrev pub ChoosesFor : ActorChooser → Configuration → ℕ → ActorChooser → Type 0
+ChoosesFor q c k q' =
+    (w : Choosing) (s : StateOf w) → IsIn w s q
+    → (t : StateOf w) × (chooser_of w s (ready c) (heads c.channels) ≡ (k, t)) × IsIn w t q'
+
+-- ---- of a run
+
+-- and the actor went that it chooses
+abbrev pub WentOn : (left : ℕ) → Configuration → Execution → Event → Execution → Type 0
+WentOn left c x e x' =
+    (w : Choosing) (s : StateOf w) → IsIn w s x.chooser
+    → (t : StateOf w) × Went (chooser_of w) left c x.system s e x'.system t × IsIn w t x'.chooser
 
 -- the actor that is chosen went, which showed this; or nobody may go and nothing was done
 abbrev pub MayHavePassed : ℕ → Configuration → Execution → Option Chosen → Label → Execution → Type 0
-MayHavePassed left c x (Some n) l x' = WentByChoices left c x (event n.index n.among n.actor l) x'
+MayHavePassed left c x (Some n) l x' = WentOn left c x (event n.index n.among n.actor l) x'
 MayHavePassed left c x None l x' = (enabled c ≡ []) × (x' ≡ x)
 
 -- the same, and a trace received it; or nobody may go and nothing was done
-abbrev pub MayHaveGone : {T : Type 0} (Told : T → meaning.Job → List Event → Type 0) → ℕ → Configuration → Execution → T
+abbrev pub MayHaveGone : {T : Type 0} (Reported : T → meaning.Job → List Event → Type 0) → ℕ → Configuration
+    → Execution → T
     → Bool → Execution → T → Type 0
-MayHaveGone Told left c x t true x' t' = (e : Event) × WentByChoices left c x e x' × Hears Told t e t'
-MayHaveGone Told left c x t false x' t' = (enabled c ≡ []) × (x' ≡ x) × (t' ≡ t)
+MayHaveGone Reported left c x t true x' t' = (e : Event) × WentOn left c x e x' × Hears Reported t e t'
+MayHaveGone Reported left c x t false x' t' = (enabled c ≡ []) × (x' ≡ x) × (t' ≡ t)

@@ -7,7 +7,7 @@ ghost use Rattle.pf_model.specs.Reports.{label_of, view_of_outcome};
 ghost use Rattle.pf_property.specs.Judging.{rules_out};
 ghost use Rattle.pf_property.specs.Views.{property_of};
 ghost use Rattle.pf_sched.specs.Evidence.{CountsProcesses, Shows, most};
-ghost use Rattle.pf_sched.specs.Told.{Hears};
+ghost use Rattle.pf_sched.specs.Reported.{Hears};
 ghost use Rattle.pf_sched.specs.Waiting.{is_begin, is_end, waiting_at};
 
 use pf_model::report::{Label, Outcome, Suffix};

@@ -1,42 +1,28 @@
 //! A run so far, transition by transition, without its trace.
 
-ghost use Rattle.std.specs.Prelude.{◌≡◌, ◌<◌, ◌-◌, [], length, IfOk, MatchBool, OnOk, Some};
-ghost use Rattle.rand_pcg.specs.Pcg.{pcg32};
-ghost use Rattle.pf_choice.specs.Choices.{Chooses};
-ghost use Rattle.pf_model.specs.Channels.{heads};
+ghost use Rattle.std.specs.Prelude.{◌≡◌, ◌<◌, ◌-◌, [], IfOk, MatchBool, OnOk, Some};
 ghost use Rattle.pf_model.specs.Configuration.{Configuration};
-ghost use Rattle.pf_model.specs.Meaning as model;
 ghost use Rattle.pf_model.specs.Reports.{label_of};
-ghost use Rattle.pf_model.specs.Runs.{Stops, ready};
-ghost use Rattle.pf_system.specs.Steps.{IsNoteOf, noted_actors};
+ghost use Rattle.pf_model.specs.Runs.{Stops};
+ghost use Rattle.pf_sched.specs.Choosing.{Choosing};
 ghost use Rattle.pf_sched.specs.Parts.{Executes};
 ghost use Rattle.pf_sched.specs.Slices.{SimulatesEvents, IsComplete};
-ghost use Rattle.pf_sched.specs.Traces.{Makes, MayHaveGone, MayHavePassed};
+ghost use Rattle.pf_sched.specs.Traces.{IsFirst, MayHaveGone, MayHavePassed};
 
+use crate::chooser::ActorChooser;
 use crate::job::Job;
 use crate::scratch::Scratch;
 use crate::trace::Trace;
-use pf_choice::Choices;
 use pf_errors::NoMemory;
 use pf_model::report::{Actor, Label};
-use pf_system::{Enabled, Spare, System};
+use pf_system::{Spare, System};
 use std::alloc::Global;
 
-/// A run so far: its processes and signals, and its next choices. Its events go to a trace.
+/// A run so far: its processes and signals, and what chooses who goes next. Its events go to a trace.
 #[derive(Drop)]
 pub(crate) struct Execution {
     pub system: System,
-    pub choices: Choices,
-}
-
-/// Which of the actors that may go the next word chooses, from 0 on. A word is drawn if there is but one, too.
-fn choose(choices: &mut Choices, enabled: &Enabled<'_>) -> usize
-    requires { 0 < length (noted_actors enabled.now) }
-    ensures chooses { (c : Configuration) → IsNoteOf enabled.now c
-        → Chooses pcg32 choices.old (length (ready c)) (length (heads c.channels)) result choices.new }
-    ensures one { result < length (noted_actors enabled.now) }
-{
-    choices.next_of(enabled.processes(), enabled.channels())
+    pub chooser: ActorChooser,
 }
 
 /// Which of how many actors that might go went, and who it is.
@@ -56,24 +42,25 @@ fn is_over(system: &System, limit: u32) -> bool
 }
 
 impl Execution {
-    /// The run of a job by these choices, before its first event, in what others left.
+    /// The run of a job where this chooses, before its first event, in what others left.
     pub fn new(
         alloc: Global,
         job: &Job,
-        choices: Choices,
+        chooser: ActorChooser,
         spare: Spare,
     ) -> Result<Execution, NoMemory>
-        ensures { (cs : model.Choices) → Makes cs choices
-            → IfOk result (λ x. Executes job.now cs [] x) }
+        ensures { (w : Choosing) → IsFirst w chooser
+            → IfOk result (λ x. Executes job.now w [] x) }
     {
         Ok(Execution {
             system: System::new_in(alloc, job.module(), job.root, job.edition(), spare)?,
-            choices,
+            chooser,
         })
     }
 
-    /// The transition of the actor that the next word chooses, within the limit of steps, and which it is; none if
-    /// nobody may go. What it shows is written.
+    /// The transition of the actor that is chosen, within the limit of steps, and which it is; none if nobody may go.
+    /// What it shows is written.
+    #[inline(always)]
     pub fn pass_next(
         &mut self,
         alloc: Global,
@@ -89,7 +76,7 @@ impl Execution {
         if among == 0 {
             return Ok(None);
         }
-        let index = choose(&mut self.choices, &enabled);
+        let index = self.chooser.choose(&enabled)?;
         let actor = enabled.actor(index);
         self.system.pass(alloc, actor, limit, shown)?;
         Ok(Some(Chosen {
@@ -110,12 +97,12 @@ impl Execution {
     ) -> Result<bool, NoMemory>
         requires { self.old.system.steps < limit }
         ensures { IfOk result (λ went. (c : Configuration) → self.old.system.standing ≡ Some c
-            → MayHaveGone T.Told (limit - self.old.system.steps) c self.old trace.old went self.new trace.new) }
+            → MayHaveGone T.Reported (limit - self.old.system.steps) c self.old trace.old went self.new trace.new) }
     {
         let Some(chosen) = self.pass_next(alloc, limit, shown)? else {
             return Ok(false);
         };
-        trace.tell(chosen.index, chosen.among, chosen.actor, shown)?;
+        trace.notify(chosen.index, chosen.among, chosen.actor, shown)?;
         Ok(true)
     }
 
@@ -129,7 +116,7 @@ impl Execution {
         shown: &mut Label,
         trace: &mut T,
     ) -> Result<bool, NoMemory>
-        ensures { IfOk result (SimulatesEvents T.Told limit self.old trace.old self.new trace.new turns) }
+        ensures { IfOk result (SimulatesEvents T.Reported limit self.old trace.old self.new trace.new turns) }
     {
         for _ in 0..turns {
             if self.system.steps() >= limit {
@@ -151,7 +138,7 @@ impl Execution {
         turns: u32,
         trace: &mut T,
     ) -> Result<bool, NoMemory>
-        ensures { IfOk result (SimulatesEvents T.Told limit self.old trace.old self.new trace.new turns) }
+        ensures { IfOk result (SimulatesEvents T.Reported limit self.old trace.old self.new trace.new turns) }
     {
         let mut shown = Label::Waits;
         self.system.put_spare(scratch.take_spare(alloc));
@@ -160,18 +147,18 @@ impl Execution {
         went
     }
 
-    /// Goes on with a run of a job from its first event to its end, by whichever choices: each of its events is a step
-    /// at least, so it is over after as many events as the limit has steps.
+    /// Goes on with a run of a job from its first event to its end, whatever chooses: each of its events is a step at
+    /// least, so it is over after as many events as the limit has steps.
     pub fn complete<T: Trace>(
         &mut self,
         alloc: Global,
         job: &Job,
         trace: &mut T,
     ) -> Result<(), NoMemory>
-        requires first { (cs : model.Choices) × Executes job.now cs [] self.old }
-        requires told { T.Told trace.old job.now.asked [] }
-        ensures { OnOk result ((cs : model.Choices) → Executes job.now cs [] self.old
-            → IsComplete T.Told job.now cs self.new trace.new) }
+        requires first { (w : Choosing) × Executes job.now w [] self.old }
+        requires reported { T.Reported trace.old job.now.asked [] }
+        ensures { OnOk result ((w : Choosing) → Executes job.now w [] self.old
+            → IsComplete T.Reported job.now w self.new trace.new) }
     {
         let mut shown = Label::Waits;
         if !self.advance(alloc, job.limit(), job.limit(), &mut shown, trace)? {

@@ -2,10 +2,10 @@
 #![tactic(auto)]
 
 mod choices;
+mod chooser;
 mod evidence;
 mod execution;
 mod finished;
-mod guided;
 mod job;
 pub mod laws;
 mod parked;
@@ -32,7 +32,4 @@ pub use result::{JobResult, memory_report};
 pub use result_block::Whole;
 pub use scratch::Scratch;
 pub use slice::{Slice, run_slice, run_to_end};
-pub use whole::{
-    Judged, choices_by_priorities, judged_by_priorities, judged_run, report_by_priorities,
-    report_by_schedule, report_of_run,
-};
+pub use whole::{Judged, judged_run, report_by_schedule, report_of_run};

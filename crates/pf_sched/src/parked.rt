@@ -6,6 +6,7 @@ ghost use Rattle.pf_sched.specs.InParked.{IsWorkOf, at_of};
 ghost use Rattle.pf_sched.specs.Views.{view_of_parked};
 
 use crate::choices::open;
+use crate::chooser::ActorChooser;
 use crate::job::{Job, needs_send};
 use crate::progress::ShrinkingProgress;
 use crate::run::Run;
@@ -64,7 +65,7 @@ fn first_work(alloc: Global, job: &Job) -> Result<ParkedWork, NoMemory>
 {
     match &job.kind {
         RequestKind::Run(choices) => {
-            let run = Run::new(alloc, job, open(alloc, choices)?)?;
+            let run = Run::new(alloc, job, ActorChooser::Choices(open(alloc, choices)?))?;
             Ok(ParkedWork::Run(Box::new(alloc, run)?))
         }
         RequestKind::Shrink { schedule, runs } => {

@@ -1,16 +1,17 @@
 //! Runs whose reports go out as they are written: no event is kept, and of the lines those alone that haven't gone out.
 
-ghost use Rattle.std.specs.Prelude.{◌≡◌, ◌++◌, ◌∷◌, ◌<◌, [], List, ℕ, zero, IfErr, IfOk, Option, OnOk};
+ghost use Rattle.std.specs.Prelude.{◌≡◌, ◌++◌, ◌∷◌, ◌<◌, [], List, ℕ, zero, IfErr, IfOk, IsNone, Option, OnOk};
 ghost use Rattle.pf_model.specs.Meaning as model;
 ghost use Rattle.pf_model.specs.Reports.{view_of_event, label_of};
 ghost use Rattle.pf_request.specs.Job as request;
 ghost use Rattle.pf_trace.specs.Written.{AreWrittenSoFar, gone_from};
 ghost use Rattle.pf_sched.specs.Asked.{IsValid};
+ghost use Rattle.pf_sched.specs.Choosing.{Choosing, choosing_of};
 ghost use Rattle.pf_sched.specs.Parts.{Executes};
 ghost use Rattle.pf_sched.specs.Printing.{CutsShort, HasPrinted, HasStopped, IsPrinted, PrintsRun, PrintsOn};
 ghost use Rattle.pf_sched.specs.Printing.{atom_names_of};
 ghost use Rattle.pf_sched.specs.Slices.{IsRunOver};
-ghost use Rattle.pf_sched.specs.Told.{event};
+ghost use Rattle.pf_sched.specs.Reported.{event};
 ghost use Rattle.pf_sched.specs.declared.printing.Printer.{Printer};
 
 use crate::evidence::Evidence;
@@ -41,7 +42,7 @@ pub(crate) struct Printer<'a> {
 impl<'a> Printer<'a> {
     /// No event.
     pub fn new(alloc: Global, job: &'a Job) -> Printer<'a>
-        ensures told { PrintsRun result job.now.asked [] }
+        ensures reported { PrintsRun result job.now.asked [] }
         ensures gone { gone_from result.pieces ≡ [] }
     {
         Printer {
@@ -53,30 +54,30 @@ impl<'a> Printer<'a> {
     }
 
     /// Adds the line of an event, and keeps what a verdict needs of it.
-    fn add(&mut self, told: &Event) -> Result<(), NoMemory>
-        ensures told { OnOk result ((j : model.Job) (es : List model.Event) → PrintsRun self.old j es
-            → PrintsRun self.new j (es ++ view_of_event told.now ∷ [])) }
+    fn add(&mut self, reported: &Event) -> Result<(), NoMemory>
+        ensures reported { OnOk result ((j : model.Job) (es : List model.Event) → PrintsRun self.old j es
+            → PrintsRun self.new j (es ++ view_of_event reported.now ∷ [])) }
         ensures gone { self.new.pieces.gone ≡ self.old.pieces.gone }
     {
-        self.pieces.add(self.atoms, told)?;
-        self.evidence.see(self.property, &told.label);
+        self.pieces.add(self.atoms, reported)?;
+        self.evidence.see(self.property, &reported.label);
         Ok(())
     }
 
     /// The same of an event that an actor showed, of which the label is taken.
-    fn tell(&mut self, chosen: Chosen, shown: &mut Label) -> Result<(), NoMemory>
-        ensures told { OnOk result ((j : model.Job) (es : List model.Event) → PrintsRun self.old j es
+    fn notify(&mut self, chosen: Chosen, shown: &mut Label) -> Result<(), NoMemory>
+        ensures reported { OnOk result ((j : model.Job) (es : List model.Event) → PrintsRun self.old j es
             → PrintsRun self.new j (es ++ event chosen.index chosen.among chosen.actor (label_of shown.old) ∷ [])) }
         ensures gone { self.new.pieces.gone ≡ self.old.pieces.gone }
     {
         let label = mem::replace(shown, Label::Waits);
-        let told = Event {
+        let reported = Event {
             choice: chosen.index,
             count: chosen.among,
             actor: chosen.actor,
             label,
         };
-        self.add(&told)
+        self.add(&reported)
     }
 }
 
@@ -91,21 +92,21 @@ fn print_next<W: Write, M: Ledger>(
     writer: &mut Counted<W, M>,
 ) -> Result<bool, OrNoMemory<StreamFault>>
     requires { execution.old.system.steps < limit }
-    ensures printed { IfOk result (λ went. (j : request.Job) (cs : model.Choices) (es : List model.Event)
+    ensures printed { IfOk result (λ went. (j : request.Job) (u : Choosing) (es : List model.Event)
         (w0 : Option (List ℕ)) → j.asked.limit ≡ limit
-        → IsPrinted j cs es execution.old printer.old w0 (W.contents writer.old.inner)
-        → PrintsOn j cs es execution.new printer.new w0 (W.contents writer.new.inner) went) }
+        → IsPrinted j u es execution.old printer.old w0 (W.contents writer.old.inner)
+        → PrintsOn j u es execution.new printer.new w0 (W.contents writer.new.inner) went) }
     ensures kept { OnOk result (writer.new.failures.total ≡ writer.old.failures.total) }
-    ensures fault { IfErr result (λ e. (j : request.Job) (cs : model.Choices) (es : List model.Event)
+    ensures fault { IfErr result (λ e. (j : request.Job) (u : Choosing) (es : List model.Event)
         (w0 : Option (List ℕ)) → j.asked.limit ≡ limit
-        → IsPrinted j cs es execution.old printer.old w0 (W.contents writer.old.inner)
-        → CutsShort e j cs w0 (W.contents writer.new.inner)
+        → IsPrinted j u es execution.old printer.old w0 (W.contents writer.old.inner)
+        → CutsShort e j u w0 (W.contents writer.new.inner)
         writer.old.failures.total writer.new.failures.total) }
 {
     let Some(chosen) = execution.pass_next(alloc, limit, shown)? else {
         return Ok(false);
     };
-    printer.tell(chosen, shown)?;
+    printer.notify(chosen, shown)?;
     printer.pieces.print_full(writer)?;
     Ok(true)
 }
@@ -121,14 +122,14 @@ fn print_events<W: Write, M: Ledger>(
     writer: &mut Counted<W, M>,
 ) -> Result<(), OrNoMemory<StreamFault>>
     requires limit { job.now.asked.limit ≡ limit }
-    requires first { Executes job.now job.now.asked.choices [] execution.old }
-    requires told { PrintsRun printer.old job.now.asked [] }
+    requires reported { PrintsRun printer.old job.now.asked [] }
     requires gone { gone_from printer.old.pieces ≡ [] }
-    ensures printed { OnOk result ((es : List model.Event) × IsPrinted job.now job.now.asked.choices es
+    ensures printed { OnOk result ((u : Choosing) → Executes job.now u [] execution.old
+        → (es : List model.Event) × IsPrinted job.now u es
         execution.new printer.new (W.contents writer.old.inner) (W.contents writer.new.inner)
         × IsRunOver job.now.asked.limit execution.new) }
     ensures kept { OnOk result (writer.new.failures.total ≡ writer.old.failures.total) }
-    ensures fault { IfErr result (λ e. CutsShort e job.now job.now.asked.choices
+    ensures fault { IfErr result (λ e. (u : Choosing) → Executes job.now u [] execution.old → CutsShort e job.now u
         (W.contents writer.old.inner) (W.contents writer.new.inner)
         writer.old.failures.total writer.new.failures.total) }
 {
@@ -163,17 +164,17 @@ fn print_rest<W: Write, M: Ledger>(
 ) -> Result<PrintedRun, OrNoMemory<StreamFault>>
     requires valid { IsValid job.now }
     requires written { AreWrittenSoFar (atom_names_of job.now) pieces.lines }
-    ensures printed { IfOk result (λ v. (es : List model.Event) (p : Printer) (w0 : Option (List ℕ))
-        → p.pieces ≡ pieces → p.evidence ≡ evidence
-        → IsPrinted job.now job.now.asked.choices es execution.now p w0 (W.contents writer.old.inner)
+    ensures printed { IfOk result (λ v. (u : Choosing) (es : List model.Event) (p : Printer)
+        (w0 : Option (List ℕ)) → p.pieces ≡ pieces → p.evidence ≡ evidence
+        → IsPrinted job.now u es execution.now p w0 (W.contents writer.old.inner)
         → IsRunOver job.now.asked.limit execution.now
-        → HasPrinted job.now v w0 (W.contents writer.new.inner)) }
+        → HasPrinted job.now u v w0 (W.contents writer.new.inner)) }
     ensures kept { OnOk result (writer.new.failures.total ≡ writer.old.failures.total) }
-    ensures fault { IfErr result (λ e. (es : List model.Event) (p : Printer) (w0 : Option (List ℕ))
-        → p.pieces ≡ pieces → p.evidence ≡ evidence
-        → IsPrinted job.now job.now.asked.choices es execution.now p w0 (W.contents writer.old.inner)
+    ensures fault { IfErr result (λ e. (u : Choosing) (es : List model.Event) (p : Printer)
+        (w0 : Option (List ℕ)) → p.pieces ≡ pieces → p.evidence ≡ evidence
+        → IsPrinted job.now u es execution.now p w0 (W.contents writer.old.inner)
         → IsRunOver job.now.asked.limit execution.now
-        → HasStopped e job.now w0 (W.contents writer.new.inner)
+        → CutsShort e job.now u w0 (W.contents writer.new.inner)
         writer.old.failures.total writer.new.failures.total) }
 {
     let system = &execution.system;
@@ -197,12 +198,12 @@ fn print_execution<W: Write, M: Ledger>(
 ) -> Result<PrintedRun, OrNoMemory<StreamFault>>
     requires limit { job.now.asked.limit ≡ limit }
     requires valid { IsValid job.now }
-    requires first { Executes job.now job.now.asked.choices [] execution.old }
-    ensures printed { IfOk result (λ p. HasPrinted job.now p
-        (W.contents writer.old.inner) (W.contents writer.new.inner)) }
+    requires first { (u : Choosing) × Executes job.now u [] execution.old }
+    ensures printed { IfOk result (λ p. (u : Choosing) → Executes job.now u [] execution.old
+        → HasPrinted job.now u p (W.contents writer.old.inner) (W.contents writer.new.inner)) }
     ensures kept { OnOk result (writer.new.failures.total ≡ writer.old.failures.total) }
-    ensures fault { IfErr result (λ e. HasStopped e job.now
-        (W.contents writer.old.inner) (W.contents writer.new.inner)
+    ensures fault { IfErr result (λ e. (u : Choosing) → Executes job.now u [] execution.old
+        → CutsShort e job.now u (W.contents writer.old.inner) (W.contents writer.new.inner)
         writer.old.failures.total writer.new.failures.total) }
 {
     let mut printer = Printer::new(alloc, job);
@@ -216,25 +217,27 @@ fn print_execution<W: Write, M: Ledger>(
     Ok(printed)
 }
 
-/// Prints the report of a job that is one run, as the run goes, and gives its verdict and how many processes still wait
-/// though its root returned. Where a write fails, a beginning of the report went out; where memory runs out, the lines
-/// of its first events did. What is in the scratch makes no difference.
+/// Prints the report of a job that is one run, by its own choices or by the priorities of a seed, as the run goes, and
+/// gives its verdict and how many processes still wait though its root returned. Where a write fails, a beginning of
+/// the report went out; where memory runs out, the lines of its first events did. What is in the scratch makes no
+/// difference.
 pub fn print_run<W: Write, M: Ledger>(
     alloc: Global,
     job: &Job,
+    priorities: Option<u64>,
     scratch: &mut Scratch,
     writer: &mut Counted<W, M>,
 ) -> Result<PrintedRun, OrNoMemory<StreamFault>>
-    requires { job.now.asked.runs ≡ zero }
-    ensures printed { IfOk result (λ p. HasPrinted job.now p
+    requires { IsNone priorities → job.now.asked.runs ≡ zero }
+    ensures printed { IfOk result (λ p. HasPrinted job.now (choosing_of priorities job.now.asked) p
         (W.contents writer.old.inner) (W.contents writer.new.inner)) }
     ensures kept { OnOk result (writer.new.failures.total ≡ writer.old.failures.total) }
-    ensures fault { IfErr result (λ e. HasStopped e job.now
+    ensures fault { IfErr result (λ e. HasStopped e job.now (choosing_of priorities job.now.asked)
         (W.contents writer.old.inner) (W.contents writer.new.inner)
         writer.old.failures.total writer.new.failures.total) }
 {
     let limit = job.limit();
-    let mut execution = first_execution(alloc, job, scratch.take_spare(alloc))?;
+    let mut execution = first_execution(alloc, job, priorities, scratch.take_spare(alloc))?;
     let printed = print_execution(alloc, job, limit, &mut execution, writer);
     scratch.put_spare(execution.system.into_spare());
     printed

@@ -1,18 +1,18 @@
 //! A run so far, with what is written of its events.
 
 ghost use Rattle.std.specs.Prelude.{◌≡◌, IfOk, OnOk, length};
-ghost use Rattle.pf_model.specs.Meaning as model;
 ghost use Rattle.pf_trace.specs.Written.{events_of};
 ghost use Rattle.pf_sched.specs.Asked.{IsValid};
+ghost use Rattle.pf_sched.specs.Choosing.{Choosing};
 ghost use Rattle.pf_sched.specs.Parts.{IsRunBy, events_in};
 ghost use Rattle.pf_sched.specs.Slices.{IsRunOver, IsReportBy, RunAdvances};
-ghost use Rattle.pf_sched.specs.Traces.{Makes};
+ghost use Rattle.pf_sched.specs.Traces.{IsFirst};
 
+use crate::chooser::ActorChooser;
 use crate::execution::Execution;
 use crate::job::Job;
 use crate::scratch::Scratch;
 use crate::trace::{Writer, WrittenEvents};
-use pf_choice::Choices;
 use pf_errors::NoMemory;
 use pf_system::Spare;
 use pf_trace::WrittenReport;
@@ -27,13 +27,13 @@ pub(crate) struct Run {
 }
 
 impl Run {
-    /// The run of a job by these choices, before its first event.
-    pub fn new(alloc: Global, job: &Job, choices: Choices) -> Result<Run, NoMemory>
-        ensures run { (cs : model.Choices) → Makes cs choices
-            → IfOk result (λ r. IsRunBy job.now cs r) }
+    /// The run of a job where this chooses, before its first event.
+    pub fn new(alloc: Global, job: &Job, chooser: ActorChooser) -> Result<Run, NoMemory>
+        ensures run { (w : Choosing) → IsFirst w chooser
+            → IfOk result (λ r. IsRunBy job.now w r) }
         ensures first { IfOk result (λ r. length (events_in r) ≡ 0) }
     {
-        let execution = Execution::new(alloc, job, choices, Spare::new(alloc))?;
+        let execution = Execution::new(alloc, job, chooser, Spare::new(alloc))?;
         let written = WrittenEvents::new(alloc);
         Ok(Run { execution, written })
     }
@@ -68,9 +68,9 @@ impl Run {
 
     /// The report of a run that is over.
     pub fn report(self, alloc: Global, job: &Job) -> Result<WrittenReport, NoMemory>
-        ensures { IfOk result (λ r. (cs : model.Choices) → IsRunBy job.now cs self
+        ensures { IfOk result (λ r. (w : Choosing) → IsRunBy job.now w self
             → IsRunOver job.now.asked.limit self.execution
-            → IsReportBy job.now cs r × (events_of r.lines ≡ events_in self)) }
+            → IsReportBy job.now w r × (events_of r.lines ≡ events_in self)) }
     {
         let Run { execution, written } = self;
         let outcome = execution.system.outcome(alloc)?;

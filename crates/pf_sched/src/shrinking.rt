@@ -7,11 +7,13 @@ ghost use Rattle.pf_model.specs.Shrinking.{is_failure};
 ghost use Rattle.pf_shrink.specs.Hunts.{found_of, next_of, after_answer};
 ghost use Rattle.pf_request.specs.Job as request;
 ghost use Rattle.pf_sched.specs.Asked.{IsValid};
-ghost use Rattle.pf_sched.specs.Parts.{IsHuntOf, IsShrinkingOf, KeepsReport, events_so_far, stands_at};
-ghost use Rattle.pf_sched.specs.Slices.{NextRunFollows, ShrinkingGoesOn, IsRunOver, OpensNext, RunAdvances, TellsFound};
+ghost use Rattle.pf_sched.specs.Parts.{IsHuntOf, IsShrinkingOf, KeepsReport, events_so_far, is_at};
+ghost use Rattle.pf_sched.specs.Slices.{NextRunFollows, ShrinkingGoesOn, IsRunOver, OpensNext, RunAdvances};
+ghost use Rattle.pf_sched.specs.Slices.{ReportsFound};
 ghost use Rattle.pf_sched.specs.Slices.{runs_left};
 ghost use Rattle.pf_sched.specs.Views.{IsWritten, result_of};
 
+use crate::chooser::ActorChooser;
 use crate::job::Job;
 use crate::progress::ShrinkingProgress;
 use crate::result::JobResult;
@@ -23,7 +25,8 @@ use pf_shrink::ShrinkingSearch;
 use pf_trace::WrittenReport;
 use std::alloc::Global;
 
-/// A shrinking so far: its search, the run of the search's next schedule, the report of the search's current schedule, which
+/// A shrinking so far: its search, the run of the search's next schedule, the report of the search's current
+/// schedule, which
 /// is none before the first run that failed, the number of events of all runs before this one, and its progress for the
 /// observer.
 #[derive(Drop)]
@@ -62,9 +65,9 @@ fn found(
 ) -> Result<JobResult, NoMemory>
     requires ended { IsNone (next_of hunt.now) }
     requires report { IsSome (found_of hunt.now) → IsSome report }
-    ensures told { IfOk result (λ r. (j : request.Job) → KeepsReport j.asked (stands_at hunt.now) report
-        → TellsFound j.asked (found_of hunt.now) (result_of r)) }
-    ensures written { IfOk result (λ r. (j : request.Job) → KeepsReport j.asked (stands_at hunt.now) report
+    ensures reported { IfOk result (λ r. (j : request.Job) → KeepsReport j.asked (is_at hunt.now) report
+        → ReportsFound j.asked (found_of hunt.now) (result_of r)) }
+    ensures written { IfOk result (λ r. (j : request.Job) → KeepsReport j.asked (is_at hunt.now) report
         → IsWritten (name_of j.asked.code.atoms) r) }
 {
     let Some((schedule, complete)) = hunt.found() else {
@@ -79,17 +82,17 @@ fn found(
 
 /// Answers a search whether its next schedule fails, by the report of its run; the report of the schedule that is the
 /// search's current one then.
-fn tell(
+fn notify(
     hunt: &mut ShrinkingSearch,
     kept: Option<WrittenReport>,
     ended: WrittenReport,
 ) -> Option<WrittenReport>
     requires { IsSome (next_of hunt.old) }
-    ensures told { hunt.new ≡ after_answer (is_failure ended.verdict) hunt.old }
+    ensures reported { hunt.new ≡ after_answer (is_failure ended.verdict) hunt.old }
     ensures kept { result ≡ (if is_failure ended.verdict then Some ended else kept) }
 {
     let fails = matches!(ended.verdict, Some(false));
-    hunt.told(fails);
+    hunt.reported(fails);
     if fails { Some(ended) } else { kept }
 }
 
@@ -103,12 +106,12 @@ fn begin(
     progress: ShrinkingProgress,
 ) -> Result<ShrinkingAdvance, NoMemory>
     requires hunt { IsHuntOf job.now.asked hunt before }
-    requires report { KeepsReport job.now.asked (stands_at hunt) report }
+    requires report { KeepsReport job.now.asked (is_at hunt) report }
     ensures { IfOk result (λ p. NextRunFollows job.now before (runs_left hunt) p) }
 {
     match next_choices(alloc, &hunt)? {
         Some(choices) => Ok(ShrinkingAdvance::More(Shrinking {
-            run: Run::new(alloc, job, choices)?,
+            run: Run::new(alloc, job, ActorChooser::Choices(choices))?,
             hunt,
             report,
             before,
@@ -130,7 +133,7 @@ impl Shrinking {
         let choices = Choices::schedule(Vec::from_slice(alloc, schedule)?);
         Ok(Shrinking {
             hunt: ShrinkingSearch::new(Vec::from_slice(alloc, schedule)?, runs),
-            run: Run::new(alloc, job, choices)?,
+            run: Run::new(alloc, job, ActorChooser::Choices(choices))?,
             report: None,
             before: 0,
             progress: ShrinkingProgress::new(schedule.len()),
@@ -170,7 +173,7 @@ impl Shrinking {
         let after = before + run.len() as u64;
         let ended = run.report(alloc, job)?;
         let further = progress.further(&hunt, &ended);
-        let kept = tell(&mut hunt, report, ended);
+        let kept = notify(&mut hunt, report, ended);
         begin(alloc, job, hunt, kept, after, further)
     }
 

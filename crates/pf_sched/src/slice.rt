@@ -105,7 +105,7 @@ pub fn run_slice(alloc: Global, parked: Parked, scratch: &mut Scratch, turns: u3
 }
 
 /// Reports the progress of a job that is a shrinking to the observer.
-fn tell(observer: &mut impl Observer, parked: &Parked) {
+fn notify(observer: &mut impl Observer, parked: &Parked) {
     if let Some(progress) = parked.progress() {
         observer.progress(progress);
     }
@@ -123,7 +123,7 @@ pub fn run_to_end(
 {
     let mut parked = start(alloc, job)?;
     loop {
-        tell(observer, &parked);
+        notify(observer, &parked);
         match run_slice(alloc, parked, scratch, TURNS) {
             Slice::More(more) => parked = more,
             Slice::Done(finished) => return Ok(finished),

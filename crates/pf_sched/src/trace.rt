@@ -5,9 +5,9 @@ ghost use Rattle.pf_model.specs.Meaning as model;
 ghost use Rattle.pf_model.specs.Reports.{view_of_event, label_of};
 ghost use Rattle.pf_property.specs.Judging.{rules_out};
 ghost use Rattle.pf_property.specs.Views.{property_of};
-ghost use Rattle.pf_trace.specs.Written.{AreWrittenSoFar, told_so_far};
+ghost use Rattle.pf_trace.specs.Written.{AreWrittenSoFar, reported_so_far};
 ghost use Rattle.pf_sched.specs.Evidence.{Shows};
-ghost use Rattle.pf_sched.specs.Told.{Hears, ListsEvents, WritesEvents, event};
+ghost use Rattle.pf_sched.specs.Reported.{Hears, ListsEvents, WritesEvents, event};
 
 use crate::evidence::Evidence;
 use crate::job::Job;
@@ -22,11 +22,11 @@ use std::mem;
 /// Receives the events of a run as they happen.
 pub(crate) trait Trace {
     /// It received these events, in their order, and knows of them what it has to for a run of this job.
-    ghost Told: { Self → model.Job → List model.Event → Type 0 };
+    ghost Reported: { Self → model.Job → List model.Event → Type 0 };
 
     /// Receives one event more: of `count` actors that might go number `choice` went, and showed this. It may take the
     /// label.
-    fn tell(
+    fn notify(
         &mut self,
         choice: u32,
         count: u32,
@@ -34,14 +34,14 @@ pub(crate) trait Trace {
         shown: &mut Label,
     ) -> Result<(), NoMemory>
         ensures { OnOk result
-            (Hears Told self.old (event choice count actor (label_of shown.old)) self.new) };
+            (Hears Reported self.old (event choice count actor (label_of shown.old)) self.new) };
 }
 
 /// The events themselves.
 impl Trace for Vec<Event> {
-    ghost Told = { ListsEvents };
+    ghost Reported = { ListsEvents };
 
-    fn tell(
+    fn notify(
         &mut self,
         choice: u32,
         count: u32,
@@ -55,22 +55,6 @@ impl Trace for Vec<Event> {
             actor,
             label,
         })?;
-        Ok(())
-    }
-}
-
-/// The choices alone.
-impl Trace for Vec<u32> {
-    ghost Told = { λ numbers j told. numbers.items ≡ map (λ e. e.choice) told };
-
-    fn tell(
-        &mut self,
-        choice: u32,
-        _count: u32,
-        _actor: Actor,
-        _shown: &mut Label,
-    ) -> Result<(), NoMemory> {
-        self.push(choice)?;
         Ok(())
     }
 }
@@ -96,9 +80,9 @@ impl<'a> SeenEvents<'a> {
 }
 
 impl Trace for SeenEvents<'_> {
-    ghost Told = { λ s. Shows (property_of s.property.now) s.evidence };
+    ghost Reported = { λ s. Shows (property_of s.property.now) s.evidence };
 
-    fn tell(
+    fn notify(
         &mut self,
         _choice: u32,
         _count: u32,
@@ -121,7 +105,7 @@ pub(crate) struct WrittenEvents {
 impl WrittenEvents {
     /// No event.
     pub fn new(alloc: Global) -> WrittenEvents
-        ensures none { told_so_far result.lines ≡ [] }
+        ensures none { reported_so_far result.lines ≡ [] }
         ensures written { (name : ℕ → List ℕ) → AreWrittenSoFar name result.lines }
         ensures clear { result.ruled_out ≡ false }
     {
@@ -164,19 +148,19 @@ impl<'a> Writer<'a> {
     }
 
     /// Writes the line of an event, and keeps whether its label rules the property out.
-    fn add(&mut self, told: &Event) -> Result<(), NoMemory>
-        ensures { OnOk result (Hears WritesEvents self.old (view_of_event told.now) self.new) }
+    fn add(&mut self, reported: &Event) -> Result<(), NoMemory>
+        ensures { OnOk result (Hears WritesEvents self.old (view_of_event reported.now) self.new) }
     {
-        self.written.lines.add(self.atoms, told)?;
-        self.written.see(self.property, &told.label);
+        self.written.lines.add(self.atoms, reported)?;
+        self.written.see(self.property, &reported.label);
         Ok(())
     }
 }
 
 impl Trace for Writer<'_> {
-    ghost Told = { WritesEvents };
+    ghost Reported = { WritesEvents };
 
-    fn tell(
+    fn notify(
         &mut self,
         choice: u32,
         count: u32,
@@ -184,12 +168,12 @@ impl Trace for Writer<'_> {
         shown: &mut Label,
     ) -> Result<(), NoMemory> {
         let label = mem::replace(shown, Label::Waits);
-        let told = Event {
+        let reported = Event {
             choice,
             count,
             actor,
             label,
         };
-        self.add(&told)
+        self.add(&reported)
     }
 }

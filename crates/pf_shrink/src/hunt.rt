@@ -51,7 +51,7 @@ impl ShrinkingSearch {
     pub fn new(schedule: Vec<u32>, runs: u32) -> ShrinkingSearch
         requires { 0 < runs }
         ensures begins { result ≡ begins (runs - 1) schedule.items }
-        ensures comes_to { (fails : List ℕ → Bool)
+        ensures leads_to { (fails : List ℕ → Bool)
             → search_result fails result ≡ shrunk fails runs schedule.items }
     {
         ShrinkingSearch {
@@ -74,10 +74,10 @@ impl ShrinkingSearch {
     }
 
     /// Takes the answer whether the next schedule fails. It takes no memory.
-    pub fn told(&mut self, fails: bool)
+    pub fn reported(&mut self, fails: bool)
         requires { IsSome (next_of self.old) }
-        ensures told { self.new ≡ after_answer fails self.old }
-        ensures comes_to { (f : List ℕ → Bool) → IsAnswerOf f fails self.old
+        ensures reported { self.new ≡ after_answer fails self.old }
+        ensures leads_to { (f : List ℕ → Bool) → IsAnswerOf f fails self.old
             → search_result f self.new ≡ search_result f self.old }
     {
         self.phase = answered(&mut self.round, self.phase, fails);
@@ -92,7 +92,7 @@ impl ShrinkingSearch {
     pub fn found(&self) -> Option<(&[u32], bool)>
         requires { IsNone (next_of self.now) }
         ensures found { option_map (λ f. found_at f.0.now f.1) result ≡ found_of self.now }
-        ensures comes_to { (fails : List ℕ → Bool)
+        ensures leads_to { (fails : List ℕ → Bool)
             → option_map (λ f. found_at f.0.now f.1) result ≡ search_result fails self.now }
     {
         match self.phase {
@@ -105,10 +105,10 @@ impl ShrinkingSearch {
 
 // What an answer makes of a round and a phase, before the run is counted.
 fn answered(round: &mut Round, phase: Phase, fails: bool) -> Phase
-    requires stands { IsRoundOf 1 phase round.old }
+    requires is_there { IsRoundOf 1 phase round.old }
     requires next { IsSome (next_of (standing 1 phase round.old)) }
-    ensures told { (k : ℕ) → standing k result round.new ≡ after_answer fails (standing (suc k) phase round.old) }
-    ensures stands { (k : ℕ) → IsRoundOf (suc k) result round.new }
+    ensures reported { (k : ℕ) → standing k result round.new ≡ after_answer fails (standing (suc k) phase round.old) }
+    ensures is_there { (k : ℕ) → IsRoundOf (suc k) result round.new }
 {
     if fails {
         round.take();
@@ -127,7 +127,7 @@ fn answered(round: &mut Round, phase: Phase, fails: bool) -> Phase
 fn cut_off(round: &mut Round, phase: Phase) -> Phase
     requires { IsRoundOf 1 phase round.old }
     ensures same { standing 0 result round.new ≡ standing 0 phase round.old }
-    ensures stands { IsRoundOf 0 result round.new }
+    ensures is_there { IsRoundOf 0 result round.new }
 {
     match phase {
         Phase::Search if round.next().is_some() => {

@@ -142,10 +142,10 @@ module _ {T : Type 0} where
 
   -- ---- what a search says
 
-  pub told : (b : ℕ) (xs : List (ℕ × T)) (r : Result ℕ ℕ) → Rises 0 xs
+  pub reported : (b : ℕ) (xs : List (ℕ × T)) (r : Result ℕ ℕ) → Rises 0 xs
       → MatchResult r (λ at. (at < length xs) × IsThere (λ e. e.0) b xs at)
       (λ at. (at ≤ length xs) × IsGap (λ e. e.0) b xs at)
       → is_ok r ≡ is_some (got b xs)
-  told b [] (Ok at) h m = absurd (omega (arith, m.0))
-  told b (x ∷ xs) (Ok at) h m = sym (ap is_some (got_there b (x ∷ xs) at x m.1))
-  told b xs (Err at) h m = sym (ap is_some (got_gap b 0 xs at h m.1))
+  reported b [] (Ok at) h m = absurd (omega (arith, m.0))
+  reported b (x ∷ xs) (Ok at) h m = sym (ap is_some (got_there b (x ∷ xs) at x m.1))
+  reported b xs (Err at) h m = sym (ap is_some (got_gap b 0 xs at h m.1))

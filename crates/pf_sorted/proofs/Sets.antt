@@ -71,12 +71,12 @@ without_gap b low (x ∷ xs) (suc i) r h =
 
 -- ---- what a search says
 
-pub told : (b : ℕ) (xs : List ℕ) (r : Result ℕ ℕ) → Rises 0 xs
+pub reported : (b : ℕ) (xs : List ℕ) (r : Result ℕ ℕ) → Rises 0 xs
     → MatchResult r (λ at. (at < length xs) × IsThere (λ x. x) b xs at)
     (λ at. (at ≤ length xs) × IsGap (λ x. x) b xs at)
     → is_ok r ≡ has b xs
-told b xs (Ok at) h m = sym (has_there b xs at m.1)
-told b xs (Err at) h m = sym (has_gap b 0 xs at h m.1)
+reported b xs (Ok at) h m = sym (has_there b xs at m.1)
+reported b xs (Err at) h m = sym (has_gap b 0 xs at h m.1)
 
 pub was_there : (b : ℕ) (xs : List ℕ) (i : ℕ) → IsThere (λ x. x) b xs i → true ≡ has b xs
 was_there b xs i h = sym (has_there b xs i h)

@@ -149,20 +149,20 @@ whole_front xs i h = sym (append-nil (take i xs)) ∙ ap (λ r. take i xs ++ r) 
 
 -- the faults of the parts that are left
 pub record Onward (old now : ClauseWalk) (left all : List SourceRefusal) : Type 0 where
-  pub stands : KnowsScope old.variables no_scope → KnowsScope now.variables no_scope
+  pub is_there : KnowsScope old.variables no_scope → KnowsScope now.variables no_scope
   pub found : KnowsScope old.variables no_scope
       → earliest (earliest_kept now.first) left ≡ earliest (earliest_kept old.first) all
 
 pub onward_first : (w : ClauseWalk) (all : List SourceRefusal) → Onward w w all all
-onward_first w all = record { stands = λ st. st; found = λ st. refl }
+onward_first w all = record { is_there = λ st. st; found = λ st. refl }
 
 pub onward_more : {X : Type 0} (F : X → List SourceRefusal) (old now next : ClauseWalk) (left rest : List X) (x : X)
     (all : List SourceRefusal) → left ≡ x ∷ rest → Onward old now (flat_map F left) all → BeginsAnew now next (F x)
     → Onward old next (flat_map F rest) all
 onward_more F old now next left rest x all e u b = record {
-  stands = λ st. b.stands (u.stands st);
+  is_there = λ st. b.is_there (u.is_there st);
   found = λ st.
-      ap (λ k. earliest k (flat_map F rest)) (b.found (u.stands st))
+      ap (λ k. earliest k (flat_map F rest)) (b.found (u.is_there st))
       ∙ sym (fold-append earlier (earliest_kept now.first) (F x) (flat_map F rest))
       ∙ ap (λ xs. earliest (earliest_kept now.first) (flat_map F xs)) (sym e)
       ∙ u.found st;
@@ -171,6 +171,6 @@ onward_more F old now next left rest x all e u b = record {
 pub onward_all : {X : Type 0} (F : X → List SourceRefusal) (old now : ClauseWalk) (left : List X)
     (all : List SourceRefusal) → left ≡ [] → Onward old now (flat_map F left) all → BeginsAnew old now all
 onward_all F old now left all e u = record {
-  stands = u.stands;
+  is_there = u.is_there;
   found = λ st. ap (λ xs. earliest (earliest_kept now.first) (flat_map F xs)) (sym e) ∙ u.found st;
 }

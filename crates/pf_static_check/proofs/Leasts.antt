@@ -126,10 +126,11 @@ first_of_all d e u h k l m n o a b c f g =
     same_least (d ++ e ++ u ++ h) (e ++ d ++ u ++ h) o (swapped_before d e u h) (swapped_before e d u h)
     (subst (IsLeastFault (d ++ e ++ u ++ h)) (sym all) (least (d ++ e ++ u ++ h)))
 
-pub told_none : (r : Option SourceRefusal) (fs : List SourceRefusal) → IsLeastFault fs r → IfNone r (fs ≡ [])
-told_none None fs h = h
-told_none (Some f) fs h = tt
+pub reported_none : (r : Option SourceRefusal) (fs : List SourceRefusal) → IsLeastFault fs r → IfNone r (fs ≡ [])
+reported_none None fs h = h
+reported_none (Some f) fs h = tt
 
-pub told_some : (r : Option SourceRefusal) (fs : List SourceRefusal) → IsLeastFault fs r → IfSome r (λ f. IsFirst fs f)
-told_some None fs h = tt
-told_some (Some f) fs h = h
+pub reported_some : (r : Option SourceRefusal) (fs : List SourceRefusal) → IsLeastFault fs r
+    → IfSome r (λ f. IsFirst fs f)
+reported_some None fs h = tt
+reported_some (Some f) fs h = h

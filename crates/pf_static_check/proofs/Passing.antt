@@ -31,8 +31,8 @@ use Rattle.pf_rules.specs.Listing.{ListsFunctions, lists}
 use Rattle.pf_rules.specs.declared.signatures.Signatures.{Signatures}
 use Rattle.pf_rules.proofs.Counts.{arity_length}
 use Rattle.pf_static_check.proofs.Marking.{moved_named, moved_fresh, moved_unsafe}
-use Rattle.pf_static_check.proofs.Trailing.{Same, same_stands, trails_same, trails_nothing, trails_then, back}
-use Rattle.pf_static_check.proofs.Trailing.{left_before, has_append, new_is, named_is, stands_leaving}
+use Rattle.pf_static_check.proofs.Trailing.{Same, same_is_there, trails_same, trails_nothing, trails_then, back}
+use Rattle.pf_static_check.proofs.Trailing.{left_before, has_append, new_is, named_is, is_there_leaving}
 
 -- ---- the next of a list
 
@@ -43,15 +43,15 @@ next_item F xs i x h e = at_drop_more F xs i x h ∙ ap (λ y. F (y ∷ drop (i 
 -- ---- nothing, and two walks in turn
 
 pub walks_nothing : (w : ClauseWalk) → Walks w w (λ g. g) (λ g. [])
-walks_nothing w = record { trails = trails_nothing w.variables; stands = λ g st. st; found = λ g st. refl }
+walks_nothing w = record { trails = trails_nothing w.variables; is_there = λ g st. st; found = λ g st. refl }
 
 pub walks_then : (a b c : ClauseWalk) (f h : Scope → Scope) (s t : Scope → List SourceRefusal) → Walks a b f s
     → Walks b c h t → Walks a c (λ g. h (f g)) (λ g. s g ++ t (f g))
 walks_then a b c f h s t x y = record {
   trails = trails_then a.variables b.variables c.variables x.trails y.trails;
-  stands = λ g st. y.stands (f g) (x.stands g st);
+  is_there = λ g st. y.is_there (f g) (x.is_there g st);
   found = λ g st.
-      y.found (f g) (x.stands g st)
+      y.found (f g) (x.is_there g st)
       ∙ ap (λ k. earliest k (t (f g))) (x.found g st)
       ∙ sym (fold-append earlier (earliest_kept a.first) (s g) (t (f g)));
 }
@@ -63,7 +63,7 @@ pub record Underway (old now : ClauseWalk) (whole rest : Scope → Scope) (all l
     → List SourceRefusal) : Type 0 where
   pub trails : Trails old.variables now.variables
   pub here : (g : Scope) → KnowsScope old.variables g → Scope
-  pub stands : (g : Scope) (st : KnowsScope old.variables g) → KnowsScope now.variables (here g st)
+  pub is_there : (g : Scope) (st : KnowsScope old.variables g) → KnowsScope now.variables (here g st)
   pub onward : (g : Scope) (st : KnowsScope old.variables g) → rest (here g st) ≡ whole g
   pub found : (g : Scope) (st : KnowsScope old.variables g)
       → earliest (earliest_kept now.first) (left (here g st)) ≡ earliest (earliest_kept old.first) (all g)
@@ -73,7 +73,7 @@ pub underway_first : (w : ClauseWalk) (whole : Scope → Scope) (all : Scope →
 underway_first w whole all = record {
   trails = trails_nothing w.variables;
   here = λ g st. g;
-  stands = λ g st. st;
+  is_there = λ g st. st;
   onward = λ g st. refl;
   found = λ g st. refl;
 }
@@ -84,11 +84,11 @@ pub underway_more : (old now next : ClauseWalk) (whole rest f : Scope → Scope)
 underway_more old now next whole rest f all left s u w = record {
   trails = trails_then old.variables now.variables next.variables u.trails w.trails;
   here = λ g st. f (u.here g st);
-  stands = λ g st. w.stands (u.here g st) (u.stands g st);
+  is_there = λ g st. w.is_there (u.here g st) (u.is_there g st);
   onward = λ g st. u.onward g st;
   found = λ g st.
       let h = u.here g st in
-      ap (λ k. earliest k (left (f h))) (w.found h (u.stands g st))
+      ap (λ k. earliest k (left (f h))) (w.found h (u.is_there g st))
       ∙ sym (fold-append earlier (earliest_kept now.first) (s h) (left (f h)))
       ∙ u.found g st;
 }
@@ -97,7 +97,7 @@ pub underway_all : (old now : ClauseWalk) (whole : Scope → Scope) (all : Scope
     → Underway old now whole (λ g. g) all (λ g. []) → Walks old now whole all
 underway_all old now whole all u = record {
   trails = u.trails;
-  stands = λ g st. subst (KnowsScope now.variables) (u.onward g st) (u.stands g st);
+  is_there = λ g st. subst (KnowsScope now.variables) (u.onward g st) (u.is_there g st);
   found = λ g st. u.found g st;
 }
 
@@ -120,10 +120,10 @@ pub expr_patterns_all : (old now : ClauseWalk) (qs left : ExprPatterns) → left
 expr_patterns_all old now qs left e u = underway_all old now (λ g. after_expr_patterns g qs)
     (λ g. expr_patterns_faults g qs) (subst (ExprPatternsUnderway old now qs) e u)
 
-pub expr_pattern_behind : (a b c : ClauseWalk) (qs : ExprPatterns) (q : ExprPattern) → ExprPatternsWalked a b qs
+pub expr_pattern_after : (a b c : ClauseWalk) (qs : ExprPatterns) (q : ExprPattern) → ExprPatternsWalked a b qs
     → ExprPatternWalked b c q → Walks a c (λ g. after_expr_pattern (after_expr_patterns g qs) q)
     (λ g. expr_patterns_faults g qs ++ expr_pattern_faults (after_expr_patterns g qs) q)
-expr_pattern_behind a b c qs q x y =
+expr_pattern_after a b c qs q x y =
     walks_then a b c (λ g. after_expr_patterns g qs) (λ g. after_expr_pattern g q) (λ g. expr_patterns_faults g qs)
     (λ g. expr_pattern_faults g q) x y
 
@@ -193,18 +193,18 @@ walks_back a b c f s w k set trail =
     let same = back a.variables b.variables c.variables w.trails set in
     record {
       trails = trails_same a.variables c.variables same (trail ∙ left_before a.variables b.variables w.trails);
-      stands = λ g st. same_stands a.variables c.variables g same st;
+      is_there = λ g st. same_is_there a.variables c.variables g same st;
       found = λ g st. k ∙ w.found g st;
     }
 
 -- a clause of a function is walked, and after it no variable is known, as before it
-pub begins_anew : (n : Names) (a b d e c : ClauseWalk) (h : Head) → ExprPatternsWalked a b h.parameters
+pub begins_again : (n : Names) (a b d e c : ClauseWalk) (h : Head) → ExprPatternsWalked a b h.parameters
     → ConditionWalked n b d h.condition → ExprsWalked n d e h.body → earliest_kept c.first ≡ earliest_kept e.first
     → ((x : ℕ) → status_of c.variables x ≡ (if has (drop (length (trail_of a.variables)) (trail_of e.variables)) x then
     New else status_of e.variables x))
     → trail_of c.variables ≡ take (length (trail_of a.variables)) (trail_of e.variables)
     → BeginsAnew a c (head_faults n h)
-begins_anew n a b d e c h p g w k set trail =
+begins_again n a b d e c h p g w k set trail =
     let f : Scope → Scope = λ s. after_expr_patterns s h.parameters in
     let all : Scope → List SourceRefusal = λ s. expr_patterns_faults s h.parameters ++ condition_faults n
     (f s) h.condition in
@@ -213,7 +213,7 @@ begins_anew n a b d e c h p g w k set trail =
     let whole = walks_then a d e f (λ s. after_all s h.body) all (λ s. exprs_faults n s h.body) front w in
     let closed = walks_back a e c (λ s. after_all (f s) h.body) (λ s. all s ++ exprs_faults n (f s) h.body)
     whole k set trail in
-    record { stands = closed.stands no_scope; found = closed.found no_scope }
+    record { is_there = closed.is_there no_scope; found = closed.found no_scope }
 
 -- ---- clauses
 
@@ -236,7 +236,7 @@ clause_closed a b c f s w k set trail =
       named = λ g st x.
           moved_named (has names x) (status_of A x) (status_of B x) (w.trails.moved x)
           ∙ ap (λ (v : Bool). v && is_marked (status_of B x)) (sym (new_is A g st x))
-          ∙ ap (λ (v : Bool). is_new g x && v) (sym (named_is B (f g) (w.stands g st) x));
+          ∙ ap (λ (v : Bool). is_new g x && v) (sym (named_is B (f g) (w.is_there g st) x));
       found = λ g st. k ∙ w.found g st;
     }
 
@@ -246,7 +246,7 @@ pub binds : (a b c : ClauseWalk) (y at : ℕ) → SafeWalked a b y at → Binds 
     → ExprPatternWalked a c (variable y at)
 binds a b c y at w d e = record {
   trails = trails_then a.variables b.variables c.variables w.trails d.trails;
-  stands = λ g st. d.stands g (w.stands g st);
+  is_there = λ g st. d.is_there g (w.is_there g st);
   found = λ g st. ap earliest_kept e ∙ w.found g st;
 }
 
@@ -296,13 +296,13 @@ clauses_more old now next ends rest some all left s u c = record {
       either_fresh (has u.names x) (has c.names x) (is_marked (status_of old.variables x) ≡ false) (u.fresh x)
       (λ k. ap is_marked (sym (u.same.same x)) ∙ c.fresh x k) (sym (has_append u.names c.names x) ∙ e);
   named = λ g st x.
-      let here = same_stands old.variables now.variables g u.same st in
+      let here = same_is_there old.variables now.variables g u.same st in
       ap (λ (v : Bool). v || (is_new g x && has (rest g) x)) (has_append u.names c.names x)
       ∙ one_more (has u.names x) (has c.names x) (is_new g x) (has (some g) x) (has (rest g) x) (c.named g here x)
       ∙ ap (λ (v : Bool). has u.names x || (is_new g x && v)) (sym (has_append (some g) (rest g) x))
       ∙ u.named g st x;
   found = λ g st.
-      ap (λ k. earliest k (left g)) (c.found g (same_stands old.variables now.variables g u.same st))
+      ap (λ k. earliest k (left g)) (c.found g (same_is_there old.variables now.variables g u.same st))
       ∙ sym (fold-append earlier (earliest_kept now.first) (s g) (left g))
       ∙ u.found g st;
 }
@@ -337,7 +337,7 @@ branches_all n old now new bs left e v k set trail =
         moved =
             λ x. moved_unsafe (has names x) (status_of old.variables x) (status_of new.variables x) (u.fresh x) (all x);
       };
-      stands = λ g st. stands_leaving old.variables new.variables g names (ends_of g bs) st u.fresh
+      is_there = λ g st. is_there_leaving old.variables new.variables g names (ends_of g bs) st u.fresh
           (λ x. sym (none_left (has names x) (is_new g x)) ∙ u.named g st x) all;
       found = λ g st. ap earliest_kept k ∙ u.found g st;
     }

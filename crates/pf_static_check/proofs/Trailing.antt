@@ -72,14 +72,15 @@ named_is s g st x =
 pub bound_before : (s : VariableStates) (y : ℕ) → is_marked (status_of s y) ≡ true → Binds s s y
 bound_before s y m = record {
   trails = trails_nothing s;
-  stands = λ g st. subst (λ (v : Bool). KnowsScope s (if v then record { bound = g.bound ++ y ∷ []; unsafe = g.unsafe }
+  is_there = λ g st. subst (λ (v : Bool). KnowsScope s
+      (if v then record { bound = g.bound ++ y ∷ []; unsafe = g.unsafe }
       else g)) (sym (new_is s g st y ∙ ap not m)) st;
 }
 
-stands_push : (old new : VariableStates) (y : ℕ) (g : Scope) → status_of old y ≡ New
+is_there_push : (old new : VariableStates) (y : ℕ) (g : Scope) → status_of old y ≡ New
     → ((x : ℕ) → status_of new x ≡ (if y == x then Bound else status_of old x)) → KnowsScope old g
     → KnowsScope new (record { bound = g.bound ++ y ∷ []; unsafe = g.unsafe })
-stands_push old new y g n set st = record {
+is_there_push old new y g n set st = record {
   bound = λ x. has_append g.bound (y ∷ []) x ∙ bound_one (y == x) (has g.bound x) (status_of old x) (status_of new x)
       (st.bound x) (set x);
   unsafe = λ x. unsafe_one (y == x) (has g.unsafe x) (status_of old x) (status_of new x)
@@ -96,9 +97,9 @@ bound_new old new y n set longer = record {
     moved = λ x. moved_one (y == x) (status_of old x) (status_of new x) Bound
         (λ e. ap is_marked (ap (status_of old) (sym (eqb-true y x e)) ∙ n)) refl (set x);
   };
-  stands = λ g st. subst (λ (v : Bool). KnowsScope new
+  is_there = λ g st. subst (λ (v : Bool). KnowsScope new
       (if v then record { bound = g.bound ++ y ∷ []; unsafe = g.unsafe } else g))
-      (sym (new_is old g st y ∙ ap (λ (a : Status). not (is_marked a)) n)) (stands_push old new y g n set st);
+      (sym (new_is old g st y ∙ ap (λ (a : Status). not (is_marked a)) n)) (is_there_push old new y g n set st);
 }
 
 -- ---- back to what was seen
@@ -107,8 +108,8 @@ bound_new old new y n set longer = record {
 pub record Same (old new : VariableStates) : Type 0 where
   pub same : (x : ℕ) → status_of new x ≡ status_of old x
 
-pub same_stands : (old new : VariableStates) (g : Scope) → Same old new → KnowsScope old g → KnowsScope new g
-same_stands old new g s st = record {
+pub same_is_there : (old new : VariableStates) (g : Scope) → Same old new → KnowsScope old g → KnowsScope new g
+same_is_there old new g s st = record {
   bound = λ x. st.bound x ∙ ap is_bound (sym (s.same x));
   unsafe = λ x. st.unsafe x ∙ ap is_marked_unsafe (sym (s.same x));
 }
@@ -157,12 +158,12 @@ has_filter p (n ∷ ns) x = one p n ns x (p n) refl (has_filter p ns x)
         (λ q. ap p (sym (eqb-true n x q)) ∙ e)
     one p n ns x false e ih = ih ∙ left_one (n == x) (has ns x) (p x) (λ q. ap p (sym (eqb-true n x q)) ∙ e)
 
-pub stands_leaving : (old new : VariableStates) (g : Scope) (names ends : List ℕ) → KnowsScope old g
+pub is_there_leaving : (old new : VariableStates) (g : Scope) (names ends : List ℕ) → KnowsScope old g
     → ((x : ℕ) → has names x ≡ true → is_marked (status_of old x) ≡ false)
     → ((x : ℕ) → has names x ≡ (is_new g x && has ends x))
     → ((x : ℕ) → status_of new x ≡ (if has names x then Unsafe else status_of old x))
     → KnowsScope new (scope_leaving g ends)
-stands_leaving old new g names ends st fresh named set = record {
+is_there_leaving old new g names ends st fresh named set = record {
   bound = λ x. st.bound x ∙ bound_left (has names x) (status_of old x) (status_of new x) (fresh x) (set x);
   unsafe = λ x.
       has_append g.unsafe (filter (λ y. not (has g.bound y)) ends) x

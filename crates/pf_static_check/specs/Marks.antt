@@ -44,4 +44,4 @@ pub record Trails (old new : VariableStates) : Type 0 where
 -- a variable that was new is bound now, and nothing else is changed
 pub record Binds (old new : VariableStates) (y : ℕ) : Type 0 where
   pub trails : Trails old new
-  pub stands : (g : Scope) → KnowsScope old g → KnowsScope new (binding g y)
+  pub is_there : (g : Scope) → KnowsScope old g → KnowsScope new (binding g y)

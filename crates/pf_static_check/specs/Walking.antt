@@ -21,7 +21,7 @@ use Rattle.pf_static_check.specs.declared.walk.ClauseWalk.{ClauseWalk}
 -- a walk whose part changes what is seen so and has these faults
 pub record Walks (old new : ClauseWalk) (step : Scope → Scope) (faults : Scope → List SourceRefusal) : Type 0 where
   pub trails : Trails old.variables new.variables
-  pub stands : (g : Scope) → KnowsScope old.variables g → KnowsScope new.variables (step g)
+  pub is_there : (g : Scope) → KnowsScope old.variables g → KnowsScope new.variables (step g)
   pub found : (g : Scope) → KnowsScope old.variables g
       → earliest_kept new.first ≡ earliest (earliest_kept old.first) (faults g)
 
@@ -91,5 +91,5 @@ CallWalked atoms o old new f at arity = Walks old new (λ g. g) (λ g. if lists 
 
 -- through a part that begins with no variable, after which there is again none
 pub record BeginsAnew (old new : ClauseWalk) (faults : List SourceRefusal) : Type 0 where
-  pub stands : KnowsScope old.variables no_scope → KnowsScope new.variables no_scope
+  pub is_there : KnowsScope old.variables no_scope → KnowsScope new.variables no_scope
   pub found : KnowsScope old.variables no_scope → earliest_kept new.first ≡ earliest (earliest_kept old.first) faults

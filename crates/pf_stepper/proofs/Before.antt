@@ -41,10 +41,10 @@ module _ (m : Module) (a : ℕ) (c : Core) where
       (subst (TurnFrom (i + suc n) p d) y (steps_before (suc n) (suc j) d i p q s (step_before n j d q r h k)))
 
   -- a turn whose last step is after n steps by itself
-  pub turn_behind : (left used i : ℕ) (s t : ProcessState) (d : Deed) → used ≡ suc i → used ≤ left
+  pub turn_after : (left used i : ℕ) (s t : ProcessState) (d : Deed) → used ≡ suc i → used ≤ left
       → Steps m a i (goes_on s) (goes_on t)
       → ((n : ℕ) → Turn m a c (suc n) t d 1) → Turn m a c left s d used
-  turn_behind left used i s t d e l h last =
+  turn_after left used i s t d e l h last =
       let x : i + suc (left - used) ≡ left = omega arith in
       let y : i + 1 ≡ used = omega arith in
       subst (λ z. Turn m a c z s d used) x

@@ -105,22 +105,22 @@ waits_so t env ws (x ∷ fs) r i =
     let w = waits_there t env ws x fs r i in
     subst (IsPointOf t (running (fill (holes_of t env ws (x ∷ fs)) r))) (sym w.is) w.within
 
-part_stands : (t : Tables) (e : ValueScope) (env ws : List Term) (fs : List Frame) (x : Operand)
+part_is_there : (t : Tables) (e : ValueScope) (env ws : List Term) (fs : List Frame) (x : Operand)
     → IsPointOf t (running (fill (holes_of t env ws fs) (sub e (part_over t x)))) (part_in fs x)
-part_stands t e env ws fs (part.Node n) = record { frames = holes_of t env ws fs; scope = e; is = refl }
-part_stands t e env ws fs (part.Slot x) = waits_so t env ws fs (sub e (part_over t (part.Slot x)))
+part_is_there t e env ws fs (part.Node n) = record { frames = holes_of t env ws fs; scope = e; is = refl }
+part_is_there t e env ws fs (part.Slot x) = waits_so t env ws fs (sub e (part_over t (part.Slot x)))
     (in_place (slice_get e x) (x - length e))
-part_stands t e env ws fs (part.Int n) = waits_so t env ws fs (sub e (part_over t (part.Int n))) tt
-part_stands t e env ws fs (part.Atom a) = waits_so t env ws fs (sub e (part_over t (part.Atom a))) tt
-part_stands t e env ws fs part.Nil = waits_so t env ws fs (sub e (part_over t part.Nil)) tt
-part_stands t e env ws fs (part.Literal l) = waits_so t env ws fs (sub e (part_over t (part.Literal l))) tt
+part_is_there t e env ws fs (part.Int n) = waits_so t env ws fs (sub e (part_over t (part.Int n))) tt
+part_is_there t e env ws fs (part.Atom a) = waits_so t env ws fs (sub e (part_over t (part.Atom a))) tt
+part_is_there t e env ws fs part.Nil = waits_so t env ws fs (sub e (part_over t part.Nil)) tt
+part_is_there t e env ws fs (part.Literal l) = waits_so t env ws fs (sub e (part_over t (part.Literal l))) tt
 
-call_stands : (t : Tables) (env ws us : List Term) (fs : List Frame) (g : Callee)
+call_is_there : (t : Tables) (env ws us : List Term) (fs : List Frame) (g : Callee)
     → IsPointOf t (running (fill (holes_of t env ws fs) (applied_to g (after_values (values_of us) no_trees))))
     (called_by g)
-call_stands t env ws us fs (callee.Function g) =
+call_is_there t env ws us fs (callee.Function g) =
     record { frames = holes_of t env ws fs; values = values_of us; is = refl }
-call_stands t env ws us fs (callee.Builtin b) =
+call_is_there t env ws us fs (callee.Builtin b) =
     inr (record {
       frames = holes_of t env ws fs;
       takes = callee.Builtin b;
@@ -129,19 +129,19 @@ call_stands t env ws us fs (callee.Builtin b) =
           tt;
       is = refl;
     })
-call_stands t env ws us fs callee.Tuple = inr
+call_is_there t env ws us fs callee.Tuple = inr
     (record { frames = holes_of t env ws fs; takes = callee.Tuple; values = values_of us; builds = tt; is = refl })
 
 -- ---- machines
 
-pub stands_there : (t : Tables) (env ws : List Term) (base : ℕ) (fs : List Frame) (x : Focus)
+pub is_there_still : (t : Tables) (env ws : List Term) (base : ℕ) (fs : List Frame) (x : Focus)
     → IsPointAt t (standing_by (process_of t env ws base fs x)) (point_in fs x)
 unfolding process_of
-stands_there t env ws base fs (f.Eval x) = part_stands t (activation env base) env ws fs x
-stands_there t env ws base fs (f.Value v) = waits_so t env ws fs (lit (value_of v)) tt
-stands_there t env ws base fs (f.Enter g n) = call_stands t env ws (drop (operands_kept fs) ws) fs g
-stands_there t env ws base fs (f.Raised r) = tt
-stands_there t env ws base fs (f.Exited r) = tt
+is_there_still t env ws base fs (f.Eval x) = part_is_there t (activation env base) env ws fs x
+is_there_still t env ws base fs (f.Value v) = waits_so t env ws fs (lit (value_of v)) tt
+is_there_still t env ws base fs (f.Enter g n) = call_is_there t env ws (drop (operands_kept fs) ws) fs g
+is_there_still t env ws base fs (f.Raised r) = tt
+is_there_still t env ws base fs (f.Exited r) = tt
 
 -- where a machine with these fields is
 abbrev pub point_from : Stack → MachineStatus → Point
@@ -150,19 +150,19 @@ point_from a s.Asking = p.Nowhere
 point_from a s.Over = p.Nowhere
 point_from a s.Spent = p.Nowhere
 
-pub machine_stands : (m : Checked) (a : Stack) (x : MachineStatus)
+pub machine_is_there : (m : Checked) (a : Stack) (x : MachineStatus)
     → IsPointAt m.tables (standing_in m a x) (point_from a x)
-machine_stands m a (s.Goes x) = stands_there m.tables a.env.items a.operands.items a.base a.frames.items x
-machine_stands m a s.Asking = refl
-machine_stands m a s.Over = refl
-machine_stands m a s.Spent = refl
+machine_is_there m a (s.Goes x) = is_there_still m.tables a.env.items a.operands.items a.base a.frames.items x
+machine_is_there m a s.Asking = refl
+machine_is_there m a s.Over = refl
+machine_is_there m a s.Spent = refl
 
-pub stands_as : (m : Checked) (a : Stack) (x : MachineStatus) (q : Point) → q ≡ point_from a x
+pub is_as : (m : Checked) (a : Stack) (x : MachineStatus) (q : Point) → q ≡ point_from a x
     → IsPointAt m.tables (standing_in m a x) q
-stands_as m a x q e = subst (IsPointAt m.tables (standing_in m a x)) (sym e) (machine_stands m a x)
+is_as m a x q e = subst (IsPointAt m.tables (standing_in m a x)) (sym e) (machine_is_there m a x)
 
-pub stands_nowhere : (a : Stack) (x : MachineStatus) → x ≡ s.Asking ⊎ (x ≡ s.Over ⊎ x ≡ s.Spent)
+pub is_nowhere : (a : Stack) (x : MachineStatus) → x ≡ s.Asking ⊎ (x ≡ s.Over ⊎ x ≡ s.Spent)
     → p.Nowhere ≡ point_from a x
-stands_nowhere a x (inl e) = ap (point_from a) (sym e)
-stands_nowhere a x (inr (inl e)) = ap (point_from a) (sym e)
-stands_nowhere a x (inr (inr e)) = ap (point_from a) (sym e)
+is_nowhere a x (inl e) = ap (point_from a) (sym e)
+is_nowhere a x (inr (inl e)) = ap (point_from a) (sym e)
+is_nowhere a x (inr (inr e)) = ap (point_from a) (sym e)

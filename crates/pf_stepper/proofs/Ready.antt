@@ -70,9 +70,9 @@ module _ (m : Checked) (own : ℕ) (ready : Receive → Type 0) where
   awaited_at x ks t = subst (λ y. Contracts (module_of m) own (goes_on y) (awaits t.frames ks))
       (sym (same_going x t.state t.stood)) t.next
 
-  stands_at : (x : ProcessState) (fs : List Frame) (ks : Clauses)
+  is_at : (x : ProcessState) (fs : List Frame) (ks : Clauses)
       → Contracts (module_of m) own (goes_on x) (awaits fs ks) → IsAtReceive (machine_at m own x) ks
-  stands_at x fs ks c = record { state = x; frames = fs; stood = refl; next = c }
+  is_at x fs ks c = record { state = x; frames = fs; stood = refl; next = c }
 
   -- it stays ready on the way
   pub ready_later : (j : ℕ) (x y : ProcessState) → Steps (module_of m) own j (goes_on x) (goes_on y)
@@ -83,7 +83,7 @@ module _ (m : Checked) (own : ℕ) (ready : Receive → Type 0) where
         only = λ ks t.
             let k = awaited_at x ks t in
             let e = stays_at (module_of m) own j (goes_on x) (goes_on y) s tt t.frames ks k in
-            c.only ks (stands_at y t.frames ks
+            c.only ks (is_at y t.frames ks
             (subst (λ z. Contracts (module_of m) own z (awaits t.frames ks)) (sym e) k));
       })
 
@@ -112,7 +112,7 @@ module _ (m : Checked) (own : ℕ) (ready : Receive → Type 0) where
   pub ready_waiting : (x : ProcessState) (fs : List Frame) (ks : Clauses)
       → Contracts (module_of m) own (goes_on x) (awaits fs ks) → ready (receive_of (module_of m) own ks)
       → IsReadyAhead ready (machine_at m own x)
-  ready_waiting x fs ks k h r c = subst ready (sym (c.only ks (stands_at x fs ks k))) h
+  ready_waiting x fs ks k h r c = subst ready (sym (c.only ks (is_at x fs ks k))) h
 
 -- ready for whatever comes, so also ahead
 pub ready_anyhow : (ready : Receive → Type 0) (s : MachineView) → IsReadyForAll ready → IsReadyAhead ready s

@@ -18,7 +18,7 @@ pub record Stepped (m : Module) (own : ℕ) (s : ProcessState) (mail : List Valu
     (mail' : List Value) : Type 0 where
   pub next : ProcessState
   pub step : Contracts m own (goes_on s) (goes_on next)
-  pub stands : after ≡ goes next
+  pub is_there : after ≡ goes next
   pub kept : mail' ≡ mail
 
 -- an action that it asks for, and whose answer it waits for
@@ -26,7 +26,7 @@ pub record AskedFor (m : Module) (own : ℕ) (s : ProcessState) (mail : List Val
     (mail' : List Value) : Type 0 where
   pub frames : List Frame
   pub step : Contracts m own (goes_on s) (asks frames (act_of act))
-  pub stands : after ≡ asking frames
+  pub is_there : after ≡ asking frames
   pub kept : mail' ≡ mail
 
 -- a message that a `receive` takes: the process goes on in the body of its clause, and the other messages stay
@@ -37,7 +37,7 @@ pub record TookOne (m : Module) (own : ℕ) (s : ProcessState) (mail : List Valu
   pub body : Tree
   pub step : Contracts m own (goes_on s) (awaits frames clauses)
   pub taken : selected m own clauses mail ≡ Some (record { body = body; message = message; others = mail' })
-  pub stands : after ≡ goes (running (fill frames body))
+  pub is_there : after ≡ goes (running (fill frames body))
 
 -- a `receive` that no message fits, at which it stays
 pub record WaitsOn (m : Module) (own : ℕ) (s : ProcessState) (mail : List Value) (after : MachineStatus)
@@ -46,14 +46,14 @@ pub record WaitsOn (m : Module) (own : ℕ) (s : ProcessState) (mail : List Valu
   pub clauses : Clauses
   pub step : Contracts m own (goes_on s) (awaits frames clauses)
   pub none : selected m own clauses mail ≡ None
-  pub stands : after ≡ goes s
+  pub is_there : after ≡ goes s
   pub kept : mail' ≡ mail
 
 -- the end, which leaves the mailbox as it is: it returned a value, or was about to end with a reason
 pub record EndsMachine (s : ProcessState) (mail : List Value) (last : ProcessState) (after : MachineStatus)
     (mail' : List Value) : Type 0 where
   pub was : s ≡ last
-  pub stands : after ≡ over
+  pub is_there : after ≡ over
   pub kept : mail' ≡ mail
 
 abbrev pub MachineMoved : Module → ℕ → ProcessState → List Value → Move → MachineStatus → List Value → Type 0

@@ -44,7 +44,7 @@ pub trait Inbox {
             (λ body. TakesMessage code.now own base env.old.items env.new.items
             (clauses_over code.now.tables clauses.now) (messages self.old) (messages self.new) body taken.new)) }
         ensures still { IsReady self.new (receive_in code.now own base env.old.items clauses.now) }
-        ensures anew { IfOk result (λ o. IfSome o (λ _. IsReadyForAll (IsReady self.new))) }
+        ensures again { IfOk result (λ o. IfSome o (λ _. IsReadyForAll (IsReady self.new))) }
         ensures refused { OnErr result (messages self.new ≡ messages self.old) };
 }
 

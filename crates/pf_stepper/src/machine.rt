@@ -232,7 +232,7 @@ impl Machine {
         left: u32,
         did: &mut Move,
     ) -> Result<u32, NoMemory>
-        requires stands { CanMove self.old.standing }
+        requires is_there { CanMove self.old.standing }
         requires ready { IsReadyAhead (I.IsReady inbox.old) self.old }
         ensures ran { IfOk result (λ used.
             SimulatesTurn left self.old (I.messages inbox.old) did.new self.new used (I.messages inbox.new)) }
@@ -271,7 +271,7 @@ impl Machine {
         inbox: &mut I,
         pool: &mut Pool<Term>,
     ) -> Result<Move, NoMemory>
-        requires stands { CanMove self.old.standing }
+        requires is_there { CanMove self.old.standing }
         requires ready { IsReadyAhead (I.IsReady inbox.old) self.old }
         ensures moved { IfOk result (λ m.
             MovedFrom self.old (I.messages inbox.old) m self.new (I.messages inbox.new)) }

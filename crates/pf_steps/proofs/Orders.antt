@@ -13,7 +13,7 @@ use Rattle.pf_model.specs.Meaning as model
 use Rattle.pf_model.specs.Meaning.{Choices, Report, Means, seed, schedule, weighted_seed, profile_of}
 use Rattle.pf_model.specs.Module.{Module}
 use Rattle.pf_model.specs.Properties.{Property}
-use Rattle.pf_model.specs.Shrinking.{Found, IsResult, plain, smaller, no_failure, TellsFailures, by_schedule}
+use Rattle.pf_model.specs.Shrinking.{Found, IsResult, plain, smaller, no_failure, ReportsFailures, by_schedule}
 use Rattle.pf_model.specs.Shrinking.{is_failure, shrunk}
 use Rattle.pf_model.proofs.Meanings.{evaluation_is_the_meaning, only_evaluated}
 use Rattle.pf_property.specs.Texts.{IsPropertyOf}
@@ -82,17 +82,17 @@ weigh_so (weighted_seed n process channel) h =
       deliver_most = at_most channel 9 c.1;
     }
 
-tells : (j : model.Job) → TellsFailures j (fails_by j)
-tells j ns r means = ap (λ (s : Report). is_failure s.verdict) (sym (only_evaluated (by_schedule j ns) r means))
+reports : (j : model.Job) → ReportsFailures j (fails_by j)
+reports j ns r means = ap (λ (s : Report). is_failure s.verdict) (sym (only_evaluated (by_schedule j ns) r means))
 
 shrinks_so : (j : model.Job) (k : ℕ) (ns : List ℕ) → j.runs ≡ suc k → j.choices ≡ schedule ns
     → IsResult j (job_result j (suc k) (schedule ns))
 shrinks_so j k ns runs choices = by (shrunk (fails_by j) (suc k) ns) refl
   where
     by : (o : Option Found) → shrunk (fails_by j) (suc k) ns ≡ o → IsResult j (shrunk_so j o)
-    by None h = no_failure k ns (fails_by j) runs choices (tells j) h
+    by None h = no_failure k ns (fails_by j) runs choices (reports j) h
     by (Some f) h =
-        smaller k ns (fails_by j) f (evaluated (by_schedule j f.schedule)) runs choices (tells j) h
+        smaller k ns (fails_by j) f (evaluated (by_schedule j f.schedule)) runs choices (reports j) h
         (evaluation_is_the_meaning (by_schedule j f.schedule) tt)
 
 comes_so : (j : model.Job) (kind : RequestKind) → j.runs ≡ runs_in kind → j.choices ≡ choices_in kind

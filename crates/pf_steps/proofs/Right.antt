@@ -4,7 +4,7 @@ use Rattle.pf_check.specs.Reads.{ReadOutcome, accepted, refused, Reads, SameOutc
 use Rattle.pf_check.proofs.AnyOutcome.{any_outcome}
 use Rattle.pf_check.proofs.Same.{same_outcome}
 use Rattle.pf_model.specs.Meaning.{Job, Report}
-use Rattle.pf_model.specs.Shrinking.{Result, report, shrunk_to, IsResult, plain, smaller, no_failure, TellsFailures}
+use Rattle.pf_model.specs.Shrinking.{Result, report, shrunk_to, IsResult, plain, smaller, no_failure, ReportsFailures}
 use Rattle.pf_model.specs.Shrinking.{by_schedule, shrunk}
 use Rattle.pf_desks.specs.Desk.{readable, faulty}
 use Rattle.pf_model.specs.Evaluation.{evaluated}
@@ -44,22 +44,22 @@ unfolding profile
 property_is names bytes o h = let any = any_property names bytes in same_property names bytes any.0 o any.1 h
 
 -- a function that says which schedules fail says what the one report of each does
-same_failures : (j : Job) (fails : List ℕ → Bool) → TellsFailures j fails → fails_by j ≡ fails
-same_failures j fails tells = λ i ns. sym (tells ns (evaluated (by_schedule j ns))
+same_failures : (j : Job) (fails : List ℕ → Bool) → ReportsFailures j fails → fails_by j ≡ fails
+same_failures j fails reports = λ i ns. sym (reports ns (evaluated (by_schedule j ns))
     (evaluation_is_the_meaning (by_schedule j ns) tt)) i
 
 meaning_is : (j : Job) (r : Result) → IsResult j r → profile.meaning j ≡ r
 unfolding profile
 meaning_is j _ (plain r one_run means) =
     ap (λ (n : ℕ). job_result j n j.choices) one_run ∙ ap report (sym (only_evaluated j r means))
-meaning_is j _ (smaller k ns fails f r runs choices tells found means) =
+meaning_is j _ (smaller k ns fails f r runs choices reports found means) =
     (λ i. job_result j (runs i) (choices i))
-    ∙ ap (λ (g : List ℕ → Bool). shrunk_so j (shrunk g (suc k) ns)) (same_failures j fails tells)
+    ∙ ap (λ (g : List ℕ → Bool). shrunk_so j (shrunk g (suc k) ns)) (same_failures j fails reports)
     ∙ ap (shrunk_so j) found
     ∙ ap (shrunk_to f) (sym (only_evaluated (by_schedule j f.schedule) r means))
-meaning_is j _ (no_failure k ns fails runs choices tells none) =
+meaning_is j _ (no_failure k ns fails runs choices reports none) =
     (λ i. job_result j (runs i) (choices i))
-    ∙ ap (λ (g : List ℕ → Bool). shrunk_so j (shrunk g (suc k) ns)) (same_failures j fails tells)
+    ∙ ap (λ (g : List ℕ → Bool). shrunk_so j (shrunk g (suc k) ns)) (same_failures j fails reports)
     ∙ ap (shrunk_so j) none
 
 desks_are : book.IsRight profile
@@ -77,9 +77,9 @@ job_has : (j : Job) (n : ℕ) → HasEvents j n → event_count j j.runs j.choic
 job_has j _ (of_run r one_run means) =
     ap (λ (k : ℕ). event_count j k j.choices) one_run ∙ ap (λ (s : Report). length s.events)
     (sym (only_evaluated j r means))
-job_has j _ (of_shrinking k ns fails n runs choices tells have) =
+job_has j _ (of_shrinking k ns fails n runs choices reports have) =
     (λ i. event_count j (runs i) (choices i))
-    ∙ ap (λ (g : List ℕ → Bool). events_by j (tried g (suc k) ns)) (same_failures j fails tells)
+    ∙ ap (λ (g : List ℕ → Bool). events_by j (tried g (suc k) ns)) (same_failures j fails reports)
     ∙ runs_have j (tried fails (suc k) ns) n have
 
 pub right : IsRight run_profile

@@ -26,13 +26,13 @@ isnt_below a b h = by (nat_lt a b) refl
     by false e = refl
 
 -- some are before others
-abbrev pub behind : {G : Type 0} → List HeldPriority → PriorityState G → PriorityState G
-behind xs s = record { generator = s.generator; held = xs ++ s.held }
+abbrev pub following : {G : Type 0} → List HeldPriority → PriorityState G → PriorityState G
+following xs s = record { generator = s.generator; held = xs ++ s.held }
 
 -- one more
-one_behind : {G : Type 0} (xs : List HeldPriority) (h : HeldPriority) (s : PriorityState G)
-    → behind xs (with_front h s) ≡ behind (xs ++ h ∷ []) s
-one_behind xs h s = ap (λ l. record { generator = s.generator; held = l }) (sym (append_assoc xs (h ∷ []) s.held))
+one_after : {G : Type 0} (xs : List HeldPriority) (h : HeldPriority) (s : PriorityState G)
+    → following xs (with_front h s) ≡ following (xs ++ h ∷ []) s
+one_after xs h s = ap (λ l. record { generator = s.generator; held = l }) (sym (append_assoc xs (h ∷ []) s.held))
 
 module _ {G : Type 0} (step : G → ℕ × G) (keys : List ℕ) (g g' : G) (hs ns : List HeldPriority) (i k p : ℕ) where
   abbrev one : Given G
@@ -76,9 +76,10 @@ module _ {G : Type 0} (step : G → ℕ × G) (keys : List ℕ) (g g' : G) (hs n
       ∙ ap (λ z. with_front (held k p) (all_given step (drop (i + 1) keys) z one.rest)) (sym w.generator)
       ∙ ap (λ l. with_front (held k p) (all_given step (drop (i + 1) keys) g' l)) (sym (dropped w))
 
-  pub one_given : Gave → behind (take i hs) (all_given step (drop i keys) g (drop i hs)) ≡ behind (take (i + 1) ns) rest
+  pub one_given : Gave → following (take i hs) (all_given step (drop i keys) g (drop i hs)) ≡ following
+      (take (i + 1) ns) rest
   one_given w =
-      ap (behind (take i hs)) (begins w) ∙ one_behind (take i hs) (held k p) rest ∙ ap (λ l. behind l rest)
+      ap (following (take i hs)) (begins w) ∙ one_after (take i hs) (held k p) rest ∙ ap (λ l. following l rest)
       (sym (taken w))
 
   -- the highest so far
@@ -141,14 +142,14 @@ module _ {G : Type 0} (step : G → ℕ × G) (keys : List ℕ) (g : G) (hs : Li
 
   -- once all were gone through, the highest goes
   pub all_gone : (s : PriorityState G) (best most : ℕ) → length keys ≤ i
-      → all_given step keys s.generator s.held ≡ behind (take i hs) others
+      → all_given step keys s.generator s.held ≡ following (take i hs) others
       → highest_from 0 0 0 (take i hs ++ others.held) ≡ highest_from i best most others.held
       → choice step s keys ≡ (best, left (remove (take i hs) best))
   all_gone s best most h given top =
       let t = take i hs in
       let e = none_other h in
       let nil : t ++ [] ≡ t = append-nil t in
-      let all : all_given step keys s.generator s.held ≡ left t = given ∙ ap (behind t) e ∙ ap left nil in
+      let all : all_given step keys s.generator s.held ≡ left t = given ∙ ap (following t) e ∙ ap left nil in
       let is_best : highest t ≡ best =
       ap highest (sym nil) ∙ ap (λ z. highest_from 0 0 0 (t ++ z.held)) (sym e) ∙ top
       ∙ ap (λ z. highest_from i best most z.held) e in

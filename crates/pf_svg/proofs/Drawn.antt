@@ -8,7 +8,7 @@ use Rattle.std.proofs.lemmas.Grind.{flat_map-append}
 use Rattle.std.proofs.lemmas.List.Folds.{list_all-append}
 use Rattle.pf_errors.proofs.Bools.{both as parts_of}
 use Rattle.pf_svg.specs.Document.{ClosesElement, DrawsDocument, DrawsFrom, IsDocument, OpensElement, place_after_part}
-use Rattle.pf_svg.specs.Document.{behind_all, document, drawn, document_end, is_attribute, is_fixed, is_said, is_value}
+use Rattle.pf_svg.specs.Document.{after_all, document, drawn, document_end, is_attribute, is_fixed, is_said, is_value}
 use Rattle.pf_svg.specs.Document.{labels_of_part, part_text, start_text}
 use Rattle.pf_svg.specs.Places.{DocumentPlace, inside, naming, outside, quoted}
 use Rattle.pf_svg.specs.declared.part.DocumentPart.{DocumentPart}
@@ -20,10 +20,10 @@ both a b h k = rw (h, k) refl
 
 -- ---- places
 
-behind_both : (p : DocumentPlace) (ps qs : List DocumentPart)
-    → behind_all p (ps ++ qs) ≡ behind_all (behind_all p ps) qs
-behind_both p [] qs = refl
-behind_both p (x ∷ ps) qs = behind_both (place_after_part p x) ps qs
+after_both : (p : DocumentPlace) (ps qs : List DocumentPart)
+    → after_all p (ps ++ qs) ≡ after_all (after_all p ps) qs
+after_both p [] qs = refl
+after_both p (x ∷ ps) qs = after_both (place_after_part p x) ps qs
 
 fixed_if_said : (own : List (List ℕ)) (x : DocumentPart) → IsTrue (is_said own x) → IsTrue (is_fixed own x)
 fixed_if_said own (Phrase w) h = h
@@ -136,39 +136,39 @@ attribute_first own os name (Short l most) h = absurd (cc)
 
 -- what is said outside tags
 pub stays_outside : (own : List (List ℕ)) (os : List (List ℕ)) (ps : List DocumentPart)
-    → IsTrue (list_all (is_said own) ps) → behind_all (outside os) ps ≡ outside os
+    → IsTrue (list_all (is_said own) ps) → after_all (outside os) ps ≡ outside os
 stays_outside own os [] h = refl
 stays_outside own os (x ∷ ps) h =
     let hs = parts_of (is_said own x) (list_all (is_said own) ps) h in
-    ap (λ (p : DocumentPlace). behind_all p ps) (said_outside own os x hs.0) ∙ stays_outside own os ps hs.1
+    ap (λ (p : DocumentPlace). after_all p ps) (said_outside own os x hs.0) ∙ stays_outside own os ps hs.1
 
 -- in quotes
 pub stays_quoted : (own : List (List ℕ)) (os : List (List ℕ)) (name : List ℕ) (ps : List DocumentPart)
     → IsTrue (list_all (is_value own) ps)
-    → behind_all (quoted os name) ps ≡ quoted os name
+    → after_all (quoted os name) ps ≡ quoted os name
 stays_quoted own os name [] h = refl
 stays_quoted own os name (x ∷ ps) h =
     let hs = parts_of (is_value own x) (list_all (is_value own) ps) h in
-    ap (λ (p : DocumentPlace). behind_all p ps) (value_quoted own os name x hs.0) ∙ stays_quoted own os name ps hs.1
+    ap (λ (p : DocumentPlace). after_all p ps) (value_quoted own os name x hs.0) ∙ stays_quoted own os name ps hs.1
 
 -- attributes in a tag
 pub stays_inside : (own : List (List ℕ)) (os : List (List ℕ)) (name : List ℕ) (ps : List DocumentPart)
     → IsTrue (list_all (is_attribute own) ps)
-    → behind_all (inside os name) ps ≡ inside os name
+    → after_all (inside os name) ps ≡ inside os name
 stays_inside own os name [] h = refl
 stays_inside own os name (x ∷ ps) h =
     let hs = parts_of (is_attribute own x) (list_all (is_attribute own) ps) h in
-    ap (λ (p : DocumentPlace). behind_all p ps) (attribute_inside own os name x hs.0) ∙ stays_inside own os name ps hs.1
+    ap (λ (p : DocumentPlace). after_all p ps) (attribute_inside own os name x hs.0) ∙ stays_inside own os name ps hs.1
 
 -- a tag that has only attributes
-pub closed_behind : (own : List (List ℕ)) (os : List (List ℕ)) (b : ℕ) (bs : List ℕ) (ps : List DocumentPart)
+pub closed_after : (own : List (List ℕ)) (os : List (List ℕ)) (b : ℕ) (bs : List ℕ) (ps : List DocumentPart)
     → IsTrue (list_all (is_attribute own) ps)
     → (end : DocumentPlace → DocumentPlace) (q : DocumentPlace) → end (naming os (b ∷ bs)) ≡ q
-    → end (inside os (b ∷ bs)) ≡ q → end (behind_all (naming os (b ∷ bs)) ps) ≡ q
-closed_behind own os b bs [] h end q e f = e
-closed_behind own os b bs (x ∷ ps) h end q e f =
+    → end (inside os (b ∷ bs)) ≡ q → end (after_all (naming os (b ∷ bs)) ps) ≡ q
+closed_after own os b bs [] h end q e f = e
+closed_after own os b bs (x ∷ ps) h end q e f =
     let hs = parts_of (is_attribute own x) (list_all (is_attribute own) ps) h in
-    ap (λ (p : DocumentPlace). end (behind_all p ps)) (attribute_first own os (b ∷ bs) x hs.0)
+    ap (λ (p : DocumentPlace). end (after_all p ps)) (attribute_first own os (b ∷ bs) x hs.0)
     ∙ ap end (stays_inside own os (b ∷ bs) ps hs.1) ∙ f
 
 -- ---- drawing
@@ -184,7 +184,7 @@ follow {own} {ks} {ls} {p} {q} {r} {x} {y} {z} (drawn ps e f l w) (drawn qs e' f
     drawn (ps ++ qs) text
     (rw (list_all-append (is_fixed own) ps qs) (both (list_all (is_fixed own) ps) (list_all (is_fixed own) qs) f f'))
     (rw (flat_map-append labels_of_part ps qs, l, l') refl)
-    (behind_both p ps qs ∙ ap (λ (t : DocumentPlace). behind_all t qs) w ∙ w')
+    (after_both p ps qs ∙ ap (λ (t : DocumentPlace). after_all t qs) w ∙ w')
 
 -- the same labels
 pub relabelled : {own ks ls : List (List ℕ)} {p q : DocumentPlace} {x y : List ℕ} → ks ≡ ls → DrawsFrom own p ks q x y

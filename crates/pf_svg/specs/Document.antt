@@ -3,7 +3,7 @@ use Rattle.std.specs.Prelude.{◌≡◌, ℕ, Bool, true, false, ◌&&◌, IsTru
 use Rattle.std.specs.List.{list_all}
 use Rattle.std.specs.Fmt.{decimal}
 use Rattle.pf_svg.specs.Escaped.{escaped, short}
-use Rattle.pf_svg.specs.Places.{DocumentPlace, behind_attribute, behind_label, behind_said, outside, read}
+use Rattle.pf_svg.specs.Places.{DocumentPlace, after_attribute, after_label, after_said, outside, read}
 use Rattle.pf_svg.specs.Words.{is_name, is_phrase, is_document_word}
 use Rattle.pf_svg.specs.declared.part.DocumentPart.{DocumentPart}
 use Rattle.pf_svg.specs.declared.part.DocumentPart.TheVariants.{Markup, Phrase, Number, Pid, Point, Attribute, Class}
@@ -109,16 +109,16 @@ labels_of_part p = []
 -- the place after a part: markup is read byte by byte
 abbrev pub place_after_part : DocumentPlace → DocumentPart → DocumentPlace
 place_after_part p (Markup w) = read p w.now
-place_after_part p (Attribute name n) = behind_attribute p
-place_after_part p (Class w) = behind_attribute p
-place_after_part p (Moved x y) = behind_attribute p
-place_after_part p (Label l) = behind_label p
-place_after_part p (Short l most) = behind_label p
-place_after_part p part = behind_said p
+place_after_part p (Attribute name n) = after_attribute p
+place_after_part p (Class w) = after_attribute p
+place_after_part p (Moved x y) = after_attribute p
+place_after_part p (Label l) = after_label p
+place_after_part p (Short l most) = after_label p
+place_after_part p part = after_said p
 
-abbrev pub behind_all : DocumentPlace → List DocumentPart → DocumentPlace
-behind_all p [] = p
-behind_all p (part ∷ parts) = behind_all (place_after_part p part) parts
+abbrev pub after_all : DocumentPlace → List DocumentPart → DocumentPlace
+after_all p [] = p
+after_all p (part ∷ parts) = after_all (place_after_part p part) parts
 
 -- after what was there, which led to this place, come parts that have these labels in their order, each escaped, and
 -- words and numbers for the rest; they lead to that place
@@ -126,7 +126,7 @@ pub data DrawsFrom (own : List (List ℕ)) (from : DocumentPlace) (labels : List
     (before after : List ℕ) : Type 0 where
   drawn : (parts : List DocumentPart) → after ≡ before ++ flat_map part_text parts
       → IsTrue (list_all (is_fixed own) parts)
-      → flat_map labels_of_part parts ≡ labels → behind_all from parts ≡ to → DrawsFrom own from labels to before after
+      → flat_map labels_of_part parts ≡ labels → after_all from parts ≡ to → DrawsFrom own from labels to before after
 
 -- wherever it is outside tags, it is there again after what is drawn, in the same elements
 abbrev pub DrawsDocument : (own : List (List ℕ)) (labels : List (List ℕ)) (before after : List ℕ) → Type 0

@@ -23,9 +23,9 @@ pub data DocumentPlace : Type 0 where
   nowhere : DocumentPlace
 
 -- after a slash: at the front of a tag it ends an element, after its name the tag has no content
-abbrev pub behind_slash : (opened : List (List ℕ)) (name : List ℕ) → DocumentPlace
-behind_slash os [] = ending os []
-behind_slash os (b ∷ bs) = slashed os
+abbrev pub after_slash : (opened : List (List ℕ)) (name : List ℕ) → DocumentPlace
+after_slash os [] = ending os []
+after_slash os (b ∷ bs) = slashed os
 
 -- after a tag that ends an element: the innermost that is open has this name
 abbrev pub closed : (name : List ℕ) (opened : List (List ℕ)) → DocumentPlace
@@ -38,7 +38,7 @@ read_byte (outside os) b = if b == 60 then naming os [] else outside os
 read_byte (naming os name) b =
     if b == 62 then outside (name ∷ os)
     else (if b == 32 then inside os name
-    else (if b == 47 then behind_slash os name
+    else (if b == 47 then after_slash os name
     else naming os (name ++ b ∷ [])))
 read_byte (inside os name) b =
     if b == 62 then outside (name ∷ os)
@@ -58,21 +58,21 @@ read p [] = p
 read p (b ∷ bs) = read (read_byte p b) bs
 
 -- a word or a number is outside tags or in quotes
-abbrev pub behind_said : DocumentPlace → DocumentPlace
-behind_said (outside os) = outside os
-behind_said (quoted os name) = quoted os name
-behind_said p = nowhere
+abbrev pub after_said : DocumentPlace → DocumentPlace
+after_said (outside os) = outside os
+after_said (quoted os name) = quoted os name
+after_said p = nowhere
 
 -- a label is outside tags alone
-abbrev pub behind_label : DocumentPlace → DocumentPlace
-behind_label (outside os) = outside os
-behind_label p = nowhere
+abbrev pub after_label : DocumentPlace → DocumentPlace
+after_label (outside os) = outside os
+after_label p = nowhere
 
 -- an attribute is in a tag, after its name
-abbrev pub behind_attribute : DocumentPlace → DocumentPlace
-behind_attribute (naming os name) = inside os name
-behind_attribute (inside os name) = inside os name
-behind_attribute p = nowhere
+abbrev pub after_attribute : DocumentPlace → DocumentPlace
+after_attribute (naming os name) = inside os name
+after_attribute (inside os name) = inside os name
+after_attribute p = nowhere
 
 -- a byte that ends neither a text nor what is in quotes
 abbrev pub is_plain_byte : ℕ → Bool

@@ -7,7 +7,7 @@ ghost use Rattle.pf_svg.specs.Document.{
   DrawsDocument,
   DrawsFrom,
   OpensElement,
-  behind_all,
+  after_all,
   curve_text,
   document_end,
   is_attribute,
@@ -68,7 +68,7 @@ impl<W: Vocabulary> Svg<W> {
         requires { IsTrue (list_all (is_fixed W.words) parts.now) }
         ensures text { OnOk result (self.new ≡ self.old ++ flat_map part_text parts.now) }
         ensures drawn { OnOk result ((place : DocumentPlace) → DrawsFrom W.words place
-            (flat_map labels_of_part parts.now) (behind_all place parts.now) self.old self.new) }
+            (flat_map labels_of_part parts.now) (after_all place parts.now) self.old self.new) }
     {
         put_parts(&mut self.bytes, parts)
     }
@@ -76,7 +76,7 @@ impl<W: Vocabulary> Svg<W> {
     /// Puts parts that are whole elements, or are outside tags.
     pub fn put(&mut self, parts: &[DocumentPart]) -> Result<(), NoMemory>
         requires fixed { IsTrue (list_all (is_fixed W.words) parts.now) }
-        requires whole { (opened : List (List ℕ)) → behind_all (outside opened) parts.now ≡ outside opened }
+        requires whole { (opened : List (List ℕ)) → after_all (outside opened) parts.now ≡ outside opened }
         ensures { OnOk result (DrawsDocument W.words (flat_map labels_of_part parts.now) self.old self.new) }
     {
         self.add(parts)
@@ -107,7 +107,7 @@ impl<W: Vocabulary> Svg<W> {
         requires content { IsTrue (list_all (is_fixed W.words) content.now) }
         requires end { IsTrue (is_document_word W.words end.now) }
         ensures { OnOk result ((place : DocumentPlace) → DrawsFrom W.words place (flat_map labels_of_part content.now)
-            (read (behind_all (read place start.now) content.now) end.now) self.old self.new) }
+            (read (after_all (read place start.now) content.now) end.now) self.old self.new) }
     {
         self.add(&[Markup(start)])?;
         self.add(content)?;

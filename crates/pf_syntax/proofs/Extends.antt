@@ -13,7 +13,7 @@ use Rattle.pf_syntax.specs.Over.{patterns_at, pattern_over, part_over, parts_ove
 use Rattle.pf_syntax.specs.Over.{guard_over, clauses_over, tree_over, function_clause_over, function_over, with_literal}
 use Rattle.pf_syntax.specs.Over.{with_pattern, with_tree}
 use Rattle.pf_syntax.specs.Within.{PatternRepresents, OperandRepresents, GuardRepresents, ClauseRepresents}
-use Rattle.pf_syntax.specs.Within.{PatternPartsStand, PartsStand, FunctionClauseRepresents, FunctionRepresents}
+use Rattle.pf_syntax.specs.Within.{PatternPartsAreThere, PartsAreThere, FunctionClauseRepresents, FunctionRepresents}
 use Rattle.pf_syntax.specs.declared.node.PatternId.{PatternId}
 use Rattle.pf_syntax.specs.declared.node.Operand.{Operand}
 use Rattle.pf_syntax.specs.declared.node.Operand.TheVariants as part
@@ -110,7 +110,7 @@ module _ (t u : Tables) (e : Extends t u) where
       let y = patterns_kept ps (All-tail (PatternRepresents t) p ps h) in
       cc
 
-  pub pattern_kept : (n : PatternNode) → PatternPartsStand t n → pattern_over u n ≡ pattern_over t n
+  pub pattern_kept : (n : PatternNode) → PatternPartsAreThere t n → pattern_over u n ≡ pattern_over t n
   pattern_kept (asks.Literal l) h = let x = e.literals l.0 h in cc
   pattern_kept (asks.Tuple ps) h = ap tuple_of (patterns_kept ps.items h)
   pattern_kept (asks.Cons p q) h = let x = e.patterns p.0 h.0 in let y = e.patterns q.0 h.1 in cc
@@ -154,7 +154,7 @@ module _ (t u : Tables) (e : Extends t u) where
       let y = clauses_kept cs (All-tail (ClauseRepresents t) c cs h) in
       cc
 
-  pub tree_kept : (n : Node) → PartsStand t n → tree_over u n ≡ tree_over t n
+  pub tree_kept : (n : Node) → PartsAreThere t n → tree_over u n ≡ tree_over t n
   tree_kept (does.Tuple ps) h = ap tuple (parts_kept ps.items h)
   tree_kept (does.Cons a b) h = let x = part_kept a h.0 in let y = part_kept b h.1 in cc
   tree_kept (does.Binary o a b) h = let x = part_kept a h.0 in let y = part_kept b h.1 in cc
@@ -200,63 +200,63 @@ module _ (t u : Tables) (e : Extends t u) where
 
   -- ---- it is still there
 
-  pub pattern_stands : (p : PatternId) → PatternRepresents t p → PatternRepresents u p
-  pattern_stands p h = omega (arith, e.more_patterns)
+  pub pattern_is_there : (p : PatternId) → PatternRepresents t p → PatternRepresents u p
+  pattern_is_there p h = omega (arith, e.more_patterns)
 
-  pub part_stands : (p : Operand) → OperandRepresents t p → OperandRepresents u p
-  part_stands (part.Literal l) h = omega (arith, e.more_literals)
-  part_stands (part.Node n) h = omega (arith, e.more_trees)
-  part_stands _ h = tt
+  pub part_is_there : (p : Operand) → OperandRepresents t p → OperandRepresents u p
+  part_is_there (part.Literal l) h = omega (arith, e.more_literals)
+  part_is_there (part.Node n) h = omega (arith, e.more_trees)
+  part_is_there _ h = tt
 
-  pub all_patterns_stand : (ps : List PatternId) → All (PatternRepresents t) ps → All (PatternRepresents u) ps
-  all_patterns_stand ps h = All-weaker (PatternRepresents t) (PatternRepresents u) pattern_stands ps h
+  pub all_patterns_are_there : (ps : List PatternId) → All (PatternRepresents t) ps → All (PatternRepresents u) ps
+  all_patterns_are_there ps h = All-weaker (PatternRepresents t) (PatternRepresents u) pattern_is_there ps h
 
-  pub all_parts_stand : (ps : List Operand) → All (OperandRepresents t) ps → All (OperandRepresents u) ps
-  all_parts_stand ps h = All-weaker (OperandRepresents t) (OperandRepresents u) part_stands ps h
+  pub all_parts_are_there : (ps : List Operand) → All (OperandRepresents t) ps → All (OperandRepresents u) ps
+  all_parts_are_there ps h = All-weaker (OperandRepresents t) (OperandRepresents u) part_is_there ps h
 
-  pub guard_stands : (g : Guard) → GuardRepresents t g → GuardRepresents u g
-  guard_stands g h =
+  pub guard_is_there : (g : Guard) → GuardRepresents t g → GuardRepresents u g
+  guard_is_there g h =
       All-weaker (λ a. All (OperandRepresents t) a.tests.items) (λ a. All (OperandRepresents u) a.tests.items)
-      (λ a x. all_parts_stand a.tests.items x) g.alternatives.items h
+      (λ a x. all_parts_are_there a.tests.items x) g.alternatives.items h
 
-  pub clause_stands : (c : Clause) → ClauseRepresents t c → ClauseRepresents u c
-  clause_stands c h = (pattern_stands c.pattern h.0, guard_stands c.guard h.1, part_stands c.body h.2)
+  pub clause_is_there : (c : Clause) → ClauseRepresents t c → ClauseRepresents u c
+  clause_is_there c h = (pattern_is_there c.pattern h.0, guard_is_there c.guard h.1, part_is_there c.body h.2)
 
-  pub clauses_stand : (cs : List Clause) → All (ClauseRepresents t) cs → All (ClauseRepresents u) cs
-  clauses_stand cs h = All-weaker (ClauseRepresents t) (ClauseRepresents u) clause_stands cs h
+  pub clauses_are_there : (cs : List Clause) → All (ClauseRepresents t) cs → All (ClauseRepresents u) cs
+  clauses_are_there cs h = All-weaker (ClauseRepresents t) (ClauseRepresents u) clause_is_there cs h
 
-  pub pattern_parts_stand : (n : PatternNode) → PatternPartsStand t n → PatternPartsStand u n
-  pattern_parts_stand (asks.Literal l) h = omega (arith, e.more_literals)
-  pattern_parts_stand (asks.Tuple ps) h = all_patterns_stand ps.items h
-  pattern_parts_stand (asks.Cons p q) h = (pattern_stands p h.0, pattern_stands q h.1)
-  pattern_parts_stand _ h = tt
+  pub pattern_parts_are_there : (n : PatternNode) → PatternPartsAreThere t n → PatternPartsAreThere u n
+  pattern_parts_are_there (asks.Literal l) h = omega (arith, e.more_literals)
+  pattern_parts_are_there (asks.Tuple ps) h = all_patterns_are_there ps.items h
+  pattern_parts_are_there (asks.Cons p q) h = (pattern_is_there p h.0, pattern_is_there q h.1)
+  pattern_parts_are_there _ h = tt
 
-  pub parts_stand : (n : Node) → PartsStand t n → PartsStand u n
-  parts_stand (does.Tuple ps) h = all_parts_stand ps.items h
-  parts_stand (does.Cons a b) h = (part_stands a h.0, part_stands b h.1)
-  parts_stand (does.Binary o a b) h = (part_stands a h.0, part_stands b h.1)
-  parts_stand (does.Negate a) h = part_stands a h
-  parts_stand (does.AndAlso a b) h = (part_stands a h.0, part_stands b h.1)
-  parts_stand (does.OrElse a b) h = (part_stands a h.0, part_stands b h.1)
-  parts_stand (does.Call f ps) h = all_parts_stand ps.items h
-  parts_stand (does.Builtin f ps) h = all_parts_stand ps.items h
-  parts_stand (does.Match ps a) h = (all_patterns_stand ps.items h.0, part_stands a h.1)
-  parts_stand (does.Bind ps a r) h = (all_patterns_stand ps.items h.0, part_stands a h.1, part_stands r h.2)
-  parts_stand (does.Case a cs) h = (part_stands a h.0, clauses_stand cs.items h.1)
-  parts_stand (does.If cs) h = clauses_stand cs.items h
-  parts_stand (does.Receive cs) h = clauses_stand cs.items h
-  parts_stand (does.Send a b) h = (part_stands a h.0, part_stands b h.1)
+  pub parts_are_there : (n : Node) → PartsAreThere t n → PartsAreThere u n
+  parts_are_there (does.Tuple ps) h = all_parts_are_there ps.items h
+  parts_are_there (does.Cons a b) h = (part_is_there a h.0, part_is_there b h.1)
+  parts_are_there (does.Binary o a b) h = (part_is_there a h.0, part_is_there b h.1)
+  parts_are_there (does.Negate a) h = part_is_there a h
+  parts_are_there (does.AndAlso a b) h = (part_is_there a h.0, part_is_there b h.1)
+  parts_are_there (does.OrElse a b) h = (part_is_there a h.0, part_is_there b h.1)
+  parts_are_there (does.Call f ps) h = all_parts_are_there ps.items h
+  parts_are_there (does.Builtin f ps) h = all_parts_are_there ps.items h
+  parts_are_there (does.Match ps a) h = (all_patterns_are_there ps.items h.0, part_is_there a h.1)
+  parts_are_there (does.Bind ps a r) h = (all_patterns_are_there ps.items h.0, part_is_there a h.1, part_is_there r h.2)
+  parts_are_there (does.Case a cs) h = (part_is_there a h.0, clauses_are_there cs.items h.1)
+  parts_are_there (does.If cs) h = clauses_are_there cs.items h
+  parts_are_there (does.Receive cs) h = clauses_are_there cs.items h
+  parts_are_there (does.Send a b) h = (part_is_there a h.0, part_is_there b h.1)
 
-  pub function_clause_stands : (c : FunctionClause) → FunctionClauseRepresents t c → FunctionClauseRepresents u c
-  function_clause_stands c h = (
-    all_patterns_stand c.parameters.items h.0,
-    guard_stands c.guard h.1,
-    part_stands c.body h.2,
+  pub function_clause_is_there : (c : FunctionClause) → FunctionClauseRepresents t c → FunctionClauseRepresents u c
+  function_clause_is_there c h = (
+    all_patterns_are_there c.parameters.items h.0,
+    guard_is_there c.guard h.1,
+    part_is_there c.body h.2,
   )
 
-  function_stands : (f : Function) → FunctionRepresents t f → FunctionRepresents u f
-  function_stands f h = All-weaker (FunctionClauseRepresents t) (FunctionClauseRepresents u) function_clause_stands
+  function_is_there : (f : Function) → FunctionRepresents t f → FunctionRepresents u f
+  function_is_there f h = All-weaker (FunctionClauseRepresents t) (FunctionClauseRepresents u) function_clause_is_there
       f.clauses.items h
 
-  pub functions_stand : (fs : List Function) → All (FunctionRepresents t) fs → All (FunctionRepresents u) fs
-  functions_stand fs h = All-weaker (FunctionRepresents t) (FunctionRepresents u) function_stands fs h
+  pub functions_are_there : (fs : List Function) → All (FunctionRepresents t) fs → All (FunctionRepresents u) fs
+  functions_are_there fs h = All-weaker (FunctionRepresents t) (FunctionRepresents u) function_is_there fs h

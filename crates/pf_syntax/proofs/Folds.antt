@@ -6,7 +6,7 @@ use Rattle.pf_syntax.specs.Pattern.{Pattern}
 use Rattle.pf_syntax.specs.Tree.{Tree}
 use Rattle.pf_syntax.specs.Module.{Tables}
 use Rattle.pf_syntax.specs.Over.{pattern_over, tree_over, with_literal, with_pattern, with_tree}
-use Rattle.pf_syntax.specs.Within.{PatternPartsStand, PartsStand}
+use Rattle.pf_syntax.specs.Within.{PatternPartsAreThere, PartsAreThere}
 use Rattle.pf_syntax.proofs.Extends.{Extends, extends_itself, extends_on, extends_literal, extends_pattern}
 use Rattle.pf_syntax.proofs.Extends.{plus_pattern, pattern_kept, tree_kept}
 use Rattle.pf_syntax.specs.declared.node.PatternNode.{PatternNode}
@@ -20,12 +20,12 @@ fold_extends step grows t (x ∷ xs) = extends_on t (step t x) (fold step (step 
 
 -- ---- a literal below patterns and nodes, a pattern below nodes
 
-pub pattern_after_literal : (v : Value) (t : Tables) (p : PatternNode) → PatternPartsStand t p
+pub pattern_after_literal : (v : Value) (t : Tables) (p : PatternNode) → PatternPartsAreThere t p
     → with_pattern (with_literal t v) p ≡ with_literal (with_pattern t p) v
 pattern_after_literal v t p h = ap (plus_pattern (with_literal t v))
     (pattern_kept t (with_literal t v) (extends_literal t v) p h)
 
-pub tree_after_literal : (v : Value) (t : Tables) (n : Node) → PartsStand t n
+pub tree_after_literal : (v : Value) (t : Tables) (n : Node) → PartsAreThere t n
     → with_tree (with_literal t v) n ≡ with_literal (with_tree t n) v
 tree_after_literal v t n h =
     ap (λ (r : Tree). let u : Tables = record {
@@ -34,7 +34,7 @@ tree_after_literal v t n h =
       trees = t.trees ++ r ∷ [];
     } in u) (tree_kept t (with_literal t v) (extends_literal t v) n h)
 
-pub tree_after_pattern : (q : Pattern) (t : Tables) (n : Node) → PartsStand t n
+pub tree_after_pattern : (q : Pattern) (t : Tables) (n : Node) → PartsAreThere t n
     → with_tree (plus_pattern t q) n ≡ plus_pattern (with_tree t n) q
 tree_after_pattern q t n h =
     ap (λ (r : Tree). let u : Tables = record {

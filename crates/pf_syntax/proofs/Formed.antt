@@ -12,7 +12,7 @@ use Rattle.pf_syntax.specs.Pattern.{Pattern, any}
 use Rattle.pf_syntax.specs.Tree.{Tree}
 use Rattle.pf_syntax.specs.Module.{Tables, literal_at, pattern_at, tree_at}
 use Rattle.pf_syntax.specs.Over.{pattern_over, tree_over, with_pattern, with_tree}
-use Rattle.pf_syntax.specs.Within.{PatternPartsStand, PartsStand, InTurn}
+use Rattle.pf_syntax.specs.Within.{PatternPartsAreThere, PartsAreThere, InTurn}
 use Rattle.pf_syntax.proofs.Extends.{Extends, extends_on, extends_pattern, extends_tree, pattern_kept, tree_kept}
 use Rattle.pf_syntax.proofs.Extends.{pattern_last, tree_last}
 use Rattle.pf_syntax.proofs.Folds.{fold_extends, patterns_leave, trees_leave, length-patterns, length-trees}
@@ -27,7 +27,7 @@ patterns_extend t ps = fold_extends with_pattern (λ u p. extends_pattern u (pat
 pub trees_extend : (t : Tables) (ns : List Node) → Extends t (fold with_tree t ns)
 trees_extend t ns = fold_extends with_tree extends_tree t ns
 
-pub tree_formed : (t : Tables) (ns : List Node) (k : ℕ) (n : Node) → InTurn PartsStand with_tree t ns
+pub tree_formed : (t : Tables) (ns : List Node) (k : ℕ) (n : Node) → InTurn PartsAreThere with_tree t ns
     → slice_get ns k ≡ Some n → tree_over (fold with_tree t ns) n ≡ tree_at (fold with_tree t ns) (length t.trees + k)
 tree_formed t [] k n a e = absurd (cc)
 tree_formed t (m ∷ ns) zero n a e =
@@ -46,7 +46,7 @@ tree_formed t (m ∷ ns) (suc k) n a e =
     (tree_formed u ns k n a.1 e)
 
 pub pattern_formed : (t : Tables) (ps : List PatternNode) (k : ℕ) (p : PatternNode)
-    → InTurn PatternPartsStand with_pattern t ps → slice_get ps k ≡ Some p
+    → InTurn PatternPartsAreThere with_pattern t ps → slice_get ps k ≡ Some p
     → pattern_over (fold with_pattern t ps) p ≡ pattern_at (fold with_pattern t ps) (length t.patterns + k)
 pattern_formed t [] k p a e = absurd (cc)
 pattern_formed t (q ∷ ps) zero p a e =

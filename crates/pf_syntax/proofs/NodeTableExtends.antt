@@ -13,8 +13,9 @@ use Rattle.pf_syntax.specs.SyntaxTree.{NodeTable, expr_pattern_at, expr_at}
 use Rattle.pf_syntax.specs.SyntaxTreeOver.{expr_patterns_at, expr_pattern_over, exprs_at, alternatives_at}
 use Rattle.pf_syntax.specs.SyntaxTreeOver.{condition_over, branches_over, expr_over, head_over, heads_over}
 use Rattle.pf_syntax.specs.SyntaxTreeOver.{with_expr_pattern, with_expr, ExprPatternRepresents, ExprRepresents}
-use Rattle.pf_syntax.specs.SyntaxTreeOver.{ConditionRepresents, BranchRepresents, ExprPatternPartsStand, ExprPartsStand}
-use Rattle.pf_syntax.specs.SyntaxTreeOver.{HeadRepresents, HeadsStand}
+use Rattle.pf_syntax.specs.SyntaxTreeOver.{ConditionRepresents, BranchRepresents, ExprPatternPartsAreThere}
+use Rattle.pf_syntax.specs.SyntaxTreeOver.{ExprPartsAreThere}
+use Rattle.pf_syntax.specs.SyntaxTreeOver.{HeadRepresents, HeadsAreThere}
 use Rattle.pf_syntax.specs.declared.expr.ExprPatternId.{ExprPatternId}
 use Rattle.pf_syntax.specs.declared.expr.ExprId.{ExprId}
 use Rattle.pf_syntax.specs.declared.expr.ExprPatternNode.{ExprPatternNode}
@@ -89,7 +90,7 @@ module _ (b c : NodeTable) (on : GoesOn b c) where
       let y = expr_patterns_kept qs (All-tail (ExprPatternRepresents b) q qs h) in
       cc
 
-  pub expr_pattern_kept : (n : ExprPatternNode) → ExprPatternPartsStand b n
+  pub expr_pattern_kept : (n : ExprPatternNode) → ExprPatternPartsAreThere b n
       → expr_pattern_over c n ≡ expr_pattern_over b n
   expr_pattern_kept (asks.Tuple qs) h = ap s.tuple (expr_patterns_kept qs.items h)
   expr_pattern_kept (asks.List qs) h = ap s.list (expr_patterns_kept qs.items h)
@@ -118,14 +119,14 @@ module _ (b c : NodeTable) (on : GoesOn b c) where
   pub branches_kept : (bs : List Branch) → All (BranchRepresents b) bs → branches_over c bs ≡ branches_over b bs
   branches_kept [] h = refl
   branches_kept (x ∷ bs) h =
-      let stands = All-head (BranchRepresents b) x bs h in
-      let q = on.expr_patterns x.expr_pattern.0 stands.0 in
-      let g = condition_kept x.condition stands.1 in
-      let e = exprs_kept x.body.items stands.2 in
+      let is_there = All-head (BranchRepresents b) x bs h in
+      let q = on.expr_patterns x.expr_pattern.0 is_there.0 in
+      let g = condition_kept x.condition is_there.1 in
+      let e = exprs_kept x.body.items is_there.2 in
       let y = branches_kept bs (All-tail (BranchRepresents b) x bs h) in
       cc
 
-  pub expr_kept : (n : ExprNode) → ExprPartsStand b n → expr_over c n ≡ expr_over b n
+  pub expr_kept : (n : ExprNode) → ExprPartsAreThere b n → expr_over c n ≡ expr_over b n
   expr_kept (says.Parentheses e) h = ap p.parentheses (on.exprs e.0 h)
   expr_kept (says.Tuple es) h = ap p.tuple (exprs_kept es.items h)
   expr_kept (says.List es) h = ap p.list (exprs_kept es.items h)
@@ -156,75 +157,78 @@ module _ (b c : NodeTable) (on : GoesOn b c) where
       let ys = heads_kept xs (All-tail (HeadRepresents b) x xs h) in
       cc
 
-  pub functions_kept : (fs : List ExprFunction) → All (HeadsStand b) fs → map (heads_over c) fs ≡ map (heads_over b) fs
+  pub functions_kept : (fs : List ExprFunction) → All (HeadsAreThere b) fs
+      → map (heads_over c) fs ≡ map (heads_over b) fs
   functions_kept [] h = refl
   functions_kept (f ∷ fs) h =
-      let y = heads_kept f.heads.items (All-head (HeadsStand b) f fs h) in
-      let ys = functions_kept fs (All-tail (HeadsStand b) f fs h) in
+      let y = heads_kept f.heads.items (All-head (HeadsAreThere b) f fs h) in
+      let ys = functions_kept fs (All-tail (HeadsAreThere b) f fs h) in
       cc
 
   -- ---- it is still there
 
-  pub expr_pattern_stands : (q : ExprPatternId) → ExprPatternRepresents b q → ExprPatternRepresents c q
-  expr_pattern_stands q h = omega (arith, on.more_expr_patterns)
+  pub expr_pattern_is_there : (q : ExprPatternId) → ExprPatternRepresents b q → ExprPatternRepresents c q
+  expr_pattern_is_there q h = omega (arith, on.more_expr_patterns)
 
-  pub expr_stands : (e : ExprId) → ExprRepresents b e → ExprRepresents c e
-  expr_stands e h = omega (arith, on.more_exprs)
+  pub expr_is_there : (e : ExprId) → ExprRepresents b e → ExprRepresents c e
+  expr_is_there e h = omega (arith, on.more_exprs)
 
-  pub all_expr_patterns_stand : (qs : List ExprPatternId) → All (ExprPatternRepresents b) qs
+  pub all_expr_patterns_are_there : (qs : List ExprPatternId) → All (ExprPatternRepresents b) qs
       → All (ExprPatternRepresents c) qs
-  all_expr_patterns_stand qs h = All-weaker (ExprPatternRepresents b) (ExprPatternRepresents c) expr_pattern_stands qs h
+  all_expr_patterns_are_there qs h = All-weaker (ExprPatternRepresents b)
+      (ExprPatternRepresents c) expr_pattern_is_there qs h
 
-  pub all_exprs_stand : (es : List ExprId) → All (ExprRepresents b) es → All (ExprRepresents c) es
-  all_exprs_stand es h = All-weaker (ExprRepresents b) (ExprRepresents c) expr_stands es h
+  pub all_exprs_are_there : (es : List ExprId) → All (ExprRepresents b) es → All (ExprRepresents c) es
+  all_exprs_are_there es h = All-weaker (ExprRepresents b) (ExprRepresents c) expr_is_there es h
 
-  pub condition_stands : (g : Condition) → ConditionRepresents b g → ConditionRepresents c g
-  condition_stands g h =
+  pub condition_is_there : (g : Condition) → ConditionRepresents b g → ConditionRepresents c g
+  condition_is_there g h =
       All-weaker (λ a. All (ExprRepresents b) a.tests.items) (λ a. All (ExprRepresents c) a.tests.items)
-      (λ a x. all_exprs_stand a.tests.items x) g.alternatives.items h
+      (λ a x. all_exprs_are_there a.tests.items x) g.alternatives.items h
 
-  pub branch_stands : (x : Branch) → BranchRepresents b x → BranchRepresents c x
-  branch_stands x h = (
-    expr_pattern_stands x.expr_pattern h.0,
-    condition_stands x.condition h.1,
-    all_exprs_stand x.body.items h.2,
+  pub branch_is_there : (x : Branch) → BranchRepresents b x → BranchRepresents c x
+  branch_is_there x h = (
+    expr_pattern_is_there x.expr_pattern h.0,
+    condition_is_there x.condition h.1,
+    all_exprs_are_there x.body.items h.2,
   )
 
-  pub branches_stand : (bs : List Branch) → All (BranchRepresents b) bs → All (BranchRepresents c) bs
-  branches_stand bs h = All-weaker (BranchRepresents b) (BranchRepresents c) branch_stands bs h
+  pub branches_are_there : (bs : List Branch) → All (BranchRepresents b) bs → All (BranchRepresents c) bs
+  branches_are_there bs h = All-weaker (BranchRepresents b) (BranchRepresents c) branch_is_there bs h
 
-  pub expr_pattern_parts_stand : (n : ExprPatternNode) → ExprPatternPartsStand b n → ExprPatternPartsStand c n
-  expr_pattern_parts_stand (asks.Tuple qs) h = all_expr_patterns_stand qs.items h
-  expr_pattern_parts_stand (asks.List qs) h = all_expr_patterns_stand qs.items h
-  expr_pattern_parts_stand (asks.ListOn qs t) h = (all_expr_patterns_stand qs.items h.0, expr_pattern_stands t h.1)
-  expr_pattern_parts_stand _ h = tt
+  pub expr_pattern_parts_are_there : (n : ExprPatternNode) → ExprPatternPartsAreThere b n → ExprPatternPartsAreThere c n
+  expr_pattern_parts_are_there (asks.Tuple qs) h = all_expr_patterns_are_there qs.items h
+  expr_pattern_parts_are_there (asks.List qs) h = all_expr_patterns_are_there qs.items h
+  expr_pattern_parts_are_there (asks.ListOn qs t) h =
+      (all_expr_patterns_are_there qs.items h.0, expr_pattern_is_there t h.1)
+  expr_pattern_parts_are_there _ h = tt
 
-  pub expr_parts_stand : (n : ExprNode) → ExprPartsStand b n → ExprPartsStand c n
-  expr_parts_stand (says.Parentheses e) h = expr_stands e h
-  expr_parts_stand (says.Tuple es) h = all_exprs_stand es.items h
-  expr_parts_stand (says.List es) h = all_exprs_stand es.items h
-  expr_parts_stand (says.ListOn es t) h = (all_exprs_stand es.items h.0, expr_stands t h.1)
-  expr_parts_stand (says.Call w es) h = all_exprs_stand es.items h
-  expr_parts_stand (says.Binary o l r) h = (expr_stands l h.0, expr_stands r h.1)
-  expr_parts_stand (says.Negate e) h = expr_stands e h
-  expr_parts_stand (says.AndAlso l r) h = (expr_stands l h.0, expr_stands r h.1)
-  expr_parts_stand (says.OrElse l r) h = (expr_stands l h.0, expr_stands r h.1)
-  expr_parts_stand (says.Send l r) h = (expr_stands l h.0, expr_stands r h.1)
-  expr_parts_stand (says.Match q e) h = (expr_pattern_stands q h.0, expr_stands e h.1)
-  expr_parts_stand (says.Case e bs) h = (expr_stands e h.0, branches_stand bs.items h.1)
-  expr_parts_stand (says.If bs) h = branches_stand bs.items h
-  expr_parts_stand (says.Receive bs) h = branches_stand bs.items h
-  expr_parts_stand _ h = tt
+  pub expr_parts_are_there : (n : ExprNode) → ExprPartsAreThere b n → ExprPartsAreThere c n
+  expr_parts_are_there (says.Parentheses e) h = expr_is_there e h
+  expr_parts_are_there (says.Tuple es) h = all_exprs_are_there es.items h
+  expr_parts_are_there (says.List es) h = all_exprs_are_there es.items h
+  expr_parts_are_there (says.ListOn es t) h = (all_exprs_are_there es.items h.0, expr_is_there t h.1)
+  expr_parts_are_there (says.Call w es) h = all_exprs_are_there es.items h
+  expr_parts_are_there (says.Binary o l r) h = (expr_is_there l h.0, expr_is_there r h.1)
+  expr_parts_are_there (says.Negate e) h = expr_is_there e h
+  expr_parts_are_there (says.AndAlso l r) h = (expr_is_there l h.0, expr_is_there r h.1)
+  expr_parts_are_there (says.OrElse l r) h = (expr_is_there l h.0, expr_is_there r h.1)
+  expr_parts_are_there (says.Send l r) h = (expr_is_there l h.0, expr_is_there r h.1)
+  expr_parts_are_there (says.Match q e) h = (expr_pattern_is_there q h.0, expr_is_there e h.1)
+  expr_parts_are_there (says.Case e bs) h = (expr_is_there e h.0, branches_are_there bs.items h.1)
+  expr_parts_are_there (says.If bs) h = branches_are_there bs.items h
+  expr_parts_are_there (says.Receive bs) h = branches_are_there bs.items h
+  expr_parts_are_there _ h = tt
 
-  pub head_stands : (x : Head) → HeadRepresents b x → HeadRepresents c x
-  head_stands x h = (
-    all_expr_patterns_stand x.parameters.items h.0,
-    condition_stands x.condition h.1,
-    all_exprs_stand x.body.items h.2,
+  pub head_is_there : (x : Head) → HeadRepresents b x → HeadRepresents c x
+  head_is_there x h = (
+    all_expr_patterns_are_there x.parameters.items h.0,
+    condition_is_there x.condition h.1,
+    all_exprs_are_there x.body.items h.2,
   )
 
-  heads_stand : (f : ExprFunction) → HeadsStand b f → HeadsStand c f
-  heads_stand f h = All-weaker (HeadRepresents b) (HeadRepresents c) head_stands f.heads.items h
+  heads_are_there : (f : ExprFunction) → HeadsAreThere b f → HeadsAreThere c f
+  heads_are_there f h = All-weaker (HeadRepresents b) (HeadRepresents c) head_is_there f.heads.items h
 
-  pub functions_stand : (fs : List ExprFunction) → All (HeadsStand b) fs → All (HeadsStand c) fs
-  functions_stand fs h = All-weaker (HeadsStand b) (HeadsStand c) heads_stand fs h
+  pub functions_are_there : (fs : List ExprFunction) → All (HeadsAreThere b) fs → All (HeadsAreThere c) fs
+  functions_are_there fs h = All-weaker (HeadsAreThere b) (HeadsAreThere c) heads_are_there fs h

@@ -12,7 +12,7 @@ use Rattle.pf_syntax.specs.SyntaxTreeView.{no_node_table, expr_patterns_of, node
 use Rattle.pf_syntax.specs.Within.{InTurn}
 use Rattle.pf_syntax.proofs.NodeTableExtends.{GoesOn, plus_expr_pattern, on_by_expr_pattern, on_by_expr, on_by_nothing}
 use Rattle.pf_syntax.proofs.NodeTableExtends.{on_and_on, expr_pattern_kept, expr_kept, expr_pattern_last, expr_last}
-use Rattle.pf_syntax.proofs.NodeTableExtends.{expr_parts_stand}
+use Rattle.pf_syntax.proofs.NodeTableExtends.{expr_parts_are_there}
 use Rattle.pf_syntax.specs.declared.syntax_tree.ExprPatternEntry.{ExprPatternEntry}
 use Rattle.pf_syntax.specs.declared.syntax_tree.ExprEntry.{ExprEntry}
 use Rattle.pf_syntax.specs.declared.syntax_tree.SyntaxTree.TheInside.{Inside}
@@ -32,7 +32,7 @@ pub expr_still_sound : (q : ExprPattern) (b : NodeTable) (e : ExprEntry) → Exp
 expr_still_sound q b e h =
     let c = plus_expr_pattern b q in
     let same = sym (expr_kept b c (on_by_expr_pattern b q) e.node h.0) in (
-      expr_parts_stand b c (on_by_expr_pattern b q) e.node h.0,
+      expr_parts_are_there b c (on_by_expr_pattern b q) e.node h.0,
       subst (λ (r : Expr). IsMeasure e.measure (expr_size r) (expr_depth r)) same h.1,
     )
 

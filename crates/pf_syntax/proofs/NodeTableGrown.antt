@@ -9,13 +9,13 @@ use Rattle.pf_syntax.specs.Expr.{expr_size, expr_depth}
 use Rattle.pf_syntax.specs.Measure.{IsMeasure}
 use Rattle.pf_syntax.specs.SyntaxTree.{NodeTable}
 use Rattle.pf_syntax.specs.SyntaxTreeOver.{expr_pattern_over, expr_over, heads_over, with_expr_pattern, with_expr}
-use Rattle.pf_syntax.specs.SyntaxTreeOver.{with_node_table, ExprPatternPartsStand, ExprPartsStand, HeadsStand}
+use Rattle.pf_syntax.specs.SyntaxTreeOver.{with_node_table, ExprPatternPartsAreThere, ExprPartsAreThere, HeadsAreThere}
 use Rattle.pf_syntax.specs.SyntaxTreeView.{expr_pattern_entered, expr_entered, ExprPatternIsSound, ExprIsSound}
 use Rattle.pf_syntax.specs.SyntaxTreeView.{no_node_table, expr_patterns_of, node_table_of, written_of, Sound}
 use Rattle.pf_syntax.specs.Within.{InTurn}
 use Rattle.pf_syntax.proofs.InTurn.{in_turn_push, in_turn_still, fold_push, fold_swap}
 use Rattle.pf_syntax.proofs.NodeTableExtends.{GoesOn, plus_expr_pattern, on_by_expr_pattern, on_by_expr, functions_kept}
-use Rattle.pf_syntax.proofs.NodeTableExtends.{functions_stand}
+use Rattle.pf_syntax.proofs.NodeTableExtends.{functions_are_there}
 use Rattle.pf_syntax.proofs.NodeTableFolds.{expr_after_expr_pattern, expr_still_sound, exprs_leave, expr_pattern_alike}
 use Rattle.pf_syntax.specs.declared.expr.ExprFunction.{ExprFunction}
 use Rattle.pf_syntax.specs.declared.syntax_tree.ExprPatternEntry.{ExprPatternEntry}
@@ -35,8 +35,9 @@ module _ (a : Inside) (b : Inside) (same_name : b.name ≡ a.name) (same_exports
       cc
 
   functions_go_on : (c : NodeTable) → node_table_of b ≡ c → GoesOn (node_table_of a) c → Sound a
-      → All (HeadsStand (node_table_of b)) b.functions.items
-  functions_go_on c e g s = rw (e, same_functions) (functions_stand (node_table_of a) c g a.functions.items s.functions)
+      → All (HeadsAreThere (node_table_of b)) b.functions.items
+  functions_go_on c e g s = rw (e, same_functions)
+      (functions_are_there (node_table_of a) c g a.functions.items s.functions)
 
 -- ---- an expression
 
@@ -50,13 +51,13 @@ module _ (a : Inside) (e : ExprEntry) (v : Vec ExprEntry) (is : v.items ≡ a.ex
   with_expr_view = view_goes_on a (record a { exprs = v }) refl refl refl (with_expr (node_table_of a) e.node)
       exprs_grown (on_by_expr (node_table_of a) e.node) s
 
-  pub with_expr_sound : ExprPartsStand (node_table_of a) e.node
+  pub with_expr_sound : ExprPartsAreThere (node_table_of a) e.node
       → IsMeasure e.measure (expr_size (expr_over (node_table_of a) e.node))
       (expr_depth (expr_over (node_table_of a) e.node)) → Sound (record a { exprs = v })
-  with_expr_sound stands measured = record {
+  with_expr_sound is_there measured = record {
     expr_patterns = s.expr_patterns;
     exprs = rw is (in_turn_push ExprIsSound expr_entered (expr_patterns_of a) a.exprs.items e s.exprs
-        (stands, measured));
+        (is_there, measured));
     functions = functions_go_on a (record a { exprs = v }) refl refl refl (with_expr (node_table_of a) e.node)
         exprs_grown (on_by_expr (node_table_of a) e.node) s;
   }
@@ -86,29 +87,29 @@ module _ (a : Inside) (e : ExprPatternEntry) (v : Vec ExprPatternEntry) (is : v.
       view_goes_on a (record a { expr_patterns = v }) refl refl refl (with_expr_pattern (node_table_of a) e.node)
       expr_patterns_grown (on_by_expr_pattern (node_table_of a) (expr_pattern_over (node_table_of a) e.node)) s
 
-  sound_before : ExprPatternPartsStand (node_table_of a) e.node
+  sound_before : ExprPatternPartsAreThere (node_table_of a) e.node
       → IsMeasure e.measure (expr_pattern_size (expr_pattern_over (node_table_of a) e.node))
       (expr_pattern_depth (expr_pattern_over (node_table_of a) e.node)) → ExprPatternIsSound (expr_patterns_of a) e
-  sound_before stands measured =
+  sound_before is_there measured =
       let left = exprs_leave (expr_patterns_of a) a.exprs.items in (
         subst (λ (qs : List ExprPattern). let b : NodeTable = record {
           expr_patterns = qs;
           exprs = (node_table_of a).exprs;
-        } in ExprPatternPartsStand b e.node) left stands,
+        } in ExprPatternPartsAreThere b e.node) left is_there,
         subst (λ (q : ExprPattern). IsMeasure e.measure (expr_pattern_size q) (expr_pattern_depth q))
             (expr_pattern_alike (node_table_of a) (expr_patterns_of a) e left) measured,
       )
 
-  pub with_expr_pattern_sound : ExprPatternPartsStand (node_table_of a) e.node
+  pub with_expr_pattern_sound : ExprPatternPartsAreThere (node_table_of a) e.node
       → IsMeasure e.measure (expr_pattern_size (expr_pattern_over (node_table_of a) e.node))
       (expr_pattern_depth (expr_pattern_over (node_table_of a) e.node)) → Sound (record a { expr_patterns = v })
-  with_expr_pattern_sound stands measured =
+  with_expr_pattern_sound is_there measured =
       let q = expr_pattern_over (expr_patterns_of a) e.node in
       let still = in_turn_still ExprIsSound expr_entered (λ b. plus_expr_pattern b q) (expr_after_expr_pattern q)
       (expr_still_sound q) (expr_patterns_of a) a.exprs.items s.exprs in
       record {
         expr_patterns = rw is (in_turn_push ExprPatternIsSound expr_pattern_entered no_node_table a.expr_patterns.items
-            e s.expr_patterns (sound_before stands measured));
+            e s.expr_patterns (sound_before is_there measured));
         exprs = subst (λ b. InTurn ExprIsSound expr_entered b a.exprs.items) (sym expr_patterns_push) still;
         functions = functions_go_on a (record a { expr_patterns = v }) refl refl refl
             (with_expr_pattern (node_table_of a) e.node) expr_patterns_grown
@@ -118,11 +119,11 @@ module _ (a : Inside) (e : ExprPatternEntry) (v : Vec ExprPatternEntry) (is : v.
 -- ---- a function
 
 pub with_function_sound : (a : Inside) (f : ExprFunction) (v : Vec ExprFunction) → v.items ≡ a.functions.items ++ f ∷ []
-    → Sound a → HeadsStand (node_table_of a) f → Sound (record a { functions = v })
-with_function_sound a f v is s stands = record {
+    → Sound a → HeadsAreThere (node_table_of a) f → Sound (record a { functions = v })
+with_function_sound a f v is s is_there = record {
   expr_patterns = s.expr_patterns;
   exprs = s.exprs;
-  functions = rw is (All-push (HeadsStand (node_table_of a)) a.functions.items f s.functions stands);
+  functions = rw is (All-push (HeadsAreThere (node_table_of a)) a.functions.items f s.functions is_there);
 }
 
 -- ---- nothing

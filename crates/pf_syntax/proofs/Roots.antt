@@ -10,7 +10,7 @@ use Rattle.std.proofs.lemmas.List.Sums.{position_or_len_is}
 use Rattle.std.proofs.lemmas.Option.{slice_get_within, get_or_from_slice_get}
 use Rattle.std.proofs.lemmas.Slice.Eq.{bytes_eq-Decides}
 use Rattle.pf_terms.specs.Atoms.{name_of}
-use Rattle.pf_terms.specs.Order.{TellsApart}
+use Rattle.pf_terms.specs.Order.{Distinguishes}
 use Rattle.pf_syntax.specs.Tree.{Function, Program}
 use Rattle.pf_syntax.specs.Module.{first_named}
 use Rattle.pf_syntax.specs.Root.{root_of, root_at, exported_at, exported_of}
@@ -29,7 +29,7 @@ no_atom name atoms functions h =
     rw (le-ltb (position_or_len (bytes_eq name) atoms) (length atoms) past) refl
 
 module _ (name : List ℕ) (atoms : List (List ℕ)) (functions : Program) (a : ℕ)
-    (apart : TellsApart (name_of atoms) (length atoms)) (named : slice_get atoms a ≡ Some name) where
+    (apart : Distinguishes (name_of atoms) (length atoms)) (named : slice_get atoms a ≡ Some name) where
   within : a < length atoms
   within = slice_get_within atoms a name named
 

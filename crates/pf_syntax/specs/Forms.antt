@@ -64,7 +64,7 @@ is_pure _ = false
 
 -- A body holds all of these forms. A guard, where the flag says that it is one, holds none of them but calls of the
 -- built-in functions that are pure
-abbrev pub may_stand : Bool → Form → Bool
-may_stand true (Calling b) = is_pure b
-may_stand true _ = false
-may_stand false form = true
+abbrev pub may_be_there : Bool → Form → Bool
+may_be_there true (Calling b) = is_pure b
+may_be_there true _ = false
+may_be_there false form = true

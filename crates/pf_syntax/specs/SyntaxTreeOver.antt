@@ -154,29 +154,29 @@ BranchRepresents b c = ExprPatternRepresents b c.expr_pattern × ConditionRepres
     × All (ExprRepresents b) c.body.items
 
 -- the parts of a pattern are in the table of nodes
-abbrev pub ExprPatternPartsStand : NodeTable → ExprPatternNode → Type 0
-ExprPatternPartsStand b (asks.Tuple qs) = All (ExprPatternRepresents b) qs.items
-ExprPatternPartsStand b (asks.List qs) = All (ExprPatternRepresents b) qs.items
-ExprPatternPartsStand b (asks.ListOn qs t) = All (ExprPatternRepresents b) qs.items × ExprPatternRepresents b t
-ExprPatternPartsStand b _ = Unit {0}
+abbrev pub ExprPatternPartsAreThere : NodeTable → ExprPatternNode → Type 0
+ExprPatternPartsAreThere b (asks.Tuple qs) = All (ExprPatternRepresents b) qs.items
+ExprPatternPartsAreThere b (asks.List qs) = All (ExprPatternRepresents b) qs.items
+ExprPatternPartsAreThere b (asks.ListOn qs t) = All (ExprPatternRepresents b) qs.items × ExprPatternRepresents b t
+ExprPatternPartsAreThere b _ = Unit {0}
 
 -- the parts of an expression are in the table of nodes
-abbrev pub ExprPartsStand : NodeTable → ExprNode → Type 0
-ExprPartsStand b (says.Parentheses e) = ExprRepresents b e
-ExprPartsStand b (says.Tuple es) = All (ExprRepresents b) es.items
-ExprPartsStand b (says.List es) = All (ExprRepresents b) es.items
-ExprPartsStand b (says.ListOn es t) = All (ExprRepresents b) es.items × ExprRepresents b t
-ExprPartsStand b (says.Call w es) = All (ExprRepresents b) es.items
-ExprPartsStand b (says.Binary o l r) = ExprRepresents b l × ExprRepresents b r
-ExprPartsStand b (says.Negate e) = ExprRepresents b e
-ExprPartsStand b (says.AndAlso l r) = ExprRepresents b l × ExprRepresents b r
-ExprPartsStand b (says.OrElse l r) = ExprRepresents b l × ExprRepresents b r
-ExprPartsStand b (says.Send l r) = ExprRepresents b l × ExprRepresents b r
-ExprPartsStand b (says.Match q e) = ExprPatternRepresents b q × ExprRepresents b e
-ExprPartsStand b (says.Case e cs) = ExprRepresents b e × All (BranchRepresents b) cs.items
-ExprPartsStand b (says.If cs) = All (BranchRepresents b) cs.items
-ExprPartsStand b (says.Receive cs) = All (BranchRepresents b) cs.items
-ExprPartsStand b _ = Unit {0}
+abbrev pub ExprPartsAreThere : NodeTable → ExprNode → Type 0
+ExprPartsAreThere b (says.Parentheses e) = ExprRepresents b e
+ExprPartsAreThere b (says.Tuple es) = All (ExprRepresents b) es.items
+ExprPartsAreThere b (says.List es) = All (ExprRepresents b) es.items
+ExprPartsAreThere b (says.ListOn es t) = All (ExprRepresents b) es.items × ExprRepresents b t
+ExprPartsAreThere b (says.Call w es) = All (ExprRepresents b) es.items
+ExprPartsAreThere b (says.Binary o l r) = ExprRepresents b l × ExprRepresents b r
+ExprPartsAreThere b (says.Negate e) = ExprRepresents b e
+ExprPartsAreThere b (says.AndAlso l r) = ExprRepresents b l × ExprRepresents b r
+ExprPartsAreThere b (says.OrElse l r) = ExprRepresents b l × ExprRepresents b r
+ExprPartsAreThere b (says.Send l r) = ExprRepresents b l × ExprRepresents b r
+ExprPartsAreThere b (says.Match q e) = ExprPatternRepresents b q × ExprRepresents b e
+ExprPartsAreThere b (says.Case e cs) = ExprRepresents b e × All (BranchRepresents b) cs.items
+ExprPartsAreThere b (says.If cs) = All (BranchRepresents b) cs.items
+ExprPartsAreThere b (says.Receive cs) = All (BranchRepresents b) cs.items
+ExprPartsAreThere b _ = Unit {0}
 
 -- the patterns, the tests and the body of a function's clause are in the table of nodes
 abbrev pub HeadRepresents : NodeTable → HeadNode → Type 0
@@ -184,8 +184,8 @@ HeadRepresents b h = All (ExprPatternRepresents b) h.parameters.items × Conditi
     × All (ExprRepresents b) h.body.items
 
 -- the parts of a function are in the table of nodes
-abbrev pub HeadsStand : NodeTable → ExprFunction → Type 0
-HeadsStand b f = All (HeadRepresents b) f.heads.items
+abbrev pub HeadsAreThere : NodeTable → ExprFunction → Type 0
+HeadsAreThere b f = All (HeadRepresents b) f.heads.items
 
 -- ---- the size and the depth of a clause's parts together
 

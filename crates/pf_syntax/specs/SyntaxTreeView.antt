@@ -6,7 +6,7 @@ use Rattle.pf_syntax.specs.Expr.{expr_size, expr_depth}
 use Rattle.pf_syntax.specs.Measure.{IsMeasure}
 use Rattle.pf_syntax.specs.SyntaxTree.{NodeTable, ExprArena}
 use Rattle.pf_syntax.specs.SyntaxTreeOver.{expr_pattern_over, expr_over, heads_over, export_of, with_expr_pattern}
-use Rattle.pf_syntax.specs.SyntaxTreeOver.{with_expr, ExprPatternPartsStand, ExprPartsStand, HeadsStand}
+use Rattle.pf_syntax.specs.SyntaxTreeOver.{with_expr, ExprPatternPartsAreThere, ExprPartsAreThere, HeadsAreThere}
 use Rattle.pf_syntax.specs.Within.{InTurn}
 use Rattle.pf_syntax.specs.declared.syntax_tree.ExprPatternEntry.{ExprPatternEntry}
 use Rattle.pf_syntax.specs.declared.syntax_tree.ExprEntry.{ExprEntry}
@@ -21,11 +21,11 @@ expr_entered b e = with_expr b e.node
 
 -- the parts of an entry come before it, and its measure is that of its tree
 abbrev pub ExprPatternIsSound : NodeTable → ExprPatternEntry → Type 0
-ExprPatternIsSound b e = ExprPatternPartsStand b e.node × IsMeasure e.measure
+ExprPatternIsSound b e = ExprPatternPartsAreThere b e.node × IsMeasure e.measure
     (expr_pattern_size (expr_pattern_over b e.node)) (expr_pattern_depth (expr_pattern_over b e.node))
 
 abbrev pub ExprIsSound : NodeTable → ExprEntry → Type 0
-ExprIsSound b e = ExprPartsStand b e.node × IsMeasure e.measure (expr_size (expr_over b e.node))
+ExprIsSound b e = ExprPartsAreThere b e.node × IsMeasure e.measure (expr_size (expr_over b e.node))
     (expr_depth (expr_over b e.node))
 
 -- the table of nodes with nothing in it
@@ -52,4 +52,4 @@ written_of a = record {
 pub record Sound (a : Inside) : Type 0 where
   pub expr_patterns : InTurn ExprPatternIsSound expr_pattern_entered no_node_table a.expr_patterns.items
   pub exprs : InTurn ExprIsSound expr_entered (expr_patterns_of a) a.exprs.items
-  pub functions : All (HeadsStand (node_table_of a)) a.functions.items
+  pub functions : All (HeadsAreThere (node_table_of a)) a.functions.items

@@ -4,7 +4,7 @@ use Rattle.std.specs.List.{All}
 use Rattle.pf_terms.specs.Term.{value_of}
 use Rattle.pf_syntax.specs.Module.{Tables, Checked}
 use Rattle.pf_syntax.specs.Over.{with_pattern, with_tree, function_over}
-use Rattle.pf_syntax.specs.Within.{PatternPartsStand, PartsStand, FunctionRepresents, InTurn}
+use Rattle.pf_syntax.specs.Within.{PatternPartsAreThere, PartsAreThere, FunctionRepresents, InTurn}
 use Rattle.pf_syntax.specs.declared.module.Module.TheInside.{Inside}
 
 -- the literals alone, and then with the patterns and with the trees of the nodes, from left to right
@@ -29,7 +29,7 @@ checked_of a = record {
 
 -- parts come before what they are part of
 pub record Sound (a : Inside) : Type 0 where
-  pub patterns : InTurn PatternPartsStand with_pattern (literals_of a) a.patterns.items
-  pub nodes : InTurn PartsStand with_tree (patterns_of a) a.nodes.items
+  pub patterns : InTurn PatternPartsAreThere with_pattern (literals_of a) a.patterns.items
+  pub nodes : InTurn PartsAreThere with_tree (patterns_of a) a.nodes.items
   pub functions : All (FunctionRepresents (tables_of a)) a.functions.items
   pub count : length a.functions.items ≤ 2 ^ 32

@@ -33,28 +33,28 @@ abbrev pub ClauseRepresents : Tables → Clause → Type 0
 ClauseRepresents t c = PatternRepresents t c.pattern × GuardRepresents t c.guard × OperandRepresents t c.body
 
 -- the parts of a pattern are in the tables
-abbrev pub PatternPartsStand : Tables → PatternNode → Type 0
-PatternPartsStand t (asks.Literal l) = l.0 < length t.literals
-PatternPartsStand t (asks.Tuple ps) = All (PatternRepresents t) ps.items
-PatternPartsStand t (asks.Cons p q) = PatternRepresents t p × PatternRepresents t q
-PatternPartsStand t _ = Unit {0}
+abbrev pub PatternPartsAreThere : Tables → PatternNode → Type 0
+PatternPartsAreThere t (asks.Literal l) = l.0 < length t.literals
+PatternPartsAreThere t (asks.Tuple ps) = All (PatternRepresents t) ps.items
+PatternPartsAreThere t (asks.Cons p q) = PatternRepresents t p × PatternRepresents t q
+PatternPartsAreThere t _ = Unit {0}
 
 -- the parts of a node are in the tables
-abbrev pub PartsStand : Tables → Node → Type 0
-PartsStand t (does.Tuple ps) = All (OperandRepresents t) ps.items
-PartsStand t (does.Cons a b) = OperandRepresents t a × OperandRepresents t b
-PartsStand t (does.Binary o a b) = OperandRepresents t a × OperandRepresents t b
-PartsStand t (does.Negate a) = OperandRepresents t a
-PartsStand t (does.AndAlso a b) = OperandRepresents t a × OperandRepresents t b
-PartsStand t (does.OrElse a b) = OperandRepresents t a × OperandRepresents t b
-PartsStand t (does.Call f ps) = All (OperandRepresents t) ps.items
-PartsStand t (does.Builtin f ps) = All (OperandRepresents t) ps.items
-PartsStand t (does.Match ps a) = All (PatternRepresents t) ps.items × OperandRepresents t a
-PartsStand t (does.Bind ps a r) = All (PatternRepresents t) ps.items × OperandRepresents t a × OperandRepresents t r
-PartsStand t (does.Case a cs) = OperandRepresents t a × All (ClauseRepresents t) cs.items
-PartsStand t (does.If cs) = All (ClauseRepresents t) cs.items
-PartsStand t (does.Receive cs) = All (ClauseRepresents t) cs.items
-PartsStand t (does.Send a b) = OperandRepresents t a × OperandRepresents t b
+abbrev pub PartsAreThere : Tables → Node → Type 0
+PartsAreThere t (does.Tuple ps) = All (OperandRepresents t) ps.items
+PartsAreThere t (does.Cons a b) = OperandRepresents t a × OperandRepresents t b
+PartsAreThere t (does.Binary o a b) = OperandRepresents t a × OperandRepresents t b
+PartsAreThere t (does.Negate a) = OperandRepresents t a
+PartsAreThere t (does.AndAlso a b) = OperandRepresents t a × OperandRepresents t b
+PartsAreThere t (does.OrElse a b) = OperandRepresents t a × OperandRepresents t b
+PartsAreThere t (does.Call f ps) = All (OperandRepresents t) ps.items
+PartsAreThere t (does.Builtin f ps) = All (OperandRepresents t) ps.items
+PartsAreThere t (does.Match ps a) = All (PatternRepresents t) ps.items × OperandRepresents t a
+PartsAreThere t (does.Bind ps a r) = All (PatternRepresents t) ps.items × OperandRepresents t a × OperandRepresents t r
+PartsAreThere t (does.Case a cs) = OperandRepresents t a × All (ClauseRepresents t) cs.items
+PartsAreThere t (does.If cs) = All (ClauseRepresents t) cs.items
+PartsAreThere t (does.Receive cs) = All (ClauseRepresents t) cs.items
+PartsAreThere t (does.Send a b) = OperandRepresents t a × OperandRepresents t b
 
 -- the patterns, the tests and the body of a function's clause are in the tables
 abbrev pub FunctionClauseRepresents : Tables → FunctionClause → Type 0
@@ -67,5 +67,5 @@ FunctionRepresents t f = All (FunctionClauseRepresents t) f.clauses.items
 
 -- each of these is in what those before it made, one step each
 abbrev pub InTurn : {T X : Type 0} → (T → X → Type 0) → (T → X → T) → T → List X → Type 0
-InTurn stands step t [] = Unit {0}
-InTurn stands step t (x ∷ xs) = stands t x × InTurn stands step (step t x) xs
+InTurn is_there step t [] = Unit {0}
+InTurn is_there step t (x ∷ xs) = is_there t x × InTurn is_there step (step t x) xs

@@ -6,7 +6,7 @@ ghost use Rattle.pf_syntax.specs.Forms as forms;
 ghost use Rattle.pf_syntax.specs.declared.forms.Form.TheVariants as form;
 
 use crate::Builtin;
-use crate::forms::{Form, may_stand};
+use crate::forms::{Form, may_be_there};
 
 /// Each built-in function, by its name and its number of arguments.
 const BUILTINS: [(&str, u64, Builtin); 27] = [
@@ -94,11 +94,11 @@ pub fn is_pure(builtin: Builtin) -> bool
 
 /// Whether a guard may call a function of this name with this number of arguments: a built-in one, and pure.
 pub fn guard_may_call(name: &[u8], arity: u64) -> bool
-    ensures { result ≡ option_map_or (λ b. forms.may_stand true (form.Calling b))
+    ensures { result ≡ option_map_or (λ b. forms.may_be_there true (form.Calling b))
         (forms.builtin_named name.now arity) false }
 {
     match builtin_named(name, arity) {
-        Some(builtin) => may_stand(true, Form::Calling(builtin)),
+        Some(builtin) => may_be_there(true, Form::Calling(builtin)),
         None => false,
     }
 }

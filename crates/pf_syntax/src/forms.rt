@@ -24,8 +24,8 @@ pub enum Form {
 }
 
 /// Whether this form is allowed in a guard, or else in a body, which holds all of them.
-pub fn may_stand(guard: bool, form: Form) -> bool
-    ensures { result ≡ forms.may_stand guard form }
+pub fn may_be_there(guard: bool, form: Form) -> bool
+    ensures { result ≡ forms.may_be_there guard form }
 {
     match form {
         Form::Calling(builtin) if guard => is_pure(builtin),

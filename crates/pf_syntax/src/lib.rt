@@ -29,4 +29,4 @@ mod builtins;
 mod forms;
 
 pub use builtins::{builtin_named, guard_may_call, is_pure};
-pub use forms::{Form, may_stand};
+pub use forms::{Form, may_be_there};

@@ -10,7 +10,7 @@ ghost use Rattle.pf_syntax.specs.Module.{empty, first_named, literal_at, pattern
 ghost use Rattle.pf_syntax.specs.Root.{root_of};
 ghost use Rattle.pf_syntax.specs.Over.{function_over, pattern_over, tree_over, with_function, with_literal};
 ghost use Rattle.pf_syntax.specs.Over.{with_pattern, with_tables, with_tree};
-ghost use Rattle.pf_syntax.specs.Within.{FunctionRepresents, PartsStand, PatternPartsStand};
+ghost use Rattle.pf_syntax.specs.Within.{FunctionRepresents, PartsAreThere, PatternPartsAreThere};
 
 use crate::node::{Function, FunctionId, LiteralId, Node, NodeId, PatternId, PatternNode};
 use crate::table::{entry, next_id};
@@ -84,7 +84,7 @@ impl Module {
 
     /// Adds a pattern after its parts.
     pub fn add_pattern(&mut self, pattern: PatternNode) -> Result<PatternId, NoMemory>
-        requires { PatternPartsStand self.old.tables pattern }
+        requires { PatternPartsAreThere self.old.tables pattern }
         ensures id { IfOk result (λ p. p.0 ≡ length self.old.tables.patterns) }
         ensures added { OnOk result (self.new ≡ with_tables self.old (with_pattern self.old.tables pattern)) }
         ensures err { OnErr result (self.new ≡ self.old) }
@@ -96,7 +96,7 @@ impl Module {
 
     /// Adds a node after its parts.
     pub fn add_node(&mut self, node: Node) -> Result<NodeId, NoMemory>
-        requires { PartsStand self.old.tables node }
+        requires { PartsAreThere self.old.tables node }
         ensures id { IfOk result (λ n. n.0 ≡ length self.old.tables.trees) }
         ensures added { OnOk result (self.new ≡ with_tables self.old (with_tree self.old.tables node)) }
         ensures err { OnErr result (self.new ≡ self.old) }

@@ -7,7 +7,7 @@ ghost use Rattle.pf_syntax.specs.Measure.{IsMeasure};
 ghost use Rattle.pf_syntax.specs.SyntaxTree.{empty_tree, expr_at, expr_pattern_at};
 ghost use Rattle.pf_syntax.specs.SyntaxTreeOver.{export_of, heads_over, expr_over, expr_pattern_over, with_node_table};
 ghost use Rattle.pf_syntax.specs.SyntaxTreeOver.{with_export, with_expr, with_expr_pattern, with_expr_function};
-ghost use Rattle.pf_syntax.specs.SyntaxTreeOver.{HeadsStand, ExprPartsStand, ExprPatternPartsStand};
+ghost use Rattle.pf_syntax.specs.SyntaxTreeOver.{HeadsAreThere, ExprPartsAreThere, ExprPatternPartsAreThere};
 
 use crate::expr::{Export, ExprFunction, ExprId, ExprNode, ExprPatternId, ExprPatternNode};
 use crate::measure::Measure;
@@ -82,7 +82,7 @@ impl SyntaxTree {
     /// Adds a pattern after its parts. It fails where memory runs out; no source is long enough for the other two
     /// cases: that there are 2^32 already, or that its tree has 2^32 - 1 nodes or more.
     pub fn add_expr_pattern(&mut self, node: ExprPatternNode) -> Result<ExprPatternId, NoMemory>
-        requires { ExprPatternPartsStand self.old.node_table node }
+        requires { ExprPatternPartsAreThere self.old.node_table node }
         ensures id { IfOk result (λ q. q.0 ≡ length self.old.node_table.expr_patterns) }
         ensures added { OnOk result (self.new ≡ with_node_table self.old (with_expr_pattern self.old.node_table node)) }
         ensures err { OnErr result (self.new ≡ self.old) }
@@ -95,7 +95,7 @@ impl SyntaxTree {
 
     /// Adds an expression after its parts. It fails as the call above does.
     pub fn add_expr(&mut self, node: ExprNode) -> Result<ExprId, NoMemory>
-        requires { ExprPartsStand self.old.node_table node }
+        requires { ExprPartsAreThere self.old.node_table node }
         ensures id { IfOk result (λ e. e.0 ≡ length self.old.node_table.exprs) }
         ensures added { OnOk result (self.new ≡ with_node_table self.old (with_expr self.old.node_table node)) }
         ensures err { OnErr result (self.new ≡ self.old) }
@@ -108,7 +108,7 @@ impl SyntaxTree {
 
     /// Adds a function after its parts.
     pub fn add_function(&mut self, function: ExprFunction) -> Result<(), NoMemory>
-        requires { HeadsStand self.old.node_table function }
+        requires { HeadsAreThere self.old.node_table function }
         ensures added { OnOk result (self.new ≡ with_expr_function self.old function) }
         ensures err { OnErr result (self.new ≡ self.old) }
     {

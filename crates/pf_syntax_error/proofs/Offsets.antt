@@ -5,8 +5,8 @@ use Rattle.pf_tokens.specs.declared.numbered_token.NumberedToken.{NumberedToken 
 use Rattle.pf_tokens.specs.View.{token_list}
 use Rattle.pf_tokens.specs.Offsets.{IsAtOffset}
 
-pub stands_there : (ts : List CodeNumberedToken) (i : ℕ) (t : CodeNumberedToken) → slice_get ts i ≡ Some t
+pub is_there_still : (ts : List CodeNumberedToken) (i : ℕ) (t : CodeNumberedToken) → slice_get ts i ≡ Some t
     → IsAtOffset (token_list ts) t.at
-stands_there [] i t e = absurd cc
-stands_there (u ∷ ts) zero t e = let same : u ≡ t = cc in inl (ap (λ (x : CodeNumberedToken). x.at) same)
-stands_there (u ∷ ts) (suc i) t e = inr (stands_there ts i t e)
+is_there_still [] i t e = absurd cc
+is_there_still (u ∷ ts) zero t e = let same : u ≡ t = cc in inl (ap (λ (x : CodeNumberedToken). x.at) same)
+is_there_still (u ∷ ts) (suc i) t e = inr (is_there_still ts i t e)

@@ -89,6 +89,6 @@ pub(crate) enum NextToken {
     Part,
     OperandOrEnd,
     /// After an atom, which may be the name of a call.
-    BehindAtom,
-    Behind,
+    AfterAtom,
+    After,
 }

@@ -6,7 +6,7 @@
 //! for it.
 #![tactic(auto)]
 
-mod behind;
+mod after;
 mod export;
 mod expression;
 mod frame;

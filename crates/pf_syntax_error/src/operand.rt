@@ -3,7 +3,7 @@
 use crate::frame::{ClauseFronts, Mode, NextToken, Opened};
 use crate::walk::TokenWalk;
 use pf_errors::NoMemory;
-use pf_syntax::{Form, guard_may_call, may_stand};
+use pf_syntax::{Form, guard_may_call, may_be_there};
 use pf_terms::AtomId;
 use pf_tokens::{NumberedKind, Reserved, TokenMark};
 
@@ -24,12 +24,12 @@ impl TokenWalk<'_> {
         match kind {
             NumberedKind::Integer(_) => {
                 self.current.integer();
-                Ok(Some(NextToken::Behind))
+                Ok(Some(NextToken::After))
             }
             _ if self.frame.mode == Mode::Pattern && self.next == NextToken::Part => Ok(None),
             NumberedKind::Variable(_) | NumberedKind::Anonymous | NumberedKind::Text(_) => {
                 self.current.operand(1, Some(1));
-                Ok(Some(NextToken::Behind))
+                Ok(Some(NextToken::After))
             }
             NumberedKind::Atom(name) => Ok(Some(self.atom(name))),
             NumberedKind::OwnModule => Ok(Some(self.atom(self.own))),
@@ -44,9 +44,9 @@ impl TokenWalk<'_> {
         self.name = name;
         if self.frame.mode == Mode::Pattern {
             self.current.operand(1, Some(1));
-            return NextToken::Behind;
+            return NextToken::After;
         }
-        NextToken::BehindAtom
+        NextToken::AfterAtom
     }
 
     /// Reads a mark that opens an operand.
@@ -69,17 +69,17 @@ impl TokenWalk<'_> {
     /// Reads a word that opens an operand.
     fn word(&mut self, word: Reserved) -> Result<Option<NextToken>, NoMemory> {
         match word {
-            Reserved::Case if self.may_stand(Form::Deciding) => {
+            Reserved::Case if self.may_be_there(Form::Deciding) => {
                 self.open(Opened::Scrutinee, Mode::Body, NextToken::Operand)
             }
-            Reserved::If if self.may_stand(Form::Choosing) => {
+            Reserved::If if self.may_be_there(Form::Choosing) => {
                 self.open(
                     Opened::ClauseGuard(ClauseFronts::OfGuards),
                     Mode::Guard,
                     NextToken::Operand,
                 )
             }
-            Reserved::Receive if self.may_stand(Form::Receiving) => {
+            Reserved::Receive if self.may_be_there(Form::Receiving) => {
                 self.open(Opened::ClausePattern, Mode::Pattern, NextToken::Operand)
             }
             _ => Ok(None),
@@ -87,22 +87,22 @@ impl TokenWalk<'_> {
     }
 
     /// Whether the form is allowed here.
-    pub(crate) fn may_stand(&self, form: Form) -> bool {
+    pub(crate) fn may_be_there(&self, form: Form) -> bool {
         match self.frame.mode {
-            Mode::Body => may_stand(false, form),
-            Mode::Guard => may_stand(true, form),
+            Mode::Body => may_be_there(false, form),
+            Mode::Guard => may_be_there(true, form),
             Mode::Pattern => false,
         }
     }
 
     /// After an atom, which may be the name of a call.
-    pub(crate) fn behind_atom(
+    pub(crate) fn after_atom(
         &mut self,
         kind: NumberedKind<'_>,
     ) -> Result<Option<NextToken>, NoMemory> {
         if kind != NumberedKind::Mark(TokenMark::OpenParenthesis) {
             self.current.operand(1, Some(1));
-            return Ok(self.behind(kind));
+            return Ok(self.after(kind));
         }
         let mode = self.frame.mode;
         if mode == Mode::Body {

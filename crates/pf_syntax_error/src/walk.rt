@@ -85,8 +85,8 @@ impl<'a> TokenWalk<'a> {
             NextToken::Operand | NextToken::Part | NextToken::OperandOrEnd => self.operand(
                 index, kind,
             ),
-            NextToken::BehindAtom => self.behind_atom(kind),
-            NextToken::Behind => Ok(self.behind(kind)),
+            NextToken::AfterAtom => self.after_atom(kind),
+            NextToken::After => Ok(self.after(kind)),
             NextToken::ExportOrFunction
             | NextToken::FunctionOnly
             | NextToken::Name
@@ -162,6 +162,6 @@ impl<'a> TokenWalk<'a> {
         self.current = expression;
         self.current
             .operand(inner.deepest.saturating_add(1), as_pattern);
-        Some(NextToken::Behind)
+        Some(NextToken::After)
     }
 }

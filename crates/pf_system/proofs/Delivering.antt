@@ -81,7 +81,7 @@ pub with_mail : (w w1 w' : Processes) (c : Core) (b : ℕ) (v : Value) → Place
     → Done b (leaving (with_process c b (with_message (of c b) v)) []) w.shared.channels w w'
 with_mail w w1 w' c b v h n e m =
     let k = set_length b c.processes (with_message (of c b) v) in
-    done_so w w' b (leaving (with_process c b (with_message (of c b) v)) []) h.stands (omega arith)
+    done_so w w' b (leaving (with_process c b (with_message (of c b) v)) []) h.is_there (omega arith)
     (ap (λ z. z.channels) h.shared ∙ e) (h.basis ∙ m)
 
 -- ties alone
@@ -127,8 +127,8 @@ module _ (w w1 w' : Processes) (c : Core) (a b r : ℕ) (v : Value) (x : Suffix)
         label = ap (delivers (signal.down r v)) q;
       })
 
-  forgets_stands : (p : ℕ) → got r (of c b).active ≡ Some p → Represents w1 (forgets c b r)
-  forgets_stands p e =
+  forgets_is_there : (p : ℕ) → got r (of c b).active ≡ Some p → Represents w1 (forgets c b r)
+  forgets_is_there p e =
       let t : ties_of (forgets c b r) ≡ w1.shared.ties =
       ap (λ o. ties_of (actions.demonitored c b r o).left.core) (sym e) ∙ follow_actions.demonitor c b r
       ∙ ap (λ z. ties.demonitored z b r) h.ties ∙ sym changed in
@@ -143,7 +143,7 @@ module _ (w w1 w' : Processes) (c : Core) (a b r : ℕ) (v : Value) (x : Suffix)
       let y : Process = record (of c b) { active = without r (of c b).active } in
       let m : Value = deliveries.down_message r a v in
       let here : of (forgets c b r) b ≡ y = at_set b c.processes y l in
-      let put = indices (forgets c b r) (forgets_stands p e) (ap (λ z. is_alive z.state) here ∙ alive) in
+      let put = indices (forgets c b r) (forgets_is_there p e) (ap (λ z. is_alive z.state) here ∙ alive) in
       let same : with_process (forgets c b r) b (with_message (of (forgets c b r) b) m) ≡ with_process c b
       (with_message y m) =
       ap (λ z. with_process (forgets c b r) b (with_message z m)) here
@@ -174,14 +174,14 @@ module _ (w w1 w' : Processes) (c : Core) (a b : ℕ) (by_link : Bool) (r : Valu
   abbrev given : Bool → Core
   given t = if t then with_process c b (record (of c b) { links = without_number a (of c b).links }) else c
 
-  given_stands : (t : Bool) → ties_of (given t) ≡ w1.shared.ties → Represents w1 (given t)
-  given_stands true e = tied w w1 c slots ready basis b
+  given_is_there : (t : Bool) → ties_of (given t) ≡ w1.shared.ties → Represents w1 (given t)
+  given_is_there true e = tied w w1 c slots ready basis b
       (record (of c b) { links = without_number a (of c b).links }) h refl e rows
-  given_stands false e = let n = ap length rows in rows_more w w1 c slots ready basis h e (omega arith)
+  given_is_there false e = let n = ap length rows in rows_more w w1 c slots ready basis h e (omega arith)
 
-  pub unlinked_stands : Represents w1 (without_link c a b by_link)
-  unlinked_stands =
-      given_stands (by_link && has a (of c b).links) (follow_deliveries.exit_placed c a b by_link
+  pub unlinked_is_there : Represents w1 (without_link c a b by_link)
+  unlinked_is_there =
+      given_is_there (by_link && has a (of c b).links) (follow_deliveries.exit_placed c a b by_link
       ∙ ap (λ z. ties.exit_placed z a b by_link) h.ties ∙ sym changed)
 
   given_state : (t : Bool) → (of (given t) b).state ≡ (of c b).state
@@ -218,7 +218,7 @@ module _ (w w1 w' : Processes) (c : Core) (a b : ℕ) (by_link : Bool) (r : Valu
       by_fate fates.drops e
       (record {
         done = subst (Done b (leaving (without_link c a b by_link) []) w.shared.channels w) (sym same)
-            (done_so w w1 b (leaving (without_link c a b by_link) []) unlinked_stands rows_enough rows basis);
+            (done_so w w1 b (leaving (without_link c a b by_link) []) unlinked_is_there rows_enough rows basis);
         label = ap (delivers (signal.exit by_link r)) q;
       })
 
@@ -230,7 +230,7 @@ module _ (w w1 w' : Processes) (c : Core) (a b : ℕ) (by_link : Bool) (r : Valu
       by_fate fates.becomes_message e
       (record {
         done = with_mail w w1 w' (without_link c a b by_link) b (deliveries.exit_message a r)
-            (indices (without_link c a b by_link) unlinked_stands (alive_still alive)) rows_enough rows basis;
+            (indices (without_link c a b by_link) unlinked_is_there (alive_still alive)) rows_enough rows basis;
         label = ap (delivers (signal.exit by_link r)) q;
       })
 
@@ -242,7 +242,7 @@ module _ (w w1 w' : Processes) (c : Core) (a b : ℕ) (by_link : Bool) (r : Valu
       by_fate (fates.ends_with v) e
       (record {
         done = record {
-          stands = k.stands;
+          is_there = k.is_there;
           channels = k.channels ∙ ap (λ cs. posted b (ended_by (without_link c a b by_link) b (failed v)).sent
               (with_senders (length (ended_by (without_link c a b by_link) b (failed v)).core.processes) cs)) rows;
           basis = k.basis ∙ basis;
@@ -261,7 +261,7 @@ delivered_so w w1 w' c from to s l e m h =
       others = w1.shared.channels;
       is_taken = e;
       shown = record {
-        done = record { stands = h.done.stands; channels = h.done.channels; basis = h.done.basis ∙ m };
+        done = record { is_there = h.done.is_there; channels = h.done.channels; basis = h.done.basis ∙ m };
         label = h.label;
       };
     }

@@ -29,10 +29,10 @@ use Rattle.pf_system.proofs.Settling.{raised_in, same_size, slot_is}
 use Rattle.pf_system.proofs.Changed.{get_set, get_within}
 
 -- a message more or less is taken out of the slot of a process, and of the process
-flush_stands : (n k : ℕ) (d : Core) (w w' : Processes) (s' : Slot) → w'.slots.items ≡ slice_set w.slots.items n s'
+flush_is_there : (n k : ℕ) (d : Core) (w w' : Processes) (s' : Slot) → w'.slots.items ≡ slice_set w.slots.items n s'
     → w'.shared ≡ w.shared → w'.ready ≡ w.ready
     → w'.basis ≡ w.basis → RepresentsBut w d n → RepresentsBut w' (with_flushed d n k) n
-flush_stands n k d w w' s' e b r m h =
+flush_is_there n k d w w' s' e b r m h =
     let p : Process = record (of d n) { mailbox = flushed k (of d n).mailbox } in
     let i : length (with_process d n p).processes ≡ length d.processes = set_length n d.processes p in
     record {
@@ -112,7 +112,7 @@ module _ (n k : ℕ) (w w1 w' : Processes) (r : ActAnswer) (c : Core) (slots : w
         let u = but.room.rows in
         let first = between n c middle w w1 kept t (omega arith) slots ready basis but in
         record {
-          stands = flush_stands n k middle w1 w' s' e b r' m first;
+          is_there = flush_is_there n k middle w1 w' s' e b r' m first;
           state = ap (λ z. z.state) here ∙ ap (λ z. z.state) (one_body n middle c kept.0);
           mail = flushed_mail;
           channels = ap (λ z. z.channels) b ∙ posted_rows n x.left.core x.left.sent w.shared.channels w1.shared.channels

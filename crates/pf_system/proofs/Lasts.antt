@@ -26,7 +26,7 @@ use Rattle.pf_stepper.specs.declared.act.Act.{Act as Asked}
 use Rattle.pf_stepper.specs.declared.machine.Move.TheVariants as v
 use Rattle.pf_mailbox.specs.MailView.{MailView}
 use Rattle.pf_system.specs.Bodies.{body_of}
-use Rattle.pf_system.specs.Slots.{SlotIsLeft, PutsIn, StandsAs, state_in, waiting_if, end_of}
+use Rattle.pf_system.specs.Slots.{SlotIsLeft, PutsIn, IsAs, state_in, waiting_if, end_of}
 use Rattle.pf_system.specs.Processes.{Represents, RepresentsBut, IsLeftAt, Done, Shown, EndsProcess, checked_in}
 use Rattle.pf_system.specs.Processes.{module_in}
 use Rattle.pf_system.specs.Acts.{ShowsAct}
@@ -55,7 +55,7 @@ life_puts : (m : Checked) (own : ℕ) (t : ProcessState) (l : Life) (mail : Mail
     → PutsIn m own (body_of t mail.messages) (slot_with l mail)
 life_puts m own t (life.Lives k w) mail h e =
     record {
-      sound = record { ready = (subst (λ z. StandsAs z k.standing) (sym h.2) (t, h.0, e), h.3); is_of = h.1 };
+      sound = record { ready = (subst (λ z. IsAs z k.standing) (sym h.2) (t, h.0, e), h.3); is_of = h.1 };
       is = ap (λ z. body_of (waiting_if z (state_in k.standing)) mail.messages) h.2
           ∙ ap (λ z. body_of (state_in z) mail.messages) h.0;
     }
@@ -81,7 +81,7 @@ module _ (w : Processes) (c : Core) (a : ℕ) (x : MachineStatus) (s : Slot) (bu
   cut_shown l t q e g k =
       record {
         done = record {
-          stands = subst (λ z. Represents w (in_state c a t z)) k (goes_in t e g);
+          is_there = subst (λ z. Represents w (in_state c a t z)) k (goes_in t e g);
           channels = quiet_channels t (of c a).mailbox;
           basis = refl;
         };
@@ -99,7 +99,7 @@ module _ (w : Processes) (c : Core) (a : ℕ) (x : MachineStatus) (s : Slot) (bu
             (ap (λ o. Some (received c a h.frames h.clauses o)) h.taken);
         shown = record {
           done = record {
-            stands = goes_in (running (fill h.frames h.body)) h.stands refl;
+            is_there = goes_in (running (fill h.frames h.body)) h.is_there refl;
             channels = quiet_channels (running (fill h.frames h.body)) s.mailbox.messages;
             basis = refl;
           };
@@ -121,7 +121,7 @@ module _ (w : Processes) (c : Core) (a : ℕ) (x : MachineStatus) (s : Slot) (bu
           shown = k c h.frames s but can (record {
             at = left.at;
             leaves =
-                subst (λ q. SlotIsLeft (checked_in w) a q s) h.stands left.leaves;
+                subst (λ q. SlotIsLeft (checked_in w) a q s) h.is_there left.leaves;
           }) h.kept;
         }
     act_last l z (waiting tr) k h = absurd h.step
@@ -135,7 +135,7 @@ module _ (w : Processes) (c : Core) (a : ℕ) (x : MachineStatus) (s : Slot) (bu
         let g = k c tr s but can (record {
           at = left.at;
           leaves =
-              subst (λ z. SlotIsLeft (checked_in w) a z s) h.stands left.leaves;
+              subst (λ z. SlotIsLeft (checked_in w) a z s) h.is_there left.leaves;
         }) h.kept in
         record {
           deed = received c a h.frames h.clauses None;

@@ -60,6 +60,6 @@ sound_at m n (x ∷ ss) zero s h k e = let z : n ≡ n + zero = omega arith in
 sound_at m n (x ∷ ss) (suc i) s h k e = let z : suc n + i ≡ n + suc i = omega arith in
     subst (λ own. SlotIsSound m own s) z (sound_at m (suc n) ss i s h.1 (omega arith) e)
 
-pub nothing_behind : (xs : List ℕ) → xs ≡ xs ++ []
-nothing_behind [] = refl
-nothing_behind (x ∷ xs) = ap (λ ys. x ∷ ys) (nothing_behind xs)
+pub nothing_after : (xs : List ℕ) → xs ≡ xs ++ []
+nothing_after [] = refl
+nothing_after (x ∷ xs) = ap (λ ys. x ∷ ys) (nothing_after xs)

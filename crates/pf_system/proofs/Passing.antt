@@ -30,34 +30,34 @@ unspent s m k t d e f = sym e ∙ ap (λ z. view_of_system m k (unless_spent z d
 pub ready_few : (s : Inside) (v : SystemView) (c : Configuration) → view_of_inside s ≡ v → IsValid s
     → v.standing ≡ Some c
     → length s.processes.ready ≤ MOST_PROCESSES
-ready_few s v c e valid stands = by s.spent refl
+ready_few s v c e valid is_there = by s.spent refl
   where
     stood : unless_spent s.spent (configuration_of s.processes) ≡ Some c
-    stood = ap (λ x. x.standing) e ∙ stands
+    stood = ap (λ x. x.standing) e ∙ is_there
 
     by : (t : Bool) → s.spent ≡ t → length s.processes.ready ≤ MOST_PROCESSES
     by true q =
         let gone : ◌≡◌ {A = Option Configuration} None (Some c) =
         ap (λ t. unless_spent t (configuration_of s.processes)) (sym q) ∙ stood in absurd (cc)
     by false q =
-        let w = (valid q).stands in
+        let w = (valid q).is_there in
         let few : length (pids_in_state can_go zero (core_of s.processes).processes) ≤ MOST_PROCESSES =
         omega (arith, numbers_few can_go zero (core_of s.processes).processes, w.room.few) in
         subst (λ z. length z ≤ MOST_PROCESSES) (sym w.ready) few
 
 -- processes that represent a core represent their own
-pub stands_itself : (w : Processes) (c : Core) → Represents w c → Represents w (core_of w)
-stands_itself w c h = subst (Represents w) (sym (again w c h)) h
+pub is_there_itself : (w : Processes) (c : Core) → Represents w c → Represents w (core_of w)
+is_there_itself w c h = subst (Represents w) (sym (again w c h)) h
 
 -- what a system needs is true after a change that leaves module and limit as they were
 pub kept_after : (m : Checked) (w w' : Processes) (c : Core) → RunsModule m w → Represents w' c → w'.basis ≡ w.basis
     → RunsModule m w'
-kept_after m w w' c h s e = record { stands = stands_itself w' c s; code = ap (λ z. z.module.value) e ∙ h.code }
+kept_after m w w' c h s e = record { is_there = is_there_itself w' c s; code = ap (λ z. z.module.value) e ∙ h.code }
 
 pub still_kept : (m : Checked) (w w' : Processes) (from to : ℕ) (l : Label) → RunsModule m w
     → Delivered (core_of w) from to w l w' → RunsModule m w'
 still_kept m w w' from to l k h = kept_after m w w' (delivered (core_of w) from to h.signal).left.core k
-    h.shown.done.stands h.shown.done.basis
+    h.shown.done.is_there h.shown.done.basis
 
 pub delivery_passes : (m : Checked) (w w' : Processes) (k from to : ℕ) (l : Label)
     → Delivered (core_of w) from to w l w'
@@ -67,7 +67,7 @@ delivery_passes m w w' k from to l h =
     let d = delivered (core_of w) from to h.signal in
     let p : Passed = passed to d h.others (Some h.signal) 1 in
     let e : configuration_of w' ≡ p.after =
-    ap (λ c. both c w'.shared.channels) (again w' d.left.core h.shown.done.stands)
+    ap (λ c. both c w'.shared.channels) (again w' d.left.core h.shown.done.is_there)
     ∙ ap (both d.left.core) h.shown.done.channels in
     record {
       before = configuration_of w;

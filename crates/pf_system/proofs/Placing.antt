@@ -18,8 +18,8 @@ use Rattle.pf_system.specs.Placed.{PlacesOf}
 use Rattle.pf_system.proofs.Ready.{numbers_kept}
 use Rattle.pf_system.proofs.Changed.{get_within, sound_at, sound_set, body_at, slots_length, put_back, goes_now}
 
-pub stands_but : (w : Processes) (c : Core) (a : ℕ) → Represents w c → a < length w.slots.items → RepresentsBut w c a
-stands_but w c a h l =
+pub is_there_but : (w : Processes) (c : Core) (a : ℕ) → Represents w c → a < length w.slots.items → RepresentsBut w c a
+is_there_but w c a h l =
     record {
       there = l;
       bodies = λ x. ap (λ bs. slice_set bs a x) h.bodies;
@@ -76,7 +76,7 @@ module _ (w w' : Processes) (b : ℕ) (v : Value) (s s' : Slot) where
       let n : b < length c.processes = omega (arith, slots_length w c h) in
       let q : t ≡ is_waiting (of c b).state = waits (checked_in w) b sound ∙ ap (λ z. is_waiting z.state) (sym y) in
       record {
-        stands = put_back w w' c b s' (with_message (of c b) v) (stands_but w c b h l)
+        is_there = put_back w w' c b s' (with_message (of c b) v) (is_there_but w c b h l)
             (ap (with_one_message v) y ∙ sym put.is) (message_ties (of c b) v) put.sound
             e k m (ready_so c t h n q r);
         shared = k;

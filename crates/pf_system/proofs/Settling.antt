@@ -177,7 +177,7 @@ acted_in n c x w w' r e g s q f k =
     let i = same_size c d e in
     let j = k.room.rows in
     record {
-      stands = between n c d w w' e g.ties (omega arith) s q f k;
+      is_there = between n c d w w' e g.ties (omega arith) s q f k;
       state = ap (λ z. z.state) y;
       mail = λ t t' h h' m. ap (λ z. z.mailbox.messages) (slot_is t' t (sym h' ∙ ap (λ z. slice_get z.items n) s ∙ h))
           ∙ m ∙ ap (λ z. z.mailbox) (sym y);
@@ -205,7 +205,7 @@ pub raised_in : (n : ℕ) (w : Processes) (r : ActAnswer) (c : Core) (e : Value)
 raised_in n w r c e k but =
     let j = but.room.rows in
     record {
-      stands = but;
+      is_there = but;
       state = refl;
       mail = λ t t' h h' m. ap (λ z. z.mailbox.messages) (slot_is t' t (sym h' ∙ h)) ∙ m;
       channels = sym (enough_senders (length c.processes) w.shared.channels (omega arith));
@@ -309,7 +309,8 @@ shows_act n x w w1 w' r s1 s' h keeps at ans e b q f c fs s but can left mail =
     let i : length (with_state d n state).processes ≡ length d.processes = set_length n d.processes _ in
     record {
       done = record {
-        stands = goes_again w1 w' d n s' state (of d n).mailbox g.stands can' (answers_go fs v.answer) puts (e, b, f) q;
+        is_there = goes_again w1 w' d n s' state (of d n).mailbox g.is_there can' (answers_go fs v.answer) puts
+            (e, b, f) q;
         channels = ap (λ z. z.channels) b ∙ g.channels
             ∙ ap (λ z. posted n v.left.sent (with_senders z w.shared.channels)) (sym i);
         basis = f ∙ g.basis;
@@ -345,7 +346,7 @@ waits_in n w w' s1 s' at ans e b f q c t s but can left mail =
     record { sound = puts0.sound; is = puts0.is ∙ ap (body_of (waiting t)) own_mail } in
     let i : length (with_state c n (waiting t)).processes ≡ length c.processes = set_length n c.processes _ in
     record {
-      stands = waits_now w w' c n s' (waiting t) (of c n).mailbox but (but_there w c n but)
+      is_there = waits_now w w' c n s' (waiting t) (of c n).mailbox but (but_there w c n but)
           (sym (alive_going (of c n).state can)) refl puts (e, b, f) q;
       channels = none_sent w w' c (with_state c n (waiting t)) n i but b;
       basis = f;

@@ -29,7 +29,7 @@ pub done_so : (w w' : Processes) (a : ℕ) (d : Left) → Represents w' d.core
     → w'.shared.channels ≡ posted a d.sent w.shared.channels → w'.basis ≡ w.basis → Done a d w.shared.channels w w'
 done_so w w' a d h n e m =
     record {
-      stands = h;
+      is_there = h;
       channels = e ∙ ap (posted a d.sent)
           (sym (enough_senders (length d.core.processes) w.shared.channels n));
       basis = m;

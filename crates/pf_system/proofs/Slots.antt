@@ -18,7 +18,7 @@ use Rattle.pf_stepper.specs.declared.machine.Move.TheVariants as v
 use Rattle.pf_mailbox.specs.MailView.{MailView}
 use Rattle.pf_mailbox.specs.Tests.{IsAheadOf}
 use Rattle.pf_system.specs.Bodies.{body_of}
-use Rattle.pf_system.specs.Slots.{StandsAs, SlotIsSound, SlotIsLeft, RanInSlot, PutsIn, AnswersIn, state_in, waiting_if}
+use Rattle.pf_system.specs.Slots.{IsAs, SlotIsSound, SlotIsLeft, RanInSlot, PutsIn, AnswersIn, state_in, waiting_if}
 use Rattle.pf_system.specs.declared.slot.Life.{Life}
 use Rattle.pf_system.specs.declared.slot.Life.TheVariants as life
 use Rattle.pf_system.specs.declared.slot.Slot.{Slot}
@@ -28,12 +28,12 @@ slot_with l mail = record { life = l; mailbox = mail }
 
 -- ---- a machine that runs
 
-pub never_waits : (w : Bool) (x : MachineStatus) → StandsAs w x → can_go (waiting_if w (state_in x)) ≡ true → w ≡ false
+pub never_waits : (w : Bool) (x : MachineStatus) → IsAs w x → can_go (waiting_if w (state_in x)) ≡ true → w ≡ false
 never_waits true x s e = let k : false ≡ true = sym (ap (λ z. can_go (waiting_if true (state_in z))) s.1)
     ∙ e in absurd cc
 never_waits false x s e = refl
 
-pub can_move : (w : Bool) (x : MachineStatus) → StandsAs w x → CanMove x
+pub can_move : (w : Bool) (x : MachineStatus) → IsAs w x → CanMove x
 can_move true x s = subst CanMove (sym s.1) tt
 can_move false x s = subst CanMove (sym s.1) tt
 
@@ -69,7 +69,7 @@ ran_to_end m own left r r' mail l e =
         counted = refl;
         within = omega arith;
         steps = no_step (goes_on (ending (value_of r)));
-        last = record { was = ap ending (sym e); stands = refl; kept = refl };
+        last = record { was = ap ending (sym e); is_there = refl; kept = refl };
       };
       leaves = refl;
     }
@@ -105,11 +105,11 @@ answered_machine : (m : Checked) (own : ℕ) (fs : List Frame) (k k' : MachineVi
 answered_machine m own fs k k' w mail r h e =
     let x : k'.standing ≡ goes (with_answer fs (answer_value r)) =
     ap (λ z. z.standing) e ∙ ap (λ z. answered_in z (answer_value r)) h.0 in
-    let stands : StandsAs w k'.standing = subst (λ z. StandsAs z k'.standing) (sym h.2)
+    let is_there : IsAs w k'.standing = subst (λ z. IsAs z k'.standing) (sym h.2)
     (with_answer fs (answer_value r), x, can_go_on fs (answer_value r)) in
     record {
       sound = record {
-        ready = (stands, ahead_anyhow k k' fs mail h.0 h.3);
+        ready = (is_there, ahead_anyhow k k' fs mail h.0 h.3);
         is_of = (ap (λ z. z.own) e ∙ h.1.0, ap (λ z. z.checked) e ∙ h.1.1);
       };
       is = ap (λ z. body_of (waiting_if z (state_in k'.standing)) mail.messages) h.2

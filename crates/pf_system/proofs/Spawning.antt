@@ -124,8 +124,8 @@ module _ (a : ℕ) (bond : Bond) (w w' : Processes) (l : Life) (r : ActAnswer) (
   there_of : a < length (bodies_of c)
   there_of = let k = length_of c in let j = but.there in let i = same_length in omega arith
 
-  stands_after : RepresentsBut w' after a
-  stands_after =
+  is_there_after : RepresentsBut w' after a
+  is_there_after =
       let n = length w.slots.items in
       let e = same_length in
       let f = after_length in
@@ -186,7 +186,7 @@ module _ (a : ℕ) (bond : Bond) (w w' : Processes) (l : Life) (r : ActAnswer) (
       subst (λ t. ActedIn c (if t then gives after [] (given_for bond (length c.processes) c.next_reference)
       (shown_for bond (length c.processes) c.next_reference) else raising c system_limit) a w r w') (sym lt)
       (record {
-        stands = stands_after;
+        is_there = is_there_after;
         state = ap (λ p. p.state) (body_front a c after (body_of s []) (but_there w c a but) (spawn_bodies c a s bond));
         mail = mail_after;
         channels = o.channels ∙ ap (λ t. with_senders t w.shared.channels) z;
@@ -199,11 +199,11 @@ module _ (a : ℕ) (bond : Bond) (w w' : Processes) (l : Life) (r : ActAnswer) (
         basis = o.basis;
       })
 
-pub tells_it : (linked : Bool) (p k : ℕ) (r : ActAnswer) → answer_value r.value ≡ Ok (pid p)
+pub reports_it : (linked : Bool) (p k : ℕ) (r : ActAnswer) → answer_value r.value ≡ Ok (pid p)
     → label_of r.label ≡ label.spawns linked p
     → ReportsSpawn (if linked then Linking else Unbound) p k r
-tells_it true p k r x y = record { value = x; label = y }
-tells_it false p k r x y = record { value = x; label = y }
+reports_it true p k r x y = record { value = x; label = y }
+reports_it false p k r x y = record { value = x; label = y }
 
 -- where the ties are changed first
 pub opens_tied : (w w' : Processes) (l : Life) (t u : AllTies) → u ≡ t
@@ -228,7 +228,7 @@ opens_alike b n w w' s l r o =
         ready = o.opens.ready;
         basis = o.opens.basis;
       };
-      tells = o.tells;
+      reports = o.reports;
     }
 
 -- the slots of the others stay
@@ -310,4 +310,4 @@ module _ (a : ℕ) (bond : Bond) (w : Processes) (r : ActAnswer) (home function 
         → OpensProcess bond a w l r w' → Spawns w'
     spawns_so w' l few begins o =
         reaches w' (λ c but. spawned_in a bond w w' l r c (start_of (module_in w) h n vs) but few begins
-        o.opens o.tells)
+        o.opens o.reports)

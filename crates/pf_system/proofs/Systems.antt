@@ -26,7 +26,7 @@ use Rattle.pf_system.specs.declared.slot.Life.TheVariants as life
 use Rattle.pf_system.specs.declared.slot.Slot.{Slot}
 use Rattle.pf_system.specs.declared.processes.Processes.{Processes}
 use Rattle.pf_system.proofs.Going.{IsIn, split_in, in_either}
-use Rattle.pf_system.proofs.Passing.{both, kept_after, stands_itself}
+use Rattle.pf_system.proofs.Passing.{both, kept_after, is_there_itself}
 use Rattle.pf_system.proofs.Changed.{again}
 
 -- ---- a process that may go can go
@@ -87,7 +87,7 @@ can_go_of a c h = by (in_either (actors.Process a) (map actors.Process ps)
 
 pub turn_kept : (m : Checked) (w w' : Processes) (c : Core) (a left used : ℕ) (l : Label) → RunsModule m w
     → ProcessTurned c a left w l used w' → RunsModule m w'
-turn_kept m w w' c a left used l k h = kept_after m w w' h.deed.left.core k h.shown.done.stands h.shown.done.basis
+turn_kept m w w' c a left used l k h = kept_after m w w' h.deed.left.core k h.shown.done.is_there h.shown.done.basis
 
 pub turn_passes : (m : Checked) (w w' : Processes) (k a left used : ℕ) (l : Label) → RunsModule m w
     → ProcessTurned (core_of w) a left w l used w'
@@ -97,7 +97,7 @@ turn_passes m w w' k a left used l i h =
     let d = h.deed in
     let p : Passed = passed a d w.shared.channels None used in
     let e : configuration_of w' ≡ p.after =
-    ap (λ c. both c w'.shared.channels) (again w' d.left.core h.shown.done.stands)
+    ap (λ c. both c w'.shared.channels) (again w' d.left.core h.shown.done.is_there)
     ∙ ap (both d.left.core) h.shown.done.channels in
     record {
       before = configuration_of w;
@@ -172,7 +172,7 @@ module _ (w w' : Processes) (k : MachineView) (root : ℕ) (none' : IsEmpty w)
 
   pub begins_kept : (m : Checked) → checked_in w ≡ m → RunsModule m w'
   begins_kept m e = record {
-    stands = stands_itself w' (start root edition).core begins;
+    is_there = is_there_itself w' (start root edition).core begins;
     code =
         ap (λ z. z.module.value) o.basis ∙ e;
   }

@@ -22,7 +22,7 @@ use Rattle.pf_mailbox.specs.MailView.{MailView}
 use Rattle.pf_stepper.specs.MachineView.{MachineStatus, asking}
 use Rattle.pf_stepper.specs.Moves.{MachineMoved}
 use Rattle.pf_stepper.specs.Turns.{CanAnswer, StepsAndMove, MachineRan}
-use Rattle.pf_stepper.proofs.Before.{steps_before, turn_behind}
+use Rattle.pf_stepper.proofs.Before.{steps_before, turn_after}
 use Rattle.pf_stepper.specs.declared.machine.Move.{Move}
 use Rattle.pf_stepper.specs.declared.machine.Move.TheVariants as v
 use Rattle.pf_system.specs.Slots.{state_of, LifeAsks, LifeIsLeft, LifeIsReady, RanInSlot, SlotIsSound}
@@ -129,7 +129,7 @@ asks_in m own x (life.Ended r) mail fs h e = tt
 pub asks_for : (m : Checked) (own left used : ℕ) (s s1 : Slot) (move : Move) → RanInSlot m own left s move used s1
     → SlotAsksFor move s1
 asks_for m own left used s s1 (v.Action act) r = asks_in m own r.standing s1.life s1.mailbox r.ran.last.frames r.leaves
-    r.ran.last.stands
+    r.ran.last.is_there
 asks_for m own left used s s1 v.Pure r = tt
 asks_for m own left used s s1 (v.Take t) r = tt
 asks_for m own left used s s1 v.Wait r = tt
@@ -142,7 +142,7 @@ shown_from : (w w1 w' : Processes) (a : ℕ) (l : Label) (d : Deed) → w1.share
 shown_from w w1 w' a l d e f h =
     record {
       done = record {
-        stands = h.done.stands;
+        is_there = h.done.is_there;
         channels = h.done.channels ∙ ap (λ b.
             posted a d.left.sent (with_senders (length d.left.core.processes) b.channels)) e;
         basis = h.done.basis ∙ f;
@@ -161,7 +161,7 @@ module _ (w w1 w' : Processes) (c : Core) (a left used : ℕ) (l : Label) (e : w
         deed = cut_in c a r.next;
         turn = cut_turn (module_in w) a c left used (of c a).state r.next g r.all r.steps;
         within = let q = r.all in omega arith;
-        shown = shown_from w w1 w' a l (cut_in c a r.next) e f (k r.next r.stands g r.kept);
+        shown = shown_from w w1 w' a l (cut_in c a r.next) e f (k r.next r.is_there g r.kept);
       }
 
   -- the last step of a turn after those that went before it
@@ -170,7 +170,7 @@ module _ (w w1 w' : Processes) (c : Core) (a left used : ℕ) (l : Label) (e : w
   last_so move r k =
       record {
         deed = k.deed;
-        turn = turn_behind (module_in w) a c left used r.before (of c a).state r.middle k.deed r.counted
+        turn = turn_after (module_in w) a c left used r.before (of c a).state r.middle k.deed r.counted
             r.within r.steps
             (λ n. subst (λ z. Turn (module_of z.module.value) a c (suc n) r.middle k.deed 1) f (k.last n));
         within = r.within;

@@ -78,7 +78,7 @@ IsBetween asked.MakeRef = Unit {0}
 -- the processes are what an action of process a makes of them, but for the slot of that process, which waits for the
 -- answer
 pub record ActedIn (c : Core) (x : Acted) (a : ℕ) (w : Processes) (r : ActAnswer) (w' : Processes) : Type 0 where
-  pub stands : RepresentsBut w' x.left.core a
+  pub is_there : RepresentsBut w' x.left.core a
   pub state : (of x.left.core a).state ≡ (of c a).state
   -- a slot that holds the messages of the process holds them still
   pub mail : (s s' : Slot) → slice_get w.slots.items a ≡ Some s → slice_get w'.slots.items a ≡ Some s'
@@ -161,4 +161,4 @@ pub record ReportsSpawn (b : Bond) (own reference : ℕ) (r : ActAnswer) : Type 
 pub record OpensProcess (b : Bond) (other : ℕ) (w : Processes) (l : Life) (r : ActAnswer)
     (w' : Processes) : Type 0 where
   pub opens : OpensWithTies (opened_by b other w.shared.ties) w l w'
-  pub tells : ReportsSpawn b (length w.slots.items) w.shared.ties.next_reference r
+  pub reports : ReportsSpawn b (length w.slots.items) w.shared.ties.next_reference r

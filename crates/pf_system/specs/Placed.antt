@@ -13,7 +13,7 @@ use Rattle.pf_system.specs.declared.processes.Processes.{Processes}
 
 -- a message arrived at a process that lives, and nothing else was changed
 pub record PlacesMessage (c : Core) (b : ℕ) (v : Value) (w w' : Processes) : Type 0 where
-  pub stands : Represents w' (with_process c b (with_message (of c b) v))
+  pub is_there : Represents w' (with_process c b (with_message (of c b) v))
   pub shared : w'.shared ≡ w.shared
   pub basis : w'.basis ≡ w.basis
 

@@ -71,7 +71,7 @@ pub record IsLeftAt (w : Processes) (a : ℕ) (x : MachineStatus) (s : Slot) : T
 -- a did this, over these channels, and this is what is left: processes that represent the definition's core and
 -- channels
 pub record Done (a : ℕ) (d : Left) (cs : Channels) (w w' : Processes) : Type 0 where
-  pub stands : Represents w' d.core
+  pub is_there : Represents w' d.core
   pub channels : w'.shared.channels ≡ posted a d.sent (with_senders (length d.core.processes) cs)
   pub basis : w'.basis ≡ w.basis
 

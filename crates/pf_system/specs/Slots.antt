@@ -50,9 +50,9 @@ slot_body s = body_of (state_of s.life) s.mailbox.messages
 -- ---- what is true of a slot
 
 -- a machine that waits runs; another goes on
-abbrev pub StandsAs : Bool → MachineStatus → Type 0
-StandsAs true x = (t : Tree) × (x ≡ goes (running t))
-StandsAs false x = (s : ProcessState) × (x ≡ goes s) × (can_go s ≡ true)
+abbrev pub IsAs : Bool → MachineStatus → Type 0
+IsAs true x = (t : Tree) × (x ≡ goes (running t))
+IsAs false x = (s : ProcessState) × (x ≡ goes s) × (can_go s ≡ true)
 
 -- it is the process of this pid, and runs this module
 abbrev pub IsMachineOf : Checked → ℕ → MachineView → Type 0
@@ -60,7 +60,7 @@ IsMachineOf m own k = (k.own ≡ own) × (k.checked ≡ m)
 
 -- its machine may go on over its mailbox
 abbrev pub LifeIsReady : Life → MailView → Type 0
-LifeIsReady (life.Lives machine waits) mail = StandsAs waits machine.standing × IsAheadOf machine mail
+LifeIsReady (life.Lives machine waits) mail = IsAs waits machine.standing × IsAheadOf machine mail
 LifeIsReady (life.Ends r) mail = Unit {0}
 LifeIsReady (life.Ended e) mail = Unit {0}
 

@@ -55,7 +55,7 @@ view_of_inside s = view_of_system s.module.value s.steps (unless_spent s.spent (
 
 -- processes that represent their own core, and run this module
 pub record RunsModule (m : Checked) (w : Processes) : Type 0 where
-  pub stands : Represents w (core_of w)
+  pub is_there : Represents w (core_of w)
   pub code : checked_in w ≡ m
 
 abbrev pub IsValid : Inside → Type 0

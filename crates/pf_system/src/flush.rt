@@ -50,7 +50,7 @@ impl Slot {
         ensures { FlushesIn reference self.old self.new }
     {
         self.mailbox.reset_mark();
-        let _told = self.mailbox.flush(pool, reference);
+        let _reported = self.mailbox.flush(pool, reference);
     }
 }
 

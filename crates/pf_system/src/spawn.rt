@@ -92,7 +92,7 @@ fn begun(
 }
 
 /// What a process that isn't watched gives and shows.
-fn told(linked: bool, pid: u32, shown: &mut Label) -> Result<Term, Term>
+fn reported(linked: bool, pid: u32, shown: &mut Label) -> Result<Term, Term>
     ensures { (reference : _) → ReportsSpawn (if linked then bonds.Linking else bonds.Unbound) pid reference
         (answer result shown.new) }
 {
@@ -101,7 +101,7 @@ fn told(linked: bool, pid: u32, shown: &mut Label) -> Result<Term, Term>
 }
 
 /// What a process that is watched gives and shows.
-fn told_watched(
+fn reported_watched(
     alloc: Global,
     pid: u32,
     reference: u64,
@@ -168,7 +168,7 @@ impl Processes {
         }
         let (pid, reference) = self.shared.ties.open_watched(alloc, watcher)?;
         self.enter(alloc, pid, life)?;
-        told_watched(alloc, pid, reference, shown)
+        reported_watched(alloc, pid, reference, shown)
     }
 
     /// One process more, by its bond to another, and what it gives and shows.
@@ -190,11 +190,11 @@ impl Processes {
         match bond {
             Bond::Unbound => {
                 self.open(alloc, None, life)?;
-                Ok(told(false, pid, shown))
+                Ok(reported(false, pid, shown))
             }
             Bond::Linking => {
                 self.open(alloc, Some(other), life)?;
-                Ok(told(true, pid, shown))
+                Ok(reported(true, pid, shown))
             }
             Bond::Watching => self.open_watched(alloc, other, life, shown),
         }

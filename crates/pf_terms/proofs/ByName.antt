@@ -17,7 +17,7 @@ use Rattle.std.proofs.lemmas.Map.Text.{is_eq-slice_cmp}
 use Rattle.std.proofs.lemmas.Option.{IfSome_then}
 use Rattle.std.proofs.lemmas.Slice.Eq.{bytes_eq-Decides}
 use Rattle.pf_terms.specs.Numbers.{IsIndex}
-use Rattle.pf_terms.proofs.Fronts.{get-front, get-behind}
+use Rattle.pf_terms.proofs.Fronts.{get-front, get-after}
 
 -- a name that is not this one is not one that this one is
 apart : (bs cs ks : List ℕ) → bytes_eq bs cs ≡ false → is_eq (slice_cmp nat_cmp bs ks) ≡ true
@@ -52,7 +52,7 @@ module _ (names : List (List ℕ)) (name : List ℕ) where
       → IfSome (cond b (Some (length names)) o) (λ n. slice_get (names ++ name ∷ []) n ≡ Some q)
   found_more true o q e h =
       let at : slice_get (names ++ name ∷ []) (length names) ≡ Some name =
-      ap (slice_get (names ++ name ∷ [])) (omega arith) ∙ get-behind names (name ∷ []) 0 in
+      ap (slice_get (names ++ name ∷ [])) (omega arith) ∙ get-after names (name ∷ []) 0 in
       at ∙ ap (λ n. Some n) ((bytes_eq-Decides name q).0 e)
   found_more false o q e h = IfSome_then o h (λ n p. get-front names (name ∷ []) n q p)
 

@@ -17,22 +17,23 @@ last_end size from [] h = omega arith
 last_end size from (end ∷ ends) h = omega (arith, h.0, last_end size end ends h.1)
 
 -- where the name of this number begins and ends, and that it is between the two
-pub record Stands (bytes : List ℕ) (from : ℕ) (ends : List ℕ) (i : ℕ) : Type 0 where
+pub record IsThere (bytes : List ℕ) (from : ℕ) (ends : List ℕ) (i : ℕ) : Type 0 where
   pub order : get_or (from ∷ ends) i 0 ≤ get_or ends i 0
   pub bound : get_or ends i 0 ≤ length bytes
   pub name : name_of (cut bytes from ends) i ≡ slice_range bytes (get_or (from ∷ ends) i 0) (get_or ends i 0)
 
-pub stands : (bytes : List ℕ) (from : ℕ) (ends : List ℕ) (i : ℕ) → AscendsTo (length bytes) from ends → i < length ends
-    → Stands bytes from ends i
-stands bytes from [] i h k = absurd (omega arith)
-stands bytes from (end ∷ ends) zero h k = record {
+pub is_there : (bytes : List ℕ) (from : ℕ) (ends : List ℕ) (i : ℕ) → AscendsTo (length bytes) from ends
+    → i < length ends
+    → IsThere bytes from ends i
+is_there bytes from [] i h k = absurd (omega arith)
+is_there bytes from (end ∷ ends) zero h k = record {
   order = h.0;
   bound =
       last_end (length bytes) end ends h.1;
   name = refl;
 }
-stands bytes from (end ∷ ends) (suc i) h k =
-    let t = stands bytes end ends i h.1 (omega arith) in
+is_there bytes from (end ∷ ends) (suc i) h k =
+    let t = is_there bytes end ends i h.1 (omega arith) in
     record { order = t.order; bound = t.bound; name = t.name }
 
 -- one more name, after the others
@@ -48,8 +49,8 @@ module _ (bytes name : List ℕ) where
       ap (take (end - from)) (drop-append-le from bytes name (omega arith))
       ∙ take-append-le (end - from) (drop from bytes) name (omega (arith, length-drop from bytes))
 
-  range_behind : slice_range (bytes ++ name) (length bytes) (length bytes + length name) ≡ name
-  range_behind =
+  range_after : slice_range (bytes ++ name) (length bytes) (length bytes + length name) ≡ name
+  range_after =
       let n : (length bytes + length name) - length bytes ≡ length name = omega arith in
       ap (λ k. take k (drop (length bytes) (bytes ++ name))) n
       ∙ ap (take (length name)) (drop-append_seam bytes name)
@@ -58,7 +59,7 @@ module _ (bytes name : List ℕ) where
   pub cut_more : (from : ℕ) (ends : List ℕ) → AscendsTo (length bytes) from ends
       → cut (bytes ++ name) from (ends ++ (length bytes + length name) ∷ []) ≡ cut bytes from ends ++ name ∷ []
   cut_more from [] h = ap (λ n. slice_range (bytes ++ name) n (length bytes + length name) ∷ []) h
-      ∙ ap (λ n. n ∷ []) range_behind
+      ∙ ap (λ n. n ∷ []) range_after
   cut_more from (end ∷ ends) h =
       ap (λ n. n ∷ cut (bytes ++ name) end (ends ++ (length bytes + length name) ∷ []))
       (range_front from end h.0 (last_end (length bytes) end ends h.1))

@@ -6,14 +6,14 @@ use Rattle.std.specs.Ordering.{nat_cmp, ordering_then}
 use Rattle.std.proofs.lemmas.Cmp.{ranked, int_ranked}
 use Rattle.std.proofs.lemmas.Map.Lookups.{exact_bytes}
 use Rattle.pf_terms.specs.Value.{Value, Values, int, atom, ref, pid, tuple, list, none, more, count}
-use Rattle.pf_terms.specs.Order.{compare, compare_all, NamesBelow, AllNamesBelow, TellsApart}
+use Rattle.pf_terms.specs.Order.{compare, compare_all, NamesBelow, AllNamesBelow, Distinguishes}
 
 both_equal : (a b : Ordering) → ordering_then a b ≡ Equal → (a ≡ Equal) × (b ≡ Equal)
 both_equal Less b e = absurd (cc)
 both_equal Equal b e = (refl, e)
 both_equal Greater b e = absurd (cc)
 
-module _ (name : ℕ → List ℕ) (n : ℕ) (apart : TellsApart name n) where
+module _ (name : ℕ → List ℕ) (n : ℕ) (apart : Distinguishes name n) where
   mutual
     pub same_by_order : (v w : Value) → NamesBelow n v → NamesBelow n w → compare name v w ≡ Equal → v ≡ w
     same_by_order (int x) (int y) h k e = ap int (int_ranked x y Equal (sym e))

@@ -11,9 +11,9 @@ use Rattle.std.proofs.lemmas.Bool.{false≢true, cases_lt, or_parts}
 use Rattle.std.specs.Set.{distinct_count}
 use Rattle.std.proofs.lemmas.Cmp.{nat_list_eq_equiv}
 use Rattle.std.proofs.lemmas.Map.Made.{IsDistinct-from_count}
-use Rattle.pf_terms.proofs.Names.{tells_apart}
+use Rattle.pf_terms.proofs.Names.{distinguishes}
 use Rattle.pf_terms.specs.Atoms.{with_name, name_of, fixed_names}
-use Rattle.pf_terms.specs.Order.{TellsApart}
+use Rattle.pf_terms.specs.Order.{Distinguishes}
 use Rattle.pf_terms.specs.Numbers.{HasNumbers}
 
 -- what is in the front is there in the whole
@@ -24,17 +24,17 @@ get-front (f ∷ fs) xs zero x e = e
 get-front (f ∷ fs) xs (suc i) x e = get-front fs xs i x e
 
 -- what comes after is as far after the front
-pub get-behind : {X : Type 0} (fs xs : List X) (i : ℕ) → slice_get (fs ++ xs) (length fs + i) ≡ slice_get xs i
-get-behind [] xs i = ap (slice_get xs) (omega arith)
-get-behind (f ∷ fs) xs i =
+pub get-after : {X : Type 0} (fs xs : List X) (i : ℕ) → slice_get (fs ++ xs) (length fs + i) ≡ slice_get xs i
+get-after [] xs i = ap (slice_get xs) (omega arith)
+get-after (f ∷ fs) xs i =
     let e : length (f ∷ fs) + i ≡ suc (length fs + i) = omega arith in
-    ap (slice_get (f ∷ (fs ++ xs))) e ∙ get-behind fs xs i
+    ap (slice_get (f ∷ (fs ++ xs))) e ∙ get-after fs xs i
 
 -- names of which as many differ as there are all differ
 pub apart_by_count : (names : List (List ℕ)) → distinct_count bytes_eq names ≡ length names
-    → TellsApart (name_of names) (length names)
+    → Distinguishes (name_of names) (length names)
 apart_by_count names e =
-    let d = tells_apart (λ n. n) names (IsDistinct-from_count nat_list_eq_equiv names e) in
+    let d = distinguishes (λ n. n) names (IsDistinct-from_count nat_list_eq_equiv names e) in
     rw map-id at d
 
 module _ (fs xs : List (List ℕ)) where
@@ -42,8 +42,8 @@ module _ (fs xs : List (List ℕ)) where
   pub name-front : (i : ℕ) → i < length fs → name_of (fs ++ xs) i ≡ name_of fs i
   name-front i h = get_or_append_left fs xs [] i h
 
-  pub name-behind : (i : ℕ) → length fs ≤ i → name_of (fs ++ xs) i ≡ name_of xs (i - length fs)
-  name-behind i h = get_or-append_right fs xs (length fs) i [] refl h
+  pub name-after : (i : ℕ) → length fs ≤ i → name_of (fs ++ xs) i ≡ name_of xs (i - length fs)
+  name-after i h = get_or-append_right fs xs (length fs) i [] refl h
 
   kept_front : (b : Bool) (name : List ℕ) → (if b then fs ++ xs else (fs ++ xs) ++ name ∷ []) ≡ fs
       ++ (if b then xs else xs ++ name ∷ [])
@@ -51,18 +51,18 @@ module _ (fs xs : List (List ℕ)) where
   kept_front false name = append_assoc fs xs (name ∷ [])
 
   -- what no name of the front passes depends on those after it
-  pub any-behind : (p : List ℕ → Bool) → list_any p fs ≡ false → list_any p (fs ++ xs) ≡ list_any p xs
-  any-behind p h = list_any-append p fs xs ∙ ap (λ b. b || list_any p xs) h
+  pub any-after : (p : List ℕ → Bool) → list_any p fs ≡ false → list_any p (fs ++ xs) ≡ list_any p xs
+  any-after p h = list_any-append p fs xs ∙ ap (λ b. b || list_any p xs) h
 
   -- what no name passes, none of the front passes
   pub none-front : (p : List ℕ → Bool) → list_any p (fs ++ xs) ≡ false → list_any p fs ≡ false
   none-front p h = (or_parts (list_any p fs) (list_any p xs) (sym (list_any-append p fs xs) ∙ h)).0
 
   -- a name that the front lacks goes last, after it
-  pub with_name-behind : (name : List ℕ) → list_any (bytes_eq name) fs ≡ false
+  pub with_name-after : (name : List ℕ) → list_any (bytes_eq name) fs ≡ false
       → with_name (fs ++ xs) name ≡ fs ++ with_name xs name
-  with_name-behind name h =
-      ap (λ b. if b then fs ++ xs else (fs ++ xs) ++ name ∷ []) (any-behind (bytes_eq name) h)
+  with_name-after name h =
+      ap (λ b. if b then fs ++ xs else (fs ++ xs) ++ name ∷ []) (any-after (bytes_eq name) h)
       ∙ kept_front (list_any (bytes_eq name) xs) name
 
   -- no name after it is one of the front
@@ -74,25 +74,25 @@ module _ (fs xs : List (List ℕ)) where
       let some = list_any_at (λ x. list_any (bytes_eq x) fs) xs j [] k here in
       false≢true (sym none ∙ some)
 
-  both : TellsApart (name_of fs) (length fs) → TellsApart (name_of xs) (length xs)
+  both : Distinguishes (name_of fs) (length fs) → Distinguishes (name_of xs) (length xs)
       → list_any (λ x. list_any (bytes_eq x) fs) xs ≡ false
       → (i j : ℕ) → i < length fs + length xs → j < length fs + length xs → name_of (fs ++ xs) i ≡ name_of (fs ++ xs) j
       → (i < length fs) ⊎ (length fs ≤ i) → (j < length fs) ⊎ (length fs ≤ j) → i ≡ j
   both f x none i j h k e (inl p) (inl q) = f i j p q (sym (name-front i p) ∙ e ∙ name-front j q)
   both f x none i j h k e (inl p) (inr q) = absurd
-      (apart none i (j - length fs) p (omega arith) (sym (name-behind j q) ∙ sym e ∙ name-front i p))
+      (apart none i (j - length fs) p (omega arith) (sym (name-after j q) ∙ sym e ∙ name-front i p))
   both f x none i j h k e (inr p) (inl q) = absurd
-      (apart none j (i - length fs) q (omega arith) (sym (name-behind i p) ∙ e ∙ name-front j q))
+      (apart none j (i - length fs) q (omega arith) (sym (name-after i p) ∙ e ∙ name-front j q))
   both f x none i j h k e (inr p) (inr q) =
       let same : i - length fs ≡ j - length fs = x (i - length fs) (j - length fs) (omega arith) (omega arith)
-      (sym (name-behind i p) ∙ e ∙ name-behind j q) in
+      (sym (name-after i p) ∙ e ∙ name-after j q) in
       omega arith
 
   -- names differ in the whole where they do in the front and after it, and the two have none in common
-  pub tells_apart-both : TellsApart (name_of fs) (length fs) → TellsApart (name_of xs) (length xs)
+  pub distinguishes-both : Distinguishes (name_of fs) (length fs) → Distinguishes (name_of xs) (length xs)
       → list_any (λ x. list_any (bytes_eq x) fs) xs ≡ false
-      → TellsApart (name_of (fs ++ xs)) (length (fs ++ xs))
-  tells_apart-both f x none i j h k e =
+      → Distinguishes (name_of (fs ++ xs)) (length (fs ++ xs))
+  distinguishes-both f x none i j h k e =
       let long = length-append fs xs in
       both f x none i j (omega arith) (omega arith) e (cases_lt i (length fs)) (cases_lt j (length fs))
 
@@ -103,10 +103,10 @@ fixed_numbers = record { room = omega arith; distinct = apart_by_count fixed_nam
 pub one_more : (names : List (List ℕ)) (name : List ℕ) → HasNumbers names → length names < 2 ^ 32
     → list_any (bytes_eq name) names ≡ false → HasNumbers (names ++ name ∷ [])
 one_more names name h room none =
-    let alone : TellsApart (name_of (name ∷ [])) 1 = λ i j h k e. omega arith in
+    let alone : Distinguishes (name_of (name ∷ [])) 1 = λ i j h k e. omega arith in
     let other : list_any (λ x. list_any (bytes_eq x) names) (name ∷ []) ≡ false = ap (λ b. b || false) none in
     record {
       room = omega (arith, length-append names (name ∷ []));
       distinct =
-          tells_apart-both names (name ∷ []) h.distinct alone other;
+          distinguishes-both names (name ∷ []) h.distinct alone other;
     }

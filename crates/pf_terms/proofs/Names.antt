@@ -10,7 +10,7 @@ use Rattle.std.proofs.lemmas.List.Quantifiers.{position-Some}
 use Rattle.std.proofs.lemmas.Option.{slice_get-map, slice_get_cases}
 use Rattle.std.proofs.lemmas.Slice.Eq.{bytes_eq-Decides}
 use Rattle.pf_terms.specs.Atoms.{with_name, name_of}
-use Rattle.pf_terms.specs.Order.{TellsApart}
+use Rattle.pf_terms.specs.Order.{Distinguishes}
 
 module _ {X : Type 0} (p : X → Bool) where
   fails_too : (b c : Bool) (m n : ℕ) → suc m ≤ cond (not b) (1 + n) 0 → (m ≤ n → c ≡ false) → (b || c) ≡ false
@@ -99,14 +99,14 @@ module _ {K : Type 0} (name : K → List ℕ) where
   differs text (q ∷ ks) (suc i) h k e = differs text ks i h.1 (omega arith) e
 
   -- keys that differ bear names that differ
-  pub tells_apart : (ks : List K) → IsDistinct (λ k q. bytes_eq (name k) (name q)) ks
-      → TellsApart (name_of (map name ks)) (length ks)
+  pub distinguishes : (ks : List K) → IsDistinct (λ k q. bytes_eq (name k) (name q)) ks
+      → Distinguishes (name_of (map name ks)) (length ks)
   unfolding IsDistinct
-  tells_apart [] d i j h k e = absurd (omega arith)
-  tells_apart (q ∷ ks) d zero zero h k e = refl
-  tells_apart (q ∷ ks) d zero (suc j) h k e = absurd (differs (name q) ks j d.0 (omega arith) e)
-  tells_apart (q ∷ ks) d (suc i) zero h k e = absurd (differs (name q) ks i d.0 (omega arith) (sym e))
-  tells_apart (q ∷ ks) d (suc i) (suc j) h k e = ap suc (tells_apart ks d.1 i j (omega arith) (omega arith) e)
+  distinguishes [] d i j h k e = absurd (omega arith)
+  distinguishes (q ∷ ks) d zero zero h k e = refl
+  distinguishes (q ∷ ks) d zero (suc j) h k e = absurd (differs (name q) ks j d.0 (omega arith) e)
+  distinguishes (q ∷ ks) d (suc i) zero h k e = absurd (differs (name q) ks i d.0 (omega arith) (sym e))
+  distinguishes (q ∷ ks) d (suc i) (suc j) h k e = ap suc (distinguishes ks d.1 i j (omega arith) (omega arith) e)
 
 found_in : (names : List (List ℕ)) (text : List ℕ) (i : ℕ) → slice_get names i ≡ Some text
     → list_any (bytes_eq text) names ≡ true

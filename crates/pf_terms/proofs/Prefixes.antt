@@ -7,7 +7,7 @@ use Rattle.std.specs.Str.{bytes_eq}
 use Rattle.std.proofs.lemmas.List.{get_or-take, length-take-le, take_more}
 use Rattle.std.proofs.lemmas.Slice.Eq.{bytes_eq-Decides}
 use Rattle.pf_terms.specs.Atoms.{with_name, name_of}
-use Rattle.pf_terms.specs.Order.{TellsApart}
+use Rattle.pf_terms.specs.Order.{Distinguishes}
 
 -- a name that is at no index isn't among them
 lacks : (names : List (List ℕ)) (name : List ℕ) → ((i : ℕ) → i < length names → ¬ (name_of names i ≡ name))
@@ -21,7 +21,7 @@ lacks (n ∷ ns) name h = by (bytes_eq name n) refl (lacks ns name (λ i k. h (s
     by false e k = k
 
 -- the next name of a table goes after those before it
-pub next_name : (names : List (List ℕ)) (i : ℕ) → TellsApart (name_of names) (length names) → i < length names
+pub next_name : (names : List (List ℕ)) (i : ℕ) → Distinguishes (name_of names) (length names) → i < length names
     → with_name (take i names) (name_of names i) ≡ take (i + 1) names
 next_name names i apart h =
     let long : length (take i names) ≡ i = length-take-le i names (omega arith) in

@@ -4,12 +4,12 @@ use Rattle.std.specs.declared.option.Option.{Option}
 use Rattle.std.specs.List.{list_any}
 use Rattle.std.specs.Str.{bytes_eq}
 use Rattle.pf_terms.specs.Atoms.{fixed_names, name_of}
-use Rattle.pf_terms.specs.Order.{TellsApart}
+use Rattle.pf_terms.specs.Order.{Distinguishes}
 
 -- there is a number for each of these names, and no two of them are the same
 pub record HasNumbers (names : List (List ℕ)) : Type 0 where
   pub room : length names ≤ 2 ^ 32
-  pub distinct : TellsApart (name_of names) (length names)
+  pub distinct : Distinguishes (name_of names) (length names)
 
 -- an index of these names: it gives numbers at which the names are, and leaves out none but fixed ones
 pub record IsIndex (names : List (List ℕ)) (number : List ℕ → Option ℕ) : Type 0 where

@@ -54,8 +54,8 @@ abbrev mutual
   AllNamesBelow n (more v vs) = NamesBelow n v × AllNamesBelow n vs
 
 -- the first n atoms have different names
-abbrev pub TellsApart : (ℕ → List ℕ) → ℕ → Type 0
-TellsApart name n = (a b : ℕ) → a < n → b < n → name a ≡ name b → a ≡ b
+abbrev pub Distinguishes : (ℕ → List ℕ) → ℕ → Type 0
+Distinguishes name n = (a b : ℕ) → a < n → b < n → name a ≡ name b → a ≡ b
 
 -- the order of values is total, whatever the names of the atoms
 abbrev pub OrderIsTotal : Type 0
@@ -63,5 +63,5 @@ OrderIsTotal = (name : ℕ → List ℕ) → IsTotalOrder (compare name)
 
 -- values with atoms of different names are equal in the order only where they are the same
 abbrev pub OrderIsExact : Type 0
-OrderIsExact = (name : ℕ → List ℕ) (n : ℕ) (v w : Value) → TellsApart name n → NamesBelow n v → NamesBelow n w
+OrderIsExact = (name : ℕ → List ℕ) (n : ℕ) (v w : Value) → Distinguishes name n → NamesBelow n v → NamesBelow n w
     → compare name v w ≡ Equal → v ≡ w

@@ -2,7 +2,7 @@
 
 ghost use Rattle.std.specs.Prelude.{◌≡◌, ◌<◌, ◌^◌, length, IfOk, OnErr, OnOk, slice_get, Some};
 ghost use Rattle.pf_terms.specs.Atoms.{fixed_names, name_of, with_name};
-ghost use Rattle.pf_terms.specs.Order.{TellsApart};
+ghost use Rattle.pf_terms.specs.Order.{Distinguishes};
 
 use crate::atoms::{AtomId, AtomTable};
 use pf_errors::NoMemory;
@@ -57,7 +57,7 @@ impl AtomNumbers {
     /// How many names there are. No two of them are the same.
     pub fn len(&self) -> usize
         ensures len { result ≡ length self.now }
-        ensures distinct { TellsApart (name_of self.now) (length self.now) }
+        ensures distinct { Distinguishes (name_of self.now) (length self.now) }
     {
         self.table.len()
     }

@@ -5,7 +5,7 @@ ghost use Rattle.std.specs.Prelude.{slice_get, Some, false, ◌++◌, ◌∷◌,
 ghost use Rattle.std.specs.List.{list_any};
 ghost use Rattle.std.specs.Str.{bytes_eq};
 ghost use Rattle.pf_terms.specs.Atoms.{fixed_names, name_of, with_name};
-ghost use Rattle.pf_terms.specs.Order.{TellsApart};
+ghost use Rattle.pf_terms.specs.Order.{Distinguishes};
 
 use crate::packed::PackedNames;
 use pf_errors::NoMemory;
@@ -150,7 +150,7 @@ impl AtomTable {
     /// How many names there are. No two of them are the same.
     pub fn len(&self) -> usize
         ensures len { result ≡ length self.now }
-        ensures distinct { TellsApart (name_of self.now) (length self.now) }
+        ensures distinct { Distinguishes (name_of self.now) (length self.now) }
     {
         FIXED.len() + self.entered.len()
     }

@@ -9,7 +9,7 @@ use Rattle.std.proofs.lemmas.Bool.Decides.{nat_tests}
 use Rattle.std.proofs.lemmas.Fmt.{decimal_nonempty}
 use Rattle.pf_terms.specs.declared.limits.TheConstants.{MOST_DEPTH, MOST_NODES}
 use Rattle.pf_terms.specs.Atoms.{name_of}
-use Rattle.pf_terms.specs.Order.{TellsApart}
+use Rattle.pf_terms.specs.Order.{Distinguishes}
 use Rattle.pf_terms.specs.Value.{Value, Values, int, atom, ref, pid, tuple, list, none, more, count, nodes, nodes_in}
 use Rattle.pf_terms.specs.Value.{depth, depth_in, IsWithinLimits}
 use Rattle.pf_tokens.specs.Bytes.{ends, is_digit, is_lower, is_word_byte}
@@ -21,10 +21,10 @@ use Rattle.pf_termtext.specs.Reading.{bounded, next_items, items_at, elements_by
 use Rattle.pf_termtext.proofs.Names.{atom_found}
 use Rattle.pf_termtext.proofs.Written.{name_again}
 use Rattle.pf_termtext.proofs.Numbers.{decimal_digits, positive_read, negative_read}
-use Rattle.pf_termtext.proofs.Words.{word_is, behind_word_is}
+use Rattle.pf_termtext.proofs.Words.{word_is, after_word_is}
 use Rattle.pf_termtext.proofs.Items.{item_step}
 use Rattle.pf_termtext.proofs.Values.{at_brace, at_bracket, at_quote, at_minus, at_digit, at_other, tuple_by, list_by}
-use Rattle.pf_termtext.proofs.Sound.{text_of, behind_some}
+use Rattle.pf_termtext.proofs.Sound.{text_of, after_some}
 use Rattle.pf_errors.proofs.Bools.{both}
 
 -- the values of elements in turn
@@ -78,7 +78,7 @@ plain_parts b bs e =
     let inner = both (is_lower b) (list_all is_word_byte bs) outer.0 in
     (inner.0, rw (lower_word b inner.0, inner.1) refl)
 
-module _ (names : List (List ℕ)) (apart : TellsApart (name_of names) (length names)) where
+module _ (names : List (List ℕ)) (apart : Distinguishes (name_of names) (length names)) where
   -- the value within these bounds can be read
   abbrev Fits : ℕ → Value → Type 0
   Fits room v = CanBeRead (length names) v × (nodes v ≤ MOST_NODES) × (depth v ≤ room)
@@ -104,7 +104,7 @@ module _ (names : List (List ℕ)) (apart : TellsApart (name_of names) (length n
           ap (λ t. value_at names room (t ++ rest)) e
           ∙ at_digit names room less is (d ∷ (ds ++ rest)) d (ds ++ rest) refl first.0
           ∙ ap (λ r. with_value_before r int (integer_of_digits false (word_bytes (d ∷ ds ++ rest))))
-          (behind_word_is (d ∷ ds) rest words whole)
+          (after_word_is (d ∷ ds) rest words whole)
           ∙ ap (λ w. with_value_before rest int (integer_of_digits false w)) (word_is (d ∷ ds) rest words whole)
           ∙ ap (with_value_before rest int) read
 
@@ -115,7 +115,7 @@ module _ (names : List (List ℕ)) (apart : TellsApart (name_of names) (length n
       let words = digits_words (print.decimal (suc n)) (decimal_digits (suc n) (omega arith)) in
       at_minus names room less is (45 ∷ (print.decimal (suc n) ++ rest)) 45 (print.decimal (suc n) ++ rest) refl refl
       ∙ ap (λ r. with_value_before r int (integer_of_digits true (word_bytes (print.decimal (suc n) ++ rest))))
-      (behind_word_is (print.decimal (suc n)) rest words whole)
+      (after_word_is (print.decimal (suc n)) rest words whole)
       ∙ ap (λ w. with_value_before rest int (integer_of_digits true w))
       (word_is (print.decimal (suc n)) rest words whole)
       ∙ ap (with_value_before rest int) (negative_read n lt)
@@ -124,21 +124,22 @@ module _ (names : List (List ℕ)) (apart : TellsApart (name_of names) (length n
       → ends is_word_byte rest ≡ true
       → (t : Bool) → is_plain_name name ≡ t → value_at names room
       (cond t name (codes "'" ++ flat_map quoted_byte name ++ codes "'") ++ rest) ≡ Some (atom a, rest)
-  atom_again room less a [] rest is stands named whole true plain = absurd cc
-  atom_again room less a (b ∷ bs) rest is stands named whole true plain =
+  atom_again room less a [] rest is is_there named whole true plain = absurd cc
+  atom_again room less a (b ∷ bs) rest is is_there named whole true plain =
       let parts = plain_parts b bs plain in
-      let found : atom_of names (b ∷ bs) ≡ Some a = ap (atom_of names) (sym named) ∙ atom_found names a apart stands in
+      let found : atom_of names (b ∷ bs) ≡ Some a = ap (atom_of names) (sym named)
+      ∙ atom_found names a apart is_there in
       at_other names room less is (b ∷ (bs ++ rest)) b (bs ++ rest) refl (not_lower b parts.0 123 refl)
       (not_lower b parts.0 91 refl) (not_lower b parts.0 39 refl) (not_lower b parts.0 45 refl) (no_digit b parts.0)
-      ∙ rw (word_is (b ∷ bs) rest parts.1 whole, behind_word_is (b ∷ bs) rest parts.1 whole, plain, found) refl
+      ∙ rw (word_is (b ∷ bs) rest parts.1 whole, after_word_is (b ∷ bs) rest parts.1 whole, plain, found) refl
     where
       not_lower : (b : ℕ) → is_lower b ≡ true → (c : ℕ) → is_lower c ≡ false → b ≡ c → ⊥
       not_lower b lower c other e = absurd (let no : true ≡ false = sym lower ∙ ap is_lower e ∙ other in cc)
 
       no_digit : (b : ℕ) → is_lower b ≡ true → is_digit b ≡ false
       no_digit b lower = grind (arith, nat_tests)
-  atom_again room less a name rest is stands named whole false plain =
-      let found : atom_of names name ≡ Some a = ap (atom_of names) (sym named) ∙ atom_found names a apart stands in
+  atom_again room less a name rest is is_there named whole false plain =
+      let found : atom_of names name ≡ Some a = ap (atom_of names) (sym named) ∙ atom_found names a apart is_there in
       let written : flat_map quoted_byte name ++ (39 ∷ []) ++ rest ≡ flat_map quoted_byte name ++ (39 ∷ rest) =
       append_assoc (flat_map quoted_byte name) (39 ∷ []) rest in
       ap (λ t. value_at names room (39 ∷ t)) written
@@ -178,10 +179,10 @@ module _ (names : List (List ℕ)) (apart : TellsApart (name_of names) (length n
     items_again close rest is (more w ws) v (suc n) lt fits all =
         let later = items_again close rest is ws w n (omega (arith, lt))
         (all.0.0, omega (arith, all.1), omega (arith, all.2)) (all.0.1, omega (arith, all.1), omega (arith, all.2)) in
-        let behind_it : rest_text (name_of names) (more w ws) ++ (close ∷ rest) ≡ 44
+        let after_it : rest_text (name_of names) (more w ws) ++ (close ∷ rest) ≡ 44
         ∷ (text_of names w ++ (rest_text (name_of names) ws ++ (close ∷ rest))) =
         ap (λ t. 44 ∷ t) (append_assoc (text_of names w) (rest_text (name_of names) ws) (close ∷ rest)) in
-        ap (λ t. items_at (value_at names room) (suc n) (text_of names v ++ t)) behind_it
+        ap (λ t. items_at (value_at names room) (suc n) (text_of names v ++ t)) after_it
         ∙ item_step (value_at names room) n _
         (Some (v, 44 ∷ (text_of names w ++ (rest_text (name_of names) ws ++ (close ∷ rest)))))
         (again v fits (44 ∷ (text_of names w ++ (rest_text (name_of names) ws ++ (close ∷ rest)))) refl)
@@ -228,7 +229,7 @@ module _ (names : List (List ℕ)) (apart : TellsApart (name_of names) (length n
             by : (o : Option (List ℕ)) → after_byte close text ≡ o → o ≡ None
             by None e = refl
             by (Some r) e =
-                let none : value_at names room text ≡ None = ap (value_at names room) (behind_some close text r e)
+                let none : value_at names room text ≡ None = ap (value_at names room) (after_some close text r e)
                 ∙ closes_none room close r is in
                 absurd (let both_ways : None ≡ Some p = sym none ∙ read in cc)
 

@@ -6,22 +6,22 @@ use Rattle.std.specs.List.{list_any}
 use Rattle.std.specs.Str.{bytes_eq}
 use Rattle.std.proofs.lemmas.Slice.Eq.{bytes_eq-Decides}
 use Rattle.pf_terms.specs.Atoms.{name_of}
-use Rattle.pf_terms.specs.Order.{TellsApart}
+use Rattle.pf_terms.specs.Order.{Distinguishes}
 use Rattle.pf_termtext.specs.Reading.{atom_of}
 
 -- the names after the first are distinct as well
-behind_apart : (n : List ℕ) (names : List (List ℕ)) → TellsApart (name_of (n ∷ names)) (length (n ∷ names))
-    → TellsApart (name_of names) (length names)
-behind_apart n names apart a b within_a within_b same = let next : suc a ≡ suc b = apart (suc a) (suc b) (omega arith)
+after_apart : (n : List ℕ) (names : List (List ℕ)) → Distinguishes (name_of (n ∷ names)) (length (n ∷ names))
+    → Distinguishes (name_of names) (length names)
+after_apart n names apart a b within_a within_b same = let next : suc a ≡ suc b = apart (suc a) (suc b) (omega arith)
     (omega arith) same in omega (arith, next)
 
 -- where an atom has this name, it is the one
-pub atom_found : (names : List (List ℕ)) (a : ℕ) → TellsApart (name_of names) (length names) → a < length names
+pub atom_found : (names : List (List ℕ)) (a : ℕ) → Distinguishes (name_of names) (length names) → a < length names
     → atom_of names (name_of names a) ≡ Some a
 atom_found [] a apart within = absurd (omega arith)
 atom_found (n ∷ names) zero apart within = rw ((bytes_eq-Decides n n).1 refl) refl
 atom_found (n ∷ names) (suc a) apart within =
-    by (bytes_eq (name_of names a) n) refl (atom_found names a (behind_apart n names apart) (omega arith))
+    by (bytes_eq (name_of names a) n) refl (atom_found names a (after_apart n names apart) (omega arith))
   where
     by : (t : Bool) → bytes_eq (name_of names a) n ≡ t → atom_of names (name_of names a) ≡ Some a
         → (if t then Some 0 else option_map suc (atom_of names (name_of names a))) ≡ Some (suc a)
@@ -32,10 +32,10 @@ atom_found (n ∷ names) (suc a) apart within =
     by false e found = rw found refl
 
 -- an atom of this name is in the table
-pub atom_stands : (names : List (List ℕ)) (name : List ℕ) (a : ℕ) → atom_of names name ≡ Some a
+pub atom_is_there : (names : List (List ℕ)) (name : List ℕ) (a : ℕ) → atom_of names name ≡ Some a
     → (a < length names) × (name_of names a ≡ name)
-atom_stands [] name a e = absurd cc
-atom_stands (n ∷ names) name a e = by (bytes_eq name n) refl (atom_of names name) refl (atom_stands names name) e
+atom_is_there [] name a e = absurd cc
+atom_is_there (n ∷ names) name a e = by (bytes_eq name n) refl (atom_of names name) refl (atom_is_there names name) e
   where
     by : (t : Bool) → bytes_eq name n ≡ t → (o : Option ℕ) → atom_of names name ≡ o
         → ((b : ℕ) → atom_of names name ≡ Some b → (b < length names) × (name_of names b ≡ name))
@@ -46,11 +46,11 @@ atom_stands (n ∷ names) name a e = by (bytes_eq name n) refl (atom_of names na
     by false is None found later made = absurd cc
     by false is (Some b) found later made =
         let next : suc b ≡ a = cc in
-        let stands = later b found in
-        rw (← next) (omega (arith, stands.0), stands.1)
+        let is_there = later b found in
+        rw (← next) (omega (arith, is_there.0), is_there.1)
 
 -- a name at an index of the table has its atom there
-pub atom_at : (names : List (List ℕ)) (name : List ℕ) (a : ℕ) → TellsApart (name_of names) (length names)
+pub atom_at : (names : List (List ℕ)) (name : List ℕ) (a : ℕ) → Distinguishes (name_of names) (length names)
     → slice_get names a ≡ Some name → atom_of names name ≡ Some a
 atom_at names name a apart e =
     let offset = placed names a e in

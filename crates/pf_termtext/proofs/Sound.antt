@@ -11,11 +11,11 @@ use Rattle.pf_tokens.specs.Bytes.{is_digit}
 use Rattle.pf_model.specs.TermText.{is_plain_name, quoted_byte, value_text, values_text, rest_text}
 use Rattle.std.specs.Prelude.{flat_map}
 use Rattle.pf_termtext.specs.Texts.{CanBeRead, AllCanBeRead}
-use Rattle.pf_termtext.specs.Reading.{TextFront, after_byte, with_value_before, word_bytes, behind_word}
+use Rattle.pf_termtext.specs.Reading.{TextFront, after_byte, with_value_before, word_bytes, after_word}
 use Rattle.pf_termtext.specs.Reading.{integer_of_digits, integer_at, atom_of, plain_at, name_at, quoted_at, elements}
 use Rattle.pf_termtext.specs.Reading.{bounded, next_items, items_at, elements_by, elements_at, tuple_at, list_at}
 use Rattle.pf_termtext.specs.Reading.{value_by, value_at}
-use Rattle.pf_termtext.proofs.Names.{atom_stands}
+use Rattle.pf_termtext.proofs.Names.{atom_is_there}
 use Rattle.pf_termtext.proofs.Written.{name_sound}
 use Rattle.pf_termtext.proofs.Numbers.{integer_printed}
 use Rattle.pf_termtext.proofs.Words.{word_split}
@@ -29,9 +29,9 @@ before_some rest make (Some x) y r e then = let parts = some_pair_parts (make x)
     x refl parts.0 parts.1
 before_some rest make None y r e then = absurd cc
 
-pub behind_some : (b : ℕ) (text rest : List ℕ) → after_byte b text ≡ Some rest → text ≡ b ∷ rest
-behind_some b [] rest e = absurd cc
-behind_some b (c ∷ text) rest e =
+pub after_some : (b : ℕ) (text rest : List ℕ) → after_byte b text ≡ Some rest → text ≡ b ∷ rest
+after_some b [] rest e = absurd cc
+after_some b (c ∷ text) rest e =
     let parts = cond_some (eqb c b) text rest e in
     rw (eqb-true c b parts.0, parts.1) refl
 
@@ -66,10 +66,10 @@ module _ (names : List (List ℕ)) where
   integer_sound : (text : List ℕ) (v : Value) (rest : List ℕ) → integer_at false text ≡ Some (v, rest)
       → Says names text v rest
   integer_sound text v rest e =
-      before_some (behind_word text) int (integer_of_digits false (word_bytes text)) v rest e (λ z read made behind_it.
+      before_some (after_word text) int (integer_of_digits false (word_bytes text)) v rest e (λ z read made after_it.
       let (printed, fits) = integer_printed false (word_bytes text) z read in
-      rw (← made, ← behind_it) (
-        word_split text ∙ ap (λ t. t ++ behind_word text) (sym printed),
+      rw (← made, ← after_it) (
+        word_split text ∙ ap (λ t. t ++ after_word text) (sym printed),
         fits,
         (omega arith, omega arith),
       ))
@@ -77,32 +77,32 @@ module _ (names : List (List ℕ)) where
   negative_sound : (text : List ℕ) (v : Value) (rest : List ℕ) → integer_at true text ≡ Some (v, rest)
       → Says names (45 ∷ text) v rest
   negative_sound text v rest e =
-      before_some (behind_word text) int (integer_of_digits true (word_bytes text)) v rest e (λ z read made behind_it.
+      before_some (after_word text) int (integer_of_digits true (word_bytes text)) v rest e (λ z read made after_it.
       let (printed, fits) = integer_printed true (word_bytes text) z read in
-      rw (← made, ← behind_it) (
-        ap (λ t. 45 ∷ t) (word_split text) ∙ ap (λ t. t ++ behind_word text) (sym printed),
+      rw (← made, ← after_it) (
+        ap (λ t. 45 ∷ t) (word_split text) ∙ ap (λ t. t ++ after_word text) (sym printed),
         fits,
         (omega arith, omega arith),
       ))
 
   -- an atom that the table has, printed as it is or in quotes
-  atom_sound : (name : List ℕ) (plain : Bool) (text : List ℕ) (v : Value) (rest behind_it : List ℕ)
+  atom_sound : (name : List ℕ) (plain : Bool) (text : List ℕ) (v : Value) (rest after_it : List ℕ)
       → is_plain_name name ≡ plain
-      → text ≡ cond plain name (codes "'" ++ flat_map quoted_byte name ++ codes "'") ++ behind_it
-      → with_value_before behind_it atom (atom_of names name) ≡ Some (v, rest) → Says names text v rest
-  atom_sound name plain text v rest behind_it is written e =
-      before_some behind_it atom (atom_of names name) v rest e (λ a found made same.
-      let (stands, named) = atom_stands names name a found in
-      rw (← made, ← same, named, is) (written, stands, (omega arith, omega arith)))
+      → text ≡ cond plain name (codes "'" ++ flat_map quoted_byte name ++ codes "'") ++ after_it
+      → with_value_before after_it atom (atom_of names name) ≡ Some (v, rest) → Says names text v rest
+  atom_sound name plain text v rest after_it is written e =
+      before_some after_it atom (atom_of names name) v rest e (λ a found made same.
+      let (is_there, named) = atom_is_there names name a found in
+      rw (← made, ← same, named, is) (written, is_there, (omega arith, omega arith)))
 
   plain_sound : (text : List ℕ) (v : Value) (rest : List ℕ) → plain_at names text ≡ Some (v, rest)
       → Says names text v rest
   plain_sound text v rest e = by (is_plain_name (word_bytes text)) refl e
     where
       by : (t : Bool) → is_plain_name (word_bytes text) ≡ t
-          → cond t (with_value_before (behind_word text) atom (atom_of names (word_bytes text))) None ≡ Some (v, rest)
+          → cond t (with_value_before (after_word text) atom (atom_of names (word_bytes text))) None ≡ Some (v, rest)
           → Says names text v rest
-      by true is made = atom_sound (word_bytes text) true text v rest (behind_word text) is (word_split text) made
+      by true is made = atom_sound (word_bytes text) true text v rest (after_word text) is (word_split text) made
       by false is made = absurd cc
 
   quoted_sound : (text : List ℕ) (v : Value) (rest : List ℕ) → quoted_at names text ≡ Some (v, rest)
@@ -153,7 +153,7 @@ module _ (names : List (List ℕ)) where
             more_by (Some q) items made =
                 let parts = some_pair_parts (p.0 ∷ q.0) vs q.1 rest made in
                 let one = sound text p.0 (44 ∷ next)
-                (first ∙ ap (λ r. Some (p.0, r)) (behind_some 44 p.1 next comma)) in
+                (first ∙ ap (λ r. Some (p.0, r)) (after_some 44 p.1 next comma)) in
                 rw (← parts.0, ← parts.1) (one_more text p.0 next q.0 q.1 one (later next q.0 q.1 items))
 
     as_elements : (text : List ℕ) (vs : List Value) (rest : List ℕ) → SaysItems names text vs rest
@@ -171,7 +171,7 @@ module _ (names : List (List ℕ)) where
             → elements_by (items_at read n) close text o ≡ Some (vs, rest) → SaysElements names text vs (close ∷ rest)
         by (Some r) empty made =
             let parts = some_pair_parts [] vs r rest made in
-            rw (← parts.0, ← parts.1) (behind_some close text r empty, tt)
+            rw (← parts.0, ← parts.1) (after_some close text r empty, tt)
         by None empty made = option_and_then_some _ (items_at read n text) (vs, rest) made
             (λ p items closed. ends p items (after_byte close p.1) refl closed)
           where
@@ -185,15 +185,15 @@ module _ (names : List (List ℕ)) where
                 rw (← parts.0, ← parts.1)
                 (as_elements text p.0 (close ∷ r)
                 (items_sound n text p.0 (close ∷ r)
-                (items ∙ ap (λ q. Some (p.0, q)) (behind_some close p.1 r end))))
+                (items ∙ ap (λ q. Some (p.0, q)) (after_some close p.1 r end))))
 
     tuple_sound : (text : List ℕ) (v : Value) (rest : List ℕ) → tuple_at (elements_at read) text ≡ Some (v, rest)
         → Says names (123 ∷ text) v rest
     tuple_sound text v rest e = option_and_then_some _ (elements_at read 125 text) (v, rest) e (λ p items made.
-        before_some p.1 (λ v. v) (bounded (tuple (elements p.0))) v rest made (λ w fits same behind_it.
+        before_some p.1 (λ v. v) (bounded (tuple (elements p.0))) v rest made (λ w fits same after_it.
         let (is, within) = bounded_some (tuple (elements p.0)) w fits in
         let says = elements_sound MOST_NODES 125 text p.0 p.1 items in
-        rw (← behind_it, ← same, ← is) (
+        rw (← after_it, ← same, ← is) (
           ap (λ t. 123 ∷ t) (says.0 ∙ sym (append_assoc (values_text (name_of names) (elements p.0)) (125 ∷ []) p.1)),
           says.1,
           within,
@@ -202,10 +202,10 @@ module _ (names : List (List ℕ)) where
     list_sound : (text : List ℕ) (v : Value) (rest : List ℕ) → list_at (elements_at read) text ≡ Some (v, rest)
         → Says names (91 ∷ text) v rest
     list_sound text v rest e = option_and_then_some _ (elements_at read 93 text) (v, rest) e (λ p items made.
-        before_some p.1 (λ v. v) (bounded (list (elements p.0))) v rest made (λ w fits same behind_it.
+        before_some p.1 (λ v. v) (bounded (list (elements p.0))) v rest made (λ w fits same after_it.
         let (is, within) = bounded_some (list (elements p.0)) w fits in
         let says = elements_sound MOST_NODES 93 text p.0 p.1 items in
-        rw (← behind_it, ← same, ← is) (
+        rw (← after_it, ← same, ← is) (
           ap (λ t. 91 ∷ t) (says.0 ∙ sym (append_assoc (values_text (name_of names) (elements p.0)) (93 ∷ []) p.1)),
           says.1,
           within,

@@ -7,7 +7,7 @@ use Rattle.pf_errors.specs.declared.fault.OrNoMemory.{OrNoMemory}
 use Rattle.pf_errors.specs.declared.fault.OrNoMemory.TheVariants.{NoMemory, Fault}
 use Rattle.pf_terms.specs.declared.limits.TheConstants.{MOST_DEPTH}
 use Rattle.pf_terms.specs.Atoms.{name_of}
-use Rattle.pf_terms.specs.Order.{TellsApart}
+use Rattle.pf_terms.specs.Order.{Distinguishes}
 use Rattle.pf_terms.specs.Term.{value_of}
 use Rattle.pf_terms.specs.Value.{Value}
 use Rattle.pf_terms.specs.declared.term.Term.{Term}
@@ -29,7 +29,7 @@ text_of_read names bytes v e = option_and_then_some _ (value_at names MOST_DEPTH
     by w (b ∷ rest) says made = absurd cc
 
 -- what is read of the text of a value is the value
-pub read_of_text : (names : List (List ℕ)) (bytes : List ℕ) (v : Value) → TellsApart (name_of names) (length names)
+pub read_of_text : (names : List (List ℕ)) (bytes : List ℕ) (v : Value) → Distinguishes (name_of names) (length names)
     → IsTextOf names bytes v → value_of_text names bytes ≡ Some v
 read_of_text names bytes v apart is =
     let read : value_at names MOST_DEPTH bytes ≡ Some (v, []) =
@@ -55,14 +55,14 @@ found_by names bytes (Ok t) gives = text_of_read names bytes (value_of t) gives
 found_by names bytes (Err e) gives = tt
 
 pub again_by : (names : List (List ℕ)) (bytes : List ℕ) (r : Result Term (OrNoMemory NoTerm))
-    → TellsApart (name_of names) (length names)
+    → Distinguishes (name_of names) (length names)
     → Gives value_of r (value_of_text names bytes) → (v : Value) → IsTextOf names bytes v → IfOk r (λ t. value_of t ≡ v)
 again_by names bytes (Ok t) apart gives v is =
     same_Some (value_of t) v (sym gives ∙ read_of_text names bytes v apart is)
 again_by names bytes (Err e) apart gives v is = tt
 
 pub refused_by : (names : List (List ℕ)) (bytes : List ℕ) (r : Result Term (OrNoMemory NoTerm))
-    → TellsApart (name_of names) (length names)
+    → Distinguishes (name_of names) (length names)
     → Gives value_of r (value_of_text names bytes) → r ≡ Err no_term → (v : Value) → IsTextOf names bytes v → ⊥
 refused_by names bytes (Ok t) apart gives e v is = absurd cc
 refused_by names bytes (Err (Fault x)) apart gives e v is =

@@ -4,10 +4,10 @@ use Rattle.std.specs.List.{list_all, prefix_len}
 use Rattle.std.proofs.lemmas.List.{take-append-drop}
 use Rattle.pf_tokens.specs.Bytes.{ends, is_word_byte}
 use Rattle.pf_tokens.proofs.Runs.{prefix_len-run}
-use Rattle.pf_termtext.specs.Reading.{word_bytes, behind_word}
+use Rattle.pf_termtext.specs.Reading.{word_bytes, after_word}
 
 -- the bytes of words and those after them are the text
-pub word_split : (text : List ℕ) → text ≡ word_bytes text ++ behind_word text
+pub word_split : (text : List ℕ) → text ≡ word_bytes text ++ after_word text
 word_split text = sym (take-append-drop (prefix_len is_word_byte text) text)
 
 module _ (name rest : List ℕ) (words : list_all is_word_byte name ≡ true) (whole : ends is_word_byte rest ≡ true) where
@@ -21,8 +21,8 @@ module _ (name rest : List ℕ) (words : list_all is_word_byte name ≡ true) (w
       taken [] = refl
       taken (b ∷ bs) = ap (λ x. b ∷ x) (taken bs)
 
-  pub behind_word_is : behind_word (name ++ rest) ≡ rest
-  behind_word_is = ap (λ n. drop n (name ++ rest)) run ∙ dropped name
+  pub after_word_is : after_word (name ++ rest) ≡ rest
+  after_word_is = ap (λ n. drop n (name ++ rest)) run ∙ dropped name
     where
       dropped : (name : List ℕ) → drop (length name) (name ++ rest) ≡ rest
       dropped [] = refl

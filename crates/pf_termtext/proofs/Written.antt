@@ -6,7 +6,7 @@ use Rattle.std.proofs.lemmas.Bool.{eqb-true}
 use Rattle.std.proofs.lemmas.List.{append-nil}
 use Rattle.std.proofs.lemmas.Option.{same_Some, some_pair_parts}
 use Rattle.pf_model.specs.TermText.{quoted_byte}
-use Rattle.pf_termtext.specs.Reading.{TextFront, ◌>>=◌, after_byte, escaped_byte, escaped_at, stands_alone}
+use Rattle.pf_termtext.specs.Reading.{TextFront, ◌>>=◌, after_byte, escaped_byte, escaped_at, is_alone}
 use Rattle.pf_termtext.specs.Reading.{written_byte, put_byte, name_at}
 
 -- the bytes read before, and what is read after them
@@ -32,18 +32,18 @@ after None text = closed text
 pub name_steps : (text : List ℕ) → name_at false text ≡ after (written_byte text) text
 unfolding name_at
 name_steps [] = refl
-name_steps (b ∷ text) = by (eqb b 39) (eqb b 92) (stands_alone b) refl refl refl
+name_steps (b ∷ text) = by (eqb b 39) (eqb b 92) (is_alone b) refl refl refl
   where
-    behind_backslash : (text : List ℕ) → b ≡ 92 → name_at true text ≡ after (escaped_at text) (b ∷ text)
-    behind_backslash [] is = rw is refl
-    behind_backslash (letter ∷ text) is = spelled (escaped_byte letter)
+    after_backslash : (text : List ℕ) → b ≡ 92 → name_at true text ≡ after (escaped_at text) (b ∷ text)
+    after_backslash [] is = rw is refl
+    after_backslash (letter ∷ text) is = spelled (escaped_byte letter)
       where
         spelled : (o : Option ℕ) → (o >>= λ c. put_byte c (name_at false text)) ≡ after (option_map (λ c. (c, text)) o)
             (b ∷ letter ∷ text)
         spelled (Some c) = refl
         spelled None = rw is refl
 
-    by : (p q r : Bool) → eqb b 39 ≡ p → eqb b 92 ≡ q → stands_alone b ≡ r
+    by : (p q r : Bool) → eqb b 39 ≡ p → eqb b 92 ≡ q → is_alone b ≡ r
         → cond p (Some ([], text)) (cond q (name_at true text) (cond r (put_byte b (name_at false text)) None))
         ≡ after (cond q (escaped_at text) (cond r (Some (b, text)) None)) (b ∷ text)
     by true true r is_quote is_backslash alone =
@@ -51,7 +51,7 @@ name_steps (b ∷ text) = by (eqb b 39) (eqb b 92) (stands_alone b) refl refl re
     by true false true is_quote is_backslash alone = let not_alone : false ≡ true = rw (eqb-true b 39 is_quote) at
         alone in absurd cc
     by true false false is_quote is_backslash alone = rw is_quote refl
-    by false true r is_quote is_backslash alone = behind_backslash text (eqb-true b 92 is_backslash)
+    by false true r is_quote is_backslash alone = after_backslash text (eqb-true b 92 is_backslash)
     by false false true is_quote is_backslash alone = refl
     by false false false is_quote is_backslash alone = rw is_quote refl
 
@@ -59,7 +59,7 @@ name_steps (b ∷ text) = by (eqb b 39) (eqb b 92) (stands_alone b) refl refl re
 pub written_shorter : (text : List ℕ) (b : ℕ) (rest : List ℕ) → written_byte text ≡ Some (b, rest)
     → length rest < length text
 written_shorter [] b rest e = absurd cc
-written_shorter (c ∷ text) b rest e = by (eqb c 92) (stands_alone c) e
+written_shorter (c ∷ text) b rest e = by (eqb c 92) (is_alone c) e
   where
     spelled : (text : List ℕ) → escaped_at text ≡ Some (b, rest) → length rest < 1 + length text
     spelled [] e = absurd cc
@@ -114,7 +114,7 @@ spelled_byte letter b e = by (eqb letter 110) (eqb letter 116) (eqb letter 92) (
     by false false false false is_p is_q is_r is_s made = absurd cc
 
 -- a byte that stands for itself is written as itself
-alone_byte : (b : ℕ) → stands_alone b ≡ true → quoted_byte b ≡ b ∷ []
+alone_byte : (b : ℕ) → is_alone b ≡ true → quoted_byte b ≡ b ∷ []
 alone_byte b e = by (eqb b 39) (eqb b 92) (eqb b 10) (eqb b 9) refl refl refl refl e
   where
     by : (p q r s : Bool) → eqb b 39 ≡ p → eqb b 92 ≡ q → eqb b 10 ≡ r → eqb b 9 ≡ s → not (p || q || r || s) ≡ true
@@ -157,11 +157,11 @@ name_sound true (letter ∷ text) name rest e = by (λ n r f. name_sound false t
     by later None is made = absurd cc
 name_sound false (b ∷ text) name rest e =
     by (λ n r f. name_sound false text n r f) (λ f. name_sound true text name rest f) (eqb b 39) (eqb b 92)
-    (stands_alone b) refl refl refl e
+    (is_alone b) refl refl refl e
   where
     by : ((n r : List ℕ) → name_at false text ≡ Some (n, r) → text ≡ flat_map quoted_byte n ++ 39 ∷ r)
         → (name_at true text ≡ Some (name, rest) → 92 ∷ text ≡ flat_map quoted_byte name ++ 39 ∷ rest)
-        → (p q r : Bool) → eqb b 39 ≡ p → eqb b 92 ≡ q → stands_alone b ≡ r
+        → (p q r : Bool) → eqb b 39 ≡ p → eqb b 92 ≡ q → is_alone b ≡ r
         → cond p (Some ([], text)) (cond q (name_at true text) (cond r (put_byte b (name_at false text)) None))
         ≡ Some (name, rest)
         → b ∷ text ≡ flat_map quoted_byte name ++ 39 ∷ rest

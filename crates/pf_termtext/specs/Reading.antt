@@ -45,8 +45,8 @@ with_value_before rest make x = option_map (λ y. (make y, rest)) x
 abbrev pub word_bytes : List ℕ → List ℕ
 word_bytes text = take (prefix_len is_word_byte text) text
 
-abbrev pub behind_word : List ℕ → List ℕ
-behind_word text = drop (prefix_len is_word_byte text) text
+abbrev pub after_word : List ℕ → List ℕ
+after_word text = drop (prefix_len is_word_byte text) text
 
 -- an integer has 64 bits, and zero has no sign
 abbrev pub signed : Bool → ℕ → Option ℤ
@@ -60,7 +60,7 @@ integer_of_digits minus digits = if is_numeral digits then signed minus (decimal
 
 -- the integer whose digits are at the front
 abbrev pub integer_at : Bool → List ℕ → TextFront Value
-integer_at minus text = with_value_before (behind_word text) int (integer_of_digits minus (word_bytes text))
+integer_at minus text = with_value_before (after_word text) int (integer_of_digits minus (word_bytes text))
 
 -- the atom of this name, which is the first that has it
 abbrev pub atom_of : List (List ℕ) → List ℕ → Option ℕ
@@ -70,7 +70,7 @@ atom_of (n ∷ names) name = if bytes_eq name n then Some 0 else option_map suc 
 -- the atom whose name is at the front as it is
 abbrev pub plain_at : List (List ℕ) → List ℕ → TextFront Value
 plain_at names text =
-    if is_plain_name (word_bytes text) then with_value_before (behind_word text) atom (atom_of names (word_bytes text))
+    if is_plain_name (word_bytes text) then with_value_before (after_word text) atom (atom_of names (word_bytes text))
     else None
 
 -- the byte that a letter stands for after `\`
@@ -82,8 +82,8 @@ escaped_byte letter =
     else None))
 
 -- a byte that stands for itself in quotes: neither the quote nor one that is escaped
-abbrev pub stands_alone : ℕ → Bool
-stands_alone b = not (b == single_quote || b == backslash || b == 10 || b == 9)
+abbrev pub is_alone : ℕ → Bool
+is_alone b = not (b == single_quote || b == backslash || b == 10 || b == 9)
 
 -- the byte that is written after `\`
 abbrev pub escaped_at : List ℕ → TextFront ℕ
@@ -95,7 +95,7 @@ abbrev pub written_byte : List ℕ → TextFront ℕ
 written_byte [] = None
 written_byte (b ∷ text) =
     if b == backslash then escaped_at text
-    else (if stands_alone b then Some (b, text) else None)
+    else (if is_alone b then Some (b, text) else None)
 
 -- a byte before what is read
 abbrev pub put_byte : ℕ → TextFront (List ℕ) → TextFront (List ℕ)
@@ -108,7 +108,7 @@ name_at true (b ∷ text) = escaped_byte b >>= λ c. put_byte c (name_at false t
 name_at false (b ∷ text) =
     if b == single_quote then Some ([], text)
     else (if b == backslash then name_at true text
-    else (if stands_alone b then put_byte b (name_at false text)
+    else (if is_alone b then put_byte b (name_at false text)
     else None))
 
 -- the atom whose name is in quotes at the front, the first of which is read; a plain name has none

@@ -3,7 +3,7 @@ use Rattle.std.specs.Prelude.{◌≡◌, ◌<◌, ◌^◌, ℕ, ℤ, pos, negsuc
 use Rattle.pf_errors.specs.declared.fault.OrNoMemory.{OrNoMemory}
 use Rattle.pf_errors.specs.declared.fault.OrNoMemory.TheVariants.{Fault}
 use Rattle.pf_terms.specs.Atoms.{name_of}
-use Rattle.pf_terms.specs.Order.{TellsApart}
+use Rattle.pf_terms.specs.Order.{Distinguishes}
 use Rattle.pf_terms.specs.Value.{Value, Values, int, atom, ref, pid, tuple, list, none, more, IsWithinLimits}
 use Rattle.pf_model.specs.TermText.{value_text}
 use Rattle.pf_termtext.specs.declared.fault.NoTerm.{NoTerm}
@@ -36,13 +36,13 @@ pub record IsTextOf (names : List (List ℕ)) (bytes : List ℕ) (v : Value) : T
 -- in a table that has no name twice, no text is of two values
 abbrev pub NoTextOfTwo : Type 0
 NoTextOfTwo =
-    (names : List (List ℕ)) (bytes : List ℕ) (v w : Value) → TellsApart (name_of names) (length names)
+    (names : List (List ℕ)) (bytes : List ℕ) (v w : Value) → Distinguishes (name_of names) (length names)
     → IsTextOf names bytes v → IsTextOf names bytes w → v ≡ w
 
 -- what is printed of a value that can be read, within the limits, is of this value and of no other
 abbrev pub PrintedIsReadBack : Type 0
 PrintedIsReadBack =
-    (names : List (List ℕ)) (v : Value) → TellsApart (name_of names) (length names)
+    (names : List (List ℕ)) (v : Value) → Distinguishes (name_of names) (length names)
     → CanBeRead (length names) v → IsWithinLimits v
     → let bytes = value_text (name_of names) v in IsTextOf names bytes v × ((w : Value)
     → IsTextOf names bytes w → w ≡ v)

@@ -2,10 +2,10 @@
 
 ghost use Rattle.std.specs.Prelude.{◌≡◌, option_map, false};
 ghost use Rattle.pf_terms.specs.Term.{value_of};
-ghost use Rattle.pf_termtext.specs.Reading.{Gives, atom_of, escaped_byte, name_at, plain_at, quoted_at, stands_alone};
+ghost use Rattle.pf_termtext.specs.Reading.{Gives, atom_of, escaped_byte, name_at, plain_at, quoted_at, is_alone};
 ghost use Rattle.pf_termtext.specs.Reading.{written_byte};
 
-use crate::bytes::{behind, split_word};
+use crate::bytes::{after, split_word};
 use crate::fault::{Fault, no_term};
 use crate::is_plain_name;
 use pf_terms::{AtomId, AtomTable, Term};
@@ -47,8 +47,8 @@ fn escaped(letter: u8) -> Option<u8>
 }
 
 /// Whether a byte stands for itself in quotes.
-fn stands_alone(byte: u8) -> bool
-    ensures { result ≡ stands_alone byte }
+fn is_alone(byte: u8) -> bool
+    ensures { result ≡ is_alone byte }
 {
     !(byte == b'\'' || byte == b'\\' || byte == b'\n' || byte == b'\t')
 }
@@ -59,7 +59,7 @@ fn written_byte(text: &[u8]) -> Option<(u8, &[u8])>
 {
     match text {
         [b'\\', letter, rest @ ..] => Some((escaped(*letter)?, rest)),
-        [byte, rest @ ..] if stands_alone(*byte) => Some((*byte, rest)),
+        [byte, rest @ ..] if is_alone(*byte) => Some((*byte, rest)),
         _ => None,
     }
 }
@@ -74,7 +74,7 @@ fn read_name(alloc: Global, text: &[u8]) -> Result<(Vec<u8>, &[u8]), Fault>
         name.push(byte)?;
         rest = more;
     }
-    match behind(rest, b'\'') {
+    match after(rest, b'\'') {
         Some(rest) => Ok((name, rest)),
         None => Err(no_term()),
     }

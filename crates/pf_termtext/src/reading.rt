@@ -7,7 +7,7 @@ ghost use Rattle.pf_termtext.specs.Reading.{Gives, bounded, elements_at, items_a
 ghost use Rattle.pf_termtext.specs.Reading.{value_of_text};
 ghost use Rattle.pf_termtext.specs.Texts.{IsTextOf, no_term};
 
-use crate::bytes::behind;
+use crate::bytes::after;
 use crate::fault::{Fault, NoTerm, no_term};
 use crate::name::{read_plain, read_quoted};
 use crate::number::read_integer;
@@ -54,7 +54,7 @@ fn read_items<'a>(
     for _ in 0..MOST_NODES {
         let (item, more) = read_value(alloc, rest, atoms, room)?;
         items.push(item)?;
-        match behind(more, b',') {
+        match after(more, b',') {
             Some(next) => rest = next,
             None => return Ok((items, more)),
         }
@@ -74,11 +74,11 @@ fn read_elements<'a>(
     ensures { Gives (λ p. (map value_of p.0.items, p.1.now)) result
         (elements_at (value_at atoms.now room) end text.now) }
 {
-    if let Some(rest) = behind(text, end) {
+    if let Some(rest) = after(text, end) {
         return Ok((Vec::new(alloc), rest));
     }
     let (items, rest) = read_items(alloc, text, atoms, room)?;
-    match behind(rest, end) {
+    match after(rest, end) {
         Some(rest) => Ok((items, rest)),
         None => Err(no_term()),
     }
@@ -127,14 +127,14 @@ fn read_value<'a>(
     if room == 0 {
         return Err(no_term());
     }
-    let Some((first, behind)) = text.split_first() else {
+    let Some((first, after)) = text.split_first() else {
         return Err(no_term());
     };
     match *first {
-        b'{' => read_tuple(alloc, behind, atoms, room - 1),
-        b'[' => read_list(alloc, behind, atoms, room - 1),
-        b'\'' => read_quoted(alloc, behind, atoms),
-        b'-' => read_integer(true, behind),
+        b'{' => read_tuple(alloc, after, atoms, room - 1),
+        b'[' => read_list(alloc, after, atoms, room - 1),
+        b'\'' => read_quoted(alloc, after, atoms),
+        b'-' => read_integer(true, after),
         digit if is_digit(digit) => read_integer(false, text),
         _ => read_plain(text, atoms),
     }

@@ -66,10 +66,10 @@ fn put_others(out: &mut Vec<u8>, atoms: &AtomTable, others: &[Term]) -> Result<(
     ensures { OnOk result (out.new.items ≡ out.old.items ++ rest_text (name_of atoms.now) (values_of others.now)) }
 {
     let mut rest = others;
-    while let Some((first, behind)) = rest.split_first() {
+    while let Some((first, after)) = rest.split_first() {
         put(out, b",")?;
         put_term(out, atoms, first)?;
-        rest = behind;
+        rest = after;
     }
     Ok(())
 }
@@ -93,10 +93,10 @@ fn put_tail(out: &mut Vec<u8>, atoms: &AtomTable, tail: &List) -> Result<(), NoM
     ensures { OnOk result (out.new.items ≡ out.old.items ++ rest_text (name_of atoms.now) (elements_of tail.now)) }
 {
     let mut rest = tail;
-    while let Some((first, behind)) = rest.split() {
+    while let Some((first, after)) = rest.split() {
         put(out, b",")?;
         put_term(out, atoms, first)?;
-        rest = behind;
+        rest = after;
     }
     Ok(())
 }

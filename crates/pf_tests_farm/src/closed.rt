@@ -7,11 +7,11 @@ use crate::missed::Missed;
 use crate::scene::{Scene, play};
 use crate::waiting::GateMark;
 use pf_book::{CallRefusal, Reply};
-use pf_farm::{ClientSeat, Closing, Floor, Gate};
+use pf_farm::{ClientSeat, Closing, DueSlice, Floor, Gate};
 use pf_farm_accounts::{ClaimEnd, FarmNames};
 use pf_quota::LimitRefusal as Limit;
 use pf_request::Call;
-use pf_sched::{Parked, Scratch, Slice, run_slice};
+use pf_sched::{Scratch, Slice, run_slice};
 use std::alloc::Global;
 use std::hash::RandomState;
 use std::sync::Wait;
@@ -30,9 +30,9 @@ fn ended_as(closing: &Closing, end: ClaimEnd) -> usize {
 fn has_all_receipts(alloc: Global, closing: &Closing, project: u32) -> Result<bool, Fail> {
     let mut numbers = Vec::new(alloc);
     for seat in &closing.seats {
-        if seat.told.project == project {
+        if seat.reported.project == project {
             let mut last = 0;
-            for receipt in &seat.told.receipts {
+            for receipt in &seat.reported.receipts {
                 if receipt.number <= last || receipt.project != project {
                     return Ok(false);
                 }
@@ -122,17 +122,14 @@ impl Gate for Plays {
         &self,
         alloc: Global,
         _rt: &R,
-        _project: u32,
-        _ticket: u64,
-        parked: Parked,
+        due: DueSlice,
         scratch: &mut Scratch,
-        turns: u32,
     ) -> Slice {
         self.slices.set();
         if self.play == Play::Drop {
             self.dropped.wait(1);
         }
-        run_slice(alloc, parked, scratch, turns)
+        run_slice(alloc, due.parked, scratch, due.turns)
     }
 }
 

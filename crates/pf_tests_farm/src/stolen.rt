@@ -6,9 +6,9 @@ use crate::calls::{SPAWNING, SUM, fetch, order, submit};
 use crate::missed::Missed;
 use crate::scene::{Scene, play};
 use crate::waiting::GateMark;
-use pf_farm::{ClientSeat, Floor, Gate};
+use pf_farm::{ClientSeat, DueSlice, Floor, Gate};
 use pf_farm_accounts::FarmNames;
-use pf_sched::{Parked, Scratch, Slice, run_slice};
+use pf_sched::{Scratch, Slice, run_slice};
 use std::alloc::Global;
 use std::hash::RandomState;
 use std::sync::Wait;
@@ -34,13 +34,10 @@ impl Gate for OneIsStolen {
         &self,
         alloc: Global,
         _rt: &R,
-        project: u32,
-        _ticket: u64,
-        parked: Parked,
+        due: DueSlice,
         scratch: &mut Scratch,
-        turns: u32,
     ) -> Slice {
-        match project {
+        match due.project {
             1 => {
                 if self.first_slices.set() == 0 {
                     self.second_ordered.hold(&self.late);
@@ -57,7 +54,7 @@ impl Gate for OneIsStolen {
                 self.second_begun.hold(&self.late);
             }
         }
-        run_slice(alloc, parked, scratch, turns)
+        run_slice(alloc, due.parked, scratch, due.turns)
     }
 }
 

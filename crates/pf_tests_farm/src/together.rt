@@ -8,9 +8,9 @@ use crate::missed::Missed;
 use crate::scene::{Scene, play};
 use crate::waiting::GateMark;
 use pf_desks::TrialStage;
-use pf_farm::{ClientSeat, Floor, Gate};
+use pf_farm::{ClientSeat, DueSlice, Floor, Gate};
 use pf_farm_accounts::FarmNames;
-use pf_sched::{Parked, Scratch, Slice, run_slice};
+use pf_sched::{Scratch, Slice, run_slice};
 use std::alloc::Global;
 use std::hash::RandomState;
 use std::sync::Wait;
@@ -59,20 +59,17 @@ impl Gate for TwoTrials {
         &self,
         alloc: Global,
         _rt: &R,
-        project: u32,
-        _ticket: u64,
-        parked: Parked,
+        due: DueSlice,
         scratch: &mut Scratch,
-        turns: u32,
     ) -> Slice {
-        let (own, other) = self.sides(project);
+        let (own, other) = self.sides(due.project);
         let is_first = self.begun.set() == 0;
         own.begun.set();
         own.answered.hold(&self.late);
         if is_first {
             other.fetched.hold(&self.late);
         }
-        run_slice(alloc, parked, scratch, turns)
+        run_slice(alloc, due.parked, scratch, due.turns)
     }
 }
 

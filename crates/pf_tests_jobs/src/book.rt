@@ -72,15 +72,15 @@ fn ends(alloc: Global, book: &mut Book) -> Result<bool, Fail> {
 }
 
 /// Whether each call is answered, and the trial is claimed between the first and the last ones.
-fn is_told(alloc: Global, book: &mut Book) -> Result<bool, Fail> {
+fn is_reported(alloc: Global, book: &mut Book) -> Result<bool, Fail> {
     Ok(begins(alloc, book)? & is_claimed(book)? & ends(alloc, book)?)
 }
 
 #[test]
 fn each_call_is_answered(rt: HostRuntime) -> Result<(), Fail> {
     let mut book = Book::new(rt.alloc(), RandomState::new(&rt)?);
-    let told = is_told(rt.alloc(), &mut book)?;
-    assert!(rt; told);
+    let reported = is_reported(rt.alloc(), &mut book)?;
+    assert!(rt; reported);
     Ok(())
 }
 

@@ -1,7 +1,7 @@
 //! Hunts by workers in threads, over modules of their own, and what their observer is notified of.
 
 use pf_check::{ReadModule, Source};
-use pf_hunt::{Hunt, HuntObserver, Leak, Pace, first_failing, other_jobs, tally_all};
+use pf_hunt::{Hunt, HuntObserver, HuntRange, Leak, Pace, first_failing, other_jobs, tally_all};
 use pf_request::{Request, RequestKind, RunChoices, ShortBytes};
 use pf_sched::Job;
 use pf_strategy::Strategy;
@@ -100,6 +100,14 @@ impl HuntObserver for HeardHunt {
     }
 }
 
+/// Forty seeds, by three workers.
+const FORTY: HuntRange = HuntRange {
+    first: 0,
+    end: 40,
+    may_stop: false,
+    workers: 3,
+};
+
 /// The seed that fails of forty, with the verdict of its report, by three workers.
 fn failing<R: Threads + Sync>(
     rt: &R,
@@ -107,7 +115,7 @@ fn failing<R: Threads + Sync>(
     hunt: &Hunt,
 ) -> Result<Option<(u64, Option<bool>)>, Fail> {
     let mut watch = NOTHING;
-    let searched = first_failing(rt, alloc, hunt, 0, 40, false, 3, &mut watch)?;
+    let searched = first_failing(rt, alloc, hunt, FORTY, &mut watch)?;
     match &searched.failure {
         Some(failure) => Ok(Some((failure.seed, failure.report.verdict))),
         None => Ok(None),
@@ -136,6 +144,16 @@ fn three_workers_find_the_least_seed_that_fails(rt: HostRuntime) -> Result<(), F
     Ok(())
 }
 
+/// The seeds from 10 to before 60, by two workers.
+fn fifty(may_stop: bool) -> HuntRange {
+    HuntRange {
+        first: 10,
+        end: 60,
+        may_stop,
+        workers: 2,
+    }
+}
+
 /// How far a hunt over the seeds from 10 to before 60 gets by two workers, where none fails; and what it reported.
 fn searched<R: Threads + Sync>(
     rt: &R,
@@ -144,7 +162,7 @@ fn searched<R: Threads + Sync>(
     may_stop: bool,
 ) -> Result<(u64, u64, (u64, u32), u64), Fail> {
     let mut watch = NOTHING;
-    let searched = first_failing(rt, alloc, hunt, 10, 60, may_stop, 2, &mut watch)?;
+    let searched = first_failing(rt, alloc, hunt, fifty(may_stop), &mut watch)?;
     if searched.failure.is_some() {
         return Err(Fail::from("a seed fails"));
     }
@@ -159,7 +177,7 @@ fn tallied<R: Threads + Sync>(
     may_stop: bool,
 ) -> Result<(u64, u64, (u64, u32), u64), Fail> {
     let mut watch = NOTHING;
-    let tallied = tally_all(rt, alloc, hunt, 10, 60, may_stop, 2, &mut watch)?;
+    let tallied = tally_all(rt, alloc, hunt, fifty(may_stop), &mut watch)?;
     match tallied.tally.rows.as_slice() {
         [row] if (row.verdict, row.least) == (Some(true), 10) => {
             Ok((tallied.end, row.count, watch.leak, watch.leaks))
@@ -173,7 +191,9 @@ fn tallied<R: Threads + Sync>(
 const ENDS: [(bool, u64, u64); 2] = [(true, 40, 30), (false, 60, 50)];
 
 #[test]
-fn a_hunt_stops_where_it_is_told_to_and_tells_its_leak_once(rt: HostRuntime) -> Result<(), Fail> {
+fn a_hunt_stops_where_it_is_asked_to_and_reports_its_leak_once(
+    rt: HostRuntime,
+) -> Result<(), Fail> {
     let alloc = rt.alloc();
     let hunt = hunt_of(alloc, TWO_WAIT, "nodeadlock", Strategy::Uniform, false)?;
     assert_eq!(rt; hunt.others.len(), 2);

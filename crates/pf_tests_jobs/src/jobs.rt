@@ -1,10 +1,11 @@
 //! Jobs that are run whole, slice by slice, and with their events.
 
 use pf_check::{ReadModule, Source};
+use pf_model::report::Report;
 use pf_request::{Request, RequestKind, RunChoices, ShortBytes};
 use pf_sched::{
-    Finished, Job, JobResult, Scratch, Silent, Slice, choices_by_priorities, report_by_schedule,
-    run_slice, run_to_end, start,
+    Finished, Job, JobResult, Scratch, Silent, Slice, report_by_schedule, report_of_run, run_slice,
+    run_to_end, start,
 };
 use pf_trace::{put_report, put_written};
 use std::alloc::Global;
@@ -20,7 +21,7 @@ kid() -> receive From -> From ! done end.\n";
 const CHOICES: [u32; 11] = [0, 0, 1, 1, 0, 0, 0, 1, 0, 0, 0];
 
 /// What is reported of it.
-const TOLD: &str = "0/1 <0> spawn <1>\n0/2 <0> send <1> <0>\n1/3 <1> wait\n\
+const REPORTED: &str = "0/1 <0> spawn <1>\n0/2 <0> send <1> <0>\n1/3 <1> wait\n\
 1/2 <0>-><1> deliver message\n0/2 <0> wait\n0/1 <1> receive <0>\n0/1 <1> send <0> done\n\
 1/2 <1>-><0> deliver message\n0/2 <0> receive done\n0/2 <0> end normal\n0/1 <1> end normal\n\
 finished done\nsteps 17\nproperty holds\n";
@@ -68,13 +69,13 @@ fn sliced(alloc: Global, job: &Arc<Job>) -> Result<Finished, Fail> {
 }
 
 /// Whether this is the report of the talk.
-fn is_told(alloc: Global, finished: &Finished) -> Result<bool, Fail> {
+fn is_reported(alloc: Global, finished: &Finished) -> Result<bool, Fail> {
     let Some(JobResult::Report(report)) = finished.result() else {
         return Ok(false);
     };
     let mut text = Vec::new(alloc);
     put_written(&mut text, finished.job().module().atoms(), report)?;
-    Ok(text.as_slice() == TOLD.as_bytes())
+    Ok(text.as_slice() == REPORTED.as_bytes())
 }
 
 /// Whether the run of the talk gives that report whole, shared, and by slices.
@@ -84,25 +85,39 @@ fn talks(alloc: Global) -> Result<bool, Fail> {
     let job = job_of(alloc, TALK, "returns", kind)?;
     let mut scratch = Scratch::new(alloc);
     let whole = run_to_end(alloc, Arc::try_clone(&job)?, &mut scratch, &mut Silent)?;
-    Ok(is_told(alloc, &whole.share()?)? && is_told(alloc, &sliced(alloc, &job)?)?)
+    Ok(is_reported(alloc, &whole.share()?)? && is_reported(alloc, &sliced(alloc, &job)?)?)
 }
 
 #[test]
-fn a_run_is_filed_as_it_is_told(rt: HostRuntime) -> Result<(), Fail> {
+fn a_run_is_filed_as_it_is_reported(rt: HostRuntime) -> Result<(), Fail> {
     assert!(rt; talks(rt.alloc())?);
     Ok(())
+}
+
+/// The text of a report of a job.
+fn text_of(alloc: Global, job: &Job, report: &Report) -> Result<Vec<u8>, Fail> {
+    let mut text = Vec::new(alloc);
+    put_report(&mut text, job.module().atoms(), report)?;
+    Ok(text)
 }
 
 /// The text of the run of a job by a schedule.
 fn text_by(alloc: Global, job: &Job, schedule: &[u32]) -> Result<Vec<u8>, Fail> {
     let report = report_by_schedule(alloc, job, schedule, &mut Scratch::new(alloc))?;
-    let mut text = Vec::new(alloc);
-    put_report(&mut text, job.module().atoms(), &report)?;
-    Ok(text)
+    text_of(alloc, job, &report)
 }
 
-/// Whether the talk gives its text by a schedule in place of a seed, and its property holds by the schedule that
-/// priorities choose.
+/// The choices of a report, event by event.
+fn choices_of(alloc: Global, report: &Report) -> Result<Vec<u32>, Fail> {
+    let mut choices = Vec::new(alloc);
+    for event in report.events.iter() {
+        choices.push(event.choice)?;
+    }
+    Ok(choices)
+}
+
+/// Whether the talk gives its text by a schedule in place of a seed, and its property holds by priorities, whose
+/// choices as a schedule give their text again.
 fn goes_by_schedules(alloc: Global) -> Result<bool, Fail> {
     let job = job_of(
         alloc,
@@ -111,9 +126,14 @@ fn goes_by_schedules(alloc: Global) -> Result<bool, Fail> {
         RequestKind::Run(RunChoices::Seed(7)),
     )?;
     let given = text_by(alloc, &job, CHOICES.as_slice())?;
-    let chosen = choices_by_priorities(alloc, &job, 7, &mut Scratch::new(alloc))?;
-    let guided = text_by(alloc, &job, chosen.as_slice())?;
-    Ok(given.as_slice() == TOLD.as_bytes() && guided.as_slice().ends_with(b"\nproperty holds\n"))
+    let guided = report_of_run(alloc, &job, Some(7), &mut Scratch::new(alloc))?;
+    let text = text_of(alloc, &job, &guided)?;
+    let again = text_by(alloc, &job, choices_of(alloc, &guided)?.as_slice())?;
+    Ok(
+        given.as_slice() == REPORTED.as_bytes()
+            && text.as_slice().ends_with(b"\nproperty holds\n")
+            && again.as_slice() == text.as_slice(),
+    )
 }
 
 #[test]

@@ -111,7 +111,7 @@ const STOPS: [(&str, u32, &str, Option<u32>); 20] = [
 ];
 
 #[test]
-fn a_process_stands_at_its_node(rt: HostRuntime) -> Result<(), Fail> {
+fn a_process_is_at_its_node(rt: HostRuntime) -> Result<(), Fail> {
     for (source, steps, form, part) in &STOPS {
         let found = place_after(rt.alloc(), source, *steps)?;
         assert!(rt; found == (*form, *part));

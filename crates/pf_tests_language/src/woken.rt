@@ -64,7 +64,7 @@ fn woken(
 fn a_woken_process_tests_what_is_new(rt: HostRuntime) -> Result<(), Fail> {
     let alloc = rt.alloc();
     let mut machine = begun(alloc)?;
-    let told = woken(alloc, &mut machine, &mut Pool::new(alloc))?;
-    assert_eq!(rt; told, (true, 1, 2));
+    let reported = woken(alloc, &mut machine, &mut Pool::new(alloc))?;
+    assert_eq!(rt; reported, (true, 1, 2));
     Ok(())
 }

@@ -27,7 +27,7 @@ fn put(
         page: 1,
     };
     let names = owned(alloc, scene.names)?;
-    let report = report(alloc, &scene.told)?;
+    let report = report(alloc, &scene.reported)?;
     Ok(put_chart(alloc, text, atoms, b"main", &names, &report, manner)?)
 }
 

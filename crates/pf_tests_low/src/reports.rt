@@ -97,9 +97,9 @@ fn comes(did: &Did) -> Label {
     Label::Delivers(signal, suffix)
 }
 
-fn events(alloc: Global, told: &ReportScene) -> Result<Vec<Event>, Fail> {
+fn events(alloc: Global, reported: &ReportScene) -> Result<Vec<Event>, Fail> {
     let mut events = Vec::new(alloc);
-    for (choice, actor, did) in told.events {
+    for (choice, actor, did) in reported.events {
         events.push(Event {
             choice: *choice,
             count: 3,
@@ -132,10 +132,10 @@ fn outcome(alloc: Global, ends: &RunEnd) -> Result<Outcome, Fail> {
     })
 }
 
-pub(crate) fn report(alloc: Global, told: &ReportScene) -> Result<Report, Fail> {
-    let outcome = outcome(alloc, &told.ends)?;
-    let mut events = events(alloc, told)?;
-    add_references(&mut events, told.references)?;
+pub(crate) fn report(alloc: Global, reported: &ReportScene) -> Result<Report, Fail> {
+    let outcome = outcome(alloc, &reported.ends)?;
+    let mut events = events(alloc, reported)?;
+    add_references(&mut events, reported.references)?;
     Ok(Report {
         events,
         outcome,

@@ -85,7 +85,7 @@ fn go(hunt: &mut ShrinkingSearch, steps: &[(&[u32], bool)]) -> usize {
             Some(next) if next == *schedule => {}
             _ => return taken,
         }
-        hunt.told(*fails);
+        hunt.reported(*fails);
     }
     steps.len()
 }

@@ -8,7 +8,7 @@ use pf_trace::Actor;
 /// A report, in which manner it is drawn, the names of the functions in whose calls its processes began, and what its
 /// chart has and hasn't.
 pub(crate) struct ChartScene {
-    pub(crate) told: ReportScene,
+    pub(crate) reported: ReportScene,
     pub(crate) is_compact: bool,
     pub(crate) names: &'static [&'static [u8]],
     pub(crate) pieces: &'static [&'static str],
@@ -46,7 +46,7 @@ pub(crate) static SCENES: [ChartScene; 7] = [
 /// Messages that arrive, one that is dropped, and three that are on their way at the end: to the right, to the left and
 /// to oneself.
 const ARROWS: ChartScene = ChartScene {
-    told: ReportScene {
+    reported: ReportScene {
         events: &[
             (0, ROOT, Did::Spawns(1)),
             (0, ROOT, Did::Spawns(2)),
@@ -91,7 +91,7 @@ const ARROWS: ChartScene = ChartScene {
 /// already sends nothing, nor does the demonitor, since its reference is active no more once the down has come. A link
 /// to who has ended is answered by an exit.
 const ENDS: ChartScene = ChartScene {
-    told: ReportScene {
+    reported: ReportScene {
         events: &[
             (0, ROOT, Did::SpawnsWatched(1)),
             (0, ROOT, Did::SpawnsLinked(2)),
@@ -130,7 +130,7 @@ const ENDS: ChartScene = ChartScene {
 
 /// Who is in a deadlock is red from the last wait on.
 const DEADLOCK: ChartScene = ChartScene {
-    told: ReportScene {
+    reported: ReportScene {
         events: &[
             (0, ROOT, Did::Spawns(1)),
             (0, ROOT, Did::Spawns(2)),
@@ -157,7 +157,7 @@ const DEADLOCK: ChartScene = ChartScene {
 
 /// A compact chart joins a send and the receive that takes the message. The second message is never received.
 const COMPACT: ChartScene = ChartScene {
-    told: ReportScene {
+    reported: ReportScene {
         events: &[
             (0, ROOT, Did::Spawns(1)),
             (0, ROOT, Did::Spawns(2)),
@@ -193,7 +193,7 @@ const COMPACT: ChartScene = ChartScene {
 
 /// A head has the function in whose call its process began, or else who spawned it.
 const NAMES: ChartScene = ChartScene {
-    told: ReportScene {
+    reported: ReportScene {
         events: &[
             (0, ROOT, Did::Spawns(1)),
             (0, ONE, Did::Spawns(2)),
@@ -224,7 +224,7 @@ const NAMES: ChartScene = ChartScene {
 /// Heads are repeated after 40 rows and at the foot. What is long is shortened, and whole in its tooltip; labels are
 /// escaped.
 const LONG_RUN: ChartScene = ChartScene {
-    told: ReportScene {
+    reported: ReportScene {
         events: &[(0, ROOT, Did::TakesAtom(ATOM))],
         references: 40,
         ends: RunEnd::With(ATOM),
@@ -246,7 +246,7 @@ const LONG_RUN: ChartScene = ChartScene {
 
 /// No event, since there was no memory.
 const EMPTY: ChartScene = ChartScene {
-    told: ReportScene {
+    reported: ReportScene {
         events: &[],
         references: 0,
         ends: RunEnd::WithoutMemory,

@@ -124,8 +124,8 @@ fn meet(
         TieCall::OnDemonitor => ties.on_demonitor(to, number),
         TieCall::OnDown => return Ok(ties.on_down(to, number)),
         TieCall::End => {
-            let told = ties.ended(alloc, to, &Term::Atom(AtomId::KILL))?;
-            return Ok(told.len() as u64 == number);
+            let reported = ties.ended(alloc, to, &Term::Atom(AtomId::KILL))?;
+            return Ok(reported.len() as u64 == number);
         }
         _ => {
             let fate = ties.on_exit_signal(from, to, true, Term::Atom(AtomId::KILL));

@@ -15,7 +15,7 @@ fn each_kind(alloc: Global, m: AtomId) -> Result<List, Fail> {
 }
 
 /// The list with 9 in place of its head.
-fn behind_nine(alloc: Global, list: &List) -> Result<List, Fail> {
+fn after_nine(alloc: Global, list: &List) -> Result<List, Fail> {
     match list.split() {
         Some((_, tail)) => Ok(List::cons(alloc, Term::Int(9), tail.share()?)?),
         None => Err(Fail::from("the list is empty")),
@@ -24,9 +24,13 @@ fn behind_nine(alloc: Global, list: &List) -> Result<List, Fail> {
 
 /// The nodes and the depth of that list, whether it is equal to its copy, and how it compares with the list that has 9
 /// before it.
-fn told(alloc: Global, atoms: &AtomTable, m: AtomId) -> Result<(u32, u32, bool, Ordering), Fail> {
+fn reported(
+    alloc: Global,
+    atoms: &AtomTable,
+    m: AtomId,
+) -> Result<(u32, u32, bool, Ordering), Fail> {
     let list = each_kind(alloc, m)?;
-    let other = Term::List(behind_nine(alloc, &list)?);
+    let other = Term::List(after_nine(alloc, &list)?);
     let value = Term::List(list);
     let same = equal(&value, &copy(&value)?) && !equal(&value, &other);
     Ok((
@@ -45,7 +49,7 @@ fn values_are_made_and_taken_apart(rt: HostRuntime) -> Result<(), Fail> {
         atoms.find(b"m") == Some(m) && atoms.name(m) == b"m".as_slice() && atoms.len() == 21
     );
     // A tuple comes after a number.
-    assert!(rt; told(rt.alloc(), &atoms, m)? == (6, 3, true, Ordering::Greater));
+    assert!(rt; reported(rt.alloc(), &atoms, m)? == (6, 3, true, Ordering::Greater));
     Ok(())
 }
 

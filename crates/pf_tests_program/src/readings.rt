@@ -49,7 +49,9 @@ fn is_asked(asked: &CliCommand, wanted: WantedReading) -> bool {
 /// Whether it is a text with a status.
 fn is_text(wanted: WantedReading, text: &str, status: u8, is_fault: bool) -> bool {
     match wanted {
-        WantedReading::Text(told, end) => text == told && status == end && is_fault == (end != 0),
+        WantedReading::Text(reported, end) => text == reported
+            && status == end
+            && is_fault == (end != 0),
         _ => false,
     }
 }
@@ -121,7 +123,7 @@ fn status_of(alloc: Global, words: &[&str]) -> Option<u8> {
 }
 
 #[test]
-fn words_that_stand_alone_ask_for_work_or_have_a_status(rt: HostRuntime) {
+fn words_that_are_alone_ask_for_work_or_have_a_status(rt: HostRuntime) {
     let alloc = rt.alloc();
     assert_eq!(rt; status_of(alloc, &["pulsefarm", "steps", "a"]), None);
     assert_eq!(rt; status_of(alloc, &VERSION), Some(0));

@@ -13,5 +13,5 @@ by_commas n [] = append-nil (decimal n)
 by_commas n (m ∷ ms) =
     let parted : decimal n ++ after_commas (m ∷ ms) ≡ decimal n ++ (codes "," ++ (decimal m ++ after_commas ms)) =
     ap (λ (t : List ℕ). decimal n ++ t) (append_assoc (codes ",") (decimal m) (after_commas ms)) in
-    let told : decimal n ++ (codes "," ++ numbers_text m ms) ≡ numbers_text n (m ∷ ms) = simp append_assoc in
-    parted ∙ ap (λ (t : List ℕ). decimal n ++ (codes "," ++ t)) (by_commas m ms) ∙ told
+    let reported : decimal n ++ (codes "," ++ numbers_text m ms) ≡ numbers_text n (m ∷ ms) = simp append_assoc in
+    parted ∙ ap (λ (t : List ℕ). decimal n ++ (codes "," ++ t)) (by_commas m ms) ∙ reported

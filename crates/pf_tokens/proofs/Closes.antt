@@ -7,7 +7,7 @@ use Rattle.pf_errors.specs.declared.code.Code.{Code}
 use Rattle.pf_errors.specs.declared.code.Code.TheVariants.{UnexpectedByte, Unfinished}
 use Rattle.pf_tokens.specs.declared.quoted.QuoteStep.TheVariants as steps
 use Rattle.pf_tokens.specs.Bytes.{is_quotable, is_visible, escape_of}
-use Rattle.pf_tokens.specs.Scan.{Read, put_byte, escape_step, go_on, closing, behind_dollar, behind_backslash}
+use Rattle.pf_tokens.specs.Scan.{Read, put_byte, escape_step, go_on, closing, after_dollar, after_backslash}
 use Rattle.pf_tokens.specs.Scan.{escaped_character}
 use Rattle.pf_tokens.specs.Rules.{WritesByte, WritesAll, is_plain_in, is_plain_character, IsWrong, IsCutOff}
 
@@ -46,15 +46,15 @@ more quote offset c one bytes n (Err e) writes (meant, body, rest, is, all, brea
     )
 
 -- what is before the byte that comes next
-abbrev pub behind : Bool → List ℕ → List ℕ
-behind true bytes = 92 ∷ bytes
-behind false bytes = bytes
+abbrev pub after : Bool → List ℕ → List ℕ
+after true bytes = 92 ∷ bytes
+after false bytes = bytes
 
 apart : (quote b : ℕ) → eqb b quote ≡ false → eqb b 92 ≡ false → is_quotable b ≡ true → is_plain_in quote b ≡ true
 apart quote b p q r = rw (p, q, r) refl
 
 pub closing_reads : (quote offset : ℕ) (bytes : List ℕ) (escaped : Bool) (n : ℕ)
-    → Reads quote offset (behind escaped bytes) n (closing quote offset bytes escaped n)
+    → Reads quote offset (after escaped bytes) n (closing quote offset bytes escaped n)
 unfolding closing
 closing_reads quote offset [] true n = ([], [], 92 ∷ [], refl, refl, (inr refl, refl))
 closing_reads quote offset [] false n = ([], [], [], refl, refl, (inl refl, refl))
@@ -93,7 +93,7 @@ ReadsOne offset bytes (Ok p) = (one rest : List ℕ) × (bytes ≡ one ++ rest) 
     × (p.1 ≡ suc (length one))
 ReadsOne offset bytes (Err e) = BreaksHere e.0 bytes offset e.1
 
-pub character_reads : (offset : ℕ) (bytes : List ℕ) → ReadsOne offset bytes (behind_dollar offset bytes)
+pub character_reads : (offset : ℕ) (bytes : List ℕ) → ReadsOne offset bytes (after_dollar offset bytes)
 character_reads offset [] = (inl refl, refl)
 character_reads offset (b ∷ bs) = by (eqb b 92) (is_visible b) refl refl (escaped b bs)
   where
@@ -102,13 +102,13 @@ character_reads offset (b ∷ bs) = by (eqb b 92) (is_visible b) refl refl (esca
     letter b e rest (Some c) is found = (b ∷ e ∷ [], rest, refl, inr (e, found, ap (λ x. x ∷ e ∷ []) is), refl)
     letter b e rest None is found = (inr (is, found), refl)
 
-    escaped : (b : ℕ) (bs : List ℕ) → b ≡ 92 → ReadsOne offset (b ∷ bs) (behind_backslash offset bs)
+    escaped : (b : ℕ) (bs : List ℕ) → b ≡ 92 → ReadsOne offset (b ∷ bs) (after_backslash offset bs)
     escaped b [] is = (inr (ap (λ x. x ∷ []) is), refl)
     escaped b (e ∷ rest) is = letter b e rest (escape_of e) is refl
 
     by : (p q : Bool) → eqb b 92 ≡ p → is_visible b ≡ q
-        → (b ≡ 92 → ReadsOne offset (b ∷ bs) (behind_backslash offset bs))
-        → ReadsOne offset (b ∷ bs) (cond p (behind_backslash offset bs)
+        → (b ≡ 92 → ReadsOne offset (b ∷ bs) (after_backslash offset bs))
+        → ReadsOne offset (b ∷ bs) (cond p (after_backslash offset bs)
         (cond q (Ok (b, 2)) (Err (UnexpectedByte, offset + 1))))
     by true q pe qe later = later (eqb-true b 92 pe)
     by false true pe qe later = (b ∷ [], bs, refl, inl (rw (pe, qe) refl, refl), refl)

@@ -8,7 +8,7 @@ pub mod Skips
 pub mod Again
 pub mod Closes
 pub mod Says
-pub mod Stands
+pub mod IsThere
 pub mod Texts
 pub mod Turns
 pub mod Numbers

@@ -6,7 +6,7 @@ use Rattle.std.specs.List.{list_any}
 use Rattle.std.specs.Str.{bytes_eq}
 use Rattle.std.proofs.lemmas.Slice.Eq.{bytes_eq-Decides}
 use Rattle.pf_terms.specs.Atoms.{with_name, names_entered, name_of}
-use Rattle.pf_terms.specs.Order.{TellsApart}
+use Rattle.pf_terms.specs.Order.{Distinguishes}
 use Rattle.pf_tokens.specs.NumberedTokens.{number_in}
 
 -- the name is in the names, first at this index
@@ -47,7 +47,7 @@ named_by (n ∷ ns) name zero e = cc
 named_by (n ∷ ns) name (suc i) e = named_by ns name i e
 
 -- in a table without doubles, the index of a name is its number
-pub first_there : (names : List (List ℕ)) (name : List ℕ) (i : ℕ) → TellsApart (name_of names) (length names)
+pub first_there : (names : List (List ℕ)) (name : List ℕ) (i : ℕ) → Distinguishes (name_of names) (length names)
     → slice_get names i ≡ Some name → FirstAt names name i
 first_there names name i apart e =
     let f = found names name i e in (

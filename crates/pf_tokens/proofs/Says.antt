@@ -20,7 +20,7 @@ use Rattle.pf_tokens.specs.TokenKinds.{reserved_of, reserved_words}
 use Rattle.pf_tokens.specs.TokenKinds as kinds
 use Rattle.pf_tokens.specs.Scan.{Read, Cut, ◌>>=◌, atom_unless, or_fault, token, number_at, word_at, variable_at}
 use Rattle.pf_tokens.specs.Scan.{character_at, atom_at, text_at, module_at, dot_at, mark_at, piece_of, piece_at}
-use Rattle.pf_tokens.specs.Scan.{closing, behind_dollar}
+use Rattle.pf_tokens.specs.Scan.{closing, after_dollar}
 use Rattle.pf_tokens.specs.Rules.{IsRun, IsNumeral, IsName, IsToken, IsPiece, IsQuoted, IsLongestMark, IsFault}
 use Rattle.pf_tokens.specs.Rules.{is_opening, OpensQuoted}
 use Rattle.pf_tokens.proofs.Runs.{run_front}
@@ -309,7 +309,7 @@ piece_of_says offset b bs classes.Digit e shows = number_says offset b bs shows
 piece_of_says offset b bs classes.Lower e shows = word_says offset b bs shows
 piece_of_says offset b bs classes.Upper e shows = variable_says offset b bs shows
 piece_of_says offset b bs classes.Dollar e shows = subst (λ x. Says offset (x ∷ bs) (character_at offset (x ∷ bs)))
-    (sym shows) (code_outcome offset bs (behind_dollar offset bs) (character_reads offset bs))
+    (sym shows) (code_outcome offset bs (after_dollar offset bs) (character_reads offset bs))
 piece_of_says offset b bs classes.Quote e shows = subst (λ x. Says offset (x ∷ bs) (atom_at offset (x ∷ bs)))
     (sym shows) (quoted_outcome 39 offset bs (λ t. kinds.atom t) (closing 39 offset bs false 1) (inl refl)
     (λ meant bytes rest is. inr is) (closing_reads 39 offset bs false 1))

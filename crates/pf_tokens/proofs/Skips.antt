@@ -5,7 +5,7 @@ use Rattle.std.proofs.lemmas.Bool.{eqb-true, eq-eqb}
 use Rattle.pf_errors.specs.declared.code.Code.TheVariants.{UnexpectedByte, Unfinished}
 use Rattle.pf_tokens.specs.declared.quoted.QuoteStep.TheVariants.{Means}
 use Rattle.pf_tokens.specs.Bytes.{is_quotable, is_visible}
-use Rattle.pf_tokens.specs.Scan.{Read, put_byte, step_of, closing, behind_dollar}
+use Rattle.pf_tokens.specs.Scan.{Read, put_byte, step_of, closing, after_dollar}
 use Rattle.pf_tokens.specs.Rules.{WritesByte, WritesAll, is_plain_in, is_plain_character, IsWrong, IsCutOff}
 use Rattle.pf_tokens.proofs.Runs.{not_true}
 use Rattle.pf_tokens.proofs.Quotes.{with_front}
@@ -90,18 +90,18 @@ closing_wrong quote offset n (b ∷ letter ∷ rest) mark (inr (e, bad)) = rw (e
 
 -- a character that is written is read
 pub character_again : (offset code : ℕ) (one rest : List ℕ) → WritesByte is_plain_character code one
-    → behind_dollar offset (one ++ rest) ≡ Ok (code, suc (length one))
+    → after_dollar offset (one ++ rest) ≡ Ok (code, suc (length one))
 character_again offset code one rest (inl plain) =
     let parts = both (is_visible code) (not (eqb code 92)) plain.0 in
     rw (plain.1, not_true (eqb code 92) parts.1, parts.0) refl
 character_again offset code one rest (inr escape) = rw (escape.2, escape.1) refl
 
-pub character_cut : (offset : ℕ) (rest : List ℕ) → IsCutOff rest → behind_dollar offset rest ≡ Err (Unfinished, offset)
+pub character_cut : (offset : ℕ) (rest : List ℕ) → IsCutOff rest → after_dollar offset rest ≡ Err (Unfinished, offset)
 character_cut offset rest (inl e) = rw e refl
 character_cut offset rest (inr e) = rw e refl
 
 pub character_wrong : (offset : ℕ) (rest : List ℕ) → IsWrong is_visible rest
-    → behind_dollar offset rest ≡ Err (UnexpectedByte, offset + 1)
+    → after_dollar offset rest ≡ Err (UnexpectedByte, offset + 1)
 character_wrong offset [] wrong = absurd wrong
 character_wrong offset (b ∷ rest) (inl stray) = rw (differs is_visible b 92 stray refl, stray) refl
 character_wrong offset (b ∷ []) (inr (e, bad)) = absurd bad

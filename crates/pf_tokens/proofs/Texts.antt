@@ -13,7 +13,7 @@ use Rattle.pf_tokens.specs.Rules.{IsPiece, IsFault, RulePart, BeginsWithParts, t
 use Rattle.pf_tokens.specs.Rules.{HasFault, IsOrdered}
 use Rattle.pf_tokens.proofs.Again.{piece_again}
 use Rattle.pf_tokens.proofs.Says.{Cuts, Says, piece_says}
-use Rattle.pf_tokens.proofs.Stands.{piece_some, fault_some, fault_again}
+use Rattle.pf_tokens.proofs.IsThere.{piece_some, fault_some, fault_again}
 
 -- the tokens that are read are there, and so is the first fault
 abbrev pub SaysAll : ℕ → List ℕ → Read (List PlacedToken) → Type 0
@@ -124,14 +124,15 @@ scan_fails_again (suc n) offset text (p ∷ ps) rest fault further le (tail, who
 -- ---- whole texts
 
 -- what is read of a source text is true of it
-abbrev pub Tells : List ℕ → Read (List PlacedToken) → Type 0
-Tells text (Ok ts) = HasTokens text ts
-Tells text (Err e) = HasFault text e.0 e.1
+abbrev pub Reports : List ℕ → Read (List PlacedToken) → Type 0
+Reports text (Ok ts) = HasTokens text ts
+Reports text (Err e) = HasFault text e.0 e.1
 
-pub tokens_tell : (text : List ℕ) → Tells text (tokens text)
-tokens_tell text = by (leb (length text) MOST_SOURCE_BYTES) refl (scan_says (length text) 0 text (omega arith))
+pub tokens_report : (text : List ℕ) → Reports text (tokens text)
+tokens_report text = by (leb (length text) MOST_SOURCE_BYTES) refl (scan_says (length text) 0 text (omega arith))
   where
-    scanned : (read : Read (List PlacedToken)) → length text ≤ MOST_SOURCE_BYTES → SaysAll 0 text read → Tells text read
+    scanned : (read : Read (List PlacedToken)) → length text ≤ MOST_SOURCE_BYTES → SaysAll 0 text read
+        → Reports text read
     scanned (Ok ts) short (parts, begins, is) = record { short = short; parts = parts; whole = begins; tokens_are = is }
     scanned (Err e) short (parts, rest, further, begins, fault, at) =
         inr (
@@ -147,7 +148,7 @@ tokens_tell text = by (leb (length text) MOST_SOURCE_BYTES) refl (scan_says (len
         )
 
     by : (t : Bool) → leb (length text) MOST_SOURCE_BYTES ≡ t → SaysAll 0 text (scan (length text) 0 text)
-        → Tells text (cond t (scan (length text) 0 text) (Err (SourceTooLong, 0)))
+        → Reports text (cond t (scan (length text) 0 text) (Err (SourceTooLong, 0)))
     by true e says = scanned (scan (length text) 0 text) (leb-true (length text) MOST_SOURCE_BYTES e) says
     by false e says = inl (leb-false (length text) MOST_SOURCE_BYTES e, refl, refl)
 

@@ -7,6 +7,6 @@ use Rattle.pf_tokens.specs.declared.numbered_token.NumberedKind.{NumberedKind as
 use Rattle.pf_tokens.specs.NumberedTokens.{kind_in}
 use Rattle.pf_tokens.specs.View.{kind_of}
 
-abbrev pub StandsForKind : List (List ℕ) → List (List ℕ) → token.TokenKind → CodeNumberedKind → Type 0
-StandsForKind atoms variables kind s = (xs ys : List (List ℕ))
+abbrev pub IsForKind : List (List ℕ) → List (List ℕ) → token.TokenKind → CodeNumberedKind → Type 0
+IsForKind atoms variables kind s = (xs ys : List (List ℕ))
     → kind_of s ≡ kind_in (names_entered atoms xs) (names_entered variables ys) kind

@@ -110,8 +110,8 @@ IsNoEscape (letter ∷ rest) = escape_of letter ≡ None
 
 -- a byte isn't allowed there, or is a `\` that begins no escape
 abbrev pub IsWrong : (ℕ → Bool) → List ℕ → Type 0
-IsWrong may_stand [] = ⊥
-IsWrong may_stand (b ∷ rest) = IsFalse (may_stand b) ⊎ ((b ≡ backslash) × IsNoEscape rest)
+IsWrong may_be_there [] = ⊥
+IsWrong may_be_there (b ∷ rest) = IsFalse (may_be_there b) ⊎ ((b ≡ backslash) × IsNoEscape rest)
 
 -- the file ends, or ends after a `\`
 abbrev pub IsCutOff : List ℕ → Type 0

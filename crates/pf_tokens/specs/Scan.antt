@@ -94,21 +94,21 @@ escaped_character offset (Some c) = Ok (c, 3)
 escaped_character offset None = Err (UnexpectedByte, offset + 1)
 
 -- the character after a `\`
-abbrev pub behind_backslash : ℕ → List ℕ → Read (ℕ × ℕ)
-behind_backslash offset [] = Err (Unfinished, offset)
-behind_backslash offset (e ∷ rest) = escaped_character offset (escape_of e)
+abbrev pub after_backslash : ℕ → List ℕ → Read (ℕ × ℕ)
+after_backslash offset [] = Err (Unfinished, offset)
+after_backslash offset (e ∷ rest) = escaped_character offset (escape_of e)
 
 -- the character after a `$`
-abbrev pub behind_dollar : ℕ → List ℕ → Read (ℕ × ℕ)
-behind_dollar offset [] = Err (Unfinished, offset)
-behind_dollar offset (c ∷ rest) =
-    if c == backslash then behind_backslash offset rest
+abbrev pub after_dollar : ℕ → List ℕ → Read (ℕ × ℕ)
+after_dollar offset [] = Err (Unfinished, offset)
+after_dollar offset (c ∷ rest) =
+    if c == backslash then after_backslash offset rest
     else (if is_visible c then Ok (c, 2)
     else Err (UnexpectedByte, offset + 1))
 
 -- the character at the front, and its length with the `$`
 abbrev pub character : ℕ → List ℕ → Read (ℕ × ℕ)
-character offset bytes = behind_dollar offset (drop 1 bytes)
+character offset bytes = after_dollar offset (drop 1 bytes)
 
 -- a token of that length
 abbrev pub token : TokenKind → ℕ → Cut

@@ -6,7 +6,7 @@ ghost use Rattle.pf_tokens.specs.TokenKinds.{placed_of, kind_of};
 ghost use Rattle.pf_tokens.specs.NumberedTokens.{atom_name, atoms_after, atoms_of, number_in, numbered_tokens};
 ghost use Rattle.pf_tokens.specs.NumberedTokens.{numbered_after, variable_name};
 ghost use Rattle.pf_tokens.specs.View.{token_list};
-ghost use Rattle.pf_tokens.specs.Numbering.{StandsForKind};
+ghost use Rattle.pf_tokens.specs.Numbering.{IsForKind};
 
 use crate::numbered_token::{NumberedKind, NumberedToken};
 use crate::{Token, TokenForm};
@@ -41,7 +41,7 @@ fn number_kind<'a>(
 ) -> Result<NumberedKind<'a>, NoMemory>
     requires atoms { length atoms.old < 2 ^ 32 }
     requires variables { length variables.old < 2 ^ 32 }
-    ensures kind { IfOk result (λ s. StandsForKind atoms.new variables.new (kind_of kind.now) s) }
+    ensures kind { IfOk result (λ s. IsForKind atoms.new variables.new (kind_of kind.now) s) }
     ensures atoms { OnOk result (atoms.new ≡ names_entered atoms.old (atom_name (kind_of kind.now))) }
     ensures variables { OnOk result (variables.new ≡ names_entered variables.old (variable_name (kind_of kind.now))) }
     ensures room { OnOk result ((length atoms.new < 2 ^ 32) × (length variables.new < 2 ^ 32)) }

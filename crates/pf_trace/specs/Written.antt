@@ -22,11 +22,11 @@ lines_text name es = flat_map (λ e. line (event_text name e)) es
 
 -- the events whose lines these are
 abbrev pub events_of : EventLines → List Event
-events_of l = map (λ s. view_of_event s.value) l.told.value.items
+events_of l = map (λ s. view_of_event s.value) l.reported.value.items
 
 -- the events that were put so far
-abbrev pub told_so_far : LinesSoFar → List Event
-told_so_far l = map (λ s. view_of_event s.value) l.told.items
+abbrev pub reported_so_far : LinesSoFar → List Event
+reported_so_far l = map (λ s. view_of_event s.value) l.reported.items
 
 -- the text is theirs, a line each, if atoms have these names
 abbrev pub AreWritten : (name : ℕ → List ℕ) → EventLines → Type 0
@@ -34,7 +34,7 @@ AreWritten name l = l.text.items ≡ lines_text name (events_of l)
 
 -- the text so far is that of the events so far
 abbrev pub AreWrittenSoFar : (name : ℕ → List ℕ) → LinesSoFar → Type 0
-AreWrittenSoFar name l = l.text.items ≡ lines_text name (told_so_far l)
+AreWrittenSoFar name l = l.text.items ≡ lines_text name (reported_so_far l)
 
 -- the report that is written
 abbrev pub report_in : WrittenReport → Report
@@ -61,8 +61,8 @@ abbrev pub gone_from : Pieces → List Event
 gone_from p = map (λ s. view_of_event s.value) p.gone.items
 
 -- all events that were put
-abbrev pub all_told : Pieces → List Event
-all_told p = gone_from p ++ told_so_far p.lines
+abbrev pub all_reported : Pieces → List Event
+all_reported p = gone_from p ++ reported_so_far p.lines
 
 -- the bytes of the lines that wait
 abbrev pub waiting_bytes : Pieces → List ℕ
@@ -75,12 +75,13 @@ IsShort p = length (waiting_bytes p) < 65536
 -- the lines that waited went out, or they wait on
 abbrev pub GoesOut : (name : ℕ → List ℕ) → (old new : Pieces) → (written_old written_new : Option (List ℕ)) → Type 0
 GoesOut name p q w0 w1 =
-    (out : List Event) × (gone_from q ≡ gone_from p ++ out) × (all_told q ≡ all_told p) × AreWrittenSoFar name q.lines
+    (out : List Event) × (gone_from q ≡ gone_from p ++ out) × (all_reported q ≡ all_reported p)
+    × AreWrittenSoFar name q.lines
     × Appends w0 w1 (lines_text name out)
 
 -- these events were put, and the lines of those that don't wait went out
 abbrev pub HasGoneOut : (name : ℕ → List ℕ) → List Event → Pieces → (written_old written_new : Option (List ℕ)) → Type 0
-HasGoneOut name es p w0 w1 = (es ≡ all_told p) × AreWrittenSoFar name p.lines
+HasGoneOut name es p w0 w1 = (es ≡ all_reported p) × AreWrittenSoFar name p.lines
     × Appends w0 w1 (lines_text name (gone_from p))
 
 -- a report was cut short: memory ran out, and the lines of its first events went out, each whole; or a write failed and

@@ -12,8 +12,8 @@ use std::snapshot::Snapshot;
 pub struct EventLines {
     text: Vec<u8>,
     count: usize,
-    told: Snapshot<Vec<Snapshot<Event>>>,
-    ghost counted: { count ≡ length told.value.items },
+    reported: Snapshot<Vec<Snapshot<Event>>>,
+    ghost counted: { count ≡ length reported.value.items },
 }
 
 impl EventLines {
@@ -31,14 +31,14 @@ impl EventLines {
     }
 
     /// A text that is the lines of these events.
-    pub(crate) fn of(text: Vec<u8>, told: &Vec<Snapshot<Event>>) -> EventLines
-        ensures events { events_of result ≡ map (λ s. view_of_event s.value) told.now.items }
+    pub(crate) fn of(text: Vec<u8>, reported: &Vec<Snapshot<Event>>) -> EventLines
+        ensures events { events_of result ≡ map (λ s. view_of_event s.value) reported.now.items }
         ensures text { result.text.items ≡ text.items }
     {
         EventLines {
             text,
-            count: told.len(),
-            told: Snapshot::of(told),
+            count: reported.len(),
+            reported: Snapshot::of(reported),
         }
     }
 

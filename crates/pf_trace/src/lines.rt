@@ -5,7 +5,7 @@ ghost use Rattle.pf_terms.specs.Atoms.{name_of};
 ghost use Rattle.pf_model.specs.Reports.{view_of_event};
 ghost use Rattle.pf_model.specs.TermText.{line};
 ghost use Rattle.pf_model.specs.Text.{event_text, report_text};
-ghost use Rattle.pf_trace.specs.Written.{AreWritten, AreWrittenSoFar, report_end_text, events_of, told_so_far};
+ghost use Rattle.pf_trace.specs.Written.{AreWritten, AreWrittenSoFar, report_end_text, events_of, reported_so_far};
 ghost use Rattle.pf_trace.specs.Written.{report_in};
 
 use crate::event_lines::EventLines;
@@ -28,32 +28,33 @@ const FIRST_BYTES: usize = 1_000;
 #[derive(Drop)]
 pub struct LinesSoFar {
     pub(crate) text: Vec<u8>,
-    pub(crate) told: Vec<Snapshot<Event>>,
+    pub(crate) reported: Vec<Snapshot<Event>>,
 }
 
 impl LinesSoFar {
     /// No line.
     pub fn new(alloc: Global) -> LinesSoFar
-        ensures none { told_so_far result ≡ [] }
+        ensures none { reported_so_far result ≡ [] }
         ensures text { result.text.items ≡ [] }
         ensures written { (name : ℕ → List ℕ) → AreWrittenSoFar name result }
     {
         LinesSoFar {
             text: Vec::new(alloc),
-            told: Vec::new(alloc),
+            reported: Vec::new(alloc),
         }
     }
 
     /// How many lines there are, which is how many events.
     pub fn len(&self) -> usize
-        ensures { result ≡ length (told_so_far self.now) }
+        ensures { result ≡ length (reported_so_far self.now) }
     {
-        self.told.len()
+        self.reported.len()
     }
 
     /// Adds the line of an event.
     pub fn add(&mut self, atoms: &AtomTable, event: &Event) -> Result<(), NoMemory>
-        ensures event { OnOk result (told_so_far self.new ≡ told_so_far self.old ++ view_of_event event.now ∷ []) }
+        ensures event { OnOk result (reported_so_far self.new ≡ reported_so_far self.old
+            ++ view_of_event event.now ∷ []) }
         ensures text { OnOk result (self.new.text.items ≡ self.old.text.items
             ++ line (event_text (name_of atoms.now) (view_of_event event.now))) }
         ensures line { OnOk result (AreWrittenSoFar (name_of atoms.now) self.old
@@ -61,17 +62,17 @@ impl LinesSoFar {
     {
         self.make_room()?;
         put_event(&mut self.text, atoms, event)?;
-        self.told.push(Snapshot::of(event))?;
+        self.reported.push(Snapshot::of(event))?;
         Ok(())
     }
 
     /// Makes room for the first lines at once, and for as many events as a run may have: these have no bytes.
     fn make_room(&mut self) -> Result<(), NoMemory>
-        ensures events { told_so_far self.new ≡ told_so_far self.old }
+        ensures events { reported_so_far self.new ≡ reported_so_far self.old }
         ensures text { self.new.text.items ≡ self.old.text.items }
     {
-        if self.told.len() == self.told.capacity() {
-            self.told.reserve(MOST_EVENTS)?;
+        if self.reported.len() == self.reported.capacity() {
+            self.reported.reserve(MOST_EVENTS)?;
             self.text.reserve(FIRST_BYTES)?;
         }
         Ok(())
@@ -79,13 +80,13 @@ impl LinesSoFar {
 
     /// The lines of a run that is over, without the room that is left over.
     pub fn finish(self) -> EventLines
-        ensures events { events_of result ≡ told_so_far self }
+        ensures events { events_of result ≡ reported_so_far self }
         ensures text { result.text.items ≡ self.text.items }
         ensures written { (name : ℕ → List ℕ) → AreWrittenSoFar name self → AreWritten name result }
     {
-        let LinesSoFar { mut text, told } = self;
+        let LinesSoFar { mut text, reported } = self;
         text.shrink_to_fit();
-        EventLines::of(text, &told)
+        EventLines::of(text, &reported)
     }
 }
 

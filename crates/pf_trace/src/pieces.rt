@@ -8,7 +8,7 @@ ghost use Rattle.pf_model.specs.Reports.{view_of_event, view_of_outcome};
 ghost use Rattle.pf_model.specs.TermText.{line};
 ghost use Rattle.pf_model.specs.Text.{event_text};
 ghost use Rattle.pf_trace.specs.Written.{AreWrittenSoFar, GoesOut, IsShort, gone_from, last_lines, lines_text};
-ghost use Rattle.pf_trace.specs.Written.{told_so_far, waiting_bytes};
+ghost use Rattle.pf_trace.specs.Written.{reported_so_far, waiting_bytes};
 
 use crate::lines::LinesSoFar;
 use crate::report::put_last_lines;
@@ -36,7 +36,7 @@ impl Pieces {
     /// No line.
     pub fn new(alloc: Global) -> Pieces
         ensures gone { gone_from result ≡ [] }
-        ensures waiting { told_so_far result.lines ≡ [] }
+        ensures waiting { reported_so_far result.lines ≡ [] }
         ensures written { (name : ℕ → List ℕ) → AreWrittenSoFar name result.lines }
         ensures short { IsShort result }
     {
@@ -49,8 +49,8 @@ impl Pieces {
     /// Adds the line of an event, and so as many bytes to those that wait. None goes out.
     pub fn add(&mut self, atoms: &AtomTable, event: &Event) -> Result<(), NoMemory>
         ensures gone { self.new.gone ≡ self.old.gone }
-        ensures event { OnOk result (told_so_far self.new.lines
-            ≡ told_so_far self.old.lines ++ view_of_event event.now ∷ []) }
+        ensures event { OnOk result (reported_so_far self.new.lines
+            ≡ reported_so_far self.old.lines ++ view_of_event event.now ∷ []) }
         ensures held { OnOk result (waiting_bytes self.new
             ≡ waiting_bytes self.old ++ line (event_text (name_of atoms.now) (view_of_event event.now))) }
         ensures line { OnOk result (AreWrittenSoFar (name_of atoms.now) self.old.lines
@@ -68,12 +68,12 @@ impl Pieces {
             (GoesOut name self.old self.new (W.contents writer.old.inner) (W.contents writer.new.inner)) }
         ensures kept { OnOk result (writer.new.failures.total ≡ writer.old.failures.total) }
         ensures fault { (name : ℕ → List ℕ) → AreWrittenSoFar name self.old.lines → IfErr result (λ e.
-            LeavesFront e (lines_text name (told_so_far self.old.lines))
+            LeavesFront e (lines_text name (reported_so_far self.old.lines))
             (W.contents writer.old.inner) (W.contents writer.new.inner)
             writer.old.failures.total writer.new.failures.total) }
         ensures none_waits { OnOk result (waiting_bytes self.new ≡ []) }
     {
-        self.gone.append(&mut self.lines.told)?;
+        self.gone.append(&mut self.lines.reported)?;
         writer.put(&self.lines.text)?;
         self.lines.text.clear();
         Ok(())
@@ -88,7 +88,7 @@ impl Pieces {
             (GoesOut name self.old self.new (W.contents writer.old.inner) (W.contents writer.new.inner)) }
         ensures kept { OnOk result (writer.new.failures.total ≡ writer.old.failures.total) }
         ensures fault { (name : ℕ → List ℕ) → AreWrittenSoFar name self.old.lines → IfErr result (λ e.
-            LeavesFront e (lines_text name (told_so_far self.old.lines))
+            LeavesFront e (lines_text name (reported_so_far self.old.lines))
             (W.contents writer.old.inner) (W.contents writer.new.inner)
             writer.old.failures.total writer.new.failures.total) }
         ensures short { OnOk result (IsShort self.new) }
@@ -111,17 +111,20 @@ impl Pieces {
     ) -> Result<(), OrNoMemory<StreamFault>>
         requires { AreWrittenSoFar (name_of atoms.now) self.lines }
         ensures written { OnOk result (Appends (W.contents writer.old.inner) (W.contents writer.new.inner)
-            (lines_text (name_of atoms.now) (told_so_far self.lines)
+            (lines_text (name_of atoms.now) (reported_so_far self.lines)
             ++ last_lines (name_of atoms.now) (view_of_outcome outcome.now) steps verdict)) }
         ensures kept { OnOk result (writer.new.failures.total ≡ writer.old.failures.total) }
         ensures fault { IfErr result (λ e. LeavesFront e
-            (lines_text (name_of atoms.now) (told_so_far self.lines)
+            (lines_text (name_of atoms.now) (reported_so_far self.lines)
             ++ last_lines (name_of atoms.now) (view_of_outcome outcome.now) steps verdict)
             (W.contents writer.old.inner) (W.contents writer.new.inner)
             writer.old.failures.total writer.new.failures.total) }
     {
         let Pieces { lines, gone: _ } = self;
-        let LinesSoFar { mut text, told: _ } = lines;
+        let LinesSoFar {
+            mut text,
+            reported: _,
+        } = lines;
         put_last_lines(&mut text, atoms, outcome, steps, verdict)?;
         writer.put(&text)?;
         Ok(())

@@ -11,11 +11,11 @@ use Rattle.pf_model.specs.Shrinking as shrinking
 use Rattle.pf_model.specs.Shrinking.{report, shrunk_to, nothing_fails}
 use Rattle.pf_model.specs.TermText.{line}
 use Rattle.pf_model.specs.Text.{outcome_text, report_text, verdict_text}
-use Rattle.pf_desks.specs.Told.{result_rest}
+use Rattle.pf_desks.specs.Reported.{result_rest}
 use Rattle.pf_trace.specs.Written.{report_end_text}
 use Rattle.pf_wire.specs.Whole.{events_text, result_events, result_end, report_lines, with_report, whole_text}
-use Rattle.pf_wire.specs.declared.told.WrittenAnswer.{WrittenAnswer}
-use Rattle.pf_wire.specs.declared.told.ToldReport.{ToldReport}
+use Rattle.pf_wire.specs.declared.reported.WrittenAnswer.{WrittenAnswer}
+use Rattle.pf_wire.specs.declared.reported.ReportedReport.{ReportedReport}
 use Rattle.pf_trace.proofs.Fronts.{front_of_both, front_of_more}
 use Rattle.pf_wire.proofs.Leaving.{IsAdded}
 
@@ -75,10 +75,10 @@ result_in_two atoms (shrunk_to f r) = report_in_two (name_of atoms) r
 result_in_two atoms nothing_fails = refl
 
 -- what was put at the end of nothing follows those of its events
-pub rest_told : (atoms : List (List ℕ)) (r : shrinking.Result) (text none end : List ℕ) → none ≡ []
+pub rest_reported : (atoms : List (List ℕ)) (r : shrinking.Result) (text none end : List ℕ) → none ≡ []
     → end ≡ none ++ result_end atoms r
     → text ++ (result_events atoms r ++ end) ≡ text ++ result_rest atoms r
-rest_told atoms r text none end n e =
+rest_reported atoms r text none end n e =
     let all : end ≡ result_end atoms r = e ∙ ap (λ (t : List ℕ). t ++ result_end atoms r) n in
     ap (λ (t : List ℕ). text ++ (result_events atoms r ++ t)) all ∙ ap (λ (t : List ℕ). text ++ t)
     (result_in_two atoms r)
@@ -86,12 +86,13 @@ rest_told atoms r text none end n e =
 -- ---- what is answered
 
 -- a text comes after what was put
-pub told_with : (put : List ℕ) (t : WrittenAnswer) (r : ToldReport) → put ≡ t.text.items → t.report ≡ Some r
+pub reported_with : (put : List ℕ) (t : WrittenAnswer) (r : ReportedReport) → put ≡ t.text.items → t.report ≡ Some r
     → put ++ report_lines r ≡ whole_text t
-told_with put t r p e = ap (λ (s : List ℕ). s ++ report_lines r) p ∙ ap (with_report t.text.items) (sym e)
+reported_with put t r p e = ap (λ (s : List ℕ). s ++ report_lines r) p ∙ ap (with_report t.text.items) (sym e)
 
 -- a beginning of what was put went out
-pub front_of_put : (g text : List ℕ) (r : Option ToldReport) (w0 w1 : Option (List ℕ)) → AppendsFront w0 w1 (g ++ text)
+pub front_of_put : (g text : List ℕ) (r : Option ReportedReport) (w0 w1 : Option (List ℕ))
+    → AppendsFront w0 w1 (g ++ text)
     → AppendsFront w0 w1 (g ++ with_report text r)
 front_of_put g text None w0 w1 k = k
 front_of_put g text (Some r) w0 w1 k = front_of_first g text (report_lines r) (text ++ report_lines r) w0 w1 refl k

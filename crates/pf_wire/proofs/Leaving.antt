@@ -21,7 +21,8 @@ use Rattle.pf_world.specs.Memory.{RespondsInTurn}
 use Rattle.pf_pool.specs.Profile.{IsRight, ForRight}
 use Rattle.pf_wire.specs.Steps.{AnswersOne, AnswersInPart, AreRead, SimulatesSteps, StepsAnsweredInPart, StepsLeaves}
 use Rattle.pf_wire.specs.Steps.{WholeAnswered, last_text}
-use Rattle.pf_wire.specs.Turns.{MayFollow, Turns, AnswersCommands, so_far, no_more, TellsUpTo, TellsAll, TellsInPart}
+use Rattle.pf_wire.specs.Turns.{MayFollow, Turns, AnswersCommands, so_far, no_more, ReportsUpTo, ReportsAll}
+use Rattle.pf_wire.specs.Turns.{ReportsInPart}
 use Rattle.pf_wire.specs.Turns.{TurnsLeave, TakesPiece, PieceLeaves}
 use Rattle.pf_protocol.specs.Complete.{is_due, is_complete, CompleteCommands, unfinished}
 use Rattle.pf_wire.specs.declared.steps.TheConstants.{MOST_BYTES, WORKERS}
@@ -78,27 +79,27 @@ module _ (p : RunProfile) where
       ([], Appends-nil w, subst (λ (t : List ℕ). Turns p over bytes v j t bytes v j) (sym e) (begun p over bytes v j))
 
   pub in_part : (over : Bool) (bytes rest : List ℕ) (v w : World) (j k : ℕ) (w0 w1 : Option (List ℕ))
-      → TellsUpTo p over bytes v j rest w k w0 w1
-      → TellsInPart p over bytes v j w0 w1
+      → ReportsUpTo p over bytes v j rest w k w0 w1
+      → ReportsInPart p over bytes v j w0 w1
   in_part over bytes rest v w j k w0 w1 t = (t.0, so_far rest w k t.1, (t.0, [], sym (append-nil t.0), t.2))
 
   -- all that is gathered went out
   pub at_hand_sent : (over : Bool) (bytes g rest : List ℕ) (v w : World) (j k : ℕ) (w0 w1 w2 : Option (List ℕ))
       → AtHand p over bytes v j g rest w k w0 w1
-      → Appends w1 w2 g → TellsUpTo p over bytes v j rest w k w0 w2
+      → Appends w1 w2 g → ReportsUpTo p over bytes v j rest w k w0 w2
   at_hand_sent over bytes g rest v w j k w0 w1 w2 a h = (a.0 ++ g, a.2, appends_both w0 w1 w2 a.0 g a.1 h)
 
   -- a beginning of it went out
   pub at_hand_in_part : (over : Bool) (bytes g rest : List ℕ) (v w : World) (j k : ℕ) (w0 w1 w2 : Option (List ℕ))
       → AtHand p over bytes v j g rest w k w0 w1
-      → AppendsFront w1 w2 g → TellsInPart p over bytes v j w0 w2
+      → AppendsFront w1 w2 g → ReportsInPart p over bytes v j w0 w2
   at_hand_in_part over bytes g rest v w j k w0 w1 w2 a h =
       (a.0 ++ g, so_far rest w k a.2, front_of_both w0 w1 w2 a.0 g a.1 h)
 
   -- a write failed
   pub leaves_at : (over : Bool) (bytes : List ℕ) (v : World) (j : ℕ) (w0 w1 : Option (List ℕ)) (f : StreamFault)
       (n0 n n1 : ℕ) → n ≡ n0 → CountsWrite f n n1
-      → TellsInPart p over bytes v j w0 w1 → TurnsLeave p (Fault f) over bytes v j w0 w1 n0 n1
+      → ReportsInPart p over bytes v j w0 w1 → TurnsLeave p (Fault f) over bytes v j w0 w1 n0 n1
   leaves_at over bytes v j w0 w1 (Read e) n0 n n1 k c h = absurd c
   leaves_at over bytes v j w0 w1 (Write e) n0 n n1 k c h = (omega (arith, k, c), h)
 
@@ -127,7 +128,7 @@ module _ (p : RunProfile) (right : IsRight p) where
   pub more_in_part : (over : Bool) (bytes g rest : List ℕ) (v w w' : World) (j k : ℕ) (w0 w1 w2 : Option (List ℕ))
       (text : List ℕ) (next : Option (List ℕ))
       → AtHand p over bytes v j g rest w k w0 w1 → is_due over rest ≡ true → AnswersOne rest k w text next w'
-      → AppendsFront w1 w2 (g ++ text) → TellsInPart p over bytes v j w0 w2
+      → AppendsFront w1 w2 (g ++ text) → ReportsInPart p over bytes v j w0 w2
   more_in_part over bytes g rest v w w' j k w0 w1 w2 text (Some after) h due a f = (
     (h.0 ++ g) ++ text,
     so_far after w' (k + 1) (one_more over bytes rest after v w w' j k (h.0 ++ g) text h.2 due a),
@@ -143,7 +144,7 @@ module _ (p : RunProfile) (right : IsRight p) where
   pub ends_ill : (over : Bool) (bytes g g' rest : List ℕ) (v w w' : World) (j k : ℕ) (w0 w1 w2 w3 : Option (List ℕ))
       (text : List ℕ) → AtHand p over bytes v j g rest w k w0 w1
       → is_due over rest ≡ true → AnswersOne rest k w text None w' → IsAdded g text g' w1 w2 → Appends w2 w3 g'
-      → TellsAll p over bytes v j w0 w3
+      → ReportsAll p over bytes v j w0 w3
   ends_ill over bytes g g' rest v w w' j k w0 w1 w2 w3 text h due a added sent = (
     h.0 ++ g,
     rest,
@@ -159,7 +160,7 @@ module _ (p : RunProfile) (right : IsRight p) where
   pub ends_ill_in_part : (over : Bool) (bytes g g' rest : List ℕ) (v w w' : World) (j k : ℕ)
       (w0 w1 w2 w3 : Option (List ℕ)) (text : List ℕ) → AtHand p over bytes v j g rest w k w0 w1
       → is_due over rest ≡ true → AnswersOne rest k w text None w' → IsAdded g text g' w1 w2 → AppendsFront w2 w3 g'
-      → TellsInPart p over bytes v j w0 w3
+      → ReportsInPart p over bytes v j w0 w3
   ends_ill_in_part over bytes g g' rest v w w' j k w0 w1 w2 w3 text h due a added sent = (
     (h.0 ++ g) ++ text,
     no_more (h.0 ++ g) rest w k h.2 (none_due over rest due a.0) (ap (λ (t : List ℕ). (h.0 ++ g) ++ t) a.1),
@@ -196,16 +197,16 @@ covers most over (Some input) (Some left) read h le ends = (
 )
 
 -- n bytes were read, and what went out is the text of their commands up to the bytes that are kept
-abbrev pub Stands : (over : Bool) (bytes : List ℕ) → World
+abbrev pub IsThere : (over : Bool) (bytes : List ℕ) → World
     → (k taken : ℕ) (read_old read_new written_old written_new : Option (List ℕ)) → Type 0
-Stands over bytes w k taken r0 r1 w0 w1 = (read : List ℕ) × Consumes r0 r1 read × (length read ≡ taken)
+IsThere over bytes w k taken r0 r1 w0 w1 = (read : List ℕ) × Consumes r0 r1 read × (length read ≡ taken)
     × (over ≡ true → IsAtEnd r1 ⊎ (taken ≡ MOST_BYTES))
-    × ForRight (λ p. TellsUpTo p over read (new_world WORKERS) 1 bytes w k w0 w1)
+    × ForRight (λ p. ReportsUpTo p over read (new_world WORKERS) 1 bytes w k w0 w1)
 
-pub stands_first : (bytes : List ℕ) (w : World) (taken : ℕ) (r w' : Option (List ℕ)) → bytes ≡ []
+pub is_there_first : (bytes : List ℕ) (w : World) (taken : ℕ) (r w' : Option (List ℕ)) → bytes ≡ []
     → w ≡ new_world WORKERS → taken ≡ 0
-    → Stands false bytes w 1 taken r r w' w'
-stands_first bytes w taken r out none_read is_new none_taken = (
+    → IsThere false bytes w 1 taken r r w' w'
+is_there_first bytes w taken r out none_read is_new none_taken = (
   [],
   Consumes-nil r,
   sym none_taken,
@@ -241,27 +242,27 @@ goes over r0 r1 read taken h e le ends =
     (λ o. subst (λ (n : ℕ). IsAtEnd r1 ⊎ (n ≡ MOST_BYTES)) (sym e) (ends o))
 
 -- the bytes that were read are no more than may be
-pub stands_taken : (over : Bool) (bytes : List ℕ) (w : World) (k taken : ℕ) (r0 r1 w0 w1 : Option (List ℕ))
-    → Stands over bytes w k taken r0 r1 w0 w1 → taken ≤ MOST_BYTES
+pub is_there_taken : (over : Bool) (bytes : List ℕ) (w : World) (k taken : ℕ) (r0 r1 w0 w1 : Option (List ℕ))
+    → IsThere over bytes w k taken r0 r1 w0 w1 → taken ≤ MOST_BYTES
     → (read : List ℕ) × (length read ≤ MOST_BYTES) × Consumes r0 r1 read
-stands_taken over bytes w k taken r0 r1 w0 w1 s le = (s.0, subst (λ (n : ℕ). n ≤ MOST_BYTES) (sym s.2) le, s.1)
+is_there_taken over bytes w k taken r0 r1 w0 w1 s le = (s.0, subst (λ (n : ℕ). n ≤ MOST_BYTES) (sym s.2) le, s.1)
 
 -- with what was taken after it
-pub stands_taken_more : (over : Bool) (bytes : List ℕ) (w : World) (k taken : ℕ) (r0 r1 r2 w0 w1 : Option (List ℕ))
-    (piece : List ℕ) → Stands over bytes w k taken r0 r1 w0 w1
+pub is_there_taken_more : (over : Bool) (bytes : List ℕ) (w : World) (k taken : ℕ) (r0 r1 r2 w0 w1 : Option (List ℕ))
+    (piece : List ℕ) → IsThere over bytes w k taken r0 r1 w0 w1
     → taken + length piece ≤ MOST_BYTES → Consumes r1 r2 piece
     → (read : List ℕ) × (length read ≤ MOST_BYTES) × Consumes r0 r2 read
-stands_taken_more over bytes w k taken r0 r1 r2 w0 w1 piece s le h =
+is_there_taken_more over bytes w k taken r0 r1 r2 w0 w1 piece s le h =
     let sum : length (s.0 ++ piece) ≡ taken + length piece = omega (arith, length-append s.0 piece, s.2) in
     (s.0 ++ piece, subst (λ (n : ℕ). n ≤ MOST_BYTES) (sym sum) le, Consumes-trans r0 r1 r2 s.0 piece s.1 h)
 
 -- a piece more was read, of an input that wasn't over
-pub stands_later : {was over : Bool} {bytes bytes' : List ℕ} {w : World} {k taken taken' : ℕ}
+pub is_there_later : {was over : Bool} {bytes bytes' : List ℕ} {w : World} {k taken taken' : ℕ}
     (r0 r1 r2 w0 w1 : Option (List ℕ)) → was ≡ false
-    → Stands was bytes w k taken r0 r1 w0 w1 → TakesPiece r1 r2 bytes bytes' taken taken' over
-    → Stands over bytes' w k taken' r0 r2 w0 w1
-stands_later {was} {over} {bytes} {bytes'} {w} {k} {taken} {taken'} r0 r1 r2 w0 w1 going stood t =
-    let s = subst (λ (b : Bool). Stands b bytes w k taken r0 r1 w0 w1) going stood in (
+    → IsThere was bytes w k taken r0 r1 w0 w1 → TakesPiece r1 r2 bytes bytes' taken taken' over
+    → IsThere over bytes' w k taken' r0 r2 w0 w1
+is_there_later {was} {over} {bytes} {bytes'} {w} {k} {taken} {taken'} r0 r1 r2 w0 w1 going stood t =
+    let s = subst (λ (b : Bool). IsThere b bytes w k taken r0 r1 w0 w1) going stood in (
       s.0 ++ t.0,
       Consumes-trans r0 r1 r2 s.0 t.0 s.1 t.1,
       omega (arith, length-append s.0 t.0, s.2, t.3),
@@ -276,10 +277,10 @@ stands_later {was} {over} {bytes} {bytes'} {w} {k} {taken} {taken'} r0 r1 r2 w0 
     )
 
 -- some commands more were answered
-pub stands_further : (over : Bool) (bytes rest : List ℕ) (w w' : World) (k l taken : ℕ)
-    (r0 r1 w0 w1 w2 : Option (List ℕ)) → Stands over bytes w k taken r0 r1 w0 w1
-    → ForRight (λ p. TellsUpTo p over bytes w k rest w' l w1 w2) → Stands over rest w' l taken r0 r1 w0 w2
-stands_further over bytes rest w w' k l taken r0 r1 w0 w1 w2 s t = (
+pub is_there_further : (over : Bool) (bytes rest : List ℕ) (w w' : World) (k l taken : ℕ)
+    (r0 r1 w0 w1 w2 : Option (List ℕ)) → IsThere over bytes w k taken r0 r1 w0 w1
+    → ForRight (λ p. ReportsUpTo p over bytes w k rest w' l w1 w2) → IsThere over rest w' l taken r0 r1 w0 w2
+is_there_further over bytes rest w w' k l taken r0 r1 w0 w1 w2 s t = (
   s.0,
   s.1,
   s.2,
@@ -295,29 +296,29 @@ stands_further over bytes rest w w' k l taken r0 r1 w0 w1 w2 s t = (
 
 module _ (p : RunProfile) (right : IsRight p) where
   -- a beginning of the answer went out
-  pub stands_in_part : (over : Bool) (bytes : List ℕ) (w : World) (k taken : ℕ) (r0 r1 w0 w1 : Option (List ℕ))
-      → Stands over bytes w k taken r0 r1 w0 w1 → taken ≤ MOST_BYTES
+  pub is_there_in_part : (over : Bool) (bytes : List ℕ) (w : World) (k taken : ℕ) (r0 r1 w0 w1 : Option (List ℕ))
+      → IsThere over bytes w k taken r0 r1 w0 w1 → taken ≤ MOST_BYTES
       → StepsAnsweredInPart p r0 w0 w1
-  stands_in_part over bytes w k taken r0 r1 w0 w1 s le =
+  is_there_in_part over bytes w k taken r0 r1 w0 w1 s le =
       let c = goes over r0 r1 s.0 taken s.1 s.2 le s.3 in
       let t = s.4 p right in
       let m = goes_on p over s.0 bytes c.0 w t.0 k t.1 c.1 in
       (s.0 ++ c.0, c.2, (t.0 ++ m.0, m.1, m.2, (t.0, m.0, refl, t.2)))
 
   -- nothing was read
-  pub stands_before : (r w : Option (List ℕ)) → StepsAnsweredInPart p r w w
-  stands_before r w = stands_in_part false [] (new_world WORKERS) 1 0 r r w w
-      (stands_first [] (new_world WORKERS) 0 r w refl refl refl) (omega arith)
+  pub is_there_before : (r w : Option (List ℕ)) → StepsAnsweredInPart p r w w
+  is_there_before r w = is_there_in_part false [] (new_world WORKERS) 1 0 r r w w
+      (is_there_first [] (new_world WORKERS) 0 r w refl refl refl) (omega arith)
 
-  tells_in_part : (over : Bool) (read bytes more : List ℕ) (w : World) (k : ℕ) (w0 w1 w2 : Option (List ℕ))
+  reports_in_part : (over : Bool) (read bytes more : List ℕ) (w : World) (k : ℕ) (w0 w1 w2 : Option (List ℕ))
       (front text : List ℕ) → Turns p over read (new_world WORKERS) 1 front bytes w k
       → MayFollow over more → Appends w0 w1 front → AnswersCommands p over bytes w k text → AppendsFront w1 w2 text
       → AnswersInPart p (read ++ more) w0 w2
-  tells_in_part over read bytes more w k w0 w1 w2 front text t f h (so_far rest x l u) g =
+  reports_in_part over read bytes more w k w0 w1 w2 front text t f h (so_far rest x l u) g =
       let both = turns_both p over read bytes rest (new_world WORKERS) w x 1 k l front text t u in
       let m = goes_on p over read rest more x (front ++ text) l both f in
       ((front ++ text) ++ m.0, m.1, m.2, front_both w0 w1 w2 front text m.0 h g)
-  tells_in_part over read bytes more w k w0 w1 w2 front text t f h (no_more next rest x l u none e) g =
+  reports_in_part over read bytes more w k w0 w1 w2 front text t f h (no_more next rest x l u none e) g =
       let both = turns_both p over read bytes rest (new_world WORKERS) w x 1 k l front next t u in
       let same : (front ++ next) ++ last_text false l ≡ front ++ text = append_assoc front next (last_text false l)
       ∙ ap (λ (s : List ℕ). front ++ s) (sym e) in (
@@ -328,12 +329,12 @@ module _ (p : RunProfile) (right : IsRight p) where
       )
 
   -- the answers to what was due stopped
-  pub stands_stopped : (over : Bool) (bytes : List ℕ) (w : World) (k taken : ℕ) (r0 r1 w0 w1 w2 : Option (List ℕ))
+  pub is_there_stopped : (over : Bool) (bytes : List ℕ) (w : World) (k taken : ℕ) (r0 r1 w0 w1 w2 : Option (List ℕ))
       (e : OrNoMemory StreamFault) (m0 m1 n0 n1 n2 : ℕ)
-      → Stands over bytes w k taken r0 r1 w0 w1 → taken ≤ MOST_BYTES → m1 ≡ m0 → n1 ≡ n0
+      → IsThere over bytes w k taken r0 r1 w0 w1 → taken ≤ MOST_BYTES → m1 ≡ m0 → n1 ≡ n0
       → TurnsLeave p e over bytes w k w1 w2 n1 n2
       → StepsLeaves p e r0 r1 w0 w2 m0 m1 n0 n2
-  stands_stopped over bytes w k taken r0 r1 w0 w1 w2 NoMemory m0 m1 n0 n1 n2 s le m n t =
+  is_there_stopped over bytes w k taken r0 r1 w0 w1 w2 NoMemory m0 m1 n0 n1 n2 s le m n t =
       let c = goes over r0 r1 s.0 taken s.1 s.2 le s.3 in
       let one = s.4 p right in (
         m,
@@ -341,12 +342,12 @@ module _ (p : RunProfile) (right : IsRight p) where
         (
           s.0 ++ c.0,
           c.2,
-          tells_in_part over s.0 bytes c.0 w k w0 w1 w2 one.0 t.1.0 one.1 c.1
+          reports_in_part over s.0 bytes c.0 w k w0 w1 w2 one.0 t.1.0 one.1 c.1
               one.2 t.1.1 t.1.2,
         ),
       )
-  stands_stopped over bytes w k taken r0 r1 w0 w1 w2 (Fault (Read f)) m0 m1 n0 n1 n2 s le m n t = absurd t
-  stands_stopped over bytes w k taken r0 r1 w0 w1 w2 (Fault (Write f)) m0 m1 n0 n1 n2 s le m n t =
+  is_there_stopped over bytes w k taken r0 r1 w0 w1 w2 (Fault (Read f)) m0 m1 n0 n1 n2 s le m n t = absurd t
+  is_there_stopped over bytes w k taken r0 r1 w0 w1 w2 (Fault (Write f)) m0 m1 n0 n1 n2 s le m n t =
       let c = goes over r0 r1 s.0 taken s.1 s.2 le s.3 in
       let one = s.4 p right in (
         m,
@@ -354,22 +355,22 @@ module _ (p : RunProfile) (right : IsRight p) where
         (
           s.0 ++ c.0,
           c.2,
-          tells_in_part over s.0 bytes c.0 w k w0 w1 w2 one.0 t.1.0
+          reports_in_part over s.0 bytes c.0 w k w0 w1 w2 one.0 t.1.0
               one.1 c.1 one.2 t.1.1 t.1.2,
         ),
       )
 
   -- memory ran out
-  pub stands_without_memory : (over : Bool) (bytes : List ℕ) (w : World) (k taken : ℕ)
+  pub is_there_without_memory : (over : Bool) (bytes : List ℕ) (w : World) (k taken : ℕ)
       (r0 r1 r2 w0 w1 : Option (List ℕ)) (m0 m1 n0 n1 : ℕ)
-      → Stands over bytes w k taken r0 r1 w0 w1 → taken ≤ MOST_BYTES → m1 ≡ m0 → n1 ≡ n0
+      → IsThere over bytes w k taken r0 r1 w0 w1 → taken ≤ MOST_BYTES → m1 ≡ m0 → n1 ≡ n0
       → StepsLeaves p NoMemory r0 r2 w0 w1 m0 m1 n0 n1
-  stands_without_memory over bytes w k taken r0 r1 r2 w0 w1 m0 m1 n0 n1 s le m n =
-      (m, n, stands_in_part over bytes w k taken r0 r1 w0 w1 s le)
+  is_there_without_memory over bytes w k taken r0 r1 r2 w0 w1 m0 m1 n0 n1 s le m n =
+      (m, n, is_there_in_part over bytes w k taken r0 r1 w0 w1 s le)
 
   -- the whole commands are answered
   whole_answered : (bytes : List ℕ) (w : World) (k taken : ℕ) (r0 r1 r2 w0 w1 : Option (List ℕ))
-      → Stands false bytes w k taken r0 r1 w0 w1 → is_complete bytes ≡ false
+      → IsThere false bytes w k taken r0 r1 w0 w1 → is_complete bytes ≡ false
       → Keeps r1 r2 → WholeAnswered p r0 r2 w0 w1
   whole_answered bytes w k taken r0 r1 r2 w0 w1 s rest kept =
       let t = s.4 p right in
@@ -393,26 +394,26 @@ module _ (p : RunProfile) (right : IsRight p) where
       )
 
   -- a piece could not be read
-  pub stands_unread : (e : OrNoMemory StreamFault) (bytes : List ℕ) (w : World) (k taken : ℕ)
+  pub is_there_unread : (e : OrNoMemory StreamFault) (bytes : List ℕ) (w : World) (k taken : ℕ)
       (r0 r1 r2 w0 w1 : Option (List ℕ)) (m0 m1 m2 n0 n1 : ℕ)
-      → Stands false bytes w k taken r0 r1 w0 w1 → taken ≤ MOST_BYTES → is_complete bytes ≡ false → m1 ≡ m0 → n1 ≡ n0
+      → IsThere false bytes w k taken r0 r1 w0 w1 → taken ≤ MOST_BYTES → is_complete bytes ≡ false → m1 ≡ m0 → n1 ≡ n0
       → PieceLeaves e r1 r2 m1 m2
       → StepsLeaves p e r0 r2 w0 w1 m0 m2 n0 n1
-  stands_unread NoMemory bytes w k taken r0 r1 r2 w0 w1 m0 m1 m2 n0 n1 s le rest m n t =
-      (t ∙ m, n, stands_in_part false bytes w k taken r0 r1 w0 w1 s le)
-  stands_unread (Fault (Read f)) bytes w k taken r0 r1 r2 w0 w1 m0 m1 m2 n0 n1 s le rest m n t = (
+  is_there_unread NoMemory bytes w k taken r0 r1 r2 w0 w1 m0 m1 m2 n0 n1 s le rest m n t =
+      (t ∙ m, n, is_there_in_part false bytes w k taken r0 r1 w0 w1 s le)
+  is_there_unread (Fault (Read f)) bytes w k taken r0 r1 r2 w0 w1 m0 m1 m2 n0 n1 s le rest m n t = (
     t.0 ∙ ap (λ (i : ℕ). i + 1) m,
     n,
-    stands_in_part false bytes w k taken r0 r1 w0 w1 s le,
+    is_there_in_part false bytes w k taken r0 r1 w0 w1 s le,
     whole_answered bytes w k taken r0 r1 r2 w0 w1 s rest t.1,
   )
-  stands_unread (Fault (Write f)) bytes w k taken r0 r1 r2 w0 w1 m0 m1 m2 n0 n1 s le rest m n t = absurd t
+  is_there_unread (Fault (Write f)) bytes w k taken r0 r1 r2 w0 w1 m0 m1 m2 n0 n1 s le rest m n t = absurd t
 
   -- all was answered, and the last line was no command
-  pub stands_ended_ill : (over : Bool) (bytes : List ℕ) (w : World) (k taken : ℕ) (r0 r1 w0 w1 w2 : Option (List ℕ))
-      → Stands over bytes w k taken r0 r1 w0 w1 → taken ≤ MOST_BYTES
-      → TellsAll p over bytes w k w1 w2 → SimulatesSteps p r0 w0 w2 2
-  stands_ended_ill over bytes w k taken r0 r1 w0 w1 w2 s le t =
+  pub is_there_ended_ill : (over : Bool) (bytes : List ℕ) (w : World) (k taken : ℕ) (r0 r1 w0 w1 w2 : Option (List ℕ))
+      → IsThere over bytes w k taken r0 r1 w0 w1 → taken ≤ MOST_BYTES
+      → ReportsAll p over bytes w k w1 w2 → SimulatesSteps p r0 w0 w2 2
+  is_there_ended_ill over bytes w k taken r0 r1 w0 w1 w2 s le t =
       let c = goes over r0 r1 s.0 taken s.1 s.2 le s.3 in
       let one = s.4 p right in
       let both = turns_both p over s.0 bytes t.1 (new_world WORKERS) w t.2 1 k t.3 one.0 t.0 one.1 t.4 in
@@ -425,11 +426,11 @@ module _ (p : RunProfile) (right : IsRight p) where
       )
 
   -- all was answered
-  pub stands_ended : (bytes : List ℕ) (w : World) (k taken : ℕ) (r0 r1 w0 w1 : Option (List ℕ))
-      → Stands true bytes w k taken r0 r1 w0 w1 → taken ≤ MOST_BYTES
+  pub is_there_ended : (bytes : List ℕ) (w : World) (k taken : ℕ) (r0 r1 w0 w1 : Option (List ℕ))
+      → IsThere true bytes w k taken r0 r1 w0 w1 → taken ≤ MOST_BYTES
       → is_due true bytes ≡ false → SimulatesSteps p r0 w0 w1 0
-  stands_ended (b ∷ bs) w k taken r0 r1 w0 w1 s le done = absurd (some_due b bs done)
-  stands_ended [] w k taken r0 r1 w0 w1 s le done =
+  is_there_ended (b ∷ bs) w k taken r0 r1 w0 w1 s le done = absurd (some_due b bs done)
+  is_there_ended [] w k taken r0 r1 w0 w1 s le done =
       let c = goes true r0 r1 s.0 taken s.1 s.2 le s.3 in
       let t = s.4 p right in (
         s.0,

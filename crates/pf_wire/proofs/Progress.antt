@@ -8,7 +8,7 @@ use Rattle.pf_world.specs.Chores.{Response}
 use Rattle.pf_world.specs.Steps.{WorldStep, take_step, responses, all_responses}
 use Rattle.pf_world.specs.Memory.{RespondsTo, RespondsInTurn}
 use Rattle.pf_world.specs.Alone.{heard, heard_alone}
-use Rattle.pf_world.specs.Told.{step_text, outcomes_text}
+use Rattle.pf_world.specs.Reported.{step_text, outcomes_text}
 use Rattle.pf_world.proofs.InTurn.{in_turn}
 use Rattle.pf_world.proofs.Isolated.{isolated}
 use Rattle.pf_protocol.specs.Commands as commands

@@ -16,7 +16,7 @@ use Rattle.pf_world.specs.Chores.{Response}
 use Rattle.pf_world.specs.Steps.{WorldStep}
 use Rattle.pf_world.specs.Memory.{RespondsTo, RespondsInTurn}
 use Rattle.pf_world.specs.Alone.{heard, heard_alone}
-use Rattle.pf_world.specs.Told.{step_text, outcomes_text}
+use Rattle.pf_world.specs.Reported.{step_text, outcomes_text}
 use Rattle.pf_pool.specs.Profile.{ForRight}
 use Rattle.pf_protocol.specs.Commands.{Commands, command_at}
 use Rattle.pf_protocol.specs.Complete.{CompleteCommands}

@@ -10,7 +10,7 @@ use Rattle.pf_world.specs.World.{RunProfile, World}
 use Rattle.pf_world.specs.Chores.{Response}
 use Rattle.pf_world.specs.Steps.{WorldStep}
 use Rattle.pf_world.specs.Memory.{RespondsInTurn}
-use Rattle.pf_world.specs.Told.{outcomes_text}
+use Rattle.pf_world.specs.Reported.{outcomes_text}
 use Rattle.pf_protocol.specs.Commands.{Commands}
 use Rattle.pf_protocol.specs.Complete.{CompleteCommands}
 use Rattle.pf_wire.specs.Steps.{last_text}
@@ -50,27 +50,29 @@ pub data AnswersCommands (p : RunProfile) (over : Bool) (bytes : List ℕ) (v : 
       → text ≡ front ++ last_text false k → AnswersCommands p over bytes v j text
 
 -- what went out is the text of commands up to a rest, which is not due
-abbrev pub TellsUpTo : RunProfile → Bool → (bytes : List ℕ) → World → ℕ → (rest : List ℕ) → World → ℕ
+abbrev pub ReportsUpTo : RunProfile → Bool → (bytes : List ℕ) → World → ℕ → (rest : List ℕ) → World → ℕ
     → (written_old written_new : Option (List ℕ)) → Type 0
-TellsUpTo p over bytes v j rest w k w0 w1 = (text : List ℕ) × Turns p over bytes v j text rest w k × Appends w0 w1 text
+ReportsUpTo p over bytes v j rest w k w0 w1 = (text : List ℕ) × Turns p over bytes v j text rest w k
+    × Appends w0 w1 text
 
 -- what went out is the text of commands and of a line that is none
-abbrev pub TellsAll : RunProfile → Bool → (bytes : List ℕ) → World → ℕ
+abbrev pub ReportsAll : RunProfile → Bool → (bytes : List ℕ) → World → ℕ
     → (written_old written_new : Option (List ℕ)) → Type 0
-TellsAll p over bytes v j w0 w1 = (front rest : List ℕ) × (w : World) × (k : ℕ) × Turns p over bytes v j front rest w k
+ReportsAll p over bytes v j w0 w1 = (front rest : List ℕ) × (w : World) × (k : ℕ)
+    × Turns p over bytes v j front rest w k
     × IsNoCommand over rest × Appends w0 w1 (front ++ last_text false k)
 
 -- a beginning of such a text went out
-abbrev pub TellsInPart : RunProfile → Bool → (bytes : List ℕ) → World → ℕ
+abbrev pub ReportsInPart : RunProfile → Bool → (bytes : List ℕ) → World → ℕ
     → (written_old written_new : Option (List ℕ)) → Type 0
-TellsInPart p over bytes v j w0 w1 = (text : List ℕ) × AnswersCommands p over bytes v j text × AppendsFront w0 w1 text
+ReportsInPart p over bytes v j w0 w1 = (text : List ℕ) × AnswersCommands p over bytes v j text × AppendsFront w0 w1 text
 
 -- what a fault leaves: whether a write failed, and what went out
 abbrev pub TurnsLeave : RunProfile → OrNoMemory StreamFault → Bool → (bytes : List ℕ) → World → ℕ
     → (written_old written_new : Option (List ℕ)) → (writes_old writes_new : ℕ) → Type 0
-TurnsLeave p NoMemory over bytes v j w0 w1 n0 n1 = (n1 ≡ n0) × TellsInPart p over bytes v j w0 w1
+TurnsLeave p NoMemory over bytes v j w0 w1 n0 n1 = (n1 ≡ n0) × ReportsInPart p over bytes v j w0 w1
 TurnsLeave p (Fault (Read e)) over bytes v j w0 w1 n0 n1 = ⊥
-TurnsLeave p (Fault (Write e)) over bytes v j w0 w1 n0 n1 = (n1 ≡ n0 + 1) × TellsInPart p over bytes v j w0 w1
+TurnsLeave p (Fault (Write e)) over bytes v j w0 w1 n0 n1 = (n1 ≡ n0 + 1) × ReportsInPart p over bytes v j w0 w1
 
 -- ---- pieces of an input
 

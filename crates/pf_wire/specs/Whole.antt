@@ -6,8 +6,8 @@ use Rattle.pf_model.specs.Shrinking.{Result, report, shrunk_to, nothing_fails}
 use Rattle.pf_model.specs.TermText.{line}
 use Rattle.pf_model.specs.Text.{event_text}
 use Rattle.pf_trace.specs.Written.{report_end_text}
-use Rattle.pf_wire.specs.declared.told.WrittenAnswer.{WrittenAnswer}
-use Rattle.pf_wire.specs.declared.told.ToldReport.{ToldReport}
+use Rattle.pf_wire.specs.declared.reported.WrittenAnswer.{WrittenAnswer}
+use Rattle.pf_wire.specs.declared.reported.ReportedReport.{ReportedReport}
 
 -- the lines of a report's events
 abbrev pub events_text : (name : ℕ → List ℕ) → Report → List ℕ
@@ -26,11 +26,11 @@ result_end atoms (shrunk_to f r) = report_end_text (name_of atoms) r
 result_end atoms nothing_fails = []
 
 -- the lines of a report in an answer
-abbrev pub report_lines : ToldReport → List ℕ
+abbrev pub report_lines : ReportedReport → List ℕ
 report_lines t = result_events t.finished.job.asked.code.atoms t.finished.result ++ t.end.items
 
 -- what was put, and after it the lines of a report
-abbrev pub with_report : List ℕ → Option ToldReport → List ℕ
+abbrev pub with_report : List ℕ → Option ReportedReport → List ℕ
 with_report text None = text
 with_report text (Some r) = text ++ report_lines r
 

@@ -4,16 +4,16 @@ ghost use Rattle.std.specs.Prelude.{◌≡◌, ◌++◌, None, OnOk, codes};
 ghost use Rattle.std.specs.Fmt.{decimal};
 ghost use Rattle.pf_errors.specs.Codes.{code_text, no_memory_text};
 ghost use Rattle.pf_errors.specs.declared.code.Code.TheVariants as code;
-ghost use Rattle.pf_desks.specs.Told.{to_project};
+ghost use Rattle.pf_desks.specs.Reported.{to_project};
 ghost use Rattle.pf_world.specs.Steps.{WorldStep};
-ghost use Rattle.pf_world.specs.Told.{memory_text, step_text, to_worker};
+ghost use Rattle.pf_world.specs.Reported.{memory_text, step_text, to_worker};
 ghost use Rattle.pf_world.specs.View.{view_of_step};
 ghost use Rattle.pf_pool.specs.Responses.{response_in};
 ghost use Rattle.pf_wire.specs.Outcomes.{project_in, requester_of, worker_in};
 ghost use Rattle.pf_wire.specs.Whole.{whole_text};
 
 use crate::reply::{put_code, put_project, put_reply};
-use crate::told::WrittenAnswer;
+use crate::reported::WrittenAnswer;
 use pf_errors::{Code, NoMemory};
 use pf_pool::Response;
 use pf_request::Step;
@@ -139,19 +139,19 @@ fn put_memory(out: &mut Vec<u8>, requester: Requester) -> Result<(), NoMemory>
 /// Puts the text of the answer to a step. The lines of a report's events stay where they were written.
 pub fn put_outcome(
     alloc: Global,
-    told: &mut WrittenAnswer,
+    reported: &mut WrittenAnswer,
     requester: Requester,
     outcome: Result<Response, NoMemory>,
 ) -> Result<(), NoMemory>
-    requires { told.old.report ≡ None }
+    requires { reported.old.report ≡ None }
     ensures { (s : WorldStep) → requester ≡ requester_of s
-        → OnOk result (whole_text told.new ≡ told.old.text.items ++ step_text s (response_in outcome)) }
+        → OnOk result (whole_text reported.new ≡ reported.old.text.items ++ step_text s (response_in outcome)) }
 {
     match outcome {
-        Ok(Response::Reply(reply)) => put_reply(alloc, told, requester.project(), reply),
-        Ok(Response::Done) => put_done(&mut told.text, requester.worker()),
-        Ok(Response::Stray) => put_stray(alloc, &mut told.text, requester.worker()),
-        Ok(Response::NotNow) => put_not_now(alloc, &mut told.text, requester.worker()),
-        Err(NoMemory) => put_memory(&mut told.text, requester),
+        Ok(Response::Reply(reply)) => put_reply(alloc, reported, requester.project(), reply),
+        Ok(Response::Done) => put_done(&mut reported.text, requester.worker()),
+        Ok(Response::Stray) => put_stray(alloc, &mut reported.text, requester.worker()),
+        Ok(Response::NotNow) => put_not_now(alloc, &mut reported.text, requester.worker()),
+        Err(NoMemory) => put_memory(&mut reported.text, requester),
     }
 }

@@ -4,13 +4,13 @@ ghost use Rattle.std.specs.Prelude.{◌≡◌, ◌++◌, None, OnOk, codes};
 ghost use Rattle.std.specs.Fmt.{decimal};
 ghost use Rattle.pf_errors.specs.Codes.{code_text};
 ghost use Rattle.pf_model.specs.Text.{complete_text};
-ghost use Rattle.pf_desks.specs.Told.{line_count, reply_head, reply_rest, reply_text, result_head, stage_text};
-ghost use Rattle.pf_desks.specs.Told.{to_project, usage_text};
+ghost use Rattle.pf_desks.specs.Reported.{line_count, reply_head, reply_rest, reply_text, result_head, stage_text};
+ghost use Rattle.pf_desks.specs.Reported.{to_project, usage_text};
 ghost use Rattle.pf_trace.specs.Written.{report_in};
 ghost use Rattle.pf_book.specs.View.{view_of_reply};
 ghost use Rattle.pf_wire.specs.Whole.{whole_text};
 
-use crate::told::WrittenAnswer;
+use crate::reported::WrittenAnswer;
 use pf_book::Reply;
 use pf_desks::TrialStage;
 use pf_errors::{Code, NoMemory};
@@ -157,12 +157,12 @@ fn put_first(alloc: Global, out: &mut Vec<u8>, project: u32, reply: &Reply) -> R
 }
 
 /// Puts the lines of a reply that follow its first.
-fn put_rest(alloc: Global, told: &mut WrittenAnswer, reply: Reply) -> Result<(), NoMemory>
-    requires { told.old.report ≡ None }
-    ensures { OnOk result (whole_text told.new ≡ told.old.text.items ++ reply_rest (view_of_reply reply)) }
+fn put_rest(alloc: Global, reported: &mut WrittenAnswer, reply: Reply) -> Result<(), NoMemory>
+    requires { reported.old.report ≡ None }
+    ensures { OnOk result (whole_text reported.new ≡ reported.old.text.items ++ reply_rest (view_of_reply reply)) }
 {
     match reply {
-        Reply::Result(finished) => told.put_report(alloc, finished),
+        Reply::Result(finished) => reported.put_report(alloc, finished),
         _ => Ok(()),
     }
 }
@@ -170,14 +170,14 @@ fn put_rest(alloc: Global, told: &mut WrittenAnswer, reply: Reply) -> Result<(),
 /// Puts the text of a reply to a project.
 pub(crate) fn put_reply(
     alloc: Global,
-    told: &mut WrittenAnswer,
+    reported: &mut WrittenAnswer,
     project: u32,
     reply: Reply,
 ) -> Result<(), NoMemory>
-    requires { told.old.report ≡ None }
-    ensures { OnOk result (whole_text told.new ≡ told.old.text.items
+    requires { reported.old.report ≡ None }
+    ensures { OnOk result (whole_text reported.new ≡ reported.old.text.items
         ++ reply_text project (view_of_reply reply)) }
 {
-    put_first(alloc, &mut told.text, project, &reply)?;
-    put_rest(alloc, told, reply)
+    put_first(alloc, &mut reported.text, project, &reply)?;
+    put_rest(alloc, reported, reply)
 }

@@ -6,21 +6,21 @@ ghost use Rattle.std.specs.Option.{option_copied};
 ghost use Rattle.std.specs.Io.KnownBytes.{Consumes};
 ghost use Rattle.pf_world.specs.Chores as chores;
 ghost use Rattle.pf_world.specs.Memory.{RespondsTo};
-ghost use Rattle.pf_world.specs.Told.{step_text};
+ghost use Rattle.pf_world.specs.Reported.{step_text};
 ghost use Rattle.pf_world.specs.View.{view_of_step};
 ghost use Rattle.pf_pool.specs.Profile.{ForRight};
 ghost use Rattle.pf_world.specs.World.{new_world};
 ghost use Rattle.pf_wire.specs.Endings.{EndsAs, LeadsTo, LeadsToNone};
 ghost use Rattle.pf_wire.specs.Steps.{last_text, AnswersOne, SimulatesSteps, StepsLeaves};
-ghost use Rattle.pf_wire.specs.Turns.{TellsAll, TellsUpTo, TurnsLeave};
+ghost use Rattle.pf_wire.specs.Turns.{ReportsAll, ReportsUpTo, TurnsLeave};
 ghost use Rattle.pf_wire.specs.Whole.{whole_text};
 ghost use Rattle.pf_protocol.specs.Complete.{is_due};
 
 use crate::ending::InputEnd;
 use crate::outcome::{Requester, put_outcome};
 use crate::reply::put_code;
+use crate::reported::WrittenAnswer;
 use crate::stream::{Gathered, Input, ROOM};
-use crate::told::WrittenAnswer;
 use pf_errors::{Code, NoMemory, OrNoMemory};
 use pf_pool::World;
 use pf_protocol::{NoCommand, is_due, read_command};
@@ -55,16 +55,16 @@ fn answer(
     alloc: Global,
     world: &mut World,
     step: Step,
-    told: &mut WrittenAnswer,
+    reported: &mut WrittenAnswer,
 ) -> Result<(), NoMemory>
-    requires { told.old.report ≡ None }
+    requires { reported.old.report ≡ None }
     ensures { OnOk result ((a : Option chores.Response)
-        × (whole_text told.new ≡ told.old.text.items ++ step_text (view_of_step step) a)
+        × (whole_text reported.new ≡ reported.old.text.items ++ step_text (view_of_step step) a)
         × ForRight (λ p. RespondsTo p world.old (view_of_step step) a world.new)) }
 {
     let requester = Requester::of(&step);
     let outcome = world.step(alloc, step);
-    put_outcome(alloc, told, requester, outcome)?;
+    put_outcome(alloc, reported, requester, outcome)?;
     Ok(())
 }
 
@@ -86,20 +86,20 @@ fn answer_front<'a>(
     world: &mut World,
     bytes: &'a [u8],
     number: u64,
-    told: &mut WrittenAnswer,
+    reported: &mut WrittenAnswer,
 ) -> Result<Option<&'a [u8]>, NoMemory>
     ensures { IfOk result (λ rest.
-        AnswersOne bytes.now number world.old (whole_text told.new) (option_copied rest) world.new) }
+        AnswersOne bytes.now number world.old (whole_text reported.new) (option_copied rest) world.new) }
 {
-    told.report = None;
-    empty(alloc, &mut told.text);
+    reported.report = None;
+    empty(alloc, &mut reported.text);
     match read_command(alloc, bytes) {
         Ok((step, rest)) => {
-            answer(alloc, world, step, told)?;
+            answer(alloc, world, step, reported)?;
             Ok(Some(rest))
         }
         Err(OrNoMemory::Fault(NoCommand)) => {
-            put_no_command(alloc, &mut told.text, number)?;
+            put_no_command(alloc, &mut reported.text, number)?;
             Ok(None)
         }
         Err(OrNoMemory::NoMemory) => Err(NoMemory),
@@ -126,9 +126,9 @@ fn answer_due<'a, W: Write, M: Ledger>(
 ) -> Result<Option<LeftInput<'a>>, OrNoMemory<StreamFault>>
     requires { first + length input.now < 2 ^ 63 }
     ensures answered { IfOk result (λ left. MatchOption left
-        (ForRight (λ p. TellsAll p is_over input.now world.old first
+        (ForRight (λ p. ReportsAll p is_over input.now world.old first
         (W.contents writer.old.inner) (W.contents writer.new.inner)))
-        (λ l. ForRight (λ p. TellsUpTo p is_over input.now world.old first l.rest.now world.new l.number
+        (λ l. ForRight (λ p. ReportsUpTo p is_over input.now world.old first l.rest.now world.new l.number
         (W.contents writer.old.inner) (W.contents writer.new.inner))
         × (is_due is_over l.rest.now ≡ false) × (l.number + length l.rest.now ≤ first + length input.now))) }
     ensures ending { IfOk result (λ left. MatchOption left (LeadsToNone is_over input.now first ending.new)
@@ -141,21 +141,21 @@ fn answer_due<'a, W: Write, M: Ledger>(
     let mut gathered = Gathered {
         text: Vec::new(alloc),
     };
-    let mut told = WrittenAnswer {
+    let mut reported = WrittenAnswer {
         text: Vec::new(alloc),
         report: None,
     };
     let mut rest = input;
     let mut number = first;
     while is_due(rest, is_over) {
-        let follows = match answer_front(alloc, world, rest, number, &mut told) {
+        let follows = match answer_front(alloc, world, rest, number, &mut reported) {
             Ok(follows) => follows,
             Err(NoMemory) => {
                 gathered.send(writer)?;
                 return Err(OrNoMemory::NoMemory);
             }
         };
-        gathered.add_told(writer, &told)?;
+        gathered.add_reported(writer, &reported)?;
         let Some(after) = follows else {
             gathered.send(writer)?;
             ending.refuse(alloc, number, rest);

@@ -9,8 +9,8 @@ ghost use Rattle.pf_wire.specs.Turns.{TakesPiece, PieceLeaves};
 ghost use Rattle.pf_wire.specs.Whole.{report_lines, whole_text};
 ghost use Rattle.pf_protocol.specs.Complete.{is_due};
 
+use crate::reported::{ReportedReport, WrittenAnswer};
 use crate::steps::MOST_BYTES;
-use crate::told::{ToldReport, WrittenAnswer};
 use pf_errors::OrNoMemory;
 use pf_protocol::{first_line, is_due};
 use pf_streams::{Counted, StreamFault};
@@ -176,7 +176,7 @@ impl Gathered {
     fn add_report<W: Write, M: Ledger>(
         &mut self,
         writer: &mut Counted<W, M>,
-        report: &ToldReport,
+        report: &ReportedReport,
     ) -> Result<(), StreamFault>
         ensures added { OnOk result ((out : List ℕ)
             × Appends (W.contents writer.old.inner) (W.contents writer.new.inner) out
@@ -192,22 +192,22 @@ impl Gathered {
     }
 
     /// Adds what a command is answered with.
-    pub fn add_told<W: Write, M: Ledger>(
+    pub fn add_reported<W: Write, M: Ledger>(
         &mut self,
         writer: &mut Counted<W, M>,
-        told: &WrittenAnswer,
+        reported: &WrittenAnswer,
     ) -> Result<(), StreamFault>
         ensures added { OnOk result ((out : List ℕ)
             × Appends (W.contents writer.old.inner) (W.contents writer.new.inner) out
-            × (out ++ self.new.text.items ≡ self.old.text.items ++ whole_text told.now)) }
+            × (out ++ self.new.text.items ≡ self.old.text.items ++ whole_text reported.now)) }
         ensures front { OnErr result (AppendsFront (W.contents writer.old.inner) (W.contents writer.new.inner)
-            (self.old.text.items ++ whole_text told.now)) }
+            (self.old.text.items ++ whole_text reported.now)) }
         ensures kept { OnOk result (writer.new.failures.total ≡ writer.old.failures.total) }
         ensures counted { IfErr result (λ e.
             CountsWrite e writer.old.failures.total writer.new.failures.total) }
     {
-        self.add(writer, &told.text)?;
-        match &told.report {
+        self.add(writer, &reported.text)?;
+        match &reported.report {
             Some(report) => self.add_report(writer, report),
             None => Ok(()),
         }

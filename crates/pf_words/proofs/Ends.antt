@@ -1,6 +1,8 @@
 -- How the work of a command ends.
-use Rattle.std.proofs.Common.{◌≡◌, ℕ, Bool, true, false, List, Option, Result, Ok, Err, None, Some, refl, sym, ap, ◌∙◌}
-use Rattle.std.proofs.Common.{subst, inl, inr}
+use Rattle.std.proofs.Common.{◌≡◌, ℕ, Bool, true, false, List, [], Option, Result, Ok, Err, None, Some, refl, sym, ap}
+use Rattle.std.proofs.Common.{◌∙◌, subst, inl, inr, arith}
+use Rattle.std.proofs.KnownBytes.{Consumes-nil}
+use Rattle.std.specs.Io.KnownBytes.{Consumes}
 use Rattle.std.specs.Prelude.{IfErr, IfOk, IfSome, IsErr, IsErrAnd, OnOk, is_some, option_map, take, ◌||◌}
 use Rattle.pf_errors.specs.declared.fault.OrNoMemory.{OrNoMemory}
 use Rattle.pf_errors.specs.declared.fault.OrNoMemory.TheVariants.{NoMemory, Fault}
@@ -14,12 +16,14 @@ use Rattle.pf_cli.specs.declared.args.FarmArgs.{FarmArgs}
 use Rattle.pf_cli.specs.declared.args.HuntArgs as hunt_code
 use Rattle.pf_files.specs.Suites.{goes_over_several}
 use Rattle.pf_command.specs.Streams.{Answering, Sends, Serves, Streams, streams}
+use Rattle.pf_command.specs.declared.serving.TheConstants as command
 use Rattle.pf_command.proofs.Streaming.{sent_as, sent_on}
 use Rattle.pf_wire.specs.Steps.{SimulatesSteps, StepsLeaves}
+use Rattle.pf_wire.specs.declared.steps.TheConstants as wire
 use Rattle.pf_steps.specs.Profile.{run_profile}
 use Rattle.pf_cli_messages.specs.Texts.{HasStatus, IsFailure}
-use Rattle.pf_words.specs.Words.{AnswersOf, End, FromFile, FromInput, FromNamed, FromOne, StepsEnd, WorkEnds}
-use Rattle.pf_words.specs.Words.{has_source, is_farm, may_be_several, unless_several}
+use Rattle.pf_words.specs.Words.{AnswerEnds, AnswersOf, End, FromFile, FromInput, FromNamed, FromOne, StepsEnd}
+use Rattle.pf_words.specs.Words.{TakesAtMost, WorkEnds, has_source, is_farm, may_be_several, most_bytes, unless_several}
 
 -- ---- of a source
 
@@ -56,33 +60,46 @@ handed_on s t (Err f) e is h = subst (λ z. StepsEnd s t (Err z)) (sym is.1) h
 -- ---- of work
 
 module _ (s t : Streams) (r : End) where
-  pub of_source : (w : CommandWork) → has_source w ≡ true → Serves (AnswersOf w) s t r → WorkEnds w s t r
-  of_source (run a) is h = h
-  of_source (hunt a) is h = h
-  of_source (chart a) is h = h
-  of_source (shrink a) is h = h
-  of_source (check explain) is h = h
-  of_source steps is h = absurd cc
-  of_source (farm a) is h = absurd cc
+  pub of_source : (w : CommandWork) → has_source w ≡ true → Serves (AnswersOf w) s t r
+      → TakesAtMost command.MOST_BYTES s t → WorkEnds w s t r
+  of_source (run a) is h most = (h, most)
+  of_source (hunt a) is h most = (h, most)
+  of_source (chart a) is h most = (h, most)
+  of_source (shrink a) is h most = (h, most)
+  of_source (check explain) is h most = (h, most)
+  of_source steps is h most = absurd cc
+  of_source (farm a) is h most = absurd cc
 
-  pub of_steps : (w : CommandWork) → has_source w ≡ false → is_farm w ≡ false → StepsEnd s t r → WorkEnds w s t r
-  of_steps (run a) is not h = absurd cc
-  of_steps (hunt a) is not h = absurd cc
-  of_steps (chart a) is not h = absurd cc
-  of_steps (shrink a) is not h = absurd cc
-  of_steps (check explain) is not h = absurd cc
-  of_steps steps is not h = h
-  of_steps (farm a) is not h = absurd cc
+  pub of_steps : (w : CommandWork) → has_source w ≡ false → is_farm w ≡ false → StepsEnd s t r
+      → TakesAtMost wire.MOST_BYTES s t → WorkEnds w s t r
+  of_steps (run a) is not h most = absurd cc
+  of_steps (hunt a) is not h most = absurd cc
+  of_steps (chart a) is not h most = absurd cc
+  of_steps (shrink a) is not h most = absurd cc
+  of_steps (check explain) is not h most = absurd cc
+  of_steps steps is not h most = (h, most)
+  of_steps (farm a) is not h most = absurd cc
+
+-- nothing is read
+pub none_read : (most : ℕ) (s t : Streams) → t.unread ≡ s.unread → TakesAtMost most s t
+none_read most s t same = (
+  [],
+  omega arith,
+  subst (λ u. Consumes s.unread u []) (sym same) (Consumes-nil s.unread),
+)
 
 -- nothing was done
+nothing_ends : (w : CommandWork) (s : Streams) → is_farm w ≡ false → AnswerEnds w s s (Err NoMemory)
+nothing_ends (run a) s not = ((refl, refl), refl)
+nothing_ends (hunt a) s not = ((refl, refl), refl)
+nothing_ends (chart a) s not = ((refl, refl), refl)
+nothing_ends (shrink a) s not = ((refl, refl), refl)
+nothing_ends (check explain) s not = ((refl, refl), refl)
+nothing_ends steps s not = inr refl
+nothing_ends (farm a) s not = absurd cc
+
 pub undone : (w : CommandWork) (s : Streams) → is_farm w ≡ false → WorkEnds w s s (Err NoMemory)
-undone (run a) s not = ((refl, refl), refl)
-undone (hunt a) s not = ((refl, refl), refl)
-undone (chart a) s not = ((refl, refl), refl)
-undone (shrink a) s not = ((refl, refl), refl)
-undone (check explain) s not = ((refl, refl), refl)
-undone steps s not = inr refl
-undone (farm a) s not = absurd cc
+undone w s not = (nothing_ends w s not, none_read (most_bytes w) s s refl)
 
 -- a reader that was opened just now
 pub opened : (w : CommandWork) (u v w0 : Option (List ℕ)) (m n0 : ℕ) (t : Streams) (r : End) → v ≡ u → m ≡ 0

@@ -1,4 +1,4 @@
 pub mod Ends
 pub mod Schedules
-pub mod Told
+pub mod Reported
 pub mod Whole

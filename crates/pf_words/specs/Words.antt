@@ -1,6 +1,7 @@
 -- What words are answered with between the standard input and the standard output.
 use Rattle.std.specs.Prelude.{◌≡◌, ◌⊎◌, ◌≤◌, ℕ, Bool, true, false, ◌||◌, is_some, codes, length, List, Option, None}
 use Rattle.std.specs.Prelude.{Some, IfSome, Result, Ok, Err}
+use Rattle.std.specs.Io.KnownBytes.{Consumes}
 use Rattle.std.specs.Str.{bytes_eq}
 use Rattle.pf_errors.specs.declared.memory.NoMemory.{NoMemory}
 use Rattle.pf_errors.specs.declared.fault.OrNoMemory.{OrNoMemory}
@@ -8,7 +9,7 @@ use Rattle.pf_streams.specs.declared.stream.StreamFault.{StreamFault}
 use Rattle.pf_text.specs.Numbers.{schedule_of}
 use Rattle.clap.specs.Words.{Text}
 use Rattle.pf_cli.specs.Args.{ReadWords, Wanted, CommandWork, check, chart, farm, hunt, reading_of, reads, run, shrink}
-use Rattle.pf_cli.specs.Args.{steps, tells, view_of_farm_args, works}
+use Rattle.pf_cli.specs.Args.{steps, reports, view_of_farm_args, works}
 use Rattle.pf_cli.specs.declared.args.FarmArgs.{FarmArgs}
 use Rattle.pf_cli.specs.declared.args.Format.{Format}
 use Rattle.pf_cli.specs.declared.args.Format.TheVariants.{Json}
@@ -18,9 +19,11 @@ use Rattle.pf_command.specs.Checks.{Checks}
 use Rattle.pf_command.specs.Guided.{DrawnAnswers, RunAnswers}
 use Rattle.pf_command.specs.Hunts.{HuntAnswers}
 use Rattle.pf_command.specs.Streams.{Answering, NoneFailed, Serves, Streams}
+use Rattle.pf_command.specs.declared.serving.TheConstants as command
 use Rattle.pf_wire.specs.Steps.{SimulatesSteps, StepsLeaves}
+use Rattle.pf_wire.specs.declared.steps.TheConstants as wire
 use Rattle.pf_steps.specs.Profile.{run_profile}
-use Rattle.pf_cli_messages.specs.Texts.{HasStatus, IsFailure, TellsText}
+use Rattle.pf_cli_messages.specs.Texts.{HasStatus, IsFailure, PrintsText}
 use Rattle.pf_files.specs.Suites.{goes_over_several}
 use Rattle.pf_words.specs.Schedules.{schedule_in}
 use Rattle.pf_words.specs.declared.words.Obeyed.{Obeyed}
@@ -61,10 +64,23 @@ StepsEnd old new (Err e) =
     ⊎ (new ≡ old)
 
 -- what is asked for is answered, from a reader to a writer; a farm is none of this
+abbrev pub AnswerEnds : CommandWork → (old new : Streams) → End → Type 0
+AnswerEnds steps = StepsEnd
+AnswerEnds (farm a) = λ old new end. ⊥
+AnswerEnds w = Serves (AnswersOf w)
+
+-- at most this many bytes are read: of commands, or one more than a source may have
+abbrev pub most_bytes : CommandWork → ℕ
+most_bytes steps = wire.MOST_BYTES
+most_bytes w = command.MOST_BYTES
+
+-- at most so many bytes were read
+abbrev pub TakesAtMost : ℕ → (old new : Streams) → Type 0
+TakesAtMost n old new = (bytes : List ℕ) × (length bytes ≤ n) × Consumes old.unread new.unread bytes
+
+-- it is answered, and no more is read than may be
 abbrev pub WorkEnds : CommandWork → (old new : Streams) → End → Type 0
-WorkEnds steps = StepsEnd
-WorkEnds (farm a) = λ old new end. ⊥
-WorkEnds w = Serves (AnswersOf w)
+WorkEnds w old new end = AnswerEnds w old new end × TakesAtMost (most_bytes w) old new
 
 -- ---- from the standard input, or from a file
 
@@ -120,15 +136,15 @@ abbrev pub NothingOut : (old new : Streams) → Type 0
 NothingOut old new = (new.written ≡ old.written) × (new.failed_writes ≡ old.failed_writes)
 
 -- nothing is read, and a text is printed
-abbrev pub TextTold : (status : ℕ) → (is_fault : Bool) → (old new : Streams) → ℕ → Type 0
-TextTold status is_fault old new given =
+abbrev pub TextReported : (status : ℕ) → (is_fault : Bool) → (old new : Streams) → ℕ → Type 0
+TextReported status is_fault old new given =
     (new.unread ≡ old.unread) × (new.failed_reads ≡ old.failed_reads)
-    × TellsText is_fault status given old.written new.written old.failed_writes new.failed_writes
+    × PrintsText is_fault status given old.written new.written old.failed_writes new.failed_writes
 
 -- what words ask for is done, and the program has this status; but a file for a schedule isn't read here
 abbrev pub IsDone : ReadWords → (old new : Streams) → ℕ → Type 0
 IsDone (works w file) = InForm w.format (FromOne w.work file)
-IsDone (tells status is_fault) = TextTold status is_fault
+IsDone (reports status is_fault) = TextReported status is_fault
 IsDone (reads file) = λ old new given. ⊥
 
 -- nothing goes out, and the status is that of what fails
@@ -162,7 +178,7 @@ IsDoneBy words file old new given =
 abbrev pub IsDoneAs : (words : List Text) → ReadWords → (old new : Streams) → ℕ → Type 0
 IsDoneAs words (reads file) = IsDoneBy words file
 IsDoneAs words (works w file) = IsDone (works w file)
-IsDoneAs words (tells status is_fault) = IsDone (tells status is_fault)
+IsDoneAs words (reports status is_fault) = IsDone (reports status is_fault)
 
 -- words ask for this farm, if need be by a text for a schedule
 abbrev pub IsFarmOf : (words : List Text) → FarmArgs → Type 0

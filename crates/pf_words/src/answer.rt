@@ -5,7 +5,8 @@ ghost use Rattle.pf_cli.specs.Args.{view_of_args, view_of_hunt_args, view_of_run
 ghost use Rattle.pf_command.specs.Guided.{RunAnswers};
 ghost use Rattle.pf_command.specs.Hunts.{HuntAnswers};
 ghost use Rattle.pf_command.specs.Streams.{Sends, Serves, streams};
-ghost use Rattle.pf_words.specs.Words.{AnswersOf, WorkEnds, has_source, is_farm};
+ghost use Rattle.pf_command.specs.declared.serving.TheConstants as command;
+ghost use Rattle.pf_words.specs.Words.{AnswersOf, TakesAtMost, WorkEnds, has_source, is_farm};
 
 use crate::steps::answer_steps;
 use pf_check::ReadSource;
@@ -14,7 +15,9 @@ use pf_cli_messages::{
     ProgressLine, REFUSED, Runs, Seeds, WaitingProcesses, lacking_of, say, say_processes,
     say_waiting, why,
 };
-use pf_command::{Chart, CheckCommand, MOST_BYTES, Shrink, answer_by, print_hunt, print_source};
+use pf_command::{
+    Chart, CheckCommand, HuntRequest, MOST_BYTES, Shrink, answer_by, print_hunt, print_source,
+};
 use pf_files::{AnsweredRoot, workers_of};
 use pf_streams::Counted;
 use std::alloc::{AllocGlobal, Global};
@@ -74,19 +77,13 @@ fn answer_hunt<W: Write, M: Ledger>(
         (W.contents writer.old.inner) (W.contents writer.new.inner)
         writer.old.failures.total writer.new.failures.total result }
 {
-    let workers = workers_of(rt, args);
+    let asked = HuntRequest {
+        args,
+        workers: workers_of(rt, args),
+    };
     let mut seeds = Seeds::new(line, rt, args.end.saturating_sub(args.first), args.time);
     let mut runs = Runs::new(line, most_runs(args));
-    let status = print_hunt(
-        rt,
-        rt.alloc(),
-        args,
-        source,
-        workers,
-        writer,
-        &mut seeds,
-        &mut runs,
-    )?;
+    let status = print_hunt(rt, &asked, source, writer, &mut seeds, &mut runs)?;
     if let Some(waiting) = seeds.waiting() {
         line.clear();
         say_waiting(rt, waiting);
@@ -129,12 +126,12 @@ fn say_more(rt: &(impl Eprint + AllocGlobal), asked: &CliCommand, source: &ReadS
     let args = &asked.args;
     // The answer went out: nothing more is said where memory runs out now.
     if status != REFUSED {
-        if let Ok(Some(told)) = lacking_of(rt.alloc(), args, source) {
-            say(rt, &told);
+        if let Ok(Some(reported)) = lacking_of(rt.alloc(), args, source) {
+            say(rt, &reported);
         }
         say_processes(rt, asked, source);
-    } else if let Ok(told) = why(rt.alloc(), args, source) {
-        say(rt, &told);
+    } else if let Ok(reported) = why(rt.alloc(), args, source) {
+        say(rt, &reported);
     }
 }
 
@@ -168,11 +165,16 @@ fn answer_read<R: Read, W: Write, L: Ledger, M: Ledger>(
     line: &ProgressLine,
 ) -> AnsweredRoot
     requires { has_source (view_of_args asked.now.args) ≡ true }
-    ensures { Serves (AnswersOf (view_of_args asked.now.args))
+    ensures served { Serves (AnswersOf (view_of_args asked.now.args))
         (streams (R.remaining reader.old.inner) (W.contents writer.old.inner)
         reader.old.failures.total writer.old.failures.total)
         (streams (R.remaining reader.new.inner) (W.contents writer.new.inner)
         reader.new.failures.total writer.new.failures.total) result }
+    ensures taken { TakesAtMost command.MOST_BYTES
+        (streams (R.remaining reader.old.inner) (W.contents writer.old.inner)
+        reader.old.failures.total writer.old.failures.total)
+        (streams (R.remaining reader.new.inner) (W.contents writer.new.inner)
+        reader.new.failures.total writer.new.failures.total) }
 {
     let bytes = reader.take_front(rt.alloc(), MOST_BYTES)?;
     answer_bytes(rt, asked, bytes, writer, line)

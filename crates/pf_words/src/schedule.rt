@@ -3,7 +3,7 @@
 ghost use Rattle.std.specs.Prelude.{◌≡◌, ◌<◌, ◌≤◌, IfOk, IfSome, is_some, length, option_map};
 ghost use Rattle.std.specs.String.{string_bytes};
 ghost use Rattle.pf_text.specs.Numbers.{schedule_of};
-ghost use Rattle.pf_words.specs.Schedules.{schedule_in, told_in};
+ghost use Rattle.pf_words.specs.Schedules.{schedule_in, reported_in};
 
 use pf_errors::{NoMemory, OrNoMemory};
 use pf_files::open;
@@ -75,8 +75,8 @@ pub fn is_schedule(alloc: Global, text: &str) -> Result<bool, NoMemory>
 }
 
 /// What a line has after `schedule `, if it begins so.
-fn told_in(line: &str) -> Option<&str>
-    ensures { option_map (λ s. s.now) result ≡ told_in line.now }
+fn reported_in(line: &str) -> Option<&str>
+    ensures { option_map (λ s. s.now) result ≡ reported_in line.now }
 {
     line.strip_prefix("schedule ")
 }
@@ -88,7 +88,7 @@ pub fn schedule_in(text: &str) -> &str
 {
     let mut found = None;
     for line in text.lines() {
-        if let Some(schedule) = told_in(line) {
+        if let Some(schedule) = reported_in(line) {
             found = Some(schedule);
         }
     }

@@ -1,7 +1,8 @@
 //! Commands that are answered, and what is said of them.
 
 ghost use Rattle.pf_command.specs.Streams.{streams};
-ghost use Rattle.pf_words.specs.Words.{StepsEnd};
+ghost use Rattle.pf_wire.specs.declared.steps.TheConstants as wire;
+ghost use Rattle.pf_words.specs.Words.{StepsEnd, TakesAtMost};
 
 use pf_cli_messages::{line_reason, say};
 use pf_errors::{NoMemory, OrNoMemory};
@@ -34,11 +35,16 @@ fn answer_commands<R: Read, W: Write, L: Ledger, M: Ledger>(
     writer: &mut Counted<W, M>,
     ending: &mut InputEnd,
 ) -> AnsweredRoot
-    ensures { StepsEnd
+    ensures ended { StepsEnd
         (streams (R.remaining reader.old.inner) (W.contents writer.old.inner)
         reader.old.failures.total writer.old.failures.total)
         (streams (R.remaining reader.new.inner) (W.contents writer.new.inner)
         reader.new.failures.total writer.new.failures.total) result }
+    ensures taken { TakesAtMost wire.MOST_BYTES
+        (streams (R.remaining reader.old.inner) (W.contents writer.old.inner)
+        reader.old.failures.total writer.old.failures.total)
+        (streams (R.remaining reader.new.inner) (W.contents writer.new.inner)
+        reader.new.failures.total writer.new.failures.total) }
 {
     let keys = random_keys(rt)?;
     run_steps(rt.alloc(), keys, reader, writer, ending)
@@ -76,11 +82,16 @@ pub fn answer_steps<R: Read, W: Write, L: Ledger, M: Ledger>(
     reader: &mut Counted<R, L>,
     writer: &mut Counted<W, M>,
 ) -> AnsweredRoot
-    ensures { StepsEnd
+    ensures ended { StepsEnd
         (streams (R.remaining reader.old.inner) (W.contents writer.old.inner)
         reader.old.failures.total writer.old.failures.total)
         (streams (R.remaining reader.new.inner) (W.contents writer.new.inner)
         reader.new.failures.total writer.new.failures.total) result }
+    ensures taken { TakesAtMost wire.MOST_BYTES
+        (streams (R.remaining reader.old.inner) (W.contents writer.old.inner)
+        reader.old.failures.total writer.old.failures.total)
+        (streams (R.remaining reader.new.inner) (W.contents writer.new.inner)
+        reader.new.failures.total writer.new.failures.total) }
 {
     let mut ending = InputEnd::new();
     let status = answer_commands(rt, reader, writer, &mut ending)?;

@@ -12,7 +12,7 @@ ghost use Rattle.pf_words.specs.Words.{is_farm};
 use crate::schedule::{is_schedule, schedule_in, text_of_file, whole_text};
 use crate::work::work;
 use pf_cli::{Args, CliCommand, FarmArgs, ReadWords, read};
-use pf_cli_messages::{ProgressLine, REFUSED, failed, no_memory, say, tell};
+use pf_cli_messages::{ProgressLine, REFUSED, failed, no_memory, notify, say};
 use pf_errors::NoMemory;
 use pf_streams::{Counted, StreamFault};
 use std::alloc::AllocGlobal;
@@ -108,12 +108,19 @@ where
     }
 }
 
+/// A file of a schedule: its name, and what is read of it.
+#[derive(Clone, Copy)]
+struct ScheduleFile<'a> {
+    name: &'a str,
+    text: &'a str,
+}
+
 /// How many characters of a line are reported.
-const MOST_TOLD: usize = 60;
+const MOST_REPORTED: usize = 60;
 
 /// The beginning of a line.
 fn beginning(line: &str) -> &str {
-    match line.char_indices().nth(MOST_TOLD) {
+    match line.char_indices().nth(MOST_REPORTED) {
         Some((end, _)) => line.get(..end).unwrap_or(line),
         None => line,
     }
@@ -159,12 +166,11 @@ where
     obey_asked(rt, asked, stdin, writer, line)
 }
 
-/// Does what words ask for by this schedule, which a file has.
+/// Does what words ask for by the schedule that this text of a file is.
 fn obey_by<'a, R, I: Read, W: Write, L: Ledger, M: Ledger>(
     rt: &R,
     words: &'a [&'a str],
-    schedule: &str,
-    file: &str,
+    file: ScheduleFile<'_>,
     stdin: &mut Counted<I, L>,
     writer: &mut Counted<W, M>,
     line: &ProgressLine,
@@ -172,29 +178,28 @@ fn obey_by<'a, R, I: Read, W: Write, L: Ledger, M: Ledger>(
 where
     R: Files + Print + Eprint + AllocGlobal + RandomSource + Clock + Threads + Sync,
     R::File: Drop,
-    ensures { ObeysBy (map (λ w. w.now) words.now) schedule.now
+    ensures { ObeysBy (map (λ w. w.now) words.now) file.entry.text.now
         (streams (I.remaining stdin.old.inner) (W.contents writer.old.inner)
         stdin.old.failures.total writer.old.failures.total)
         (streams (I.remaining stdin.new.inner) (W.contents writer.new.inner)
         stdin.new.failures.total writer.new.failures.total) result }
 {
-    match read(rt.alloc(), words, Some(schedule))? {
-        ReadWords::Asked(asked) => Ok(obey_asked_by(rt, asked, file, stdin, writer, line)),
+    match read(rt.alloc(), words, Some(file.text))? {
+        ReadWords::Asked(asked) => Ok(obey_asked_by(rt, asked, file.name, stdin, writer, line)),
         ReadWords::Text {
             text,
             status,
             is_fault,
-        } => Ok(Obeyed::Status(tell(rt, &text, status, is_fault, writer))),
+        } => Ok(Obeyed::Status(notify(rt, &text, status, is_fault, writer))),
         ReadWords::ScheduleIn(_) => unreachable!(),
     }
 }
 
-/// Does what words ask for by the schedule in this text, which a file has.
+/// Does what words ask for by the schedule in this text of a file.
 fn obey_text<'a, R, I: Read, W: Write, L: Ledger, M: Ledger>(
     rt: &R,
     words: &'a [&'a str],
-    contents: &str,
-    file: &str,
+    file: ScheduleFile<'_>,
     stdin: &mut Counted<I, L>,
     writer: &mut Counted<W, M>,
     line: &ProgressLine,
@@ -202,17 +207,22 @@ fn obey_text<'a, R, I: Read, W: Write, L: Ledger, M: Ledger>(
 where
     R: Files + Print + Eprint + AllocGlobal + RandomSource + Clock + Threads + Sync,
     R::File: Drop,
-    ensures { ObeysIn (map (λ w. w.now) words.now) contents.now
+    ensures { ObeysIn (map (λ w. w.now) words.now) file.entry.text.now
         (streams (I.remaining stdin.old.inner) (W.contents writer.old.inner)
         stdin.old.failures.total writer.old.failures.total)
         (streams (I.remaining stdin.new.inner) (W.contents writer.new.inner)
         stdin.new.failures.total writer.new.failures.total) result }
 {
-    let schedule = schedule_in(contents);
+    let ScheduleFile { name, text } = file;
+    let schedule = schedule_in(text);
     if is_schedule(rt.alloc(), schedule)? {
-        obey_by(rt, words, schedule, file, stdin, writer, line)
+        let file = ScheduleFile {
+            name,
+            text: schedule,
+        };
+        obey_by(rt, words, file, stdin, writer, line)
     } else {
-        Ok(Obeyed::Status(no_schedule(rt, file, contents)?))
+        Ok(Obeyed::Status(no_schedule(rt, name, text)?))
     }
 }
 
@@ -235,7 +245,13 @@ where
         stdin.new.failures.total writer.new.failures.total) result }
 {
     match schedule_contents(rt, file, stdin) {
-        Ok(contents) => obey_text(rt, words, &contents, file, stdin, writer, line),
+        Ok(contents) => {
+            let file = ScheduleFile {
+                name: file,
+                text: &contents,
+            };
+            obey_text(rt, words, file, stdin, writer, line)
+        }
         Err(error) => Ok(Obeyed::Status(unread_file(rt, file, error))),
     }
 }
@@ -264,7 +280,7 @@ where
             text,
             status,
             is_fault,
-        } => Ok(Obeyed::Status(tell(rt, &text, status, is_fault, writer))),
+        } => Ok(Obeyed::Status(notify(rt, &text, status, is_fault, writer))),
         ReadWords::ScheduleIn(file) => obey_schedule(rt, words, file, stdin, writer, line),
     }
 }

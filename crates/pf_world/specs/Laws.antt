@@ -5,7 +5,7 @@ use Rattle.pf_request.specs.Calls.{Call, status, fetch}
 use Rattle.pf_desks.specs.Desk.{Reply, refused}
 use Rattle.pf_desks.specs.History.{IsLegalDesk}
 use Rattle.pf_desks.specs.Limits.{IsInLimits}
-use Rattle.pf_desks.specs.Numbers.{TellEachOnce}
+use Rattle.pf_desks.specs.Numbers.{ReportEachOnce}
 use Rattle.pf_desks.specs.Desks.{desk_at}
 use Rattle.pf_world.specs.World.{RunProfile, World, new_world}
 use Rattle.pf_world.specs.Chores.{Response}
@@ -71,4 +71,4 @@ LimitsAmongWorkers =
 -- whatever steps there are, no number of a module is given to a project twice, and no ticket
 abbrev pub NumbersAmongWorkers : Type 0
 NumbersAmongWorkers = (p : RunProfile) (n q : ℕ) (xs : List WorldStep)
-    → TellEachOnce (heard q xs (all_responses p n xs))
+    → ReportEachOnce (heard q xs (all_responses p n xs))

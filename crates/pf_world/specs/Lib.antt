@@ -8,5 +8,5 @@ pub mod Jobs
 pub mod Encoding
 pub mod Worked
 pub mod View
-pub mod Told
+pub mod Reported
 pub mod Noted

@@ -17,7 +17,7 @@ use Rattle.pf_world.specs.Chores.{Response, answer, stray, new_run, busy_effect}
 use Rattle.pf_request.specs.declared.step.Chore.TheVariants.{Claim, Slice, Park, TakeUp, Steal, File, HandBack}
 use Rattle.pf_world.specs.Steps.{WorldStep, client_calls, worker_does, all_responses}
 use Rattle.pf_world.specs.Memory.{RespondsInTurn}
-use Rattle.pf_world.specs.Told.{step_text}
+use Rattle.pf_world.specs.Reported.{step_text}
 
 -- a profile by which each source is one module, and each job has this many events and means what this says
 abbrev pub simple : (events : ℕ) → (model.Job → Result) → RunProfile

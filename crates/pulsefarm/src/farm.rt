@@ -91,8 +91,8 @@ where
     let status = match answered {
         Ok(status) => status,
         Err(OrNoMemory::Fault(StreamFault::Read(error))) => {
-            let told = format!(in alloc; "{error}")?;
-            say(rt, &told);
+            let reported = format!(in alloc; "{error}")?;
+            say(rt, &reported);
             return Ok(REFUSED);
         }
         Err(stop) => return Err(stop),

@@ -5,8 +5,8 @@ ghost use Rattle.pf_sched.specs.Slices.{SimulatesSlice};
 
 use pf_clients::Watch;
 use pf_errors::NoMemory;
-use pf_farm::{Gate, WorkTally};
-use pf_sched::{Parked, Scratch, Slice, run_slice};
+use pf_farm::{DueSlice, Gate, WorkTally};
+use pf_sched::{Scratch, Slice, run_slice};
 use std::alloc::Global;
 use std::fmt;
 use std::io::{IsTerminal, Stderr};
@@ -18,7 +18,7 @@ use std::time::{Clock, Instant};
 const PAUSE: u64 = 100;
 
 /// How many projects are shown.
-const MOST_TOLD: usize = 6;
+const MOST_REPORTED: usize = 6;
 
 /// How many trials of a project were ordered, and how many are done.
 #[derive(Drop)]
@@ -37,7 +37,7 @@ pub struct FarmWatch<'a, C> {
     /// When it began, if the clock says.
     start: Option<Instant>,
     /// After how many milliseconds it showed progress last.
-    told: AtomicU64,
+    reported: AtomicU64,
     /// By project, from the first on.
     trials: Vec<Trials>,
 }
@@ -51,13 +51,13 @@ struct ShownTrials<'a> {
 impl fmt::Display for ShownTrials<'_> {
     fn fmt<W: fmt::Write>(&self, f: &mut fmt::Formatter<W>) -> fmt::Result {
         f.write_str("trials done of ordered:")?;
-        for (index, trials) in self.trials.iter().take(MOST_TOLD).enumerate() {
+        for (index, trials) in self.trials.iter().take(MOST_REPORTED).enumerate() {
             let done = trials.done.load(Ordering::SeqCst);
             // One may be done before its client has counted it.
             let ordered = trials.ordered.load(Ordering::SeqCst).max(done);
             write!(f, " p{} {done}/{ordered}", index.saturating_add(1))?;
         }
-        if self.trials.len() > MOST_TOLD {
+        if self.trials.len() > MOST_REPORTED {
             f.write_str(" ..")?;
         }
         Ok(())
@@ -88,7 +88,7 @@ impl<'a, C: Clock> FarmWatch<'a, C> {
             is_shown: stderr.is_terminal(),
             summary,
             start: Instant::now(clock).ok(),
-            told: AtomicU64::new(0),
+            reported: AtomicU64::new(0),
             trials,
         })
     }
@@ -112,11 +112,11 @@ impl<'a, C: Clock> FarmWatch<'a, C> {
         let Some(now) = self.milliseconds() else {
             return;
         };
-        let told = self.told.load(Ordering::SeqCst);
-        if now.saturating_sub(told) < PAUSE {
+        let reported = self.reported.load(Ordering::SeqCst);
+        if now.saturating_sub(reported) < PAUSE {
             return;
         }
-        self.told.store(now, Ordering::SeqCst);
+        self.reported.store(now, Ordering::SeqCst);
         let stderr = self.stderr;
         let shown = ShownTrials {
             trials: &self.trials,
@@ -132,7 +132,7 @@ impl<'a, C: Clock> FarmWatch<'a, C> {
         }
     }
 
-    /// Tells how long it took, if a summary is asked for.
+    /// Prints how long it took, if a summary is asked for.
     pub fn end(&self) {
         if let (true, Some(time)) = (self.summary, self.milliseconds()) {
             let stderr = self.stderr;
@@ -173,12 +173,15 @@ impl<C: Clock> Gate for FarmWatch<'_, C> {
         &self,
         alloc: Global,
         _rt: &R,
-        project: u32,
-        _ticket: u64,
-        parked: Parked,
+        due: DueSlice,
         scratch: &mut Scratch,
-        turns: u32,
     ) -> Slice {
+        let DueSlice {
+            project,
+            parked,
+            turns,
+            ..
+        } = due;
         let slice = run_slice(alloc, parked, scratch, turns);
         if let Slice::Done(_) = &slice {
             if let Some(trials) = self.trials_of(project) {

@@ -1,4 +1,5 @@
-%% What a server is asked for from outside: its state, and its end. The rest of sys isn't translated.
+%% What a server is asked for from outside: its state, and its end; and what a process of one's own makes of that. The rest of sys
+%% isn't translated.
 -module(sys).
 -compile([export_all, nowarn_export_all]).
 -spec get_state(term()) -> term().
@@ -32,3 +33,36 @@ asked(S, What, Name) ->
                 {'DOWN', R, process, _, Why} -> exit({Why, {sys, Name, [S]}})
             end
     end.
+
+-spec handle_system_msg(term(), {pid(), term()}, term(), module(), term(), term()) -> term().
+handle_system_msg(get_state, From, Parent, Mod, Debug, Misc) -> answer(From, state_of(Mod, Misc)), Mod:system_continue(Parent, Debug, Misc);
+handle_system_msg({replace_state, F}, From, Parent, Mod, Debug, Misc) ->
+    {ok, State, New} = Mod:system_replace_state(F, Misc),
+    answer(From, {ok, State}),
+    Mod:system_continue(Parent, Debug, New);
+handle_system_msg({terminate, Reason}, From, Parent, Mod, Debug, Misc) -> answer(From, ok), Mod:system_terminate(Reason, Parent, Debug, Misc).
+
+-spec handle_system_msg(term(), {pid(), term()}, term(), module(), term(), term(), term()) -> term().
+handle_system_msg(Request, From, Parent, Mod, Debug, Misc, _) -> handle_system_msg(Request, From, Parent, Mod, Debug, Misc).
+
+-spec answer({pid(), term()}, term()) -> term().
+answer({P, R}, What) -> P ! {R, What}.
+
+-spec state_of(module(), term()) -> term().
+state_of(Mod, Misc) ->
+    case erlang:function_exported(Mod, system_get_state, 1) of
+        true -> Mod:system_get_state(Misc);
+        false -> {ok, Misc}
+    end.
+
+-spec debug_options(term()) -> [].
+debug_options(_) -> [].
+
+-spec handle_debug(term(), term(), term(), term()) -> term().
+handle_debug(Debug, _, _, _) -> Debug.
+
+-spec get_log(term()) -> [].
+get_log(_) -> [].
+
+-spec print_log(term()) -> ok.
+print_log(_) -> ok.

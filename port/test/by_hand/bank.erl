@@ -1,6 +1,6 @@
 -module(bank).
 -export([main/0, server/1, client/2]).
-% The same work as programs/bank.erl in its mended form, by the same protocol: a named server, calls with a monitor, clients that are monitored.
+% The same work as programs/bank.erl in its fixed form, by the same protocol: a named server, calls with a monitor, clients that are monitored.
 main() ->
     whereis(bank),
     Pid = spawn_link(bank, server, [self()]),

@@ -1,6 +1,6 @@
 -module(leader).
 -export([main/0, candidate/1, names/0]).
-% The same work as programs/leader.erl in its mended form: a process takes the name for whoever asks first, so that nobody is refused by an error.
+% The same work as programs/leader.erl in its fixed form: a process takes the name for whoever asks first, so that nobody is refused by an error.
 main() ->
     Names = spawn(leader, names, []),
     register(names, Names),

@@ -1,6 +1,6 @@
 -module(workers).
 -export([main/0, worker/1]).
-% The same work as programs/workers.erl in its mended form: two workers run four jobs, and the results are put in order.
+% The same work as programs/workers.erl in its fixed form: two workers run four jobs, and the results are put in order.
 main() ->
     W1 = spawn_link(workers, worker, [self()]),
     W2 = spawn_link(workers, worker, [self()]),

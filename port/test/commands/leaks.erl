@@ -1,4 +1,4 @@
-%% Leaves a server that waits: by STOPPED in some runs, by MENDED in none. The clock of the translation waits in each.
+%% Leaves a server that waits: by STOPPED in some runs, by FIXED in none. The clock of the translation waits in each.
 -module(leaks).
 -export([main/0]).
 
@@ -9,7 +9,7 @@ main() ->
     receive {answer, 1} -> ok after 10 -> late end,
     stopped(Server).
 
--ifdef(MENDED).
+-ifdef(FIXED).
 stopped(Server) -> Server ! stop, ok.
 -else.
 -ifdef(STOPPED).

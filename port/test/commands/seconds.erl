@@ -1,6 +1,6 @@
 %% Times of seconds beside work: a wait that its answer ends, and one that nothing ends.
 -module(seconds).
--export([answered/0, lost/0, server/0]).
+-export([answered/0, lost/0, short/0, ordered/0, server/0]).
 
 answered() ->
     S = spawn(?MODULE, server, []),
@@ -17,3 +17,15 @@ work(_, 0) -> ok;
 work(S, N) -> S ! {ask, self(), N}, receive {answer, N} -> work(S, N - 1) end.
 
 server() -> receive {ask, P, N} -> P ! {answer, N}, server(); stop -> ok end.
+
+short() ->
+    S = spawn(?MODULE, server, []),
+    Me = self(),
+    spawn(fun() -> work(S, 100), Me ! done end),
+    receive done -> S ! stop, ok after 10 -> exit(too_late) end.
+
+%% Timers of all lengths end in the order of their deadlines, whatever the order in which they are set.
+ordered() ->
+    [erlang:send_after(T, self(), T) || T <- [30, 20, 2000, 5, 1]],
+    timer:sleep(500),
+    [1, 5, 20, 30, 2000] = [receive T -> T end || _ <- [1, 2, 3, 4, 5]].

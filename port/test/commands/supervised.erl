@@ -10,7 +10,7 @@ init([]) ->
            #{id => brutal, start => {?MODULE, start_child, []}, shutdown => brutal_kill, restart => temporary}]}}.
 
 -ifdef(BROKEN).
-child() -> receive stop -> ok after 10 -> error(broken) end.
+child() -> error(broken).
 -else.
 child() -> receive stop -> ok end.
 -endif.

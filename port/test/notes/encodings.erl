@@ -25,16 +25,16 @@ main() ->
     try register(me, self()) catch error:badarg:S -> {S, C, B, R} end,
     gen_server:call(me, x).
 %% note: 16: a binary is a list of its bytes here, with a tag; each byte is a node of the 4,096 that a value may have
-%% note: 6: a table is kept by a process, and each call is a message and its answer; a table outlives its owner until that process is told
+%% note: 6: a table is kept by a process, and each call is a message and its answer; a table outlives its owner until that process gets the message
 %% note: 7: a map is a list of pairs here, in the order of its keys; code that depends on the order of a map of over 32 keys, which Erlang leaves open, may go otherwise
-%% note: 8: times are told by a clock of the run, which may be fast or slow beside the processes; so a timeout may come before a message that in practice would be there long before
+%% note: 8: time is virtual: it passes where nobody else can go, in the order of the deadlines; a run that fails where it passes earlier is left out of a hunt, and --patience early counts it
 %% note: 9: shared cells are kept by a process; each operation is one piece, at one place between call and answer
 %% note: 10: a number by chance is a race of two messages, so it is a choice of the schedule and no even chance
 %% note: 11: dict and sets are kept in the order of their keys, and not in that of a hash
 %% note: 12: what is logged or printed is left out; a crash in formatting it isn't seen
 %% note: 13: process dictionaries are kept by one process, and each access is a message and its answer
-%% note: 14: atoms and their texts are those that stand in the program; others are badarg
-%% note: 15: ~p, ~w, ~s, ~b, ~c and ~n are formatted without widths, and pids and references without numbers
+%% note: 14: atoms and their texts are those of the program; list_to_atom of others is refused
+%% note: 15: pids, references and funs are formatted without numbers, and ~p breaks no lines
 %% note: 17: an error of the limits (a value over 4,096 nodes, an integer past 64 bits) ends the process and is not caught
 %% note: 18: a monitor of a name is whereis and then a monitor of the pid: the name may pass to another between
 %% note: 19: no application has an environment here, so get_env answers the default; starting one does nothing

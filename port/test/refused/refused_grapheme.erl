@@ -2,4 +2,4 @@
 -export([main/0]).
 main() ->
     string:titlecase("a b").
-%% refused: 4: string:titlecase/1 can't be translated (string.erl: a binary of other parts than bytes and a whole rest is not translated); write what you need of it as a function of your own
+%% refused: 4: string:titlecase/1 is not among the functions of this module that the library has (port/ENCODINGS.md); write what you need of it yourself

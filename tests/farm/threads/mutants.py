@@ -19,9 +19,9 @@ MUTANTS = {
     ),
     "lock_round_a_slice": (
         "the lock is kept round a slice",
-        "    match gate.slice(alloc, rt, project, ticket, parked, scratch, TURNS) {\n",
+        "    match gate.slice(alloc, rt, due, scratch) {\n",
         "    let held = floor.shared.lock(rt);\n"
-        "    let slice = gate.slice(alloc, rt, project, ticket, parked, scratch, TURNS);\n"
+        "    let slice = gate.slice(alloc, rt, due, scratch);\n"
         "    drop(held);\n"
         "    match slice {\n",
         ("gate_steal", "gate_two_trials"),

@@ -10,7 +10,7 @@ use Rattle.pf_chart.specs.Origins.{process_of, texts}
 use Rattle.pf_chart.specs.Pages.{page_in}
 use Rattle.pf_chart.specs.Sheets.{pitch_of}
 use Rattle.pf_chart.specs.declared.rows.EventRow.{EventRow}
-use Rattle.pf_chart.proofs.Charts.{chart_of, length_told, page_is, paged, told}
+use Rattle.pf_chart.proofs.Charts.{chart_of, length_reported, page_is, paged, reported}
 use Rattle.pf_chart.proofs.Lined.{drawn_grows, grown_on, grows_by, lines_of, lines_within}
 use Rattle.pf_chart.proofs.Placed.{in_order}
 use Rattle.pf_svg.proofs.Drawn.{in_turn, plainly}
@@ -35,11 +35,11 @@ returns c =
     let columns = layout.columns.items in
     let laid = c.in_ok-layout.ensures.laid in
     let sheet = c.new-sheet.result in
-    let with_rows : map told all.items ≡ filter (has_row compact) report.events =
+    let with_rows : map reported all.items ≡ filter (has_row compact) report.events =
     c.in_ok-all_rows.ensures.events ∙ ap (λ es. filter (has_row compact) (map view_of_event es))
     c.deref.ensures.value in
-    let are : map told rows ≡ shown_events manner report =
-    ap (map told) (c.page_of-rows.ensures ∙ ap (page_of manner.page) c.deref-2.ensures.value)
+    let are : map reported rows ≡ shown_events manner report =
+    ap (map reported) (c.page_of-rows.ensures ∙ ap (page_of manner.page) c.deref-2.ensures.value)
     ∙ paged manner.page all.items ∙ ap (page_of manner.page) with_rows in
     let processes : c.len-processes.result ≡ length (map process_of columns) =
     omega (arith, c.len-processes.ensures, layout.columns.ok.0, length-map columns process_of) in
@@ -50,10 +50,11 @@ returns c =
     let size : c.len.result ≡ length all.items = omega (arith, c.len.ensures, all.ok.0) in
     let above : sheet.above ≡ first_row manner.page (length (filter (has_row compact) report.events)) =
     c.new-sheet.ensures.above ∙ c.first_row-above.ensures.first ∙ ap (first_row manner.page)
-    (size ∙ sym (length_told all.items) ∙ ap length with_rows) in
+    (size ∙ sym (length_reported all.items) ∙ ap length with_rows) in
     let page = page_is sheet (pitch_of (length (map process_of columns))) (rows_from compact 0 report.events)
     (first_row manner.page (length (filter (has_row compact) report.events))) (length (shown_events manner report))
-    (c.new-sheet.ensures.pitch ∙ ap pitch_of processes) places above (c.new-sheet.ensures.count ∙ sym (length_told rows)
+    (c.new-sheet.ensures.pitch ∙ ap pitch_of processes) places above
+    (c.new-sheet.ensures.count ∙ sym (length_reported rows)
     ∙ ap length are) in
     let before = grown_on (grows_by _ _ _ c.in_ok-open.ensures)
     (grown_on (drawn_grows _ _ _ c.in_ok-put_words.ensures) (drawn_grows _ _ _ c.in_ok-put.ensures)) in

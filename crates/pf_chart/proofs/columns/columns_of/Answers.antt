@@ -5,7 +5,7 @@ use Rattle.pf_model.specs.Reports.{view_of_event, view_of_report}
 use Rattle.pf_chart.specs.Origins.{process_of}
 use Rattle.pf_chart.specs.Processes.{Process, processes_of}
 use Rattle.pf_chart.specs.declared.columns.Column.{Column}
-use Rattle.pf_chart.proofs.Spawned.{told_by_pid}
+use Rattle.pf_chart.proofs.Spawned.{reported_by_pid}
 use Rattle.pf_chart.proofs.columns.columns_of.Goals as goal
 
 pub returns : goal.returns
@@ -18,6 +18,6 @@ returns c =
           (subst (λ ps. IsPermutation ps (map process_of sorted)) spawned
           (IsPermutation-map process_of _ _ c.sort_unstable_by_key.ensures.permutation));
       by_pid = subst (λ ps. IsNonDecreasingBy (λ (p : Process). p.pid) ps) (sym c.mark_outcome.ensures)
-          (told_by_pid sorted (IsNonDecreasingBy-from_sort_by_key (λ (k : Column). k.pid) sorted
+          (reported_by_pid sorted (IsNonDecreasingBy-from_sort_by_key (λ (k : Column). k.pid) sorted
           c.sort_unstable_by_key.ensures.sorted (λ a r f' called. search rules)));
     }

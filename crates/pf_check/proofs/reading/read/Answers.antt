@@ -9,7 +9,7 @@ use Rattle.pf_check.proofs.reading.read.Goals as goal
 
 pub returns-in_err-found-clause-fault : goal.returns-in_err-found-clause-fault
 returns-in_err-found-clause-fault c =
-    let told : IsRefusalOf c.args.source.now c.in_err-found.field-0.0 =
+    let reported : IsRefusalOf c.args.source.now c.in_err-found.field-0.0 =
     tokens_refused c.args.source.now c.in_err-found.field-0.0 c.in_err-found.ensures.fault in
     search rules
 
@@ -18,26 +18,26 @@ returns-in_err-syntax-clause-fault c =
     let ts = map placed_of c.deref.result.now in
     let has : HasTokens c.args.source.now ts = subst (λ xs. HasTokens c.args.source.now (map placed_of xs))
     (sym c.deref.ensures.value) c.in_ok-found.ensures.found in
-    let told : IsRefusalOf c.args.source.now c.in_err-syntax.field-0.0 =
+    let reported : IsRefusalOf c.args.source.now c.in_err-syntax.field-0.0 =
     tree_refused c.args.source.now ts has c.in_err-syntax.field-0.0 c.in_err-syntax.ensures.fault in
     search rules
 
 pub returns-clause-read : goal.returns-clause-read
 returns-clause-read c =
     let r = c.in_ok-syntax.field-0 in
-    let told = c.in_ok-syntax.ensures in
+    let reported = c.in_ok-syntax.ensures in
     let ts = map placed_of c.deref.result.now in
     let has : HasTokens c.args.source.now ts = subst (λ xs. HasTokens c.args.source.now (map placed_of xs))
     (sym c.deref.ensures.value) c.in_ok-found.ensures.found in
-    reads_module c.args.source.now ts r.atoms (tree_of r.syntax) has told.atoms told.found c.check.result
+    reads_module c.args.source.now ts r.atoms (tree_of r.syntax) has reported.atoms reported.found c.check.result
     c.check.ensures.checked
 
 pub returns-clause-fault : goal.returns-clause-fault
 returns-clause-fault c =
     let r = c.in_ok-syntax.field-0 in
-    let told = c.in_ok-syntax.ensures in
+    let reported = c.in_ok-syntax.ensures in
     let ts = map placed_of c.deref.result.now in
     let has : HasTokens c.args.source.now ts = subst (λ xs. HasTokens c.args.source.now (map placed_of xs))
     (sym c.deref.ensures.value) c.in_ok-found.ensures.found in
-    reads_fault c.args.source.now ts r.atoms (tree_of r.syntax) has told.atoms told.found c.check.result
+    reads_fault c.args.source.now ts r.atoms (tree_of r.syntax) has reported.atoms reported.found c.check.result
     c.check.ensures.fault

@@ -6,7 +6,7 @@ use Rattle.pf_syntax.specs.declared.node.FunctionId.{FunctionId}
 use Rattle.pf_model.specs.Module.{Module}
 use Rattle.pf_model.specs.Reports.{view_of_event, view_of_report}
 use Rattle.pf_cli.specs.Args.{view_of_run_args}
-use Rattle.pf_cli_messages.proofs.Telling.{from_asked, tells_of}
+use Rattle.pf_cli_messages.proofs.Reporting.{from_asked, reports_of}
 use Rattle.pf_process_status.proofs.Survivors.{if_ok}
 use Rattle.pf_cli_messages.proofs.explained.explain_job.Goals as goal
 
@@ -25,8 +25,8 @@ returns c =
     ∙ ap (λ (z : Module). root_of name z.atoms z.functions) (c.module-module.ensures ∙ from.code)
     ∙ ap (λ n. root_of n m.code.atoms m.code.functions) c.as_slice.ensures ∙ from.root in
     if_ok c.explain_known.result
-    (λ text tells.
-    tells_of j.asked r c.args.args.now.priorities c.args.source.now text.items _ tells c.in_ok-report.ensures
+    (λ text reports.
+    reports_of j.asked r c.args.args.now.priorities c.args.source.now text.items _ reports c.in_ok-report.ensures
     (record {
       code = c.module-module.ensures;
       root = same_Some c.in-Some.root.0 j.asked.root root;

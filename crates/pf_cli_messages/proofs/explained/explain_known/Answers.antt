@@ -12,7 +12,7 @@ returns c =
       are_places = subst (λ m. ArePlaces m c.args.source.now c.in_ok-places.places) c.deref.ensures
           c.in_ok-places.ensures;
       standings = c.in_ok-standings.standings.items;
-      stand = c.in_ok-standings.ensures.stand;
+      are_there = c.in_ok-standings.ensures.are_there;
       points = c.in_ok-standings.ensures.points;
       lines = subst (λ xs. AreStatusLines c.args.run.now c.in_ok-places.places xs text.items)
           c.as_slice.ensures.value lines;

@@ -1,6 +1,6 @@
 use Rattle.std.proofs.Common.{◌++◌, sym, subst, arith}
 use Rattle.pf_cli_messages.specs.Explained.{AreStatusLines}
-use Rattle.pf_cli_messages.proofs.Telling.{all_lines, next_line}
+use Rattle.pf_cli_messages.proofs.Reporting.{all_lines, next_line}
 use Rattle.pf_cli_messages.proofs.explained.lines_of.Goals as goal
 
 pub loop-standing-preserved : goal.loop-standing-preserved

@@ -3,8 +3,8 @@ use Rattle.std.proofs.Common.{append-nil, arith}
 use Rattle.std.proofs.lemmas.Option.{slice_get_read}
 use Rattle.pf_wire.proofs.Adding.{at_err}
 use Rattle.pf_wire.specs.Whole.{whole_text, with_report}
-use Rattle.pf_clients.specs.Texts.{EndsInText, told_text}
-use Rattle.pf_clients.proofs.Printed.{at_true, joined_text, longer_last, some_last, none_in, told_more}
+use Rattle.pf_clients.specs.Texts.{EndsInText, reported_text}
+use Rattle.pf_clients.proofs.Printed.{at_true, joined_text, longer_last, some_last, none_in, reported_more}
 use Rattle.pf_clients.proofs.client.add.Goals as goal
 
 pub overflow_sub-last : goal.overflow_sub-last
@@ -34,7 +34,7 @@ returns-in_err-extend_from_slice-clause-err c =
     ap (λ s. with_report s t.report) c.in_err-extend_from_slice.ensures.items ∙ sym (append-nil (whole_text t)) in
     at_err c.from_residual.result
     (longer_last ts (c.len-last.result - 1) t (record { text = c.extend_from_slice.new.self; report = t.report }) [] len
-    is same ∙ append-nil (told_text ts))
+    is same ∙ append-nil (reported_text ts))
 
 pub returns-in_ok-extend_from_slice-clause-added : goal.returns-in_ok-extend_from_slice-clause-added
 returns-in_ok-extend_from_slice-clause-added c =
@@ -50,10 +50,11 @@ returns-in_ok-extend_from_slice-clause-added c =
     let at : length ts - 1 ≡ c.len-last.result - 1 = omega (arith, len) in
     let last : Some ends.0 ≡ Some t = sym ends.1 ∙ ap (slice_get ts) at ∙ is in
     let none : t.report ≡ None = none_in ends.0 t last ends.2 in
-    let longer = joined_text t c.args.told c.extend_from_slice.new.self none both.0
+    let longer = joined_text t c.args.reported c.extend_from_slice.new.self none both.0
     (c.in_ok-extend_from_slice.ensures.items ∙ ap (λ s. t.text.items ++ s) c.deref-then-joins.ensures.value) in
     longer_last ts (c.len-last.result - 1) t (record { text = c.extend_from_slice.new.self; report = t.report })
-    (whole_text c.args.told) len is longer
+    (whole_text c.args.reported) len is longer
 
 pub returns-in_ok-push-clause-added : goal.returns-in_ok-push-clause-added
-returns-in_ok-push-clause-added c = ap told_text c.in_ok-push.ensures.items ∙ told_more c.args.all.now.items c.args.told
+returns-in_ok-push-clause-added c = ap reported_text c.in_ok-push.ensures.items
+    ∙ reported_more c.args.all.now.items c.args.reported

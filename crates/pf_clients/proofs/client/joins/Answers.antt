@@ -11,7 +11,7 @@ returns-then-is_none c =
       sym c.in-Some.ensures.value,
       none_if_none last.report c.is_none.result c.is_none.ensures c.if-is_none.true,
     ) in
-    let none : c.args.told.now.report ≡ None = none_if_not_some c.args.told.now.report c.is_some.result
+    let none : c.args.reported.now.report ≡ None = none_if_not_some c.args.reported.now.report c.is_some.result
     c.is_some.ensures c.if-is_some.false in
-    let both : (c.args.told.now.report ≡ None) × EndsInText c.args.all.now = (none, ends) in
+    let both : (c.args.reported.now.report ≡ None) × EndsInText c.args.all.now = (none, ends) in
     on_true _ both

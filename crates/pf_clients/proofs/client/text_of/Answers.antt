@@ -1,7 +1,7 @@
 use Rattle.std.proofs.Common.{◌++◌, refl, ap, ◌∙◌}
 use Rattle.pf_request.specs.Calls.{usage}
 use Rattle.pf_world.specs.Steps.{client_calls}
-use Rattle.pf_world.specs.Told.{step_text}
+use Rattle.pf_world.specs.Reported.{step_text}
 use Rattle.pf_pool.specs.Responses.{response_in}
 use Rattle.pf_clients.proofs.Lines.{outcome_of_call}
 use Rattle.pf_clients.proofs.client.text_of.Goals as goal

@@ -23,7 +23,7 @@ for_each_mut-requires-sync-F g c κs within =
 pub returns-clause-served : goal.returns-clause-served
 returns-clause-served g c =
     let P : declared.Client g.row.N.Denot g.row.R.Denot → declared.Client g.row.N.Denot g.row.R.Denot → Type 0 =
-    λ x y. IsServed g.R.Read.remaining x.file x.seat.project y.seat y.told.items y.ended in
+    λ x y. IsServed g.R.Read.remaining x.file x.seat.project y.seat y.reported.items y.ended in
     let old = c.args.clients.now in
     let new = c.for_each_mut.new.s in
     let len : length new ≡ length old = search rules in

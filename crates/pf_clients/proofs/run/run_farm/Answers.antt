@@ -41,17 +41,18 @@ returns-clause-answered g c =
     let len : length now ≡ vec.len = search rules in
     let lent : c.deref_mut.result.now ≡ vec.items = c.deref_mut.ensures.value in
     let begun : c.serve-begun.result ≡ true = first_of (assumption c.if-not-begun.false, search (rules, not_false)) in
-    let Served : T → T → Type 0 = λ x y. IsServed remaining x.file x.seat.project y.seat y.told.items y.ended in
+    let Served : T → T → Type 0 = λ x y. IsServed remaining x.file x.seat.project y.seat y.reported.items y.ended in
     let served : EachTwo (λ k. Served) 1 vec.items now = subst (λ cs. EachTwo (λ k. Served) 1 cs now) lent
     (at_true c.serve-begun.result begun c.serve-begun.ensures.served) in
     let close = c.close-closing.ensures in
-    let farm = farm_answered (λ (x : T). x.seat) (λ (x : T). x.file) (λ (x : T). x.told) (λ (x : T). x.ended) remaining
+    let farm = farm_answered (λ (x : T). x.seat) (λ (x : T). x.file) (λ (x : T). x.reported)
+    (λ (x : T). x.ended) remaining
     c.args.files.items vec.items now
-    (take vec.len (now ++ drop (length now) vec.items)) c.close-closing.result c.parted-told.result.seats.items
-    c.parted-told.result.answers.items c.in_ok-clients.ensures.seated served
-    (whole vec.len now vec.items len) c.parted-told.ensures.seats c.parted-told.ensures.answers close.seats
-    close.receipts c.look_up.ensures close.full close.ended close.told in
-    farm_prints (map remaining c.args.files.items) (map client_text c.parted-told.result.answers.items) farm
+    (take vec.len (now ++ drop (length now) vec.items)) c.close-closing.result c.parted-reported.result.seats.items
+    c.parted-reported.result.answers.items c.in_ok-clients.ensures.seated served
+    (whole vec.len now vec.items len) c.parted-reported.ensures.seats c.parted-reported.ensures.answers close.seats
+    close.receipts c.look_up.ensures close.full close.ended close.reported in
+    farm_prints (map remaining c.args.files.items) (map client_text c.parted-reported.result.answers.items) farm
     (g.W.Write.contents c.args.writer.now.inner)
     (g.W.Write.contents c.write_all.new.writer.inner) c.write_all.result c.write_all.ensures.printed
 
@@ -64,17 +65,18 @@ returns-clause-fault g c =
     let len : length now ≡ vec.len = search rules in
     let lent : c.deref_mut.result.now ≡ vec.items = c.deref_mut.ensures.value in
     let begun : c.serve-begun.result ≡ true = first_of (assumption c.if-not-begun.false, search (rules, not_false)) in
-    let Served : T → T → Type 0 = λ x y. IsServed remaining x.file x.seat.project y.seat y.told.items y.ended in
+    let Served : T → T → Type 0 = λ x y. IsServed remaining x.file x.seat.project y.seat y.reported.items y.ended in
     let served : EachTwo (λ k. Served) 1 vec.items now = subst (λ cs. EachTwo (λ k. Served) 1 cs now) lent
     (at_true c.serve-begun.result begun c.serve-begun.ensures.served) in
     let close = c.close-closing.ensures in
-    let farm = farm_answered (λ (x : T). x.seat) (λ (x : T). x.file) (λ (x : T). x.told) (λ (x : T). x.ended) remaining
+    let farm = farm_answered (λ (x : T). x.seat) (λ (x : T). x.file) (λ (x : T). x.reported)
+    (λ (x : T). x.ended) remaining
     c.args.files.items vec.items now
-    (take vec.len (now ++ drop (length now) vec.items)) c.close-closing.result c.parted-told.result.seats.items
-    c.parted-told.result.answers.items c.in_ok-clients.ensures.seated served
-    (whole vec.len now vec.items len) c.parted-told.ensures.seats c.parted-told.ensures.answers close.seats
-    close.receipts c.look_up.ensures close.full close.ended close.told in
-    farm_leaves (map remaining c.args.files.items) (map client_text c.parted-told.result.answers.items) farm
+    (take vec.len (now ++ drop (length now) vec.items)) c.close-closing.result c.parted-reported.result.seats.items
+    c.parted-reported.result.answers.items c.in_ok-clients.ensures.seated served
+    (whole vec.len now vec.items len) c.parted-reported.ensures.seats c.parted-reported.ensures.answers close.seats
+    close.receipts c.look_up.ensures close.full close.ended close.reported in
+    farm_leaves (map remaining c.args.files.items) (map client_text c.parted-reported.result.answers.items) farm
     (g.W.Write.contents c.args.writer.now.inner)
     (g.W.Write.contents c.write_all.new.writer.inner) c.args.writer.now.failures.total
     c.write_all.new.writer.failures.total c.write_all.result c.write_all.ensures.in_part

@@ -13,7 +13,7 @@ use Rattle.pf_clients.proofs.run.seated.Goals as goal
 pub files-init : goal.files-init
 files-init g c =
     let P : ℕ → g.row.R.Denot → Client g.row.N.Denot g.row.R.Denot
-    → Type 0 = λ k f x. (x.seat ≡ empty_client k) × (x.file ≡ Some f) × (x.told.items ≡ []) in
+    → Type 0 = λ k f x. (x.seat ≡ empty_client k) × (x.file ≡ Some f) × (x.reported.items ≡ []) in
     record {
       seated = subst (λ cs. EachTwo P 1 [] cs) (sym c.new-clients.ensures.items) (tt {0});
       clients = c.new-clients.ensures.len;
@@ -26,13 +26,13 @@ files-init g c =
 pub files-preserved : goal.files-preserved
 files-preserved g c =
     let P : ℕ → g.row.R.Denot → Client g.row.N.Denot g.row.R.Denot
-    → Type 0 = λ k f x. (x.seat ≡ empty_client k) × (x.file ≡ Some f) × (x.told.items ≡ []) in
+    → Type 0 = λ k f x. (x.seat ≡ empty_client k) × (x.file ≡ Some f) × (x.reported.items ≡ []) in
     let l = c.files in
     let x = c.in-Some.file in
     let client : Client g.row.N.Denot g.row.R.Denot = record {
       seat = c.in-Ok.seat;
       file = Some x;
-      told = c.new.result;
+      reported = c.new.result;
       ended = Answered;
     } in
     let left = into_iter_items c.next.new.self in
@@ -56,7 +56,7 @@ files-preserved g c =
 pub returns-clause-seated : goal.returns-clause-seated
 returns-clause-seated g c =
     let P : ℕ → g.row.R.Denot → Client g.row.N.Denot g.row.R.Denot
-    → Type 0 = λ k f x. (x.seat ≡ empty_client k) × (x.file ≡ Some f) × (x.told.items ≡ []) in
+    → Type 0 = λ k f x. (x.seat ≡ empty_client k) × (x.file ≡ Some f) × (x.reported.items ≡ []) in
     let l = c.files in
     let left : length (into_iter_items l.file-iterator) ≡ 0 = sym l.file-iterator.rest.ok.0
     ∙ c.in-None.ensures.steps.0 in
@@ -65,5 +65,6 @@ returns-clause-seated g c =
     subst (λ fs. EachTwo P 1 fs l.clients.items) (sym all) l.invariant.seated
 
 pub returns-clause-new : goal.returns-clause-new
-returns-clause-new g c = let l = c.files in all_new (λ k. k.seat) (λ k. k.file) (λ k. k.told) (λ k. k.ended) 1 l.yielded
+returns-clause-new g c = let l = c.files in all_new (λ k. k.seat) (λ k. k.file) (λ k. k.reported)
+    (λ k. k.ended) 1 l.yielded
     l.clients.items l.invariant.seated

@@ -3,49 +3,59 @@ use Rattle.std.proofs.lemmas.Result.{IfOk-weaker}
 use Rattle.pf_errors.specs.Codes.{code_text}
 use Rattle.pf_syntax.specs.Root.{root_of}
 use Rattle.pf_model.specs.Module.{Module}
-use Rattle.pf_cli_messages.proofs.Telling.{from_asked}
+use Rattle.pf_request.specs.Job.{Job}
+use Rattle.pf_cli_messages.proofs.Reporting.{from_asked}
+use Rattle.pf_sched.specs.Asked.{Asks}
 use Rattle.pf_sched.specs.Views.{code_of}
-use Rattle.pf_command.specs.Answers.{Refuses, run_args}
-use Rattle.pf_cli_messages.specs.Explained.{AsksOf}
+use Rattle.pf_cli.specs.Args.{view_of_chart_args}
+use Rattle.pf_command.specs.Answers.{Refuses}
 use Rattle.pf_check.specs.Reading.{IsModuleOf}
-use Rattle.pf_command.specs.Charts.{ChartAnswers, DrawsJob, IsRootOf}
+use Rattle.pf_command.specs.Charts.{DrawsJob, IsRootOf}
+use Rattle.pf_command.specs.Guided.{AsksOfRun, DrawnAnswers, RunsAs, asked, manner_of, refused}
 use Rattle.pf_command.proofs.Asking.{asks_in}
-use Rattle.pf_command.proofs.Rows.{row_told, row_job_refused}
+use Rattle.pf_command.proofs.Rows.{row_reported, row_job_refused}
 use Rattle.pf_command.proofs.chart.draw_module.Goals as goal
 
 pub draw_job-requires : goal.draw_job-requires
 draw_job-requires c =
-    let asked = run_args c.args.request.now c.args.edition in
+    let a = (view_of_chart_args c.args.args.now).run in
     let job = c.in-Ok.job in
-    let x = asks_in c.args.module c.number.result asked.edition asked.request (Ok job) c.number.ensures.number
+    let x = asks_in c.args.module c.number.result a.edition a.request (Ok job) c.number.ensures.number
     c.in-Ok.ensures in
-    let from = from_asked c.args.module asked.edition x.0 asked.request job x.2 in
-    subst (IsRootOf job) (sym c.as_slice.ensures)
-    (subst (λ (m : Module). root_of asked.request.root m.atoms m.functions ≡ Some job.asked.root)
+    let from = from_asked c.args.module a.edition x.0 a.request job x.2 in
+    subst (IsRootOf job) (sym c.as_slice-root.ensures)
+    (subst (λ (m : Module). root_of a.request.root m.atoms m.functions ≡ Some job.asked.root)
     (sym from.code) from.root)
 
 pub returns-in-Ok : goal.returns-in-Ok
 returns-in-Ok c =
-    let asked = run_args c.args.request.now c.args.edition in
+    let drawn = view_of_chart_args c.args.args.now in
+    let a = drawn.run in
     let m = c.args.module in
     let job = c.in-Ok.job in
-    let asks : AsksOf asked m (Ok job) = asks_in m c.number.result asked.edition asked.request
+    let asks : Asks m a.edition a.request (Ok job) = asks_in m c.number.result a.edition a.request
     (Ok job) c.number.ensures.number c.in-Ok.ensures in
-    IfOk-weaker c.draw_job.result (λ a. DrawsJob c.as_slice.result.now c.args.manner job a.text.items a.status)
-    (λ a. (bytes : List ℕ) → IsModuleOf bytes m → ChartAnswers c.args.manner asked bytes a.text.items a.status)
-    (λ a tells bytes is. row_told (AsksOf asked) (DrawsJob asked.request.root c.args.manner) m bytes job a is asks
-    (subst (λ r. DrawsJob r c.args.manner job a.text.items a.status) c.as_slice.ensures tells)) c.draw_job.ensures
+    IfOk-weaker c.draw_job.result
+    (λ o. (k : Job) × RunsAs a.priorities job k
+    × DrawsJob c.as_slice-root.result.now c.manner_of.result k o.text.items o.status)
+    (λ o. (bytes : List ℕ) → IsModuleOf bytes m → DrawnAnswers drawn bytes o.text.items o.status)
+    (λ o k bytes is. row_reported (AsksOfRun a) (DrawsJob a.request.root (manner_of drawn)) m bytes k.0 o is
+    (asked job k.0 asks k.1)
+    (subst (λ n. DrawsJob a.request.root n k.0 o.text.items o.status) c.manner_of.ensures
+    (subst (λ r. DrawsJob r c.manner_of.result k.0 o.text.items o.status) c.as_slice-root.ensures k.2)))
+    c.draw_job.ensures
 
 pub returns-in-Err-Fault : goal.returns-in-Err-Fault
 returns-in-Err-Fault c =
-    let asked = run_args c.args.request.now c.args.edition in
+    let drawn = view_of_chart_args c.args.args.now in
+    let a = drawn.run in
     let m = c.args.module in
     let code = code_of c.in-Err-Fault.refusal in
-    let refused = rw c.in-Err-Fault.field-0-is at c.in-Err-Fault.ensures in
-    let asks : AsksOf asked m (Err code) = asks_in m c.number.result asked.edition asked.request
-    (Err code) c.number.ensures.number refused in
+    let is_refused = rw c.in-Err-Fault.field-0-is at c.in-Err-Fault.ensures in
+    let asks : Asks m a.edition a.request (Err code) = asks_in m c.number.result a.edition a.request
+    (Err code) c.number.ensures.number is_refused in
     let known : c.code.result ≡ code = c.code.ensures ∙ ap code_of c.in-Err-Fault.refusal-is in
-    IfOk-weaker c.refused_by_code.result (λ a. Refuses a (code_text code))
-    (λ a. (bytes : List ℕ) → IsModuleOf bytes m → ChartAnswers c.args.manner asked bytes a.text.items a.status)
-    (λ a told bytes is. row_job_refused (AsksOf asked) (DrawsJob asked.request.root c.args.manner) m bytes a code is
-    asks told) (rw known at c.refused_by_code.ensures)
+    IfOk-weaker c.refused_by_code.result (λ o. Refuses o (code_text code))
+    (λ o. (bytes : List ℕ) → IsModuleOf bytes m → DrawnAnswers drawn bytes o.text.items o.status)
+    (λ o reported bytes is. row_job_refused (AsksOfRun a) (DrawsJob a.request.root (manner_of drawn)) m bytes o code is
+    (refused code asks) reported) (rw known at c.refused_by_code.ensures)

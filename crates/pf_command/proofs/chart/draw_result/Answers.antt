@@ -33,4 +33,4 @@ returns-in-NothingFails c =
     let is = subst (λ x. IsResult j.asked (result_of x)) c.in-NothingFails.is c.requires.result in
     IfOk-weaker c.refused_by_code.result (λ a. Refuses a (code_text code.NothingFails))
     (λ a. DrawsJob root c.args.manner j a.text.items a.status)
-    (λ a told. draws_none root c.args.manner j a is told) c.refused_by_code.ensures
+    (λ a reported. draws_none root c.args.manner j a is reported) c.refused_by_code.ensures

@@ -6,7 +6,7 @@ use Rattle.pf_model.specs.Reports.{view_of_report}
 use Rattle.pf_model.specs.Text.{report_text}
 use Rattle.pf_trace.specs.Written.{StopsShort, lines_text}
 use Rattle.pf_command.specs.Answers.{IsNoMemory, atom_names_of}
-use Rattle.pf_command.specs.Hunts.{TellsReport}
+use Rattle.pf_command.specs.Hunts.{PrintsReport}
 use Rattle.pf_command.proofs.Streaming.{prints_after}
 use Rattle.pf_command.proofs.ending.print_failure.Goals as goal
 
@@ -52,7 +52,7 @@ returns-in-Err-NoMemory g c =
     (g.W.Write.contents c.print_report.new.writer.inner) c.args.writer.now.failures.total
     c.print_report.new.writer.failures.total)
     atoms (rw c.in-Err-NoMemory.field-0-is at c.in-Err-NoMemory.ensures.fault) in
-    prints_after IsNoMemory (TellsReport j r) (lines_text (atom_names_of j) stopped.0) _ _ _ _ _ _
+    prints_after IsNoMemory (PrintsReport j r) (lines_text (atom_names_of j) stopped.0) _ _ _ _ _ _
     c.print_no_memory.result stopped.3 stopped.4
     (λ t s is. inr (stopped.0, stopped.1, stopped.2, ap (λ x. lines_text (atom_names_of j) stopped.0 ++ x) is.0, is.1))
     c.print_no_memory.ensures

@@ -3,9 +3,9 @@ use Rattle.pf_model.specs.Reports.{view_of_report}
 use Rattle.pf_cli.specs.Args.{view_of_hunt_args}
 use Rattle.pf_cli.specs.declared.args.HuntGoal.TheVariants.{Failure}
 use Rattle.pf_trace.proofs.Fronts.{front_of_more}
-use Rattle.pf_command.specs.Hunts.{TellsReport, TellsShrinking, TellsSought, choices_of, seed_text}
+use Rattle.pf_command.specs.Hunts.{PrintsReport, PrintsShrinking, PrintsSought, choices_of, seed_text}
 use Rattle.pf_command.specs.Streams.{PrintsAnswer}
-use Rattle.pf_command.proofs.Found.{may_be_told, tells_report, tells_shrinking}
+use Rattle.pf_command.proofs.Found.{may_be_reported, prints_report, prints_shrinking}
 use Rattle.pf_command.proofs.Streaming.{prints_after, printed_fault}
 use Rattle.pf_command.proofs.ending.print_found.Goals as goal
 
@@ -16,8 +16,8 @@ returns-in_err-print_seed g c bytes ns of least =
     let s = f.failure.seed in
     let r = view_of_report f.failure.report in
     let head = seed_text s h.strategy (choices_of r) in
-    let m = may_be_told h bytes f.job ns s r f.runs least in
-    printed_fault (TellsSought h bytes f.job ns (Failure f.runs)) _ _ _ _ c.from_residual.result
+    let m = may_be_reported h bytes f.job ns s r f.runs least in
+    printed_fault (PrintsSought h bytes f.job ns (Failure f.runs)) _ _ _ _ c.from_residual.result
     c.in_err-print_seed.field-0.0 c.from_residual.ensures (
       head ++ m.0,
       m.1,
@@ -33,15 +33,15 @@ returns-in-Some g c bytes ns of least =
     let s = f.failure.seed in
     let r = view_of_report f.failure.report in
     let printed =
-    prints_after (TellsShrinking h bytes r c.in-Some.runs)
-    (TellsSought h bytes f.job ns (Failure (Some c.in-Some.runs)))
+    prints_after (PrintsShrinking h bytes r c.in-Some.runs)
+    (PrintsSought h bytes f.job ns (Failure (Some c.in-Some.runs)))
     (seed_text s h.strategy (choices_of r)) _ _ _ _ _ _
     c.print_shrunk.result c.in_ok-print_seed.ensures.written c.in_ok-print_seed.ensures.kept
-    (λ t k tells. tells_shrinking h bytes f.job ns s r c.in-Some.runs t k least tells)
+    (λ t k reports. prints_shrinking h bytes f.job ns s r c.in-Some.runs t k least reports)
     (c.print_shrunk.ensures bytes of) in
     subst
     (λ o.
-    PrintsAnswer (TellsSought h bytes f.job ns (Failure o)) (g.W.Write.contents c.args.writer.now.inner)
+    PrintsAnswer (PrintsSought h bytes f.job ns (Failure o)) (g.W.Write.contents c.args.writer.now.inner)
     (g.W.Write.contents c.print_shrunk.new.writer.inner)
     c.args.writer.now.failures.total c.print_shrunk.new.writer.failures.total c.print_shrunk.result)
     (sym c.in-Some.is) printed
@@ -53,13 +53,13 @@ returns g c bytes ns of least =
     let s = f.failure.seed in
     let r = view_of_report f.failure.report in
     let printed =
-    prints_after (TellsReport f.job r) (TellsSought h bytes f.job ns (Failure None))
+    prints_after (PrintsReport f.job r) (PrintsSought h bytes f.job ns (Failure None))
     (seed_text s h.strategy (choices_of r)) _ _ _ _ _ _
     c.print_failure.result c.in_ok-print_seed.ensures.written c.in_ok-print_seed.ensures.kept
-    (λ t k tells. tells_report h bytes f.job ns s r t k least tells) c.print_failure.ensures in
+    (λ t k reports. prints_report h bytes f.job ns s r t k least reports) c.print_failure.ensures in
     subst
     (λ o.
-    PrintsAnswer (TellsSought h bytes f.job ns (Failure o)) (g.W.Write.contents c.args.writer.now.inner)
+    PrintsAnswer (PrintsSought h bytes f.job ns (Failure o)) (g.W.Write.contents c.args.writer.now.inner)
     (g.W.Write.contents c.print_failure.new.writer.inner)
     c.args.writer.now.failures.total c.print_failure.new.writer.failures.total c.print_failure.result)
     (sym c.in-None.is) printed

@@ -15,9 +15,9 @@ use Rattle.pf_command.proofs.Found.{choices_are}
 use Rattle.pf_trace.proofs.Fronts.{front_of_more}
 use Rattle.pf_command.proofs.ending.print_seed.Goals as goal
 
-told_whole : (a b e line strategy : List ℕ) (ns ms : List ℕ) → line ≡ strategy → ns ≡ ms
+reported_whole : (a b e line strategy : List ℕ) (ns ms : List ℕ) → line ≡ strategy → ns ≡ ms
     → a ++ line ++ b ++ schedule_text ns ++ e ≡ a ++ strategy ++ b ++ schedule_text ms ++ e
-told_whole a b e line strategy ns ms h k =
+reported_whole a b e line strategy ns ms h k =
     ap (λ (t : List ℕ). a ++ t ++ b ++ schedule_text ns ++ e) h
     ∙ ap (λ (xs : List ℕ). a ++ strategy ++ b ++ schedule_text xs ++ e) k
 
@@ -26,10 +26,10 @@ returns-in_err-add_seed-clause-front g c =
     let w = g.W.Write.contents c.args.writer.now.inner in
     let a = codes "seed " ++ decimal c.args.failure.now.seed ++ codes "\n" in
     let line = strategy_text c.args.strategy in
-    let behind = codes "schedule " in
+    let after = codes "schedule " in
     let choices = schedule_text (choices_of (view_of_report c.args.failure.now.report)) in
     let end = codes "\n" in
-    at_fault c.from_residual.result (longer_4 a line behind choices end w _
+    at_fault c.from_residual.result (longer_4 a line after choices end w _
     (rw c.new-waiting.ensures at c.in_err-add_seed.ensures.front))
 
 pub returns-in_err-add-clause-front : goal.returns-in_err-add-clause-front
@@ -37,15 +37,15 @@ returns-in_err-add-clause-front g c =
     let w = g.W.Write.contents c.args.writer.now.inner in
     let a = codes "seed " ++ decimal c.args.failure.now.seed ++ codes "\n" in
     let line = c.strategy_line.result.now in
-    let behind = codes "schedule " in
+    let after = codes "schedule " in
     let choices = schedule_text (choices_of (view_of_report c.args.failure.now.report)) in
     let end = codes "\n" in
-    let same : a ++ line ++ behind ++ choices ++ end ≡ seed_text c.args.failure.now.seed c.args.strategy
+    let same : a ++ line ++ after ++ choices ++ end ≡ seed_text c.args.failure.now.seed c.args.strategy
     (choices_of (view_of_report c.args.failure.now.report)) =
-    ap (λ (t : List ℕ). a ++ t ++ behind ++ choices ++ end) c.strategy_line.ensures in
+    ap (λ (t : List ℕ). a ++ t ++ after ++ choices ++ end) c.strategy_line.ensures in
     let one : Adds [] a c.add_seed.new.waiting.items w (g.W.Write.contents c.add_seed.new.writer.inner) =
     rw c.new-waiting.ensures at c.in_ok-add_seed.ensures.added in
-    let front = longer_3 (a ++ line) behind choices end w _
+    let front = longer_3 (a ++ line) after choices end w _
     (front_after [] a c.add_seed.new.waiting.items line _ _ _ one c.in_err-add.ensures.front) in
     at_fault c.from_residual-in_err-add.result
     (subst (AppendsFront w (g.W.Write.contents c.add.new.writer.inner)) same front)
@@ -55,18 +55,18 @@ returns-in_err-add-2-clause-front g c =
     let w = g.W.Write.contents c.args.writer.now.inner in
     let a = codes "seed " ++ decimal c.args.failure.now.seed ++ codes "\n" in
     let line = c.strategy_line.result.now in
-    let behind = codes "schedule " in
+    let after = codes "schedule " in
     let choices = schedule_text (choices_of (view_of_report c.args.failure.now.report)) in
     let end = codes "\n" in
-    let same : a ++ line ++ behind ++ choices ++ end ≡ seed_text c.args.failure.now.seed c.args.strategy
+    let same : a ++ line ++ after ++ choices ++ end ≡ seed_text c.args.failure.now.seed c.args.strategy
     (choices_of (view_of_report c.args.failure.now.report)) =
-    ap (λ (t : List ℕ). a ++ t ++ behind ++ choices ++ end) c.strategy_line.ensures in
+    ap (λ (t : List ℕ). a ++ t ++ after ++ choices ++ end) c.strategy_line.ensures in
     let one : Adds [] a c.add_seed.new.waiting.items w (g.W.Write.contents c.add_seed.new.writer.inner) =
     rw c.new-waiting.ensures at c.in_ok-add_seed.ensures.added in
     let two = adds_both [] a c.add_seed.new.waiting.items line c.add.new.waiting.items _ _ _ one
     c.in_ok-add.ensures.added in
-    let front = longer_2 (a ++ line ++ behind) choices end w _
-    (front_after [] (a ++ line) c.add.new.waiting.items behind _ _ _ two c.in_err-add-2.ensures.front) in
+    let front = longer_2 (a ++ line ++ after) choices end w _
+    (front_after [] (a ++ line) c.add.new.waiting.items after _ _ _ two c.in_err-add-2.ensures.front) in
     at_fault c.from_residual-in_err-add-2.result
     (subst (AppendsFront w (g.W.Write.contents c.add-2.new.writer.inner)) same front)
 
@@ -75,12 +75,12 @@ returns-in_err-add_choices-clause-front g c =
     let w = g.W.Write.contents c.args.writer.now.inner in
     let a = codes "seed " ++ decimal c.args.failure.now.seed ++ codes "\n" in
     let line = c.strategy_line.result.now in
-    let behind = codes "schedule " in
+    let after = codes "schedule " in
     let choices = schedule_text (map (λ (e : Event). e.choice) c.deref.result.now) in
     let end = codes "\n" in
-    let same : a ++ line ++ behind ++ choices ++ end ≡ seed_text c.args.failure.now.seed c.args.strategy
+    let same : a ++ line ++ after ++ choices ++ end ≡ seed_text c.args.failure.now.seed c.args.strategy
     (choices_of (view_of_report c.args.failure.now.report)) =
-    told_whole a behind end line (strategy_text c.args.strategy) (map (λ (e : Event). e.choice) c.deref.result.now)
+    reported_whole a after end line (strategy_text c.args.strategy) (map (λ (e : Event). e.choice) c.deref.result.now)
     (choices_of (view_of_report c.args.failure.now.report))
     c.strategy_line.ensures (ap (map (λ (e : Event). e.choice)) c.deref.ensures.value
     ∙ choices_are c.args.failure.now.report) in
@@ -88,10 +88,10 @@ returns-in_err-add_choices-clause-front g c =
     rw c.new-waiting.ensures at c.in_ok-add_seed.ensures.added in
     let two = adds_both [] a c.add_seed.new.waiting.items line c.add.new.waiting.items _ _ _ one
     c.in_ok-add.ensures.added in
-    let three = adds_both [] (a ++ line) c.add.new.waiting.items behind c.add-2.new.waiting.items _ _ _ two
+    let three = adds_both [] (a ++ line) c.add.new.waiting.items after c.add-2.new.waiting.items _ _ _ two
     c.in_ok-add-2.ensures.added in
-    let front = front_of_more w _ (a ++ line ++ behind ++ choices) end
-    (front_after [] (a ++ line ++ behind) c.add-2.new.waiting.items choices _ _ _ three
+    let front = front_of_more w _ (a ++ line ++ after ++ choices) end
+    (front_after [] (a ++ line ++ after) c.add-2.new.waiting.items choices _ _ _ three
     c.in_err-add_choices.ensures.front) in
     at_fault c.from_residual-in_err-add_choices.result
     (subst (AppendsFront w (g.W.Write.contents c.add_choices.new.writer.inner)) same front)
@@ -101,12 +101,12 @@ returns-in_err-add-3-clause-front g c =
     let w = g.W.Write.contents c.args.writer.now.inner in
     let a = codes "seed " ++ decimal c.args.failure.now.seed ++ codes "\n" in
     let line = c.strategy_line.result.now in
-    let behind = codes "schedule " in
+    let after = codes "schedule " in
     let choices = schedule_text (map (λ (e : Event). e.choice) c.deref.result.now) in
     let end = codes "\n" in
-    let same : a ++ line ++ behind ++ choices ++ end ≡ seed_text c.args.failure.now.seed c.args.strategy
+    let same : a ++ line ++ after ++ choices ++ end ≡ seed_text c.args.failure.now.seed c.args.strategy
     (choices_of (view_of_report c.args.failure.now.report)) =
-    told_whole a behind end line (strategy_text c.args.strategy) (map (λ (e : Event). e.choice) c.deref.result.now)
+    reported_whole a after end line (strategy_text c.args.strategy) (map (λ (e : Event). e.choice) c.deref.result.now)
     (choices_of (view_of_report c.args.failure.now.report))
     c.strategy_line.ensures (ap (map (λ (e : Event). e.choice)) c.deref.ensures.value
     ∙ choices_are c.args.failure.now.report) in
@@ -114,11 +114,11 @@ returns-in_err-add-3-clause-front g c =
     rw c.new-waiting.ensures at c.in_ok-add_seed.ensures.added in
     let two = adds_both [] a c.add_seed.new.waiting.items line c.add.new.waiting.items _ _ _ one
     c.in_ok-add.ensures.added in
-    let three = adds_both [] (a ++ line) c.add.new.waiting.items behind c.add-2.new.waiting.items _ _ _ two
+    let three = adds_both [] (a ++ line) c.add.new.waiting.items after c.add-2.new.waiting.items _ _ _ two
     c.in_ok-add-2.ensures.added in
-    let four = adds_both [] (a ++ line ++ behind) c.add-2.new.waiting.items choices c.add_choices.new.waiting.items _ _
+    let four = adds_both [] (a ++ line ++ after) c.add-2.new.waiting.items choices c.add_choices.new.waiting.items _ _
     _ three c.in_ok-add_choices.ensures.added in
-    let front = front_after [] (a ++ line ++ behind ++ choices) c.add_choices.new.waiting.items end _ _ _ four
+    let front = front_after [] (a ++ line ++ after ++ choices) c.add_choices.new.waiting.items end _ _ _ four
     c.in_err-add-3.ensures.front in
     at_fault c.from_residual-in_err-add-3.result
     (subst (AppendsFront w (g.W.Write.contents c.add-3.new.writer.inner)) same front)
@@ -128,12 +128,12 @@ returns-clause-written g c =
     let w = g.W.Write.contents c.args.writer.now.inner in
     let a = codes "seed " ++ decimal c.args.failure.now.seed ++ codes "\n" in
     let line = c.strategy_line.result.now in
-    let behind = codes "schedule " in
+    let after = codes "schedule " in
     let choices = schedule_text (map (λ (e : Event). e.choice) c.deref.result.now) in
     let end = codes "\n" in
-    let same : a ++ line ++ behind ++ choices ++ end ≡ seed_text c.args.failure.now.seed c.args.strategy
+    let same : a ++ line ++ after ++ choices ++ end ≡ seed_text c.args.failure.now.seed c.args.strategy
     (choices_of (view_of_report c.args.failure.now.report)) =
-    told_whole a behind end line (strategy_text c.args.strategy) (map (λ (e : Event). e.choice) c.deref.result.now)
+    reported_whole a after end line (strategy_text c.args.strategy) (map (λ (e : Event). e.choice) c.deref.result.now)
     (choices_of (view_of_report c.args.failure.now.report))
     c.strategy_line.ensures (ap (map (λ (e : Event). e.choice)) c.deref.ensures.value
     ∙ choices_are c.args.failure.now.report) in
@@ -141,16 +141,16 @@ returns-clause-written g c =
     rw c.new-waiting.ensures at c.in_ok-add_seed.ensures.added in
     let two = adds_both [] a c.add_seed.new.waiting.items line c.add.new.waiting.items _ _ _ one
     c.in_ok-add.ensures.added in
-    let three = adds_both [] (a ++ line) c.add.new.waiting.items behind c.add-2.new.waiting.items _ _ _ two
+    let three = adds_both [] (a ++ line) c.add.new.waiting.items after c.add-2.new.waiting.items _ _ _ two
     c.in_ok-add-2.ensures.added in
-    let four = adds_both [] (a ++ line ++ behind) c.add-2.new.waiting.items choices c.add_choices.new.waiting.items _ _
+    let four = adds_both [] (a ++ line ++ after) c.add-2.new.waiting.items choices c.add_choices.new.waiting.items _ _
     _ three c.in_ok-add_choices.ensures.added in
-    let five = adds_both [] (a ++ line ++ behind ++ choices) c.add_choices.new.waiting.items end
+    let five = adds_both [] (a ++ line ++ after ++ choices) c.add_choices.new.waiting.items end
     c.add-3.new.waiting.items _ _ _ four c.in_ok-add-3.ensures.added in
     on_ok_weaker c.put.result
     (λ k.
     subst (Appends w (g.W.Write.contents c.put.new.self.inner)) same
-    (adds_out [] (a ++ line ++ behind ++ choices ++ end) c.add-3.new.waiting.items w
+    (adds_out [] (a ++ line ++ after ++ choices ++ end) c.add-3.new.waiting.items w
     (g.W.Write.contents c.add-3.new.writer.inner) _ five
     (subst (Appends (g.W.Write.contents c.add-3.new.writer.inner) (g.W.Write.contents c.put.new.self.inner))
     c.as_slice.ensures.value k)))
@@ -161,12 +161,12 @@ returns-clause-front g c =
     let w = g.W.Write.contents c.args.writer.now.inner in
     let a = codes "seed " ++ decimal c.args.failure.now.seed ++ codes "\n" in
     let line = c.strategy_line.result.now in
-    let behind = codes "schedule " in
+    let after = codes "schedule " in
     let choices = schedule_text (map (λ (e : Event). e.choice) c.deref.result.now) in
     let end = codes "\n" in
-    let same : a ++ line ++ behind ++ choices ++ end ≡ seed_text c.args.failure.now.seed c.args.strategy
+    let same : a ++ line ++ after ++ choices ++ end ≡ seed_text c.args.failure.now.seed c.args.strategy
     (choices_of (view_of_report c.args.failure.now.report)) =
-    told_whole a behind end line (strategy_text c.args.strategy) (map (λ (e : Event). e.choice) c.deref.result.now)
+    reported_whole a after end line (strategy_text c.args.strategy) (map (λ (e : Event). e.choice) c.deref.result.now)
     (choices_of (view_of_report c.args.failure.now.report))
     c.strategy_line.ensures (ap (map (λ (e : Event). e.choice)) c.deref.ensures.value
     ∙ choices_are c.args.failure.now.report) in
@@ -174,16 +174,16 @@ returns-clause-front g c =
     rw c.new-waiting.ensures at c.in_ok-add_seed.ensures.added in
     let two = adds_both [] a c.add_seed.new.waiting.items line c.add.new.waiting.items _ _ _ one
     c.in_ok-add.ensures.added in
-    let three = adds_both [] (a ++ line) c.add.new.waiting.items behind c.add-2.new.waiting.items _ _ _ two
+    let three = adds_both [] (a ++ line) c.add.new.waiting.items after c.add-2.new.waiting.items _ _ _ two
     c.in_ok-add-2.ensures.added in
-    let four = adds_both [] (a ++ line ++ behind) c.add-2.new.waiting.items choices c.add_choices.new.waiting.items _ _
+    let four = adds_both [] (a ++ line ++ after) c.add-2.new.waiting.items choices c.add_choices.new.waiting.items _ _
     _ three c.in_ok-add_choices.ensures.added in
-    let five = adds_both [] (a ++ line ++ behind ++ choices) c.add_choices.new.waiting.items end
+    let five = adds_both [] (a ++ line ++ after ++ choices) c.add_choices.new.waiting.items end
     c.add-3.new.waiting.items _ _ _ four c.in_ok-add-3.ensures.added in
     on_err_weaker c.put.result
     (λ k.
     subst (AppendsFront w (g.W.Write.contents c.put.new.self.inner)) same
-    (front_out [] (a ++ line ++ behind ++ choices ++ end) c.add-3.new.waiting.items w
+    (front_out [] (a ++ line ++ after ++ choices ++ end) c.add-3.new.waiting.items w
     (g.W.Write.contents c.add-3.new.writer.inner) _ five
     (subst (AppendsFront (g.W.Write.contents c.add-3.new.writer.inner) (g.W.Write.contents c.put.new.self.inner))
     c.as_slice.ensures.value k)))

@@ -2,7 +2,7 @@ use Rattle.std.proofs.Common.{inl, inr}
 use Rattle.pf_model.specs.Reports.{view_of_report}
 use Rattle.pf_cli.specs.Args.{view_of_hunt_args}
 use Rattle.pf_command.specs.Answers.{IsNoMemory}
-use Rattle.pf_command.specs.Hunts.{TellsShrinking}
+use Rattle.pf_command.specs.Hunts.{PrintsShrinking}
 use Rattle.pf_command.specs.Streams.{IsAnswer}
 use Rattle.pf_command.proofs.Streaming.{prints_more}
 use Rattle.pf_command.proofs.ending.print_shrunk.Goals as goal
@@ -10,13 +10,14 @@ use Rattle.pf_command.proofs.ending.print_shrunk.Goals as goal
 pub returns-in-Ok : goal.returns-in-Ok
 returns-in-Ok g c bytes of =
     let h = view_of_hunt_args c.args.args.now in
-    let r = view_of_report c.args.report.now in
-    prints_more (IsAnswer c.in-Ok.answer) (TellsShrinking h bytes r c.args.runs) _ _ _ _
+    let r = view_of_report c.args.run.report.now in
+    prints_more (IsAnswer c.in-Ok.answer) (PrintsShrinking h bytes r c.args.run.runs) _ _ _ _
     (λ t s is. inl (rw (is.0, is.1) (c.in-Ok.ensures bytes of))) c.print_answer.result c.print_answer.ensures
 
 pub returns-in-Err : goal.returns-in-Err
 returns-in-Err g c bytes of =
     let h = view_of_hunt_args c.args.args.now in
-    let r = view_of_report c.args.report.now in
-    prints_more IsNoMemory (TellsShrinking h bytes r c.args.runs) _ _ _ _ (λ t s is. inr is) c.print_no_memory.result
+    let r = view_of_report c.args.run.report.now in
+    prints_more IsNoMemory (PrintsShrinking h bytes r c.args.run.runs) _ _ _ _
+    (λ t s is. inr is) c.print_no_memory.result
     c.print_no_memory.ensures

@@ -12,29 +12,31 @@ use Rattle.pf_command.proofs.hunt.hunt_source.Goals as goal
 
 pub returns-in_err-bytes-clause-served : goal.returns-in_err-bytes-clause-served
 returns-in_err-bytes-clause-served g c =
-    handed_on_source (HuntAnswers (view_of_hunt_args c.args.args.now)) _ _ c.from_residual.result
+    handed_on_source (HuntAnswers (view_of_hunt_args c.args.asked.now.args.now)) _ _ c.from_residual.result
     c.in_err-bytes.field-0.0 c.from_residual.ensures
-    (unread_ends (HuntAnswers (view_of_hunt_args c.args.args.now)) _ _ _ _ _ _ c.in_err-bytes.field-0.0
+    (unread_ends (HuntAnswers (view_of_hunt_args c.args.asked.now.args.now)) _ _ _ _ _ _ c.in_err-bytes.field-0.0
     c.in_err-bytes.ensures.counted)
 
 pub returns-in_err-source-clause-served : goal.returns-in_err-source-clause-served
 returns-in_err-source-clause-served g c =
-    handed_on_source (HuntAnswers (view_of_hunt_args c.args.args.now)) _ _ c.from_residual-in_err-source.result NoMemory
+    handed_on_source (HuntAnswers (view_of_hunt_args c.args.asked.now.args.now)) _ _
+    c.from_residual-in_err-source.result NoMemory
     c.from_residual-in_err-source.ensures
     ((c.in_ok-bytes.ensures.kept, refl), refl)
 
 pub returns-clause-served : goal.returns-clause-served
 returns-clause-served g c =
-    source_ends (HuntAnswers (view_of_hunt_args c.args.args.now)) c.in_ok-bytes.bytes.items
+    source_ends (HuntAnswers (view_of_hunt_args c.args.asked.now.args.now)) c.in_ok-bytes.bytes.items
     (g.R.Read.remaining c.args.reader.now.inner) _ _ _ _ _ _ _ c.in_ok-bytes.ensures.front
     c.in_ok-bytes.ensures.kept
     c.print_hunt.result
-    (sent_as (HuntAnswers (view_of_hunt_args c.args.args.now)) c.in_ok-source.source c.in_ok-bytes.bytes.items _ _ _ _
+    (sent_as (HuntAnswers (view_of_hunt_args c.args.asked.now.args.now)) c.in_ok-source.source
+    c.in_ok-bytes.bytes.items _ _ _ _
     c.print_hunt.result c.in_ok-source.ensures c.print_hunt.ensures.sent)
 
 pub returns-clause-heard : goal.returns-clause-heard
 returns-clause-heard g c =
-    let h = view_of_hunt_args c.args.args.now in
+    let h = view_of_hunt_args c.args.asked.now.args.now in
     let bytes = c.in_ok-bytes.bytes.items in
     let old = c.args.seeds.now in
     let new = c.print_hunt.new.seeds in

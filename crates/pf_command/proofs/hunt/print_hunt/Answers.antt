@@ -6,12 +6,12 @@ use Rattle.pf_command.proofs.hunt.print_hunt.Goals as goal
 
 pub returns-in_err-end-clause-sent : goal.returns-in_err-end-clause-sent
 returns-in_err-end-clause-sent g c =
-    sent_memory (HuntAnswers (view_of_hunt_args c.args.args.now) c.args.source.now) _ _ c.from_residual.result
+    sent_memory (HuntAnswers (view_of_hunt_args c.args.asked.now.args.now) c.args.source.now) _ _ c.from_residual.result
     c.from_residual.ensures
 
 pub returns-in_err-print_end-clause-sent : goal.returns-in_err-print_end-clause-sent
 returns-in_err-print_end-clause-sent g c =
-    let h = view_of_hunt_args c.args.args.now in
+    let h = view_of_hunt_args c.args.asked.now.args.now in
     let bytes = c.args.source.now in
     let f = c.in_err-print_end.field-0.0 in
     let ends = c.in_ok-end.ensures in
@@ -23,7 +23,7 @@ returns-in_err-print_end-clause-sent g c =
 
 pub returns-clause-sent : goal.returns-clause-sent
 returns-clause-sent g c =
-    let h = view_of_hunt_args c.args.args.now in
+    let h = view_of_hunt_args c.args.asked.now.args.now in
     let bytes = c.args.source.now in
     let ends = c.in_ok-end.ensures in
     prints_more (MaySay h bytes ends.0 c.in_ok-end.end) (HuntAnswers h bytes) _ _ _ _
@@ -32,7 +32,7 @@ returns-clause-sent g c =
 
 pub returns-clause-heard : goal.returns-clause-heard
 returns-clause-heard g c =
-    let h = view_of_hunt_args c.args.args.now in
+    let h = view_of_hunt_args c.args.asked.now.args.now in
     let bytes = c.args.source.now in
     let ends = c.in_ok-end.ensures in (
       ends.0,

@@ -7,8 +7,8 @@ use Rattle.pf_command.proofs.Counting.{went_refused}
 use Rattle.pf_command.proofs.Streaming.{sends_more}
 use Rattle.pf_command.proofs.printing.print_source.Goals as goal
 
-pub returns-in-Err-clause-told : goal.returns-in-Err-clause-told
-returns-in-Err-clause-told g c =
+pub returns-in-Err-clause-reported : goal.returns-in-Err-clause-reported
+returns-in-Err-clause-reported g c =
     let refusal = c.in-Err.refusal in
     let asked = view_of_run_args c.args.args.now in
     let bytes = c.args.source.now in

@@ -28,7 +28,7 @@ returns-clause-served g c =
     c.in_ok-bytes.ensures.kept
     c.print_source.result
     (sent_as (RunAnswers (view_of_run_args c.args.args.now)) c.in_ok-source.source c.in_ok-bytes.bytes.items _ _ _ _
-    c.print_source.result c.in_ok-source.ensures c.print_source.ensures.told)
+    c.print_source.result c.in_ok-source.ensures c.print_source.ensures.reported)
 
 pub returns-clause-waits : goal.returns-clause-waits
 returns-clause-waits g c =

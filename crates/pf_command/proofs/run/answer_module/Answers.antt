@@ -6,7 +6,7 @@ use Rattle.pf_command.specs.Answers.{AnswersRun, Refuses, ReportsJob, run_args}
 use Rattle.pf_cli_messages.specs.Explained.{AsksOf}
 use Rattle.pf_check.specs.Reading.{IsModuleOf}
 use Rattle.pf_command.proofs.Asking.{asks_in}
-use Rattle.pf_command.proofs.Rows.{row_told, row_job_refused}
+use Rattle.pf_command.proofs.Rows.{row_reported, row_job_refused}
 use Rattle.pf_command.proofs.run.answer_module.Goals as goal
 
 pub returns-in-Ok : goal.returns-in-Ok
@@ -18,7 +18,7 @@ returns-in-Ok g c =
     (Ok job) c.number.ensures.number c.in-Ok.ensures in
     IfOk-weaker c.answer_job.result (λ a. ReportsJob job a.text.items a.status)
     (λ a. (bytes : List ℕ) → IsModuleOf bytes m → AnswersRun asked bytes a.text.items a.status)
-    (λ a tells bytes is. row_told (AsksOf asked) ReportsJob m bytes job a is asks tells) c.answer_job.ensures
+    (λ a reports bytes is. row_reported (AsksOf asked) ReportsJob m bytes job a is asks reports) c.answer_job.ensures
 
 pub returns-in-Err-Fault : goal.returns-in-Err-Fault
 returns-in-Err-Fault g c =
@@ -30,5 +30,5 @@ returns-in-Err-Fault g c =
     (Err code) c.number.ensures.number refused in
     IfOk-weaker c.refused_by_code.result (λ a. Refuses a (code_text code))
     (λ a. (bytes : List ℕ) → IsModuleOf bytes m → AnswersRun asked bytes a.text.items a.status)
-    (λ a told bytes is. row_job_refused (AsksOf asked) ReportsJob m bytes a code is asks told)
+    (λ a reported bytes is. row_job_refused (AsksOf asked) ReportsJob m bytes a code is asks reported)
     (rw c.code.ensures at c.refused_by_code.ensures)

@@ -10,23 +10,23 @@ use Rattle.pf_command.proofs.seek.seek_failure.Goals as goal
 
 pub returns : goal.returns
 returns g c =
-    let args = c.args.args.now in
+    let args = c.args.asked.now.args.now in
     let h = view_of_hunt_args args in
-    let j = c.args.job in
+    let j = c.args.hunted.job in
     let found = c.in_ok-failure in
     let end = found.field-0.end in
     let may = c.may_stop-may_stop in
     let heard = found.ensures.heard in
     let known = subst (λ f. FirstFailing args.leaks args.strategy j.asked args.first end (option_map failure_of f))
     c.in-Some.is found.ensures.known.failure in
-    let told = subst (λ f. SearchNotices args.strategy j.asked may.result args.first args.end end
+    let reported = subst (λ f. SearchNotices args.strategy j.asked may.result args.first args.end end
     (option_map failure_of f) heard.0) c.in-Some.is heard.1 in (
       heard.0,
       (λ bytes of. (
         (
           of,
           least_of_all h bytes j heard.0 may.result end (failure_of c.in-Some.failure) may.ensures known
-              told,
+              reported,
         ),
         λ t s say. say,
       )),
@@ -35,16 +35,16 @@ returns g c =
 
 pub returns-in_default : goal.returns-in_default
 returns-in_default g c =
-    let args = c.args.args.now in
+    let args = c.args.asked.now.args.now in
     let h = view_of_hunt_args args in
-    let j = c.args.job in
+    let j = c.args.hunted.job in
     let found = c.in_ok-failure in
     let end = found.field-0.end in
     let may = c.may_stop-may_stop in
     let heard = found.ensures.heard in
     let none = subst (λ f. FirstFailing args.leaks args.strategy j.asked args.first end (option_map failure_of f))
     c.in_default.is found.ensures.known.failure in
-    let told = subst (λ f. SearchNotices args.strategy j.asked may.result args.first args.end end
+    let reported = subst (λ f. SearchNotices args.strategy j.asked may.result args.first args.end end
     (option_map failure_of f) heard.0) c.in_default.is heard.1 in
     let reach = subst (λ b. SearchedTo b args.first args.end end) may.ensures found.ensures.reach in
     let is = c.in_ok-write_none.ensures in (
@@ -52,7 +52,7 @@ returns-in_default g c =
       (λ bytes of. (
         tt,
         λ t s say. rw (say.0 ∙ is.0, say.1 ∙ is.1)
-            (none_fails c.args.runs end reach (none_so_far h bytes j heard.0 may.result end may.ensures none told)),
+            (none_fails c.args.runs end reach (none_so_far h bytes j heard.0 may.result end may.ensures none reported)),
       )),
       heard.2,
     )

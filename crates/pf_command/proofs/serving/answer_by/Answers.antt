@@ -1,7 +1,6 @@
-use Rattle.std.proofs.Common.{subst}
-use Rattle.std.specs.Io.KnownBytes.{Appends}
-use Rattle.pf_streams.specs.Streams.{AppendsFront}
-use Rattle.pf_command.proofs.Streaming.{sent_fault, sent_memory}
+use Rattle.std.proofs.Common.{Ok, Err}
+use Rattle.pf_command.specs.Streams.{IsAnswer}
+use Rattle.pf_command.proofs.Streaming.{prints_more, sent_fault, sent_memory}
 use Rattle.pf_command.proofs.serving.answer_by.Goals as goal
 
 pub returns-in_err-answer : goal.returns-in_err-answer
@@ -9,24 +8,15 @@ returns-in_err-answer g c =
     sent_memory (g.C.Answering.answers c.args.command c.args.source.now) _ _ c.from_residual.result
     c.from_residual.ensures
 
-pub returns-in_err-put : goal.returns-in_err-put
-returns-in_err-put g c =
-    sent_fault (g.C.Answering.answers c.args.command c.args.source.now) _ _ _ _ c.from_residual-in_err-put.result
-    c.in_err-put.field-0.0
-    c.from_residual-in_err-put.ensures (
-      c.in_ok-answer.answer.text.items,
-      c.in_ok-answer.answer.status,
-      c.in_ok-answer.ensures,
-      subst (AppendsFront (g.W.Write.contents c.args.writer.now.inner) (g.W.Write.contents c.put.new.self.inner))
-          c.deref.ensures.value c.in_err-put.ensures.front,
-      c.in_err-put.ensures.counted,
-    )
+pub returns-in_err-print_answer : goal.returns-in_err-print_answer
+returns-in_err-print_answer g c =
+    let answers = g.C.Answering.answers c.args.command c.args.source.now in
+    sent_fault answers _ _ _ _ c.from_residual-in_err-print_answer.result c.in_err-print_answer.field-0.0
+    c.from_residual-in_err-print_answer.ensures
+    (prints_more (IsAnswer c.in_ok-answer.answer) answers _ _ _ _ (λ t s is. rw (is.0, is.1) c.in_ok-answer.ensures)
+    (Err c.in_err-print_answer.field-0.0) c.in_err-print_answer.ensures)
 
 pub returns : goal.returns
-returns g c = (
-  c.in_ok-answer.answer.text.items,
-  c.in_ok-answer.ensures,
-  subst (Appends (g.W.Write.contents c.args.writer.now.inner) (g.W.Write.contents c.put.new.self.inner))
-      c.deref.ensures.value c.in_ok-put.ensures.written,
-  c.in_ok-put.ensures.kept,
-)
+returns g c =
+    prints_more (IsAnswer c.in_ok-answer.answer) (g.C.Answering.answers c.args.command c.args.source.now) _ _ _ _
+    (λ t s is. rw (is.0, is.1) c.in_ok-answer.ensures) (Ok c.in_ok-print_answer.field-0) c.in_ok-print_answer.ensures

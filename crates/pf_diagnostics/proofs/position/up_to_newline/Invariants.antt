@@ -5,9 +5,9 @@ use Rattle.pf_diagnostics.proofs.position.up_to_newline.Given as goal
 -- there is no newline before the end
 abbrev pub invariant-loop-end : goal.invariant-loop-end
 invariant-loop-end l = record {
-  within : l.end ≤ length l.behind;
-  none : (k : ℕ) → k < l.end → is_newline (get_or l.behind k 0) ≡ false;
+  within : l.end ≤ length l.after;
+  none : (k : ℕ) → k < l.end → is_newline (get_or l.after k 0) ≡ false;
 }
 
 abbrev pub decreases-loop-end : goal.decreases-loop-end
-decreases-loop-end l = length l.behind - l.end
+decreases-loop-end l = length l.after - l.end

@@ -19,7 +19,8 @@ loop-client-preserved g c =
     let x : ClientView = c.in-Some.client in
     let items : c.push_reserved.new.self.items ≡ at.closed.items ++ s ∷ [] = c.push_reserved.ensures.items in
     let steps : into_iter_items at.client-iterator ≡ x ∷ into_iter_items c.next.new.self = c.in-Some.ensures.steps.0 in
-    let receipts : all_receipts at.closed.items ++ s.told.receipts.items ≡ all_receipts c.push_reserved.new.self.items =
+    let receipts : all_receipts at.closed.items ++ s.reported.receipts.items
+    ≡ all_receipts c.push_reserved.new.self.items =
     sym (ap all_receipts items ∙ all_more at.closed.items s) in
     let parts : first + length at.yielded + 1 ≡ first + length (at.yielded ++ x ∷ []) =
     omega (arith, length_push at.yielded x) in
@@ -29,7 +30,7 @@ loop-client-preserved g c =
       rest = v.rest ∙ ap (λ l. at.yielded ++ l) steps
           ∙ sym (append_assoc at.yielded (x ∷ []) (into_iter_items c.next.new.self));
       gathered = c.close_one.ensures.gathered
-          ∙ ap (λ k. gathering_of k.log (k.receipts ++ s.told.receipts.items) (k.parts + 1)) v.gathered
+          ∙ ap (λ k. gathering_of k.log (k.receipts ++ s.reported.receipts.items) (k.parts + 1)) v.gathered
           ∙ (λ i. gathering_of log (receipts i) (parts i));
       full = subst (λ l. ForRight (λ p. AreFull l w)) (sym items)
           (λ p right. full_more at.closed.items s w (v.full p right) (c.close_one.ensures.full p right));

@@ -13,7 +13,7 @@ returns c =
     c.in_ok-code.ensures in
     let reads = subst (λ (bytes : List ℕ). Reads bytes (refused r.code r.offset))
     (c.deref.ensures.value ∙ c.in_ok-alone.ensures) found in
-    let at : c.min-front.result + c.min-behind.result ≡ min (r.offset - length HEAD.now + c.args.start)
+    let at : c.min-front.result + c.min-after.result ≡ min (r.offset - length HEAD.now + c.args.start)
     (length source) =
-    omega (arith, c.min-front.ensures, c.min-behind.ensures, c.saturating_sub-within.ensures) in
+    omega (arith, c.min-front.ensures, c.min-after.ensures, c.saturating_sub-within.ensures) in
     subst (IsFault source r.code) (sym at) (alone c.args.start c.args.end r.offset r.code reads)

@@ -11,8 +11,9 @@ returns-clause-heard g c =
     let s = c.in_ok-searched.searched in
     let x = option_map failure_of s.failure in
     let l = option_map leak_of s.leak in
-    hears_then g.O.HuntObserver.Heard (Searches c.args.may_stop c.args.from c.args.end s.end x)
-    (SearchNotices h.strategy h.job.asked c.args.may_stop c.args.from c.args.end s.end x) c.args.observer.now
+    hears_then g.O.HuntObserver.Heard (Searches c.args.range.may_stop c.args.range.first c.args.range.end s.end x)
+    (SearchNotices h.strategy h.job.asked c.args.range.may_stop c.args.range.first c.args.range.end s.end x)
+    c.args.observer.now
     c.search_blocks.new.observer
-    c.tell_leak.new.observer (leak_notice l) c.in_ok-searched.ensures.heard c.tell_leak.ensures
+    c.notify_leak.new.observer (leak_notice l) c.in_ok-searched.ensures.heard c.notify_leak.ensures
     (λ blocks searches. (blocks, l, searches, c.in_ok-searched.ensures.known.leak, refl))

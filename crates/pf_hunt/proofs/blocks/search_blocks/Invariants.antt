@@ -8,12 +8,13 @@ use Rattle.pf_hunt.proofs.blocks.search_blocks.Given as goal
 -- no run before fails, the least of them that leaks is known, and the observer received how many they are
 abbrev pub invariant-loop-at : goal.invariant-loop-at
 invariant-loop-at g l = record {
-  behind : l.from ≤ l.at;
-  within : (l.at ≡ l.from) ⊎ (l.at ≤ l.end);
-  none : NoneIs (fails l.hunt.leaks) l.hunt.strategy l.hunt.job.asked l.from l.at;
-  leak : FirstLeaking l.hunt.strategy l.hunt.job.asked l.from l.at (option_map leak_of l.leak);
-  heard : HearsSome g.O.HuntObserver.Heard l.fn.observer (HuntGoesOn has_none l.may_stop l.from l.end l.at) l.observer;
+  after : l.range.first ≤ l.at;
+  within : (l.at ≡ l.range.first) ⊎ (l.at ≤ l.range.end);
+  none : NoneIs (fails l.hunt.leaks) l.hunt.strategy l.hunt.job.asked l.range.first l.at;
+  leak : FirstLeaking l.hunt.strategy l.hunt.job.asked l.range.first l.at (option_map leak_of l.leak);
+  heard : HearsSome g.O.HuntObserver.Heard l.fn.observer
+      (HuntGoesOn has_none l.range.may_stop l.range.first l.range.end l.at) l.observer;
 }
 
 abbrev pub decreases-loop-at : goal.decreases-loop-at
-decreases-loop-at g l = l.end - l.at
+decreases-loop-at g l = l.range.end - l.at

@@ -10,9 +10,11 @@ returns-clause-heard g c =
     let h = c.args.hunt.now in
     let t = c.in_ok-tallied.tallied in
     let l = option_map leak_of t.leak in
-    hears_then g.O.HuntObserver.Heard (EndsHunt (HasFailures h.strategy h.job.asked c.args.from) c.args.may_stop
-    c.args.from c.args.end t.end)
-    (TallyNotices h.strategy h.job.asked c.args.may_stop c.args.from c.args.end t.end) c.args.observer.now
+    hears_then g.O.HuntObserver.Heard
+    (EndsHunt (HasFailures h.strategy h.job.asked c.args.range.first) c.args.range.may_stop
+    c.args.range.first c.args.range.end t.end)
+    (TallyNotices h.strategy h.job.asked c.args.range.may_stop c.args.range.first c.args.range.end t.end)
+    c.args.observer.now
     c.tally_blocks.new.observer
-    c.tell_leak.new.observer (leak_notice l) c.in_ok-tallied.ensures.heard c.tell_leak.ensures
+    c.notify_leak.new.observer (leak_notice l) c.in_ok-tallied.ensures.heard c.notify_leak.ensures
     (λ blocks ends. (blocks, l, ends, c.in_ok-tallied.ensures.known.leak, refl))

@@ -7,21 +7,21 @@ use Rattle.pf_hunt.proofs.Counting.{counted_both, each_is_counted, ends_there, r
 use Rattle.pf_hunt.proofs.Hearing.{all_run, block_run, none_run, stopped_there}
 use Rattle.pf_hunt.proofs.Leaking.{leaks_there, no_leak}
 use Rattle.pf_hunt.proofs.Stopping.{may_stop_then}
-use Rattle.pf_hunt.proofs.blocks.tally_blocks.Goals.{else-next-end-via-then-next-end+else-stops}
-use Rattle.pf_hunt.proofs.blocks.tally_blocks.Goals.{else-next-end-via-else-next-end}
+use Rattle.pf_hunt.proofs.blocks.tally_blocks.Goals.{else-next-range-via-then-next-range+else-stops}
+use Rattle.pf_hunt.proofs.blocks.tally_blocks.Goals.{else-next-range-via-else-next-range}
 use Rattle.pf_hunt.proofs.blocks.tally_blocks.Goals as goal
 
 pub loop-at-init : goal.loop-at-init
 loop-at-init g c =
     let w = c.args.hunt.now.strategy in
     let j = c.args.hunt.now.job.asked in
-    let from = c.args.from in
+    let from = c.args.range.first in
     record {
-      behind = omega arith;
+      after = omega arith;
       within = inl refl;
       rows = subst (Tallies w j from from) (sym c.new-tally.ensures) (no_seed from (omega arith));
       leak = no_leak w j from from (omega arith);
-      heard = none_run g.O.HuntObserver.Heard (HasFailures w j from) c.args.may_stop from c.args.end
+      heard = none_run g.O.HuntObserver.Heard (HasFailures w j from) c.args.range.may_stop from c.args.range.end
           c.args.observer.now;
     }
 
@@ -29,9 +29,9 @@ pub join-requires : goal.join-requires
 join-requires g c =
     let at = c.loop-at in
     let next = c.block_end-next.ensures in
-    counted_both c.args.hunt.now.strategy c.args.hunt.now.job.asked c.args.from at.at c.block_end-next.result _ _
-    at.invariant.behind (omega (arith, next.0))
-    (omega (arith, next.1, c.ranges.end.fits)) at.invariant.rows c.in_ok-block.ensures.rows
+    counted_both c.args.hunt.now.strategy c.args.hunt.now.job.asked c.args.range.first at.at c.block_end-next.result _ _
+    at.invariant.after (omega (arith, next.0))
+    (omega (arith, next.1, c.block_end-next.type_inv)) at.invariant.rows c.in_ok-block.ensures.rows
 
 pub failures-requires : goal.failures-requires
 failures-requires g c =
@@ -40,11 +40,12 @@ failures-requires g c =
     let at = c.loop-at in
     let next = c.block_end-next.ensures in
     let all = rows_of c.join.new.self in
-    let rows = rows_on w j c.args.from at.at c.block_end-next.result _ _ all at.invariant.behind (omega (arith, next.0))
+    let rows = rows_on w j c.args.range.first at.at c.block_end-next.result _ _ all at.invariant.after
+    (omega (arith, next.0))
     at.invariant.rows
     c.in_ok-block.ensures.rows c.in_ok-join.ensures in
-    let count = each_is_counted w j c.args.from c.block_end-next.result all rows in
-    omega (arith, count, next.1, c.ranges.end.fits)
+    let count = each_is_counted w j c.args.range.first c.block_end-next.result all rows in
+    omega (arith, count, next.1, c.block_end-next.type_inv)
 
 pub returns-then-stops-clause-known : goal.returns-then-stops-clause-known
 returns-then-stops-clause-known g c =
@@ -55,19 +56,19 @@ returns-then-stops-clause-known g c =
     let block = c.in_ok-block.ensures in
     record {
       rows =
-          rows_on w j c.args.from at.at c.block_end-next.result _ _ (rows_of c.join.new.self) at.invariant.behind
+          rows_on w j c.args.range.first at.at c.block_end-next.result _ _ (rows_of c.join.new.self) at.invariant.after
           (omega (arith, next.0)) at.invariant.rows
           block.rows c.in_ok-join.ensures;
-      leak = c.earlier-leak.ensures w j c.args.from at.at c.block_end-next.result at.invariant.behind
+      leak = c.earlier-leak.ensures w j c.args.range.first at.at c.block_end-next.result at.invariant.after
           (omega (arith, next.0)) at.invariant.leak block.leak;
       end = refl;
     }
 
 pub returns-then-stops-clause-reach : goal.returns-then-stops-clause-reach
 returns-then-stops-clause-reach g c =
-    less_far c.block_end-next.result (may_stop_then c.args.may_stop c.progress-pace.result
+    less_far c.block_end-next.result (may_stop_then c.args.range.may_stop c.progress-pace.result
     (sym c.stops.ensures ∙ c.if-stops.true))
-    (omega (arith, c.loop-at.invariant.behind, c.block_end-next.ensures.0)) (omega (arith, c.if-next-end.true))
+    (omega (arith, c.loop-at.invariant.after, c.block_end-next.ensures.0)) (omega (arith, c.if-next-range.true))
 
 pub returns-then-stops-clause-heard : goal.returns-then-stops-clause-heard
 returns-then-stops-clause-heard g c =
@@ -76,14 +77,15 @@ returns-then-stops-clause-heard g c =
     let at = c.loop-at in
     let next = c.block_end-next.result in
     let all = rows_of c.join.new.self in
-    let rows = rows_on w j c.args.from at.at next _ _ all at.invariant.behind
+    let rows = rows_on w j c.args.range.first at.at next _ _ all at.invariant.after
     (omega (arith, c.block_end-next.ensures.0)) at.invariant.rows
     c.in_ok-block.ensures.rows c.in_ok-join.ensures in
-    stopped_there g.O.HuntObserver.Heard (HasFailures w j c.args.from) c.args.may_stop c.args.from c.args.end
+    stopped_there g.O.HuntObserver.Heard
+    (HasFailures w j c.args.range.first) c.args.range.may_stop c.args.range.first c.args.range.end
     c.args.observer.now at.observer
     c.progress-pace.new.self at.at next c.failures.result c.progress-pace.result at.invariant.heard
     c.progress-pace.ensures
-    (omega (arith, c.block_end-next.ensures.0)) (all, rows, c.failures.ensures) (omega (arith, c.if-next-end.true))
+    (omega (arith, c.block_end-next.ensures.0)) (all, rows, c.failures.ensures) (omega (arith, c.if-next-range.true))
     (sym c.stops.ensures ∙ c.if-stops.true)
 
 pub loop-at-preserved : goal.loop-at-preserved
@@ -95,21 +97,23 @@ loop-at-preserved g c =
     let end = c.block_end-next.result in
     let block = c.in_ok-block.ensures in
     let all = rows_of c.join.new.self in
-    let rows = rows_on w j c.args.from at.at end _ _ all at.invariant.behind (omega (arith, next.0)) at.invariant.rows
+    let rows = rows_on w j c.args.range.first at.at end _ _ all at.invariant.after
+    (omega (arith, next.0)) at.invariant.rows
     block.rows c.in_ok-join.ensures in
-    let on : end < c.args.end → stops c.args.may_stop c.progress-pace.result ≡ false =
-    λ before. elim c.else-next-end.branch [
-      | else-next-end-via-then-next-end+else-stops w ↦ sym w.stops.ensures ∙ w.if-stops.false
-      | else-next-end-via-else-next-end w ↦ absurd (omega (arith, before, w.if-next-end.false))
+    let on : end < c.args.range.end → stops c.args.range.may_stop c.progress-pace.result ≡ false =
+    λ before. elim c.else-next-range.branch [
+      | else-next-range-via-then-next-range+else-stops w ↦ sym w.stops.ensures ∙ w.if-stops.false
+      | else-next-range-via-else-next-range w ↦ absurd (omega (arith, before, w.if-next-range.false))
     ] in
     record {
-      behind = omega (arith, next.0, at.invariant.behind);
+      after = omega (arith, next.0, at.invariant.after);
       within = inr next.1;
       rows = rows;
-      leak = c.earlier-leak.ensures w j c.args.from at.at end at.invariant.behind (omega (arith, next.0))
+      leak = c.earlier-leak.ensures w j c.args.range.first at.at end at.invariant.after (omega (arith, next.0))
           at.invariant.leak block.leak;
       heard =
-          block_run g.O.HuntObserver.Heard (HasFailures w j c.args.from) c.args.may_stop c.args.from c.args.end
+          block_run g.O.HuntObserver.Heard
+          (HasFailures w j c.args.range.first) c.args.range.may_stop c.args.range.first c.args.range.end
           c.args.observer.now at.observer
           c.progress-pace.new.self at.at end c.failures.result c.progress-pace.result at.invariant.heard
           c.progress-pace.ensures (omega (arith, next.0))
@@ -123,9 +127,10 @@ returns-clause-known g c =
     let at = c.loop-at in
     let over = c.loop-at-test.false in
     record {
-      rows = ends_there w j c.args.from c.args.end at.at (rows_of at.tally) at.invariant.rows at.invariant.within
+      rows = ends_there w j c.args.range.first c.args.range.end at.at
+          (rows_of at.tally) at.invariant.rows at.invariant.within
           (omega (arith, over));
-      leak = leaks_there w j c.args.from c.args.end at.at (option_map leak_of at.leak) at.invariant.leak
+      leak = leaks_there w j c.args.range.first c.args.range.end at.at (option_map leak_of at.leak) at.invariant.leak
           at.invariant.within (omega (arith, over));
       end = refl;
     }
@@ -136,6 +141,7 @@ returns-clause-reach g c = to_end
 pub returns-clause-heard : goal.returns-clause-heard
 returns-clause-heard g c =
     let h = c.args.hunt.now in
-    all_run g.O.HuntObserver.Heard (HasFailures h.strategy h.job.asked c.args.from) c.args.may_stop c.args.from
-    c.args.end c.args.observer.now
+    all_run g.O.HuntObserver.Heard
+    (HasFailures h.strategy h.job.asked c.args.range.first) c.args.range.may_stop c.args.range.first
+    c.args.range.end c.args.observer.now
     c.loop-at.observer c.loop-at.at c.loop-at.invariant.heard (omega (arith, c.loop-at-test.false))

@@ -9,15 +9,16 @@ use Rattle.pf_hunt.proofs.blocks.tally_blocks.Given as goal
 -- fail
 abbrev pub invariant-loop-at : goal.invariant-loop-at
 invariant-loop-at g l = record {
-  behind : l.from ≤ l.at;
-  within : (l.at ≡ l.from) ⊎ (l.at ≤ l.end);
-  rows : Tallies l.hunt.strategy l.hunt.job.asked l.from l.at (rows_of l.tally);
-  leak : FirstLeaking l.hunt.strategy l.hunt.job.asked l.from l.at (option_map leak_of l.leak);
+  after : l.range.first ≤ l.at;
+  within : (l.at ≡ l.range.first) ⊎ (l.at ≤ l.range.end);
+  rows : Tallies l.hunt.strategy l.hunt.job.asked l.range.first l.at (rows_of l.tally);
+  leak : FirstLeaking l.hunt.strategy l.hunt.job.asked l.range.first l.at (option_map leak_of l.leak);
   heard :
       HearsSome g.O.HuntObserver.Heard l.fn.observer
-      (HuntGoesOn (HasFailures l.hunt.strategy l.hunt.job.asked l.from) l.may_stop l.from l.end l.at)
+      (HuntGoesOn (HasFailures l.hunt.strategy l.hunt.job.asked l.range.first) l.range.may_stop l.range.first
+      l.range.end l.at)
       l.observer;
 }
 
 abbrev pub decreases-loop-at : goal.decreases-loop-at
-decreases-loop-at g l = l.end - l.at
+decreases-loop-at g l = l.range.end - l.at

@@ -11,19 +11,19 @@ use Rattle.pf_hunt_suite.proofs.hunt.hunt_job.Goals as goal
 
 pub returns-in_err-request-clause-cut : goal.returns-in_err-request-clause-cut
 returns-in_err-request-clause-cut g c =
-    let args = c.args.args.now in
+    let args = c.args.hunted.now.args.now in
     at_err c.from_residual.result (cut_at_once g.O.HuntObserver.Heard (is_some args.time) args.first args.end
     c.args.observer.now)
 
 pub returns-in_err-others-clause-cut : goal.returns-in_err-others-clause-cut
 returns-in_err-others-clause-cut g c =
-    let args = c.args.args.now in
+    let args = c.args.hunted.now.args.now in
     at_err c.from_residual-in_err-others.result
     (cut_at_once g.O.HuntObserver.Heard (is_some args.time) args.first args.end c.args.observer.now)
 
 pub returns-in_err-searched-clause-cut : goal.returns-in_err-searched-clause-cut
 returns-in_err-searched-clause-cut g c =
-    let args = c.args.args.now in
+    let args = c.args.hunted.now.args.now in
     at_err c.from_residual-in_err-searched.result
     (subst
     (λ b. HearsSome g.O.HuntObserver.Heard c.args.observer.now (CutNotices has_none b args.first args.end)
@@ -32,7 +32,7 @@ returns-in_err-searched-clause-cut g c =
 
 pub returns-clause-ends : goal.returns-clause-ends
 returns-clause-ends g c =
-    let args = c.args.args.now in
+    let args = c.args.hunted.now.args.now in
     let h = view_of_hunt_args args in
     let j = c.args.job in
     let s = c.in_ok-searched.searched in
@@ -43,7 +43,7 @@ returns-clause-ends g c =
     hears_weaker g.O.HuntObserver.Heard (SearchNotices h.strategy j.asked may.result args.first args.end s.end x)
     (JobEnds h j c.end_of.result)
     c.args.observer.now c.first_failing.new.observer
-    (λ ns told.
+    (λ ns reported.
     c.end_of.ensures j ns found.known.failure reach
-    (subst (λ b. SearchNotices h.strategy j.asked b args.first args.end s.end x ns) may.ensures told))
+    (subst (λ b. SearchNotices h.strategy j.asked b args.first args.end s.end x ns) may.ensures reported))
     found.heard

@@ -11,9 +11,9 @@ use Rattle.pf_hunt_suite.proofs.hunt.hunt_root.Goals as goal
 
 pub returns-in-Ok-clause-ends : goal.returns-in-Ok-clause-ends
 returns-in-Ok-clause-ends g c =
-    let h = view_of_hunt_args c.args.args.now in
-    let root = c.args.root.now in
-    let m = c.args.module.now in
+    let h = view_of_hunt_args c.args.hunted.now.args.now in
+    let root = c.args.hunted.now.root.now in
+    let m = c.args.hunted.now.module.now in
     let job = c.in-Ok.job in
     let heard = g.O.HuntObserver.Heard in
     let old = c.args.observer.now in
@@ -26,13 +26,13 @@ returns-in-Ok-clause-ends g c =
 
 pub returns-in-Err-Fault-clause-ends : goal.returns-in-Err-Fault-clause-ends
 returns-in-Err-Fault-clause-ends g c =
-    let told = rw c.in-Err-Fault.field-0-is at c.in-Err-Fault.ensures in (
+    let reported = rw c.in-Err-Fault.field-0-is at c.in-Err-Fault.ensures in (
       [],
-      rw (c.code.ensures, c.in-Err-Fault.field-0-is) (refused (code_of c.in-Err-Fault.refusal) told),
+      rw (c.code.ensures, c.in-Err-Fault.field-0-is) (refused (code_of c.in-Err-Fault.refusal) reported),
       hears_none g.O.HuntObserver.Heard c.args.observer.now,
     )
 
 pub returns-in-Err-NoMemory-clause-cut : goal.returns-in-Err-NoMemory-clause-cut
 returns-in-Err-NoMemory-clause-cut g c =
-    let args = c.args.args.now in
+    let args = c.args.hunted.now.args.now in
     cut_at_once g.O.HuntObserver.Heard (is_some args.time) args.first args.end c.args.observer.now

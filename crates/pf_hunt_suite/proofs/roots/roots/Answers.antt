@@ -19,7 +19,7 @@ named names atoms known numbers shown entries exports a b c d e = cc
 
 pub returns-in_err-found-clause-fault : goal.returns-in_err-found-clause-fault
 returns-in_err-found-clause-fault c =
-    let told : IsRefusalOf c.args.source.now c.in_err-found.field-0.0 =
+    let reported : IsRefusalOf c.args.source.now c.in_err-found.field-0.0 =
     tokens_refused c.args.source.now c.in_err-found.field-0.0 c.in_err-found.ensures.fault in
     search rules
 
@@ -28,14 +28,14 @@ returns-in_err-syntax-clause-fault c =
     let ts = map placed_of c.deref.result.now in
     let has : HasTokens c.args.source.now ts = subst (λ xs. HasTokens c.args.source.now (map placed_of xs))
     (sym c.deref.ensures.value) c.in_ok-found.ensures.found in
-    let told : IsRefusalOf c.args.source.now c.in_err-syntax.field-0.0 =
+    let reported : IsRefusalOf c.args.source.now c.in_err-syntax.field-0.0 =
     tree_refused c.args.source.now ts has c.in_err-syntax.field-0.0 c.in_err-syntax.ensures.fault in
     search rules
 
 pub returns-clause-roots : goal.returns-clause-roots
 returns-clause-roots c =
     let r = c.in_ok-syntax.field-0 in
-    let told = c.in_ok-syntax.ensures in
+    let reported = c.in_ok-syntax.ensures in
     let ts = map placed_of c.deref.result.now in
     let has : HasTokens c.args.source.now ts = subst (λ xs. HasTokens c.args.source.now (map placed_of xs))
     (sym c.deref.ensures.value) c.in_ok-found.ensures.found in
@@ -43,10 +43,10 @@ returns-clause-roots c =
       tokens = ts;
       tree = tree_of r.syntax;
       cut = has;
-      derived = told.found;
+      derived = reported.found;
       names_are =
           named (map (λ name. name.items) c.in_ok-names_of.field-0.items) r.atoms (atoms_of ts)
           c.in_ok-numbers.numbers.items c.deref-2.result.now
           (map export_of c.exports.result.now) r.syntax.exports c.in_ok-names_of.ensures c.deref-2.ensures.value
-          c.in_ok-numbers.ensures c.exports.ensures told.atoms;
+          c.in_ok-numbers.ensures c.exports.ensures reported.atoms;
     }

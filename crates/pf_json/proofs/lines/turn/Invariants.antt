@@ -1,5 +1,5 @@
 use Rattle.std.proofs.Common.{◌≡◌, ◌++◌, drop}
-use Rattle.pf_json.specs.Lines.{held_behind, objects_from}
+use Rattle.pf_json.specs.Lines.{held_after, objects_from}
 use Rattle.pf_json.specs.Writers.{view_of_held}
 use Rattle.pf_json.proofs.lines.turn.Given as goal
 
@@ -9,6 +9,6 @@ invariant-loop-byte l =
     record {
       objects : objects_from (view_of_held l.held) l.text
           ≡ l.out.items ++ objects_from (record { place = l.place; line = l.line.items }) (drop l.byte-index l.text);
-      held : held_behind (view_of_held l.held) l.text ≡ held_behind (record { place = l.place; line = l.line.items })
+      held : held_after (view_of_held l.held) l.text ≡ held_after (record { place = l.place; line = l.line.items })
           (drop l.byte-index l.text);
     }

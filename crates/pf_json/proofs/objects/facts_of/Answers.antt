@@ -6,7 +6,7 @@ use Rattle.pf_json.specs.Names.{named_root}
 use Rattle.pf_json.specs.Objects.{facts_of}
 use Rattle.pf_json.specs.Shapes.{shapes}
 use Rattle.pf_json.specs.Views.{view_of_fact, views_of}
-use Rattle.pf_json.proofs.Behind.{told_else}
+use Rattle.pf_json.proofs.After.{reported_else}
 use Rattle.pf_json.proofs.objects.facts_of.Goals as goal
 
 pub returns : goal.returns
@@ -18,6 +18,6 @@ returns c =
     ∙ ap (option_map (λ v. views_of v.items)) c.in_default-2.is in
     IfOk-weaker c.alone.result (λ v. views_of v.items ≡ view_of_fact c.said.result ∷ [])
     (λ v. views_of v.items ≡ facts_of line)
-    (λ v e. e ∙ (ap (λ (f : Fact). f ∷ []) c.said.ensures ∙ told_else (named_root line) (facts_by_first shapes line)
+    (λ v e. e ∙ (ap (λ (f : Fact). f ∷ []) c.said.ensures ∙ reported_else (named_root line) (facts_by_first shapes line)
     (said line) no_name no_shape))
     c.alone.ensures

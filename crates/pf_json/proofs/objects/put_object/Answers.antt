@@ -5,7 +5,7 @@ use Rattle.json.specs.Token as token
 use Rattle.json.specs.Token.{Token}
 use Rattle.pf_json.specs.Objects.{fact_tokens}
 use Rattle.pf_json.specs.Views.{view_of_fact}
-use Rattle.pf_json.proofs.Tokens.{object_behind}
+use Rattle.pf_json.proofs.Tokens.{object_after}
 use Rattle.pf_json.proofs.objects.put_object.Goals as goal
 
 pub returns-clause-tokens : goal.returns-clause-tokens
@@ -14,5 +14,5 @@ returns-clause-tokens c =
     let facts = c.args.facts.now in
     let begun = ap (λ (ts : List Token). ts ++ flat_map (λ f. fact_tokens (view_of_fact f)) facts)
     c.in_ok-begin_object.ensures.ok in
-    let told = ap (λ (ts : List Token). ts ++ token.end_object ∷ []) (c.in_ok-put_facts.ensures.tokens ∙ begun) in
-    on_ok_weaker c.end_object.result (λ e. e ∙ (told ∙ object_behind before facts)) c.end_object.ensures.ok
+    let reported = ap (λ (ts : List Token). ts ++ token.end_object ∷ []) (c.in_ok-put_facts.ensures.tokens ∙ begun) in
+    on_ok_weaker c.end_object.result (λ e. e ∙ (reported ∙ object_after before facts)) c.end_object.ensures.ok

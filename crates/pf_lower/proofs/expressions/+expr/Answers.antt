@@ -19,7 +19,8 @@ use Rattle.pf_lower.proofs.Growing.{by_ok, expr_put}
 use Rattle.pf_lower.proofs.Exprs_mean.{expr_here, parentheses_lowers, two_mean, list_on_put, case_put, next_expr}
 use Rattle.pf_lower.proofs.Exprs_mean.{EachExpr, each_expr_on, exprs_done, expr_shallow}
 use Rattle.pf_lower.proofs.Bodies_mean.{plain_lowers, match_lowers, next_element, EachElement, each_element_on}
-use Rattle.pf_lower.proofs.Bodies_mean.{elements_done, each_stands, no_body, body_done, elements_stand_on, next_tests}
+use Rattle.pf_lower.proofs.Bodies_mean.{elements_done, each_is_there, no_body, body_done, elements_are_there_on}
+use Rattle.pf_lower.proofs.Bodies_mean.{next_tests}
 use Rattle.pf_lower.proofs.Bodies_mean.{EachTests, each_tests_on, guard_done, unguarded_done, branch_done, next_branch}
 use Rattle.pf_lower.proofs.Bodies_mean.{EachBranch, each_branch_on, branches_done, tests_shallow, branch_shallow}
 use Rattle.pf_lower.proofs.Bodies_mean.{no_items}
@@ -216,17 +217,17 @@ body-put_last-requires t c =
     let u = c.elements.new.module in
     (All-pop (ElementRepresents u.tables) c.in_ok-front.front.items c.pop.new.self.items (Some c.in-Some.last)
     c.in-Some.ensures.items
-    (each_stands c.args.syntax.now.functions c.args.syntax.now.node_table u c.args.slots.now c.args.ids.now
+    (each_is_there c.args.syntax.now.functions c.args.syntax.now.node_table u c.args.slots.now c.args.ids.now
     c.in_ok-front.front.items c.in_ok-front.ensures.answer)).1
 
-pub body-put_binds-requires-clause-elements_stand : goal.body-put_binds-requires-clause-elements_stand
-body-put_binds-requires-clause-elements_stand t c =
+pub body-put_binds-requires-clause-elements_are_there : goal.body-put_binds-requires-clause-elements_are_there
+body-put_binds-requires-clause-elements_are_there t c =
     let u = c.elements.new.module in
-    elements_stand_on u.tables c.put_last.new.module.tables c.in_ok-end-in-Some.ensures.grown.tables
+    elements_are_there_on u.tables c.put_last.new.module.tables c.in_ok-end-in-Some.ensures.grown.tables
     c.pop.new.self.items
     (All-pop (ElementRepresents u.tables) c.in_ok-front.front.items c.pop.new.self.items (Some c.in-Some.last)
     c.in-Some.ensures.items
-    (each_stands c.args.syntax.now.functions c.args.syntax.now.node_table u c.args.slots.now c.args.ids.now
+    (each_is_there c.args.syntax.now.functions c.args.syntax.now.node_table u c.args.slots.now c.args.ids.now
     c.in_ok-front.front.items c.in_ok-front.ensures.answer)).0
 
 pub body-returns-in-None : goal.body-returns-in-None

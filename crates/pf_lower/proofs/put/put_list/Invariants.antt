@@ -13,7 +13,7 @@ abbrev pub invariant-loop-element : goal.invariant-loop-element
 invariant-loop-element l = record {
   grown : Grown l.initial.module l.module;
   all : All (OperandRepresents l.initial.module.tables) l.front.items;
-  stands : OperandRepresents l.module.tables l.list;
+  is_there : OperandRepresents l.module.tables l.list;
   is : conses (parts_over l.initial.module.tables l.front.items) (part_over l.module.tables l.list)
       ≡ conses (parts_over l.initial.module.tables l.initial.front.items)
       (part_over l.initial.module.tables l.initial.list);

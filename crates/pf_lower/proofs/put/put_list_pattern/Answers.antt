@@ -12,6 +12,6 @@ loop-element-preserved c =
     record {
       grown = grown_on c.args.module.now c.loop-element.module c.put_pattern.new.module i.grown put.grown;
       all = s.0;
-      stands = put.stands;
+      is_there = put.is_there;
       is = s.1;
     }

@@ -14,7 +14,7 @@ abbrev pub invariant-loop-element : goal.invariant-loop-element
 invariant-loop-element l = record {
   grown : Grown l.initial.module l.module;
   all : All (PatternRepresents l.initial.module.tables) l.front.items;
-  stands : PatternRepresents l.module.tables l.list;
+  is_there : PatternRepresents l.module.tables l.list;
   is : conses_of (patterns_at l.initial.module.tables l.front.items) (pattern_at l.module.tables l.list.0)
       ≡ conses_of (patterns_at l.initial.module.tables l.initial.front.items)
       (pattern_at l.initial.module.tables l.initial.list.0);

@@ -4,7 +4,7 @@ use Rattle.pf_syntax.specs.Module.{pattern_at}
 use Rattle.pf_syntax.specs.Over.{pattern_over}
 use Rattle.pf_patterns.specs.Bindings.{seen_value}
 use Rattle.pf_patterns.specs.Walks.{all_of, tables_in}
-use Rattle.pf_patterns.proofs.Bound.{tail_stands, others_stand, others_smaller, new_walked, too_many_walked}
+use Rattle.pf_patterns.proofs.Bound.{tail_is_there, others_are_there, others_smaller, new_walked, too_many_walked}
 use Rattle.pf_patterns.proofs.trying.+walk.Goals as goal
 
 pub fits_part-returns-in-New : goal.fits_part-returns-in-New
@@ -22,7 +22,7 @@ pub fits_cons-fits_part-requires-in-Some : goal.fits_cons-fits_part-requires-in-
 fits_cons-fits_part-requires-in-Some t c =
     let table = tables_in c.args.walk.now in (
       omega arith,
-      tail_stands (all_of c.args.walk.now) (pattern_at table c.args.head.0) (pattern_at table c.args.tail.0)
+      tail_is_there (all_of c.args.walk.now) (pattern_at table c.args.head.0) (pattern_at table c.args.tail.0)
           (elements_of c.args.list.now) (elements_of c.in-Some.others.now) (value_of c.in-Some.first.now)
           c.args.bound c.in_ok-bound-in-Some.bound c.in-Some.ensures c.in_ok-bound-in-Some.ensures.count c.requires,
     )
@@ -31,7 +31,8 @@ pub fits_all-fits_all-requires : goal.fits_all-fits_all-requires
 fits_all-fits_all-requires t c =
     let table = tables_in c.args.walk.now in (
       omega (arith, others_smaller table c.args.parts.now c.in-len1-up.len_at_least),
-      others_stand (all_of c.args.walk.now) table c.args.parts.now c.args.values.now _ c.first-item.result c.args.bound
+      others_are_there (all_of c.args.walk.now) table c.args.parts.now c.args.values.now _ c.first-item.result
+          c.args.bound
           c.in_ok-bound-in-len1-up-values-2.bound c.in-len1-up.len_at_least
           c.in-len1-up-values-2.len_at_least c.first-item.is c.in_ok-bound-in-len1-up-values-2.ensures.count c.requires,
     )

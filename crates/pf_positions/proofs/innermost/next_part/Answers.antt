@@ -7,22 +7,22 @@ pub returns-in-Negate : goal.returns-in-Negate
 returns-in-Negate c =
     let t = c.args.module.now.tables in
     let n = c.in_ok-parts.field-0.now in
-    next_of t n _ c.behind.result.now c.args.done (tree_at t c.args.id.0) _ c.in_ok-parts.ensures.found
+    next_of t n _ c.following.result.now c.args.done (tree_at t c.args.id.0) _ c.in_ok-parts.ensures.found
     (one_operand n c.in-Negate.a c.in-Negate.is)
-    c.behind.ensures c.first_node.ensures
+    c.following.ensures c.first_node.ensures
 
 pub returns-in-Cons : goal.returns-in-Cons
 returns-in-Cons c =
     let t = c.args.module.now.tables in
     let n = c.in_ok-parts.field-0.now in
-    next_of t n _ c.behind-in-Cons.result.now c.args.done (tree_at t c.args.id.0) _ c.in_ok-parts.ensures.found
+    next_of t n _ c.following-in-Cons.result.now c.args.done (tree_at t c.args.id.0) _ c.in_ok-parts.ensures.found
     (two_operands n c.in-Cons.a c.in-Cons.b c.in-Cons.is)
-    c.behind-in-Cons.ensures c.first_node-in-Cons.ensures
+    c.following-in-Cons.ensures c.first_node-in-Cons.ensures
 
 pub returns-in-Tuple : goal.returns-in-Tuple
 returns-in-Tuple c =
     let t = c.args.module.now.tables in
     let n = c.in_ok-parts.field-0.now in
-    next_of t n _ c.behind-in-Tuple.result.now c.args.done (tree_at t c.args.id.0) _ c.in_ok-parts.ensures.found
+    next_of t n _ c.following-in-Tuple.result.now c.args.done (tree_at t c.args.id.0) _ c.in_ok-parts.ensures.found
     (c.as_slice.ensures.value ∙ several_operands n c.in-Tuple.parts c.in-Tuple.is)
-    c.behind-in-Tuple.ensures c.first_node-in-Tuple.ensures
+    c.following-in-Tuple.ensures c.first_node-in-Tuple.ensures

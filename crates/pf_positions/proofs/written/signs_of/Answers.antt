@@ -6,7 +6,7 @@ use Rattle.pf_positions.specs.declared.sign.Sign.{Sign}
 use Rattle.pf_positions.specs.declared.written.WrittenSign.{WrittenSign}
 use Rattle.pf_positions.specs.Written.{line_at, signs_of, token_sign, sign_at}
 use Rattle.pf_positions.proofs.Adding.{go_on}
-use Rattle.pf_positions.proofs.Lines.{ends_behind, sooner}
+use Rattle.pf_positions.proofs.Lines.{ends_after, sooner}
 use Rattle.pf_positions.proofs.written.signs_of.Goals as goal
 
 -- what is in order is so by its first token
@@ -21,10 +21,10 @@ first_signs : (source : List ℕ) (rest others : List Token) (first : Token) (li
     → o ≡ token_sign (kind_of first.kind) (map placed_of others)
     → signs_of source (map placed_of rest) ≡ sign_at line o ++ signs_of source (map placed_of others)
 first_signs source rest others first line o is line_is sign_is =
-    let behind = signs_of source (map placed_of others) in
+    let following = signs_of source (map placed_of others) in
     ap (λ (ts : List Token). signs_of source (map placed_of ts)) is
-    ∙ ap (λ (n : ℕ). sign_at n (token_sign (kind_of first.kind) (map placed_of others)) ++ behind) (sym line_is)
-    ∙ ap (λ (s : Option Sign). sign_at line s ++ behind) (sym sign_is)
+    ∙ ap (λ (n : ℕ). sign_at n (token_sign (kind_of first.kind) (map placed_of others)) ++ following) (sym line_is)
+    ∙ ap (λ (s : Option Sign). sign_at line s ++ following) (sym sign_is)
 
 pub line_on-line-requires-clause-within : goal.line_on-line-requires-clause-within
 line_on-line-requires-clause-within c =
@@ -32,7 +32,7 @@ line_on-line-requires-clause-within c =
     let others = c.in-Some.others.now in
     let order = in_order c.loop-first.offset end c.loop-first.rest.now others c.in-Some.first.now
     c.in-Some.ensures.cases.0 c.loop-first.invariant.are_ordered in
-    let behind = ends_behind (map placed_of others) c.in-Some.first.now.end end order.2 in
+    let following = ends_after (map placed_of others) c.in-Some.first.now.end end order.2 in
     omega (arith, order.1)
 
 pub loop-first-preserved-in_ok-push : goal.loop-first-preserved-in_ok-push

@@ -10,5 +10,5 @@ returns-then-index-len-clause-may_go c =
     c.args.choice c.actor.result c.actor.ensures
 
 pub returns-then-index-len-clause-chosen : goal.returns-then-index-len-clause-chosen
-returns-then-index-len-clause-chosen c d stands =
-    sym (ap (λ xs. slice_get xs c.args.choice) (sym (c.enabled-enabled.ensures.actors d stands)) ∙ c.actor.ensures)
+returns-then-index-len-clause-chosen c d is_there =
+    sym (ap (λ xs. slice_get xs c.args.choice) (sym (c.enabled-enabled.ensures.actors d is_there)) ∙ c.actor.ensures)

@@ -7,9 +7,9 @@ pub returns : goal.returns
 returns c =
     let k = c.args.run.now in
     if_ok c.names_of.result
-    (λ v told d h. (
+    (λ v reported d h. (
       c.in_ok-followed.followed.begun.items,
       (c.in_ok-followed.ensures d h).begun,
-      told ∙ ap (map (λ b. name_text k.module.now.value b.function)) c.as_slice.ensures.value,
+      reported ∙ ap (map (λ b. name_text k.module.now.value b.function)) c.as_slice.ensures.value,
     ))
     c.names_of.ensures

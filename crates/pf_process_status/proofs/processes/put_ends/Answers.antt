@@ -3,7 +3,7 @@ use Rattle.std.specs.Prelude.{IfSome, get_or, option_map}
 use Rattle.pf_model.specs.Reports.{view_of_event}
 use Rattle.pf_process_status.specs.Fates.{EndsSo}
 use Rattle.pf_process_status.specs.Known.{events_of}
-use Rattle.pf_process_status.specs.Put.{TellEnds}
+use Rattle.pf_process_status.specs.Put.{ReportsEnds}
 use Rattle.pf_process_status.specs.declared.ends.EndedProcess.{EndedProcess}
 use Rattle.pf_process_status.proofs.Following.{event_in}
 use Rattle.pf_process_status.proofs.Putting.{none_ended, one_ended}
@@ -22,7 +22,7 @@ loop-event-preserved c =
     let xs = c.args.standings.now.items in
     let ys = l.standings.items in
     let number : suc i ≡ i + 1 = omega arith in
-    subst (λ n. TellEnds es n xs c.match-ended_in.standings.items) number
+    subst (λ n. ReportsEnds es n xs c.match-ended_in.standings.items) number
     (elim c.match-ended_in.branch [
       | in-Some w ↦ (
           let x = w.in-Some.ended in
@@ -31,8 +31,9 @@ loop-event-preserved c =
           let has = w.fate_by.ensures es (e, at, how) in
           let put = one_ended es i e at xs ys l.invariant w.put_fate.new.standings.items x.pid w.fate_by.result who has
           w.put_fate.ensures in
-          subst (λ v. TellEnds es (suc i) xs v.items) (sym w.standings-is) put)
+          subst (λ v. ReportsEnds es (suc i) xs v.items) (sym w.standings-is) put)
       | in_default w ↦ (
           let who = sym c.ended_in.ensures.who ∙ ap (option_map (λ (y : EndedProcess). y.pid)) w.in_default.is in
-          subst (λ v. TellEnds es (suc i) xs v.items) (sym w.standings-is) (none_ended es i e at xs ys l.invariant who))
+          subst (λ v. ReportsEnds es (suc i) xs v.items) (sym w.standings-is)
+          (none_ended es i e at xs ys l.invariant who))
     ])

@@ -6,5 +6,5 @@ returns c =
     let k = c.args.run.now in
     let f = c.in_ok-followed.followed in
     if_ok c.standing_in.result
-    (λ v so d h. let g = c.in_ok-followed.ensures d h in at_end k d f v.items g (so d g.stands g.begun.pids))
+    (λ v so d h. let g = c.in_ok-followed.ensures d h in at_end k d f v.items g (so d g.is_there g.begun.pids))
     c.standing_in.ensures

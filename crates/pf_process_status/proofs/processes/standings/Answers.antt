@@ -3,12 +3,12 @@ use Rattle.std.specs.Prelude.{length}
 use Rattle.pf_process_status.specs.Known.{events_of}
 use Rattle.pf_process_status.specs.Noted.{TakePoints}
 use Rattle.pf_process_status.proofs.Noting.{made_noted}
-use Rattle.pf_process_status.proofs.Survivors.{stand}
+use Rattle.pf_process_status.proofs.Survivors.{are_there}
 use Rattle.pf_process_status.proofs.processes.standings.Goals as goal
 
-pub returns-clause-stand : goal.returns-clause-stand
-returns-clause-stand c d h =
-    stand c.args.run.now d h c.in_ok-standings.standings.items c.put_ends.new.standings.items
+pub returns-clause-are_there : goal.returns-clause-are_there
+returns-clause-are_there c d h =
+    are_there c.args.run.now d h c.in_ok-standings.standings.items c.put_ends.new.standings.items
     c.put_points.new.standings.items (c.in_ok-standings.ensures d h)
     c.put_ends.ensures c.put_points.ensures.placed
 

@@ -24,7 +24,7 @@ returns-in_default c =
     let n = length (tokens_in c.args.tokens) in
     let turn : n - c.loop.counter ≡ suc (n - (c.loop.counter + 1)) =
     omega (arith, length-map c.args.tokens.list.now numbered_token_of) in
-    let none : after_kind (mark Comma) (tokens_in c.in_ok-entry.behind_it) ≡ None = search rules in
+    let none : after_kind (mark Comma) (tokens_in c.in_ok-entry.after_it) ≡ None = search rules in
     let pushed : c.push.new.self.items ≡ c.loop.found.items ++ c.in_ok-entry.entry ∷ [] = search rules in
     loop_ends (mark Comma) (entry (names_of c.args.context)) export_of export_of c.loop.found.items
     c.push.new.self.items c.in_ok-entry.entry _ _ _ _ _ refl pushed turn c.loop.invariant c.in_ok-entry.ensures none
@@ -34,7 +34,7 @@ loop-preserved c =
     let n = length (tokens_in c.args.tokens) in
     let turn : n - c.loop.counter ≡ suc (n - (c.loop.counter + 1)) =
     omega (arith, length-map c.args.tokens.list.now numbered_token_of) in
-    let next : after_kind (mark Comma) (tokens_in c.in_ok-entry.behind_it) ≡ Some (tokens_in c.in-Some.after) =
+    let next : after_kind (mark Comma) (tokens_in c.in_ok-entry.after_it) ≡ Some (tokens_in c.in-Some.after) =
     search rules in
     let pushed : c.push.new.self.items ≡ c.loop.found.items ++ c.in_ok-entry.entry ∷ [] = search rules in
     loop_goes (mark Comma) (entry (names_of c.args.context)) export_of export_of c.loop.found.items

@@ -3,21 +3,21 @@ use Rattle.std.proofs.lemmas.Result.{err_from_is_err_and}
 use Rattle.std.proofs.lemmas.List.{length-map}
 use Rattle.pf_syntax.specs.SyntaxTree.{expr_at}
 use Rattle.pf_syntax.specs.SyntaxTreeOver.{BranchRepresents, ExprRepresents, ExprPatternRepresents}
-use Rattle.pf_syntax.proofs.NodeTableExtends.{all_exprs_stand, branches_stand, condition_stands, exprs_kept}
-use Rattle.pf_syntax.proofs.NodeTableExtends.{expr_pattern_stands}
+use Rattle.pf_syntax.proofs.NodeTableExtends.{all_exprs_are_there, branches_are_there, condition_is_there, exprs_kept}
+use Rattle.pf_syntax.proofs.NodeTableExtends.{expr_pattern_is_there}
 use Rattle.pf_tokens.specs.declared.marks.TokenMark.TheVariants.{Bar, CloseBracket, Comma, OpenParenthesis, Semicolon}
 use Rattle.pf_tokens.specs.NumberedTokens.{mark}
 use Rattle.pf_tokens.specs.View.{numbered_token_of}
-use Rattle.pf_grammar.specs.Grammar.{call_stands, top}
+use Rattle.pf_grammar.specs.Grammar.{call_is_there, top}
 use Rattle.pf_grammar.specs.Parse.{after_kind, clause, parse_expr, infix_ahead, match_ahead, pattern, readers}
 use Rattle.pf_grammar.specs.Parse.{guard_tests}
 use Rattle.pf_reader.specs.ListItems.{item_at}
 use Rattle.pf_reader.specs.View.{names_of, tokens_in}
-use Rattle.pf_reader.specs.Given.{clause_of, view_of_tests, expr_of, seen_expr_pattern, TestsStand}
+use Rattle.pf_reader.specs.Given.{clause_of, view_of_tests, expr_of, seen_expr_pattern, TestsAreThere}
 use Rattle.pf_reader.proofs.Growth.{again}
 use Rattle.pf_reader.proofs.Items.{fails_as, loop_ends, loop_goes, loop_fails, loop_out}
-use Rattle.pf_reader.proofs.Kept.{all_tests_stand, alternatives_in_row, clauses_alike, clauses_in_row, front_alike}
-use Rattle.pf_reader.proofs.Kept.{pushed_stands, tests_alike, exprs_alike, exprs_in_row}
+use Rattle.pf_reader.proofs.Kept.{all_tests_are_there, alternatives_in_row, clauses_alike, clauses_in_row, front_alike}
+use Rattle.pf_reader.proofs.Kept.{pushed_is_there, tests_alike, exprs_alike, exprs_in_row}
 use Rattle.pf_reader.proofs.Levels.{more_stops, more_out, more_goes, more_fails, more_deep, parse_expr_zero}
 use Rattle.pf_reader.proofs.Levels.{parse_expr_fails, parse_expr_more, element_zero, element_plain, element_fails}
 use Rattle.pf_reader.proofs.Levels.{element_match}
@@ -46,20 +46,20 @@ read_items-returns-in_default-clause-given t c =
     omega (arith, length-map c.args.tokens.list.now numbered_token_of) in
     let none : after_kind (mark Comma) (tokens_in c.in_ok-part.part.rest) ≡ None = search rules in
     let pushed : c.push.new.self.items ≡ c.loop.found.items ++ c.in_ok-part.part.expr ∷ [] = search rules in
-    let same = exprs_alike b d on c.loop.found.items c.loop.invariant.stands in
+    let same = exprs_alike b d on c.loop.found.items c.loop.invariant.is_there in
     loop_ends (mark Comma) (item_at (names_of c.args.context) c.args.item c.args.limit) (expr_of d)
     (expr_of b) c.loop.found.items c.push.new.self.items (c.in_ok-part.part.expr) _ _ _ _ _ same pushed turn
     c.loop.invariant.given c.in_ok-part.ensures.given none
 
-pub read_items-returns-in_default-clause-stands : goal.read_items-returns-in_default-clause-stands
-read_items-returns-in_default-clause-stands t c =
+pub read_items-returns-in_default-clause-is_there : goal.read_items-returns-in_default-clause-is_there
+read_items-returns-in_default-clause-is_there t c =
     let b = c.loop.syntax.node_table in
     let d = c.read_item.new.syntax.node_table in
     let on = c.in_ok-part.ensures.grown.node_table in
     let pushed : c.push.new.self.items ≡ c.loop.found.items ++ c.in_ok-part.part.expr ∷ [] = search rules in
-    let kept = all_exprs_stand b d on c.loop.found.items c.loop.invariant.stands in
-    pushed_stands (ExprRepresents d) c.loop.found.items c.push.new.self.items (c.in_ok-part.part.expr) pushed kept
-    c.in_ok-part.ensures.stands
+    let kept = all_exprs_are_there b d on c.loop.found.items c.loop.invariant.is_there in
+    pushed_is_there (ExprRepresents d) c.loop.found.items c.push.new.self.items (c.in_ok-part.part.expr) pushed kept
+    c.in_ok-part.ensures.is_there
 
 pub read_items-loop-preserved : goal.read_items-loop-preserved
 read_items-loop-preserved t c =
@@ -72,12 +72,13 @@ read_items-loop-preserved t c =
     let next : after_kind (mark Comma) (tokens_in c.in_ok-part.part.rest) ≡ Some (tokens_in c.in-Some.after) =
     search rules in
     let pushed : c.push.new.self.items ≡ c.loop.found.items ++ c.in_ok-part.part.expr ∷ [] = search rules in
-    let same = exprs_alike b d on c.loop.found.items c.loop.invariant.stands in
-    let kept = all_exprs_stand b d on c.loop.found.items c.loop.invariant.stands in
+    let same = exprs_alike b d on c.loop.found.items c.loop.invariant.is_there in
+    let kept = all_exprs_are_there b d on c.loop.found.items c.loop.invariant.is_there in
     record {
       grown = again _ _ _ c.loop.invariant.grown c.in_ok-part.ensures.grown;
-      stands = pushed_stands (ExprRepresents d) c.loop.found.items c.push.new.self.items (c.in_ok-part.part.expr) pushed
-          kept c.in_ok-part.ensures.stands;
+      is_there = pushed_is_there (ExprRepresents d) c.loop.found.items c.push.new.self.items
+          (c.in_ok-part.part.expr) pushed
+          kept c.in_ok-part.ensures.is_there;
       given = loop_goes (mark Comma) (item_at (names_of c.args.context) c.args.item c.args.limit) (expr_of d)
           (expr_of b) c.loop.found.items c.push.new.self.items (c.in_ok-part.part.expr) _ _ _ _ _ _ same pushed turn
           c.loop.invariant.given c.in_ok-part.ensures.given next;
@@ -108,26 +109,26 @@ read_guard-returns-in_default-clause-given t c =
     let on = c.in_ok-tests.ensures.grown.node_table in
     let turn : n - c.loop.counter ≡ suc (n - (c.loop.counter + 1)) =
     omega (arith, length-map c.args.tokens.list.now numbered_token_of) in
-    let none : after_kind (mark Semicolon) (tokens_in c.in_ok-tests.behind_it) ≡ None = search rules in
+    let none : after_kind (mark Semicolon) (tokens_in c.in_ok-tests.after_it) ≡ None = search rules in
     let pushed : c.push.new.self.items ≡ c.loop.alternatives.items ++ record { tests = c.in_ok-tests.tests } ∷ [] =
     search rules in
-    let same = tests_alike b d on c.loop.alternatives.items c.loop.invariant.stands in
+    let same = tests_alike b d on c.loop.alternatives.items c.loop.invariant.is_there in
     guard_is _ _ _ _ _ (alternatives_in_row d c.push.new.self.items) (
     loop_ends (mark Semicolon) (guard_tests (parse_expr (names_of c.args.context) true c.args.limit top))
     (view_of_tests d) (view_of_tests b) c.loop.alternatives.items c.push.new.self.items
     (record { tests = c.in_ok-tests.tests }) _ _ _ _ _ same pushed turn c.loop.invariant.given
     c.in_ok-tests.ensures.given none)
 
-pub read_guard-returns-in_default-clause-stands : goal.read_guard-returns-in_default-clause-stands
-read_guard-returns-in_default-clause-stands t c =
+pub read_guard-returns-in_default-clause-is_there : goal.read_guard-returns-in_default-clause-is_there
+read_guard-returns-in_default-clause-is_there t c =
     let b = c.loop.syntax.node_table in
     let d = c.read_items.new.syntax.node_table in
     let on = c.in_ok-tests.ensures.grown.node_table in
     let pushed : c.push.new.self.items ≡ c.loop.alternatives.items ++ record { tests = c.in_ok-tests.tests } ∷ [] =
     search rules in
-    let kept = all_tests_stand b d on c.loop.alternatives.items c.loop.invariant.stands in
-    pushed_stands (TestsStand d) c.loop.alternatives.items c.push.new.self.items
-    (record { tests = c.in_ok-tests.tests }) pushed kept c.in_ok-tests.ensures.stands
+    let kept = all_tests_are_there b d on c.loop.alternatives.items c.loop.invariant.is_there in
+    pushed_is_there (TestsAreThere d) c.loop.alternatives.items c.push.new.self.items
+    (record { tests = c.in_ok-tests.tests }) pushed kept c.in_ok-tests.ensures.is_there
 
 pub read_guard-loop-preserved : goal.read_guard-loop-preserved
 read_guard-loop-preserved t c =
@@ -137,16 +138,16 @@ read_guard-loop-preserved t c =
     let on = c.in_ok-tests.ensures.grown.node_table in
     let turn : n - c.loop.counter ≡ suc (n - (c.loop.counter + 1)) =
     omega (arith, length-map c.args.tokens.list.now numbered_token_of) in
-    let next : after_kind (mark Semicolon) (tokens_in c.in_ok-tests.behind_it) ≡ Some (tokens_in c.in-Some.after) =
+    let next : after_kind (mark Semicolon) (tokens_in c.in_ok-tests.after_it) ≡ Some (tokens_in c.in-Some.after) =
     search rules in
     let pushed : c.push.new.self.items ≡ c.loop.alternatives.items ++ record { tests = c.in_ok-tests.tests } ∷ [] =
     search rules in
-    let same = tests_alike b d on c.loop.alternatives.items c.loop.invariant.stands in
-    let kept = all_tests_stand b d on c.loop.alternatives.items c.loop.invariant.stands in
+    let same = tests_alike b d on c.loop.alternatives.items c.loop.invariant.is_there in
+    let kept = all_tests_are_there b d on c.loop.alternatives.items c.loop.invariant.is_there in
     record {
       grown = again _ _ _ c.loop.invariant.grown c.in_ok-tests.ensures.grown;
-      stands = pushed_stands (TestsStand d) c.loop.alternatives.items c.push.new.self.items
-          (record { tests = c.in_ok-tests.tests }) pushed kept c.in_ok-tests.ensures.stands;
+      is_there = pushed_is_there (TestsAreThere d) c.loop.alternatives.items c.push.new.self.items
+          (record { tests = c.in_ok-tests.tests }) pushed kept c.in_ok-tests.ensures.is_there;
       given = loop_goes (mark Semicolon) (guard_tests (parse_expr (names_of c.args.context) true c.args.limit top))
           (view_of_tests d) (view_of_tests b) c.loop.alternatives.items c.push.new.self.items
           (record { tests = c.in_ok-tests.tests }) _ _ _ _ _ _ same pushed turn c.loop.invariant.given
@@ -178,22 +179,22 @@ read_clauses-returns-in_default-clause-given t c =
     let on = c.in_ok-branch.ensures.grown.node_table in
     let turn : n - c.loop.counter ≡ suc (n - (c.loop.counter + 1)) =
     omega (arith, length-map c.args.tokens.list.now numbered_token_of) in
-    let none : after_kind (mark Semicolon) (tokens_in c.in_ok-branch.behind_it) ≡ None = search rules in
+    let none : after_kind (mark Semicolon) (tokens_in c.in_ok-branch.after_it) ≡ None = search rules in
     let pushed : c.push.new.self.items ≡ c.loop.found.items ++ c.in_ok-branch.branch ∷ [] = search rules in
-    let same = clauses_alike b d on c.loop.found.items c.loop.invariant.stands in
+    let same = clauses_alike b d on c.loop.found.items c.loop.invariant.is_there in
     loop_ends (mark Semicolon) (clause (readers (names_of c.args.context) c.args.limit) c.args.choice) (clause_of d)
     (clause_of b) c.loop.found.items c.push.new.self.items (c.in_ok-branch.branch) _ _ _ _ _ same pushed turn
     c.loop.invariant.given c.in_ok-branch.ensures.given none
 
-pub read_clauses-returns-in_default-clause-stands : goal.read_clauses-returns-in_default-clause-stands
-read_clauses-returns-in_default-clause-stands t c =
+pub read_clauses-returns-in_default-clause-is_there : goal.read_clauses-returns-in_default-clause-is_there
+read_clauses-returns-in_default-clause-is_there t c =
     let b = c.loop.syntax.node_table in
     let d = c.read_clause.new.syntax.node_table in
     let on = c.in_ok-branch.ensures.grown.node_table in
     let pushed : c.push.new.self.items ≡ c.loop.found.items ++ c.in_ok-branch.branch ∷ [] = search rules in
-    let kept = branches_stand b d on c.loop.found.items c.loop.invariant.stands in
-    pushed_stands (BranchRepresents d) c.loop.found.items c.push.new.self.items (c.in_ok-branch.branch) pushed kept
-    c.in_ok-branch.ensures.stands
+    let kept = branches_are_there b d on c.loop.found.items c.loop.invariant.is_there in
+    pushed_is_there (BranchRepresents d) c.loop.found.items c.push.new.self.items (c.in_ok-branch.branch) pushed kept
+    c.in_ok-branch.ensures.is_there
 
 pub read_clauses-loop-preserved : goal.read_clauses-loop-preserved
 read_clauses-loop-preserved t c =
@@ -203,15 +204,15 @@ read_clauses-loop-preserved t c =
     let on = c.in_ok-branch.ensures.grown.node_table in
     let turn : n - c.loop.counter ≡ suc (n - (c.loop.counter + 1)) =
     omega (arith, length-map c.args.tokens.list.now numbered_token_of) in
-    let next : after_kind (mark Semicolon) (tokens_in c.in_ok-branch.behind_it) ≡ Some (tokens_in c.in-Some.after) =
+    let next : after_kind (mark Semicolon) (tokens_in c.in_ok-branch.after_it) ≡ Some (tokens_in c.in-Some.after) =
     search rules in
     let pushed : c.push.new.self.items ≡ c.loop.found.items ++ c.in_ok-branch.branch ∷ [] = search rules in
-    let same = clauses_alike b d on c.loop.found.items c.loop.invariant.stands in
-    let kept = branches_stand b d on c.loop.found.items c.loop.invariant.stands in
+    let same = clauses_alike b d on c.loop.found.items c.loop.invariant.is_there in
+    let kept = branches_are_there b d on c.loop.found.items c.loop.invariant.is_there in
     record {
       grown = again _ _ _ c.loop.invariant.grown c.in_ok-branch.ensures.grown;
-      stands = pushed_stands (BranchRepresents d) c.loop.found.items c.push.new.self.items (c.in_ok-branch.branch)
-          pushed kept c.in_ok-branch.ensures.stands;
+      is_there = pushed_is_there (BranchRepresents d) c.loop.found.items c.push.new.self.items (c.in_ok-branch.branch)
+          pushed kept c.in_ok-branch.ensures.is_there;
       given = loop_goes (mark Semicolon) (clause (readers (names_of c.args.context) c.args.limit) c.args.choice)
           (clause_of d) (clause_of b) c.loop.found.items c.push.new.self.items (c.in_ok-branch.branch) _ _ _ _ _ _ same
           pushed turn c.loop.invariant.given c.in_ok-branch.ensures.given next;
@@ -239,7 +240,7 @@ read_level-loop-init t c =
     let x = c.in_ok-left.left in
     record {
       grown = c.in_ok-left.ensures.grown;
-      stands = c.in_ok-left.ensures.stands;
+      is_there = c.in_ok-left.ensures.is_there;
       given = parse_expr_more (names_of c.args.context) c.args.guard c.args.limit c.args.level
           (length x.rest.list.now - 0) (tokens_in c.args.tokens) (tokens_in x.rest) _ (omega arith)
           (omega (arith, length-map x.rest.list.now numbered_token_of)) c.in_ok-left.ensures.given;
@@ -277,7 +278,7 @@ read_level-returns-in_err-left-2-clause-given t c =
     ≡ suc (length c.in_ok-left.left.rest.list.now - (c.loop.counter + 1)) = omega arith in
     let ahead : infix_ahead c.args.guard c.loop.floor c.args.level (tokens_in c.loop.left.rest)
     ≡ Some (c.in-Some.infix, tokens_in c.in-Some.after) = search rules in
-    let same = c.in_ok-right.ensures.grown.node_table.exprs c.loop.left.expr.0 c.loop.invariant.stands in
+    let same = c.in_ok-right.ensures.grown.node_table.exprs c.loop.left.expr.0 c.loop.invariant.is_there in
     let meaning = c.joined-node.ensures.meaning c.read_level.new.syntax.node_table in
     let p = err_from_is_err_and c.from_residual-in_err-left-2.result c.from_residual-in_err-left-2.ensures.1 in
     rw (p.1, p.2) (fails_as _ _ _ (λ f. c.loop.invariant.given ∙ more_deep deeper c.args.guard c.args.limit c.args.level
@@ -291,11 +292,11 @@ read_level-loop-preserved t c =
     ≡ suc (length c.in_ok-left.left.rest.list.now - (c.loop.counter + 1)) = omega arith in
     let ahead : infix_ahead c.args.guard c.loop.floor c.args.level (tokens_in c.loop.left.rest)
     ≡ Some (c.in-Some.infix, tokens_in c.in-Some.after) = search rules in
-    let same = c.in_ok-right.ensures.grown.node_table.exprs c.loop.left.expr.0 c.loop.invariant.stands in
+    let same = c.in_ok-right.ensures.grown.node_table.exprs c.loop.left.expr.0 c.loop.invariant.is_there in
     let meaning = c.joined-node.ensures.meaning c.read_level.new.syntax.node_table in
     record {
       grown = again _ _ _ c.loop.invariant.grown (again _ _ _ c.in_ok-right.ensures.grown c.in_ok-left-2.ensures.grown);
-      stands = c.in_ok-left-2.ensures.stands;
+      is_there = c.in_ok-left-2.ensures.is_there;
       given = c.loop.invariant.given ∙ more_goes deeper c.args.guard c.args.limit c.args.level _ _ _ _ _ _ _ _ _ _ same
           turn ahead c.right_level-above.ensures _ _ c.in_ok-right.ensures.given meaning _ _ _
           c.in_ok-left-2.ensures.given c.level-floor.ensures;
@@ -327,9 +328,9 @@ read_element-returns-in_ok-part-in-Some-clause-given t c =
     let n = names_of c.args.context in
     let ahead : match_ahead (pattern n (c.args.limit - 1)) (tokens_in c.args.tokens)
     ≡ Some (seen_expr_pattern c.read_match_ahead.new.syntax.node_table c.in-Some.ahead) = search rules in
-    let stands : ExprPatternRepresents c.read_match_ahead.new.syntax.node_table c.in-Some.ahead.expr_pattern =
+    let is_there : ExprPatternRepresents c.read_match_ahead.new.syntax.node_table c.in-Some.ahead.expr_pattern =
     search rules in
-    let same = c.in_ok-part-in-Some.ensures.grown.node_table.expr_patterns c.in-Some.ahead.expr_pattern.0 stands in
+    let same = c.in_ok-part-in-Some.ensures.grown.node_table.expr_patterns c.in-Some.ahead.expr_pattern.0 is_there in
     rw (element_match n c.args.limit (tokens_in c.args.tokens) _ _ _ _ _ same (omega arith) ahead
     c.in_ok-part-in-Some.ensures.given) c.put_within.ensures.given
 
@@ -358,7 +359,7 @@ read_list-returns-in_ok-rest-in-Some-skip-clause-given t c =
     let b = c.read_items.new.syntax.node_table in
     let d = c.read_level.new.syntax.node_table in
     let es = c.in_ok-parts.parts.items in
-    let row = exprs_kept b d c.in_ok-tail-in-Some-skip.ensures.grown.node_table es c.in_ok-parts.ensures.stands
+    let row = exprs_kept b d c.in_ok-tail-in-Some-skip.ensures.grown.node_table es c.in_ok-parts.ensures.is_there
     ∙ exprs_in_row b es in
     let none : after_kind (mark CloseBracket) ts ≡ None = search rules in
     let bar : after_kind (mark Bar) (tokens_in c.in_ok-parts.rest) ≡ Some (tokens_in c.in-Some-skip.rest) =
@@ -375,12 +376,12 @@ read_named-returns-clause-given t c =
     let d = c.read_until.new.syntax.node_table in
     let opens : after_kind (mark OpenParenthesis) (tokens_in c.args.tokens) ≡ Some (tokens_in c.in-Some.rest) =
     search rules in
-    let stands : call_stands (names_of c.args.context) c.args.guard c.args.ident.name.0 (length es) ≡ true =
+    let is_there : call_is_there (names_of c.args.context) c.args.guard c.args.ident.name.0 (length es) ≡ true =
     search rules in
     rw (call_is (names_of c.args.context) c.args.guard
     (parse_expr (names_of c.args.context) c.args.guard c.args.limit top) c.args.ident.name.0 c.args.ident.offset
     (length es) (tokens_in c.args.tokens) _ _ _ opens c.in_ok-arguments.ensures.given (length-map es (expr_of d)) _
-    (exprs_in_row d es) stands)
+    (exprs_in_row d es) is_there)
     c.put-2.ensures.given
 
 -- ---- clauses
@@ -389,19 +390,20 @@ pub read_clause-returns-clause-given : goal.read_clause-returns-clause-given
 read_clause-returns-clause-given t c =
     let b = c.read_front.new.syntax.node_table in
     let d = c.read_items.new.syntax.node_table in
-    let same = front_alike b d c.in_ok-body.ensures.grown.node_table c.in_ok-front.front c.in_ok-front.ensures.stands in
+    let same = front_alike b d c.in_ok-body.ensures.grown.node_table c.in_ok-front.front
+    c.in_ok-front.ensures.is_there in
     clause_is (readers (names_of c.args.context) c.args.limit) c.args.choice (tokens_in c.args.tokens) _ _ _ _ _ _ same
     c.in_ok-front.ensures.given c.in_ok-rest.ensures c.in_ok-body.ensures.given
 
-pub read_clause-returns-clause-stands : goal.read_clause-returns-clause-stands
-read_clause-returns-clause-stands t c =
+pub read_clause-returns-clause-is_there : goal.read_clause-returns-clause-is_there
+read_clause-returns-clause-is_there t c =
     let b = c.read_front.new.syntax.node_table in
     let d = c.read_items.new.syntax.node_table in
     let on = c.in_ok-body.ensures.grown.node_table in
-    let front = c.in_ok-front.ensures.stands in (
-      expr_pattern_stands b d on c.in_ok-front.front.expr_pattern front.0,
-      condition_stands b d on c.in_ok-front.front.condition front.1,
-      c.in_ok-body.ensures.stands,
+    let front = c.in_ok-front.ensures.is_there in (
+      expr_pattern_is_there b d on c.in_ok-front.front.expr_pattern front.0,
+      condition_is_there b d on c.in_ok-front.front.condition front.1,
+      c.in_ok-body.ensures.is_there,
     )
 
 pub read_branches-returns-clause-given : goal.read_branches-returns-clause-given
@@ -413,7 +415,7 @@ read_branches-returns-clause-given t c =
 pub read_case-returns-clause-given : goal.read_case-returns-clause-given
 read_case-returns-clause-given t c =
     let s = c.in_ok-subject.subject in
-    let same = c.in_ok-found.ensures.grown.node_table.exprs s.expr.0 c.in_ok-subject.ensures.stands in
+    let same = c.in_ok-found.ensures.grown.node_table.exprs s.expr.0 c.in_ok-subject.ensures.is_there in
     rw (case_is (readers (names_of c.args.context) c.args.limit)
     (parse_expr (names_of c.args.context) c.args.guard c.args.limit top) (tokens_in c.args.tokens) _ _ _ _ _ _ same
     c.in_ok-subject.ensures.given c.in_ok-rest.ensures c.in_ok-found.ensures.given)

@@ -9,7 +9,7 @@ use Rattle.pf_grammar.specs.Grammar.{top}
 use Rattle.pf_reader.specs.ListItems.{item_at}
 use Rattle.pf_grammar.specs.Parse.{clause, parse_expr, items, more, readers, guard_tests}
 use Rattle.pf_reader.specs.View.{names_of, tokens_in}
-use Rattle.pf_reader.specs.Given.{clause_of, view_of_tests, expr_of, with_front, Grown, TestsStand}
+use Rattle.pf_reader.specs.Given.{clause_of, view_of_tests, expr_of, with_front, Grown, TestsAreThere}
 use Rattle.pf_reader.proofs.expr.+expr.Given as goal
 
 abbrev pub decreases-read_prim : goal.decreases-read_prim
@@ -70,7 +70,7 @@ decreases-read_worded l = 32 * l.limit + 13
 abbrev pub invariant-read_level-loop : goal.invariant-read_level-loop
 invariant-read_level-loop l = record {
   grown : Grown l.fn.syntax l.syntax;
-  stands : ExprRepresents l.syntax.node_table l.left.expr;
+  is_there : ExprRepresents l.syntax.node_table l.left.expr;
   given : parse_expr (names_of l.fn.context) l.guard l.limit l.level (tokens_in l.tokens)
       ≡ more (parse_expr (names_of l.fn.context) l.guard (l.limit - 1)) l.guard l.limit l.level (l.turns - l.counter)
       l.floor (expr_at l.syntax.node_table l.left.expr.0) (tokens_in l.left.rest);
@@ -80,7 +80,7 @@ invariant-read_level-loop l = record {
 abbrev pub invariant-read_items-loop : goal.invariant-read_items-loop
 invariant-read_items-loop l = record {
   grown : Grown l.fn.syntax l.syntax;
-  stands : All (ExprRepresents l.syntax.node_table) l.found.items;
+  is_there : All (ExprRepresents l.syntax.node_table) l.found.items;
   given : items (mark Comma) (item_at (names_of l.fn.context) l.item l.limit) (length (tokens_in l.tokens))
       (tokens_in l.tokens)
       ≡ with_front (map (expr_of l.syntax.node_table) l.found.items)
@@ -92,7 +92,7 @@ invariant-read_items-loop l = record {
 abbrev pub invariant-read_guard-loop : goal.invariant-read_guard-loop
 invariant-read_guard-loop l = record {
   grown : Grown l.fn.syntax l.syntax;
-  stands : All (TestsStand l.syntax.node_table) l.alternatives.items;
+  is_there : All (TestsAreThere l.syntax.node_table) l.alternatives.items;
   given : items (mark Semicolon) (guard_tests (parse_expr (names_of l.fn.context) true l.limit top))
       (length (tokens_in l.tokens)) (tokens_in l.tokens)
       ≡ with_front (map (view_of_tests l.syntax.node_table) l.alternatives.items)
@@ -104,7 +104,7 @@ invariant-read_guard-loop l = record {
 abbrev pub invariant-read_clauses-loop : goal.invariant-read_clauses-loop
 invariant-read_clauses-loop l = record {
   grown : Grown l.fn.syntax l.syntax;
-  stands : All (BranchRepresents l.syntax.node_table) l.found.items;
+  is_there : All (BranchRepresents l.syntax.node_table) l.found.items;
   given : items (mark Semicolon) (clause (readers (names_of l.fn.context) l.limit) l.choice)
       (length (tokens_in l.tokens)) (tokens_in l.tokens)
       ≡ with_front (map (clause_of l.syntax.node_table) l.found.items)

@@ -2,7 +2,7 @@ use Rattle.std.proofs.Common.{◌≡◌, suc, ◌+◌, ◌-◌, [], ◌∷◌, �
 use Rattle.std.proofs.lemmas.Result.{err_from_is_err_and}
 use Rattle.std.proofs.lemmas.List.{length-map}
 use Rattle.pf_syntax.specs.SyntaxTreeOver.{ExprPatternRepresents}
-use Rattle.pf_syntax.proofs.NodeTableExtends.{all_expr_patterns_stand, expr_patterns_kept}
+use Rattle.pf_syntax.proofs.NodeTableExtends.{all_expr_patterns_are_there, expr_patterns_kept}
 use Rattle.pf_tokens.specs.declared.marks.TokenMark.TheVariants.{Bar, CloseBracket, Comma}
 use Rattle.pf_tokens.specs.NumberedTokens.{mark}
 use Rattle.pf_grammar.specs.Parse.{pattern, after_kind}
@@ -11,7 +11,7 @@ use Rattle.pf_reader.specs.View.{names_of, tokens_in}
 use Rattle.pf_reader.specs.Given.{expr_pattern_of}
 use Rattle.pf_reader.proofs.Growth.{again}
 use Rattle.pf_reader.proofs.Items.{fails_as, loop_ends, loop_goes, loop_fails, loop_out}
-use Rattle.pf_reader.proofs.Kept.{expr_patterns_alike, expr_patterns_in_row, pushed_stands}
+use Rattle.pf_reader.proofs.Kept.{expr_patterns_alike, expr_patterns_in_row, pushed_is_there}
 use Rattle.pf_reader.proofs.Patterns.{pattern_is, pattern_list, pattern_list_on, pattern_tuple, pattern_zero}
 use Rattle.pf_reader.proofs.expr_pattern.+expr_pattern.Goals as goal
 
@@ -36,7 +36,7 @@ read_expr_pattern_items-returns-in_default-clause-given t c =
     let none : after_kind (mark Comma) (tokens_in c.in_ok-part.part.rest) ≡ None = search rules in
     let pushed : c.push.new.self.items ≡ c.loop.found.items ++ c.in_ok-part.part.expr_pattern ∷ [] = search rules in
     let same = expr_patterns_alike b d c.in_ok-part.ensures.grown.node_table c.loop.found.items
-    c.loop.invariant.stands in
+    c.loop.invariant.is_there in
     loop_ends (mark Comma) (pattern (names_of c.args.context) c.args.limit) (expr_pattern_of d) (expr_pattern_of b)
     c.loop.found.items c.push.new.self.items c.in_ok-part.part.expr_pattern _ _ _ _ _ same pushed turn
     c.loop.invariant.given c.in_ok-part.ensures.given none
@@ -52,12 +52,12 @@ read_expr_pattern_items-loop-preserved t c =
     let next : after_kind (mark Comma) (tokens_in c.in_ok-part.part.rest) ≡ Some (tokens_in c.in-Some.after) =
     search rules in
     let pushed : c.push.new.self.items ≡ c.loop.found.items ++ c.in_ok-part.part.expr_pattern ∷ [] = search rules in
-    let same = expr_patterns_alike b d on c.loop.found.items c.loop.invariant.stands in
-    let kept = all_expr_patterns_stand b d on c.loop.found.items c.loop.invariant.stands in
+    let same = expr_patterns_alike b d on c.loop.found.items c.loop.invariant.is_there in
+    let kept = all_expr_patterns_are_there b d on c.loop.found.items c.loop.invariant.is_there in
     record {
       grown = again _ _ _ c.loop.invariant.grown c.in_ok-part.ensures.grown;
-      stands = pushed_stands (ExprPatternRepresents d) c.loop.found.items c.push.new.self.items
-          c.in_ok-part.part.expr_pattern pushed kept c.in_ok-part.ensures.stands;
+      is_there = pushed_is_there (ExprPatternRepresents d) c.loop.found.items c.push.new.self.items
+          c.in_ok-part.part.expr_pattern pushed kept c.in_ok-part.ensures.is_there;
       given = loop_goes (mark Comma) (pattern (names_of c.args.context) c.args.limit) (expr_pattern_of d)
           (expr_pattern_of b) c.loop.found.items c.push.new.self.items c.in_ok-part.part.expr_pattern _ _ _ _ _ _ same
           pushed turn c.loop.invariant.given c.in_ok-part.ensures.given next;
@@ -95,7 +95,8 @@ read_list-returns-in_ok-rest-in-Some-skip-clause-given t c =
     let b = c.read_expr_pattern_items.new.syntax.node_table in
     let d = c.read_expr_pattern.new.syntax.node_table in
     let qs = c.in_ok-parts.parts.items in
-    let row = expr_patterns_kept b d c.in_ok-tail-in-Some-skip.ensures.grown.node_table qs c.in_ok-parts.ensures.stands
+    let row = expr_patterns_kept b d c.in_ok-tail-in-Some-skip.ensures.grown.node_table qs
+    c.in_ok-parts.ensures.is_there
     ∙ expr_patterns_in_row b qs in
     let none : after_kind (mark CloseBracket) ts ≡ None = search rules in
     let bar : after_kind (mark Bar) (tokens_in c.in_ok-parts.rest) ≡ Some (tokens_in c.in-Some-skip.rest) =

@@ -31,7 +31,7 @@ decreases-read_begun l = 8 * l.limit + 5
 abbrev pub invariant-read_expr_pattern_items-loop : goal.invariant-read_expr_pattern_items-loop
 invariant-read_expr_pattern_items-loop l = record {
   grown : Grown l.fn.syntax l.syntax;
-  stands : All (ExprPatternRepresents l.syntax.node_table) l.found.items;
+  is_there : All (ExprPatternRepresents l.syntax.node_table) l.found.items;
   given : items (mark Comma) (pattern (names_of l.fn.context) l.limit) (length (tokens_in l.tokens))
       (tokens_in l.tokens)
       ≡ with_front (map (expr_pattern_of l.syntax.node_table) l.found.items)

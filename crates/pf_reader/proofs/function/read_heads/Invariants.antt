@@ -13,7 +13,7 @@ use Rattle.pf_reader.proofs.function.read_heads.Given as goal
 abbrev pub invariant-loop : goal.invariant-loop
 invariant-loop l = record {
   grown : Grown l.fn.syntax l.syntax;
-  stands : All (HeadRepresents l.syntax.node_table) l.found.items;
+  is_there : All (HeadRepresents l.syntax.node_table) l.found.items;
   given : items (mark Semicolon) (head_parse (names_of l.fn.context)) (length (tokens_in l.tokens)) (tokens_in l.tokens)
       ≡ with_front (map (head_over l.syntax.node_table) l.found.items)
       (items (mark Semicolon) (head_parse (names_of l.fn.context)) (length (tokens_in l.tokens) - l.counter)

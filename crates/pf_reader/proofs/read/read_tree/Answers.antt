@@ -34,6 +34,6 @@ returns-clause-fault c =
     let ts = map placed_of c.args.tokens.now in
     let atoms : c.in_ok-atoms.atoms ≡ atoms_of ts = search rules in
     let tokens : token_list c.deref-in-Err-Fault.result.now ≡ numbered_tokens ts = search rules in
-    let told = subst (λ us. IsTreeFault c.in_ok-atoms.atoms us c.args.end c.tree_fault.result) tokens
+    let reported = subst (λ us. IsTreeFault c.in_ok-atoms.atoms us c.args.end c.tree_fault.result) tokens
     c.tree_fault.ensures in
-    subst (λ names. IsTreeFault names (numbered_tokens ts) c.args.end c.tree_fault.result) atoms told
+    subst (λ names. IsTreeFault names (numbered_tokens ts) c.args.end c.tree_fault.result) atoms reported

@@ -5,6 +5,7 @@ use Rattle.pf_sched.specs.Views.{result_of}
 use Rattle.pf_sched.proofs.Hunted.{hunt_comes, hunt_has}
 use Rattle.pf_sched.proofs.Shrunk.{opens_next, opens_none}
 use Rattle.pf_model.specs.Meaning.{schedule}
+use Rattle.pf_sched.specs.Choosing.{choices}
 use Rattle.pf_sched.proofs.shrinking.begin.Goals as goal
 
 pub returns-in_ok-new-in-Some : goal.returns-in_ok-new-in-Some
@@ -18,7 +19,7 @@ returns-in_ok-new-in-Some c =
         next = o.0;
         is_next = o.1;
         run =
-            c.in_ok-new-in-Some.ensures.run (schedule o.0) o.2;
+            c.in_ok-new-in-Some.ensures.run (choices (schedule o.0)) o.2;
       },
       at,
       omega arith,
@@ -31,7 +32,7 @@ returns-in_ok-found-in-None c =
     (rw c.in-None.is at c.in_ok-choices.ensures) in (
       (
         hunt_comes j.asked c.args.hunt c.args.before c.requires.hunt e (result_of c.in_ok-found-in-None.field-0)
-            (c.in_ok-found-in-None.ensures.told j c.requires.report),
+            (c.in_ok-found-in-None.ensures.reported j c.requires.report),
         (c.args.before, hunt_has j.asked c.args.hunt c.args.before c.requires.hunt e, omega arith),
       ),
       c.in_ok-found-in-None.ensures.written j c.requires.report,

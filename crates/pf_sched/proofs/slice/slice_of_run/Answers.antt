@@ -1,6 +1,7 @@
 use Rattle.std.proofs.Common.{◌+◌, ◌≡◌, length, refl, sym, ap, subst}
 use Rattle.std.specs.Prelude.{◌⊎◌}
 use Rattle.pf_sched.specs.Asked.{IsValid}
+use Rattle.pf_sched.specs.Choosing.{choices}
 use Rattle.pf_sched.specs.Parts.{IsRunOf, events_in}
 use Rattle.pf_sched.specs.Slices.{EndsBy, IsRunOver, RunAdvances}
 use Rattle.pf_sched.specs.declared.run.Run.{Run}
@@ -15,7 +16,7 @@ invariant_of-result c =
     let advanced = subst (λ k. RunAdvances k c.deref_mut.result.now made c.args.turns c.in-Ok-false.field-0)
     c.deref.ensures c.in-Ok-false.ensures.run in
     let went = (subst (λ k. RunAdvances j k made c.args.turns c.in-Ok-false.field-0) c.deref_mut.ensures.value advanced)
-    j.asked.choices c.requires.1 in
+    (choices j.asked.choices) c.requires.1 in
     (c.requires.0, went.0)
 
 pub returns-in-Ok-false : goal.returns-in-Ok-false
@@ -26,7 +27,7 @@ returns-in-Ok-false c =
     let advanced = subst (λ k. RunAdvances k c.deref_mut.result.now made c.args.turns c.in-Ok-false.field-0)
     c.deref.ensures c.in-Ok-false.ensures.run in
     let went = (subst (λ k. RunAdvances j k made c.args.turns c.in-Ok-false.field-0) c.deref_mut.ensures.value advanced)
-    j.asked.choices c.requires.1 in
+    (choices j.asked.choices) c.requires.1 in
     let valid : IsValid j = subst IsValid c.deref.ensures c.in-Ok-false.ensures.valid in
     let g = goes_on j valid (length (events_in old)) c.args.turns made c.requires.0 went.0 c.in-Ok-false.field-0
     c.in-Ok-false.field-0-test went.1 in
@@ -40,7 +41,7 @@ finish-requires-clause-run c =
     let advanced = subst (λ k. RunAdvances k c.deref_mut.result.now made c.args.turns c.in-Ok-true.field-0)
     c.deref.ensures c.in-Ok-true.ensures.run in
     let went = (subst (λ k. RunAdvances j k made c.args.turns c.in-Ok-true.field-0) c.deref_mut.ensures.value advanced)
-    j.asked.choices c.requires.1 in
+    (choices j.asked.choices) c.requires.1 in
     subst (IsRunOf j) (sym c.into_inner.ensures) (c.requires.0, went.0)
 
 pub finish-requires-clause-over : goal.finish-requires-clause-over
@@ -51,7 +52,7 @@ finish-requires-clause-over c =
     let advanced = subst (λ k. RunAdvances k c.deref_mut.result.now made c.args.turns c.in-Ok-true.field-0)
     c.deref.ensures c.in-Ok-true.ensures.run in
     let went = (subst (λ k. RunAdvances j k made c.args.turns c.in-Ok-true.field-0) c.deref_mut.ensures.value advanced)
-    j.asked.choices c.requires.1 in
+    (choices j.asked.choices) c.requires.1 in
     subst (λ (k : Run). IsRunOver j.asked.limit k.execution) (sym c.into_inner.ensures)
     (is_over j (length (events_in old)) (length (events_in made)) c.args.turns j.asked.limit made.execution refl
     c.in-Ok-true.field-0 c.in-Ok-true.field-0-test went.1).0
@@ -64,7 +65,7 @@ returns-in-Ok-true c =
     let advanced = subst (λ k. RunAdvances k c.deref_mut.result.now made c.args.turns c.in-Ok-true.field-0)
     c.deref.ensures c.in-Ok-true.ensures.run in
     let went = (subst (λ k. RunAdvances j k made c.args.turns c.in-Ok-true.field-0) c.deref_mut.ensures.value advanced)
-    j.asked.choices c.requires.1 in
+    (choices j.asked.choices) c.requires.1 in
     let end = is_over j (length (events_in old)) (length (events_in made)) c.args.turns j.asked.limit made.execution
     refl c.in-Ok-true.field-0 c.in-Ok-true.field-0-test went.1 in
     let result = subst (λ (k : Run). EndsBy j (length (events_in k)) c.finish.result.result

@@ -10,7 +10,7 @@ returns c =
     let j = c.args.job.now in
     let es = c.args.events.items in
     let o = c.in_ok-outcome.outcome in
-    let told : c.verdict-verdict.result ≡ verdict j.asked.property (labels_in (map view_of_event es))
+    let reported : c.verdict-verdict.result ≡ verdict j.asked.property (labels_in (map view_of_event es))
     (view_of_outcome o) =
     c.verdict-verdict.ensures ∙ ap (λ k. verdict k.asked.property (labels_of c.as_slice.result.now) (view_of_outcome o))
     c.job.view_is
@@ -21,5 +21,5 @@ returns c =
       events = ap (map view_of_event) c.shrink_to_fit.ensures.items;
       outcome = c.in_ok-outcome.ensures.outcome;
       steps = c.steps-steps.ensures;
-      verdict = told;
+      verdict = reported;
     }

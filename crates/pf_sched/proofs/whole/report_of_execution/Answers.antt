@@ -9,6 +9,7 @@ returns c cs first =
     let j = c.args.job.now in
     let x = c.complete.new.self in
     let all = c.in_ok-complete.ensures cs first in
-    let told = c.in_ok-report.ensures in
+    let reported = c.in_ok-report.ensures in
     let run = subst (λ es. Executes j cs es x) (sym all.2) all.1 in
-    means j cs (map view_of_event c.complete.new.trace.items) x run all.3 (view_of_report c.in_ok-report.report) told
+    means j cs (map view_of_event c.complete.new.trace.items) x run all.3
+    (view_of_report c.in_ok-report.report) reported

@@ -5,7 +5,7 @@ use Rattle.pf_syntax.specs.ExprModule.{tree_of}
 use Rattle.pf_rules.specs.Static.{defined_faults, export_fault, unlike_faults, head_faults, faults_of, names_of_module}
 use Rattle.pf_static_check.specs.Earliest.{earliest_kept, IsLeastFault}
 use Rattle.pf_static_check.specs.Marks.{KnowsScope, is_bound, is_marked_unsafe}
-use Rattle.pf_static_check.proofs.Leasts.{first_of_all, told_none, told_some}
+use Rattle.pf_static_check.proofs.Leasts.{first_of_all, reported_none, reported_some}
 use Rattle.pf_static_check.proofs.faults.first_fault.Goals as goal
 
 pub returns : goal.returns
@@ -24,5 +24,5 @@ returns c =
     (earliest_kept c.functions.new.self.first)
     c.new-first.ensures c.in_ok-own.ensures.found c.note_exports.ensures c.note_unlike.ensures
     (c.in_ok-functions.ensures.found nothing) in
-    let told = subst (IsLeastFault all) (sym c.found.ensures) least in
-    record { none = told_none c.found.result all told; first = told_some c.found.result all told }
+    let reported = subst (IsLeastFault all) (sym c.found.ensures) least in
+    record { none = reported_none c.found.result all reported; first = reported_some c.found.result all reported }

@@ -7,10 +7,10 @@ loop-byte-preserved c =
     (name_more c.loop-byte.name.items c.loop-byte.rest.now c.in-Some.byte c.in-Some.more.now _ c.in-Some.ensures
     c.loop-byte.invariant)
 
-pub returns-in-Some-behind : goal.returns-in-Some-behind
-returns-in-Some-behind c =
-    name_ends c.loop-byte.name.items c.loop-byte.rest.now c.in-Some-behind.rest.now _ c.in_default.ensures
-    c.in-Some-behind.ensures c.loop-byte.invariant
+pub returns-in-Some-after : goal.returns-in-Some-after
+returns-in-Some-after c =
+    name_ends c.loop-byte.name.items c.loop-byte.rest.now c.in-Some-after.rest.now _ c.in_default.ensures
+    c.in-Some-after.ensures c.loop-byte.invariant
 
 pub returns : goal.returns
 returns c =

@@ -94,31 +94,31 @@ pub read_value-returns-in-123 : goal.read_value-returns-in-123
 read_value-returns-in-123 t c =
     let less : c.args.room ≡ suc (c.args.room - 1) = omega arith in
     rw (at_brace c.args.atoms.now c.args.room (c.args.room - 1) less c.args.text.now c.in-Some.first.now
-    c.in-Some.behind.now c.in-Some.ensures.cases.0 c.in-123.is) c.read_tuple.ensures
+    c.in-Some.after.now c.in-Some.ensures.cases.0 c.in-123.is) c.read_tuple.ensures
 
 pub read_value-returns-in-91 : goal.read_value-returns-in-91
 read_value-returns-in-91 t c =
     let less : c.args.room ≡ suc (c.args.room - 1) = omega arith in
     rw (at_bracket c.args.atoms.now c.args.room (c.args.room - 1) less c.args.text.now c.in-Some.first.now
-    c.in-Some.behind.now c.in-Some.ensures.cases.0 c.in-91.is) c.read_list.ensures
+    c.in-Some.after.now c.in-Some.ensures.cases.0 c.in-91.is) c.read_list.ensures
 
 pub read_value-returns-in-39 : goal.read_value-returns-in-39
 read_value-returns-in-39 t c =
     let less : c.args.room ≡ suc (c.args.room - 1) = omega arith in
     rw (at_quote c.args.atoms.now c.args.room (c.args.room - 1) less c.args.text.now c.in-Some.first.now
-    c.in-Some.behind.now c.in-Some.ensures.cases.0 c.in-39.is) c.read_quoted.ensures
+    c.in-Some.after.now c.in-Some.ensures.cases.0 c.in-39.is) c.read_quoted.ensures
 
 pub read_value-returns-in-45 : goal.read_value-returns-in-45
 read_value-returns-in-45 t c =
     let less : c.args.room ≡ suc (c.args.room - 1) = omega arith in
     rw (at_minus c.args.atoms.now c.args.room (c.args.room - 1) less c.args.text.now c.in-Some.first.now
-    c.in-Some.behind.now c.in-Some.ensures.cases.0 c.in-45.is) c.read_integer.ensures
+    c.in-Some.after.now c.in-Some.ensures.cases.0 c.in-45.is) c.read_integer.ensures
 
 pub read_value-returns-in_default-first : goal.read_value-returns-in_default-first
 read_value-returns-in_default-first t c =
     let less : c.args.room ≡ suc (c.args.room - 1) = omega arith in
     rw (at_digit c.args.atoms.now c.args.room (c.args.room - 1) less c.args.text.now c.in-Some.first.now
-    c.in-Some.behind.now c.in-Some.ensures.cases.0 (sym c.if-is_digit.ensures))
+    c.in-Some.after.now c.in-Some.ensures.cases.0 (sym c.if-is_digit.ensures))
     c.read_integer-in_default-first.ensures
 
 pub read_value-returns-in_default-2 : goal.read_value-returns-in_default-2
@@ -129,5 +129,5 @@ read_value-returns-in_default-2 t c =
     let not_quote : c.in-Some.first.now ≢ 39 = search rules in
     let not_minus : c.in-Some.first.now ≢ 45 = search rules in
     rw (at_other c.args.atoms.now c.args.room (c.args.room - 1) less c.args.text.now c.in-Some.first.now
-    c.in-Some.behind.now c.in-Some.ensures.cases.0
+    c.in-Some.after.now c.in-Some.ensures.cases.0
     not_brace not_bracket not_quote not_minus (sym c.if-is_digit.ensures)) c.read_plain.ensures

@@ -12,8 +12,8 @@ returns c =
     let ms = c.in-Some.others.now in
     let whole : c.args.numbers.now ≡ n ∷ ms = search rules in
     let first : c.put_number.new.out.items ≡ before ++ decimal n = search rules in
-    let told : (before ++ decimal n) ++ after_commas ms ≡ before ++ schedule_text c.args.numbers.now =
+    let reported : (before ++ decimal n) ++ after_commas ms ≡ before ++ schedule_text c.args.numbers.now =
     append_assoc before (decimal n) (after_commas ms) ∙ ap (λ (t : List ℕ). before ++ t) (by_commas n ms)
     ∙ ap (λ (ns : List ℕ). before ++ schedule_text ns) (sym whole) in
-    on_ok_weaker c.put_others.result (λ e. e ∙ ap (λ (t : List ℕ). t ++ after_commas ms) first ∙ told)
+    on_ok_weaker c.put_others.result (λ e. e ∙ ap (λ (t : List ℕ). t ++ after_commas ms) first ∙ reported)
     c.put_others.ensures

@@ -9,6 +9,6 @@ pub returns-in-Some-clause-within : goal.returns-in-Some-clause-within
 returns-in-Some-clause-within c =
     let bytes = c.args.bytes.now in
     let m = c.in-Some.mark in
-    let stands = begins_within bytes (mark_text m)
+    let is_there = begins_within bytes (mark_text m)
     (find_passes (λ mark. starts_with nat_eq bytes (mark_text mark)) marks m (sym c.in-Some.ensures)) in
-    omega (arith, stands, ap length c.text.ensures, ap (λ p. p.length) c.token.ensures)
+    omega (arith, is_there, ap length c.text.ensures, ap (λ p. p.length) c.token.ensures)

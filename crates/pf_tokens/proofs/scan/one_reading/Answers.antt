@@ -3,13 +3,13 @@ use Rattle.pf_errors.specs.declared.code.Code.{Code}
 use Rattle.pf_tokens.specs.TokenKinds.{PlacedToken}
 use Rattle.pf_tokens.specs.Rules.{HasSomeTokens, HasSomeFault}
 use Rattle.pf_tokens.specs.Scan.{Read, tokens}
-use Rattle.pf_tokens.proofs.Texts.{Tells, tokens_tell, tokens_again, tokens_fail}
+use Rattle.pf_tokens.proofs.Texts.{Reports, tokens_report, tokens_again, tokens_fail}
 use Rattle.pf_tokens.proofs.scan.one_reading.Goals as goal
 
 -- what is read is tokens or a fault
-some : (text : List ℕ) (read : Read (List PlacedToken)) → Tells text read → HasSomeTokens text ⊎ HasSomeFault text
-some text (Ok ts) tells = inl (ts, tells)
-some text (Err e) tells = inr (e.0, e.1, tells)
+some : (text : List ℕ) (read : Read (List PlacedToken)) → Reports text read → HasSomeTokens text ⊎ HasSomeFault text
+some text (Ok ts) reports = inl (ts, reports)
+some text (Err e) reports = inr (e.0, e.1, reports)
 
 abbrev found : List PlacedToken → Read (List PlacedToken)
 found ts = Ok ts
@@ -26,7 +26,7 @@ one_fault f g m n e =
     (ap (λ (p : Code × ℕ). p.0) same, ap (λ (p : Code × ℕ). p.1) same)
 
 pub returns-clause-either : goal.returns-clause-either
-returns-clause-either c text = some text (tokens text) (tokens_tell text)
+returns-clause-either c text = some text (tokens text) (tokens_report text)
 
 pub returns-clause-apart : goal.returns-clause-apart
 returns-clause-apart c text some none =

@@ -7,7 +7,7 @@ use Rattle.pf_errors.specs.declared.fault.OrNoMemory.TheVariants.{NoMemory, Faul
 use Rattle.pf_tokens.specs.TokenKinds.{PlacedToken, placed_of}
 use Rattle.pf_tokens.specs.Rules.{HasTokens, IsOrdered, IsFaultOf}
 use Rattle.pf_tokens.specs.Scan.{Read, Gives, tokens}
-use Rattle.pf_tokens.proofs.Texts.{Tells, tokens_tell, tokens_again, tokens_fail, ordered}
+use Rattle.pf_tokens.proofs.Texts.{Reports, tokens_report, tokens_again, tokens_fail, ordered}
 use Rattle.pf_tokens.proofs.scan.tokens.Goals as goal
 
 abbrev Outcome : Type 0
@@ -18,7 +18,7 @@ IsRead text r = Gives (λ found. map placed_of found.items) r (tokens text)
 
 has_tokens : (text : List ℕ) (r : Outcome) → IsRead text r
     → IfOk r (λ found. HasTokens text (map placed_of found.items))
-has_tokens text (Ok v) is = subst (Tells text) is (tokens_tell text)
+has_tokens text (Ok v) is = subst (Reports text) is (tokens_report text)
 has_tokens text (Err e) is = tt
 
 in_order : (text : List ℕ) (r : Outcome) → IsRead text r
@@ -29,7 +29,7 @@ in_order text (Err e) is = tt
 has_fault : (text : List ℕ) (r : Outcome) → IsRead text r → IfErr r (IsFaultOf text)
 has_fault text (Ok v) is = tt
 has_fault text (Err NoMemory) is = tt
-has_fault text (Err (Fault r)) is = subst (Tells text) is (tokens_tell text)
+has_fault text (Err (Fault r)) is = subst (Reports text) is (tokens_report text)
 
 gives : (text : List ℕ) (r : Outcome) (read : Read (List PlacedToken)) → tokens text ≡ read → IsRead text r
     → Gives (λ found. map placed_of found.items) r read

@@ -9,14 +9,14 @@ use Rattle.pf_streams.proofs.Writes.{appends_both}
 use Rattle.pf_model.specs.Meaning.{Event}
 use Rattle.pf_model.specs.Reports.{view_of_event}
 use Rattle.pf_model.specs.declared.report.Event as code
-use Rattle.pf_trace.specs.Written.{gone_from, lines_text, told_so_far}
+use Rattle.pf_trace.specs.Written.{gone_from, lines_text, reported_so_far}
 use Rattle.pf_trace.proofs.Fronts.{handed_on, lines_of_both, stops_among}
 use Rattle.pf_trace.proofs.printing.print_events.Goals as goal
 
 -- the events after those that were put
-rest_of : (es : List code.Event) (i : ℕ) (told : List Event) → map view_of_event (take i es) ≡ told
-    → map view_of_event es ≡ told ++ map view_of_event (drop i es)
-rest_of es i told e =
+rest_of : (es : List code.Event) (i : ℕ) (reported : List Event) → map view_of_event (take i es) ≡ reported
+    → map view_of_event es ≡ reported ++ map view_of_event (drop i es)
+rest_of es i reported e =
     ap (map view_of_event) (sym (take-append-drop i es)) ∙ map-append view_of_event (take i es) (drop i es)
     ∙ ap (λ (t : List Event). t ++ map view_of_event (drop i es)) e
 
@@ -36,7 +36,7 @@ returns-in_err-add-clause-fault g c =
     let name = name_of c.args.atoms.now in
     let es = c.args.events.now in
     let gone = gone_from l.pieces in
-    let waiting = told_so_far l.pieces.lines in
+    let waiting = reported_so_far l.pieces.lines in
     handed_on c.from_residual.result NoMemory _ c.from_residual.ensures
     (λ r same.
     stops_among name NoMemory r gone waiting (map view_of_event (drop l.event-index es)) _ _ _ _ _
@@ -49,10 +49,10 @@ returns-in_err-print_full-clause-fault g c =
     let es = c.args.events.now in
     let p = c.add.new.self in
     let gone = gone_from l.pieces in
-    let now = told_so_far p.lines in
+    let now = reported_so_far p.lines in
     let f = c.in_err-print_full.field-0.0 in
-    let told =
-    one_more es l.event-index c.event-item.result gone (told_so_far l.pieces.lines) now c.loop-event-test.true
+    let reported =
+    one_more es l.event-index c.event-item.result gone (reported_so_far l.pieces.lines) now c.loop-event-test.true
     c.event-item.is l.invariant.out.0
     c.in_ok-add.ensures.event in
     let leaves =
@@ -62,7 +62,7 @@ returns-in_err-print_full-clause-fault g c =
     handed_on c.from_residual-in_err-print_full.result f _ c.from_residual-in_err-print_full.ensures
     (λ r same.
     stops_among name f r gone now (map view_of_event (drop (l.event-index + 1) es)) _ _ _ _ _
-    (same ∙ rest_of es (l.event-index + 1) (gone ++ now) told) l.invariant.out.2 leaves)
+    (same ∙ rest_of es (l.event-index + 1) (gone ++ now) reported) l.invariant.out.2 leaves)
 
 pub loop-event-preserved : goal.loop-event-preserved
 loop-event-preserved g c =
@@ -70,15 +70,15 @@ loop-event-preserved g c =
     let name = name_of c.args.atoms.now in
     let es = c.args.events.now in
     let gone = gone_from l.pieces in
-    let now = told_so_far c.add.new.self.lines in
-    let told =
-    one_more es l.event-index c.event-item.result gone (told_so_far l.pieces.lines) now c.loop-event-test.true
+    let now = reported_so_far c.add.new.self.lines in
+    let reported =
+    one_more es l.event-index c.event-item.result gone (reported_so_far l.pieces.lines) now c.loop-event-test.true
     c.event-item.is l.invariant.out.0
     c.in_ok-add.ensures.event in
     let out = c.in_ok-print_full.ensures.out name (c.in_ok-add.ensures.line l.invariant.out.1) in
     record {
       out = (
-        told ∙ ap (λ v. map (λ s. view_of_event s.value) v.items ++ now) (sym c.in_ok-add.ensures.gone) ∙ sym out.2,
+        reported ∙ ap (λ v. map (λ s. view_of_event s.value) v.items ++ now) (sym c.in_ok-add.ensures.gone) ∙ sym out.2,
         out.3,
         subst (Appends (g.W.Write.contents c.args.writer.now.inner) (g.W.Write.contents c.print_full.new.writer.inner))
             (sym (lines_of_both name gone out.0) ∙ ap (lines_text name)

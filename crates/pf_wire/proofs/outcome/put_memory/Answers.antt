@@ -2,9 +2,9 @@ use Rattle.std.proofs.Common.{◌≡◌, ◌++◌, ℕ, List, sym, ap, ◌∙◌
 use Rattle.std.specs.Prelude.{codes}
 use Rattle.std.proofs.lemmas.Result.{on_ok_weaker}
 use Rattle.pf_errors.specs.Codes.{no_memory_text}
-use Rattle.pf_desks.specs.Told.{to_project}
+use Rattle.pf_desks.specs.Reported.{to_project}
 use Rattle.pf_world.specs.Steps.{WorldStep, client_calls, worker_does}
-use Rattle.pf_world.specs.Told.{memory_text, to_worker}
+use Rattle.pf_world.specs.Reported.{memory_text, to_worker}
 use Rattle.pf_wire.specs.Outcomes.{requester_of}
 use Rattle.pf_wire.specs.declared.outcome.Requester.TheVariants.{Client, Worker}
 use Rattle.pf_wire.proofs.outcome.put_memory.Goals as goal

@@ -15,7 +15,7 @@ loop-alloc-init g c = record {
   so_far = λ p right. at_hand_first p c.args.is_over c.args.input.now c.new.result.items c.args.world.now c.args.first _
       c.new.ensures.items;
   leads = leads_first c.args.is_over c.args.input.now c.args.first;
-  untold = refl;
+  unreported = refl;
   same = refl;
   within = omega arith;
 }
@@ -42,19 +42,19 @@ returns-in-Err-clause-fault g c =
           c.in_ok-send-in-Err.ensures.sent.0),
     )
 
-pub returns-in_err-add_told-clause-fault : goal.returns-in_err-add_told-clause-fault
-returns-in_err-add_told-clause-fault g c =
+pub returns-in_err-add_reported-clause-fault : goal.returns-in_err-add_reported-clause-fault
+returns-in_err-add_reported-clause-fault g c =
     let l = c.loop-alloc in
     let due = sym c.is_due.ensures ∙ c.loop-alloc-test.true in
-    handed_on c.from_residual-in_err-add_told.result (Fault c.in_err-add_told.field-0.0) _
-    c.from_residual-in_err-add_told.ensures
+    handed_on c.from_residual-in_err-add_reported.result (Fault c.in_err-add_reported.field-0.0) _
+    c.from_residual-in_err-add_reported.ensures
     (λ p right.
-    leaves_at p c.args.is_over c.args.input.now c.args.world.now c.args.first _ _ c.in_err-add_told.field-0.0 _ _ _
-    l.invariant.same c.in_err-add_told.ensures.counted
+    leaves_at p c.args.is_over c.args.input.now c.args.world.now c.args.first _ _ c.in_err-add_reported.field-0.0 _ _ _
+    l.invariant.same c.in_err-add_reported.ensures.counted
     (more_in_part p right c.args.is_over c.args.input.now l.gathered.text.items l.rest.now c.args.world.now l.world
     c.answer_front.new.world c.args.first l.number _ _ _
-    (whole_text c.answer_front.new.told) _ (l.invariant.so_far p right) due c.in-Ok.ensures
-    c.in_err-add_told.ensures.front))
+    (whole_text c.answer_front.new.reported) _ (l.invariant.so_far p right) due c.in-Ok.ensures
+    c.in_err-add_reported.ensures.front))
 
 pub returns-in_err-send-clause-fault : goal.returns-in_err-send-clause-fault
 returns-in_err-send-clause-fault g c =
@@ -63,22 +63,22 @@ returns-in_err-send-clause-fault g c =
     handed_on c.from_residual-in_err-send.result (Fault c.in_err-send.field-0.0) _ c.from_residual-in_err-send.ensures
     (λ p right.
     leaves_at p c.args.is_over c.args.input.now c.args.world.now c.args.first _ _ c.in_err-send.field-0.0 _ _ _
-    (c.in_ok-add_told.ensures.kept ∙ l.invariant.same) c.in_err-send.ensures.counted
-    (ends_ill_in_part p right c.args.is_over c.args.input.now l.gathered.text.items c.add_told.new.self.text.items
+    (c.in_ok-add_reported.ensures.kept ∙ l.invariant.same) c.in_err-send.ensures.counted
+    (ends_ill_in_part p right c.args.is_over c.args.input.now l.gathered.text.items c.add_reported.new.self.text.items
     l.rest.now c.args.world.now l.world c.answer_front.new.world
-    c.args.first l.number _ _ _ _ (whole_text c.answer_front.new.told) (l.invariant.so_far p right) due
+    c.args.first l.number _ _ _ _ (whole_text c.answer_front.new.reported) (l.invariant.so_far p right) due
     (rw c.in_default.is at c.in-Ok.ensures)
-    c.in_ok-add_told.ensures.added c.in_err-send.ensures.front))
+    c.in_ok-add_reported.ensures.added c.in_err-send.ensures.front))
 
 pub returns-in_default-clause-answered : goal.returns-in_default-clause-answered
 returns-in_default-clause-answered g c =
     let l = c.loop-alloc in
     let due = sym c.is_due.ensures ∙ c.loop-alloc-test.true in
     λ p right.
-    ends_ill p right c.args.is_over c.args.input.now l.gathered.text.items c.add_told.new.self.text.items l.rest.now
+    ends_ill p right c.args.is_over c.args.input.now l.gathered.text.items c.add_reported.new.self.text.items l.rest.now
     c.args.world.now l.world c.answer_front.new.world c.args.first l.number _ _ _ _
-    (whole_text c.answer_front.new.told) (l.invariant.so_far p right) due (rw c.in_default.is at c.in-Ok.ensures)
-    c.in_ok-add_told.ensures.added
+    (whole_text c.answer_front.new.reported) (l.invariant.so_far p right) due (rw c.in_default.is at c.in-Ok.ensures)
+    c.in_ok-add_reported.ensures.added
     c.in_ok-send.ensures.sent.0
 
 pub loop-alloc-smaller : goal.loop-alloc-smaller
@@ -86,7 +86,7 @@ loop-alloc-smaller g c =
     let l = c.loop-alloc in
     let due = sym c.is_due.ensures ∙ c.loop-alloc-test.true in
     shorter_after c.args.is_over l.rest.now c.in-Some.after.now l.number l.world c.answer_front.new.world
-    (whole_text c.answer_front.new.told) due (rw c.in-Some.is at c.in-Ok.ensures)
+    (whole_text c.answer_front.new.reported) due (rw c.in-Some.is at c.in-Ok.ensures)
 
 pub loop-alloc-preserved : goal.loop-alloc-preserved
 loop-alloc-preserved g c =
@@ -94,21 +94,21 @@ loop-alloc-preserved g c =
     let due = sym c.is_due.ensures ∙ c.loop-alloc-test.true in
     let one = rw c.in-Some.is at c.in-Ok.ensures in
     let less = shorter_after c.args.is_over l.rest.now c.in-Some.after.now l.number l.world c.answer_front.new.world
-    (whole_text c.answer_front.new.told) due one in
+    (whole_text c.answer_front.new.reported) due one in
     record {
       so_far = λ p right.
-          at_hand_more p right c.args.is_over c.args.input.now l.gathered.text.items c.add_told.new.self.text.items
+          at_hand_more p right c.args.is_over c.args.input.now l.gathered.text.items c.add_reported.new.self.text.items
           l.rest.now c.in-Some.after.now c.args.world.now l.world
-          c.answer_front.new.world c.args.first l.number _ _ _ (whole_text c.answer_front.new.told)
+          c.answer_front.new.world c.args.first l.number _ _ _ (whole_text c.answer_front.new.reported)
           (l.invariant.so_far p right) due one
-          c.in_ok-add_told.ensures.added;
+          c.in_ok-add_reported.ensures.added;
       leads =
           leads_both c.args.is_over c.args.input.now l.rest.now c.in-Some.after.now c.args.first l.number (l.number + 1)
           l.invariant.leads
-          (leads_one c.args.is_over l.rest.now c.in-Some.after.now (whole_text c.answer_front.new.told) l.world
+          (leads_one c.args.is_over l.rest.now c.in-Some.after.now (whole_text c.answer_front.new.reported) l.world
           c.answer_front.new.world l.number due one);
-      untold = l.invariant.untold;
-      same = c.in_ok-add_told.ensures.kept ∙ l.invariant.same;
+      unreported = l.invariant.unreported;
+      same = c.in_ok-add_reported.ensures.kept ∙ l.invariant.same;
       within = omega (arith, less, l.invariant.within);
     }
 
@@ -147,4 +147,4 @@ returns-in_default-clause-ending g c =
     )
 
 pub returns-clause-ending : goal.returns-clause-ending
-returns-clause-ending g c = (c.loop-alloc.invariant.leads, c.loop-alloc.invariant.untold)
+returns-clause-ending g c = (c.loop-alloc.invariant.leads, c.loop-alloc.invariant.unreported)

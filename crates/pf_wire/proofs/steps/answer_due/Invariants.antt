@@ -13,7 +13,7 @@ invariant-loop-alloc g l =
           l.world l.number
           (contents l.fn.writer.inner) (contents l.writer.inner));
       leads : LeadsTo l.is_over l.input l.rest l.first l.number;
-      untold : l.ending ≡ l.fn.ending;
+      unreported : l.ending ≡ l.fn.ending;
       same : l.writer.failures.total ≡ l.fn.writer.failures.total;
       within : l.number + length l.rest ≤ l.first + length l.input;
     }

@@ -7,4 +7,4 @@ pub returns-in_err-status : goal.returns-in_err-status
 returns-in_err-status g c =
     sent_on (RunAnswers (view_of_run_args c.args.args.now) c.args.source.now) _ _ _ _ c.from_residual.result
     c.in_err-status.field-0.0
-    c.from_residual.ensures c.in_err-status.ensures.told
+    c.from_residual.ensures c.in_err-status.ensures.reported

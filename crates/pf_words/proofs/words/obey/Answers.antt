@@ -1,6 +1,6 @@
 use Rattle.std.proofs.Common.{◌∙◌, refl, map, sym, ap}
 use Rattle.pf_cli.specs.Args.{named_file, view_of_command, view_of_reading}
-use Rattle.pf_words.proofs.Told.{asked_obeys, file_obeys, text_obeys}
+use Rattle.pf_words.proofs.Reported.{asked_obeys, file_obeys, text_obeys}
 use Rattle.pf_words.proofs.words.obey.Goals as goal
 
 pub returns-in-Asked : goal.returns-in-Asked
@@ -11,9 +11,9 @@ returns-in-Asked g c =
 
 pub returns-in-Text : goal.returns-in-Text
 returns-in-Text g c =
-    text_obeys (map (λ w. w.now) c.args.words.now) _ _ _ _ c.tell.result
+    text_obeys (map (λ w. w.now) c.args.words.now) _ _ _ _ c.notify.result
     (sym (ap view_of_reading c.in-Text.is) ∙ c.in_ok-asked.ensures)
-    (refl, refl, c.tell.ensures)
+    (refl, refl, c.notify.ensures)
 
 pub returns-in-ScheduleIn : goal.returns-in-ScheduleIn
 returns-in-ScheduleIn g c =

@@ -1,6 +1,6 @@
 use Rattle.std.proofs.Common.{refl, inl, inr}
 use Rattle.pf_cli.specs.Args.{named_file, view_of_command}
-use Rattle.pf_words.proofs.Told.{or_refused}
+use Rattle.pf_words.proofs.Reported.{or_refused}
 use Rattle.pf_words.proofs.words.obey_asked_by.Goals as goal
 
 pub returns-then-is_none : goal.returns-then-is_none

@@ -1,5 +1,5 @@
 use Rattle.std.proofs.Common.{refl, map, inr}
-use Rattle.pf_words.proofs.Told.{are_contents, by_contents}
+use Rattle.pf_words.proofs.Reported.{are_contents, by_contents}
 use Rattle.pf_words.proofs.words.obey_schedule.Goals as goal
 
 pub returns-in-Ok : goal.returns-in-Ok

@@ -5,4 +5,4 @@ use Rattle.pf_cli_messages.proofs.progress.SeedsHuntObserver.progress.Goals as g
 pub returns : goal.returns
 returns g c before heard =
     heard_run c.args.self.now.leak before heard c.pace.new.self.leak c.args.done c.args.failures c.pace.result
-    (c.pace.ensures ∙ c.tell.ensures)
+    (c.pace.ensures ∙ c.notify.ensures)

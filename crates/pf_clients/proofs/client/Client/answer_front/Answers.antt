@@ -2,7 +2,7 @@ use Rattle.std.proofs.Common.{sym, ap, ◌∙◌}
 use Rattle.pf_protocol.specs.Clients.{client_line_at}
 use Rattle.pf_protocol.specs.View.{view_of_client_line}
 use Rattle.pf_wire.proofs.Adding.{at_err}
-use Rattle.pf_clients.specs.Texts.{told_text}
+use Rattle.pf_clients.specs.Texts.{reported_text}
 use Rattle.pf_clients.proofs.Lines.{front_answered, front_cut}
 use Rattle.pf_clients.proofs.client.Client.answer_front.Goals as goal
 
@@ -13,7 +13,7 @@ returns-in_err-answer_line-in-Ok-clause-err g c =
     let at = ap (λ q. client_line_at q c.args.bytes.now) (sym c.project.ensures) ∙ c.in-Ok.ensures.line in
     at_err c.from_residual.result
     (front_cut c.args.bytes.now c.in-Ok.rest.now (view_of_client_line c.in-Ok.line) was.seat is.seat
-    (told_text was.told.items) (told_text is.told.items) at
+    (reported_text was.reported.items) (reported_text is.reported.items) at
     c.in_err-answer_line-in-Ok.ensures.err)
 
 pub returns-in_ok-answer_line-in-Ok-clause-answered : goal.returns-in_ok-answer_line-in-Ok-clause-answered
@@ -22,5 +22,5 @@ returns-in_ok-answer_line-in-Ok-clause-answered g c =
     let is = c.answer_line.new.self in
     let at = ap (λ q. client_line_at q c.args.bytes.now) (sym c.project.ensures) ∙ c.in-Ok.ensures.line in
     front_answered c.args.bytes.now c.in-Ok.rest.now c.args.number (view_of_client_line c.in-Ok.line) was.seat is.seat
-    (told_text was.told.items) (told_text is.told.items) at
+    (reported_text was.reported.items) (reported_text is.reported.items) at
     c.in_ok-answer_line-in-Ok.ensures.answered

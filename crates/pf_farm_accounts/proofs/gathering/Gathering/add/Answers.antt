@@ -2,7 +2,7 @@ use Rattle.std.proofs.Common.{◌≡◌, ℕ, ◌+◌, List, ◌++◌, length, s
 use Rattle.pf_farm_accounts.specs.Places.{StartsWith}
 use Rattle.pf_farm_accounts.specs.declared.receipt.Receipt.{Receipt}
 use Rattle.pf_farm_accounts.specs.Receipts.{AreNumbered, IsSeat, standing_at, gathering_of}
-use Rattle.pf_farm_accounts.proofs.Standing.{standing_append, still_stands}
+use Rattle.pf_farm_accounts.proofs.Standing.{standing_append, is_still_there}
 use Rattle.pf_farm_accounts.proofs.gathering.Gathering.add.Goals as goal
 
 -- the receipts of those gathered before, and of the seat
@@ -12,7 +12,7 @@ standing : {C A : Type 0} (k k' : List (Receipt C A) × List ℕ) (t : List ℕ 
 standing {C} {A} k k' t q rs is starts seat =
     let begins : StartsWith k.0 t.1 = subst (λ (x : List (Receipt C A) × List ℕ). StartsWith x.0 t.1) is starts in
     ap (λ (x : List (Receipt C A) × List ℕ). standing_at x.1 x.0) is ∙ standing_append k.1 t.0 k.0
-    ∙ ap (λ l. standing_at k.1 k.0 ++ l) (still_stands t.0 t.1 k.0 seat.below begins ∙ sym seat.standing)
+    ∙ ap (λ l. standing_at k.1 k.0 ++ l) (is_still_there t.0 t.1 k.0 seat.below begins ∙ sym seat.standing)
 
 same_log : {C A : Type 0} (k k' : List (Receipt C A) × List ℕ) (ks : List ℕ) → k' ≡ (k.0, ks) → k'.0 ≡ k.0
 same_log {C} {A} k k' ks is = ap (λ (x : List (Receipt C A) × List ℕ). x.0) is
@@ -21,7 +21,7 @@ pub invariant_of-self : goal.invariant_of-self
 invariant_of-self g c =
     let s = c.seat.inside in
     let k = c.self.inside.register in
-    let stand = standing k c.take_back.new.self s.token s.project s.receipts.items c.take_back.ensures.register
+    let are_there = standing k c.take_back.new.self s.token s.project s.receipts.items c.take_back.ensures.register
     c.take_back.ensures.seen c.seat.invariant.2 in
     let log = same_log k c.take_back.new.self (k.1 ++ s.token.0) c.take_back.ensures.register in (
       c.self.invariant.0 ∙ ap (λ l. length l) (sym log),
@@ -30,7 +30,7 @@ invariant_of-self g c =
         c.merge.ensures.amount,
         c.self.invariant.1,
         c.seat.invariant.1,
-        ap (λ l. length l) stand,
+        ap (λ l. length l) are_there,
         length-append (standing_at k.1 k.0) s.receipts.items,
       ),
       c.take_back.ensures.below,
@@ -41,9 +41,9 @@ pub returns-clause-gathered : goal.returns-clause-gathered
 returns-clause-gathered g c =
     let s = c.seat.inside in
     let k = c.self.inside.register in
-    let stand = standing k c.take_back.new.self s.token s.project s.receipts.items c.take_back.ensures.register
+    let are_there = standing k c.take_back.new.self s.token s.project s.receipts.items c.take_back.ensures.register
     c.take_back.ensures.seen c.seat.invariant.2 in
     let log = same_log k c.take_back.new.self (k.1 ++ s.token.0) c.take_back.ensures.register in
     let parts : c.merge.new.self.parts ≡ c.self.inside.all.parts + 1 =
     omega (arith, c.merge.ensures.parts, c.seat.invariant.0) in
-    rw (← c.self.view_is, ← c.seat.view_is) (λ i. gathering_of (log i) (stand i) (parts i))
+    rw (← c.self.view_is, ← c.seat.view_is) (λ i. gathering_of (log i) (are_there i) (parts i))

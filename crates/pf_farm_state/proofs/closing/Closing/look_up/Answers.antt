@@ -16,10 +16,10 @@ seats-preserved c = λ p right.
     let all : c.deref-seat-items.result.now ≡ ss = c.deref-seat-items.ensures.value in
     let is : s ≡ get_or ss l.seat-index s = c.seat-item.is ∙ ap (λ xs. get_or xs l.seat-index s) all in
     let within : l.seat-index < length ss = omega (arith, ap (λ xs. length xs) all, c.seats-test.true) in
-    let one : IsLegalDesk p (desk_at (get_or ss l.seat-index s).told.project w) =
-    subst (λ (x : ClosedSeat). IsLegalDesk p (desk_at x.told.project w)) is (c.note_count.ensures.legal p right) in
+    let one : IsLegalDesk p (desk_at (get_or ss l.seat-index s).reported.project w) =
+    subst (λ (x : ClosedSeat). IsLegalDesk p (desk_at x.reported.project w)) is (c.note_count.ensures.legal p right) in
     subst (λ t. AreLegal p t w) (sym (take_more ss l.seat-index s within))
-    (All-push (λ (x : ClosedSeat). IsLegalDesk p (desk_at x.told.project w)) (take l.seat-index ss)
+    (All-push (λ (x : ClosedSeat). IsLegalDesk p (desk_at x.reported.project w)) (take l.seat-index ss)
     (get_or ss l.seat-index s) (l.invariant p right) one)
 
 pub returns : goal.returns

@@ -4,7 +4,7 @@ use Rattle.std.proofs.lemmas.Result.{on_ok_weaker}
 use Rattle.pf_hunt.specs.RowHashes.{row_hash}
 use Rattle.pf_hunt.specs.Rows.{more_often}
 use Rattle.pf_hunt.specs.Views.{row_of, rows_in}
-use Rattle.pf_hunt.proofs.Indices.{counts_within, hashes_stay, is_added, stands_behind}
+use Rattle.pf_hunt.proofs.Indices.{counts_within, hashes_stay, is_added, is_later_there}
 use Rattle.pf_hunt.proofs.tally.Tally.add.Goals as goal
 
 pub overflow_add-index_mut : goal.overflow_add-index_mut
@@ -36,4 +36,4 @@ returns-in-Some c =
 pub returns-in-None : goal.returns-in-None
 returns-in-None c =
     let rows = c.args.self.now.rows.items in
-    on_ok_weaker c.push.result (λ e. ap rows_in e ∙ stands_behind c.args.row rows c.in-None.ensures) c.push.ensures
+    on_ok_weaker c.push.result (λ e. ap rows_in e ∙ is_later_there c.args.row rows c.in-None.ensures) c.push.ensures

@@ -50,11 +50,11 @@ loop-at-preserved c =
       length-map xs row_hash,
     ) in
     let x = c.index.result.now in
-    let stands : slice_get xs i ≡ Some x = slice_get-get_or xs i x within ∙ ap (λ v. Some v) (sym c.index.ensures) in
+    let is_there : slice_get xs i ≡ Some x = slice_get-get_or xs i x within ∙ ap (λ v. Some v) (sym c.index.ensures) in
     let first = subst (λ o. IsFirstFrom xs y (end_of o) c.loop-at.first) c.in-Some.is c.loop-at.invariant.first in
     record {
       hash = has_its_hash xs y i next before;
       first =
           subst (IsFirstFrom xs y (end_of next)) (sym c.chosen-first.ensures)
-          (one_looked_at xs y i x next c.loop-at.first c.is_like.result stands c.is_like.ensures before first);
+          (one_looked_at xs y i x next c.loop-at.first c.is_like.result is_there c.is_like.ensures before first);
     }

@@ -8,7 +8,7 @@ use Rattle.pf_hunt.proofs.tally.Tally.join.Goals as goal
 
 pub loop-row-init : goal.loop-row-init
 loop-row-init c =
-    let all : into_iter_items c.into_iter-row-iterator.result ≡ c.args.behind.rows.items =
+    let all : into_iter_items c.into_iter-row-iterator.result ≡ c.args.after.rows.items =
     c.into_iter-row-iterator.ensures.into_iter_gives.0 in
     record {
       rows = ap (λ xs. rows_joined (rows_of c.args.self.now) (rows_in xs)) all;

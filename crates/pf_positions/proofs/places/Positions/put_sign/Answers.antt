@@ -20,7 +20,7 @@ loop-spot-preserved c =
     let s = get_or spots i no_spot in
     let invariant = c.loop-spot.invariant in
     let lt : i < length spots = omega arith in
-    let stands : slice_get spots i ≡ Some s = slice_get-get_or spots i no_spot lt in
+    let is_there : slice_get spots i ≡ Some s = slice_get-get_or spots i no_spot lt in
     elim c.if-has_number.branch [
       | then-has_number w ↦ (
           let has : has_number number s.sign ≡ true = sym c.has_number.ensures ∙ w.if-has_number.true in
@@ -32,7 +32,7 @@ loop-spot-preserved c =
                 c.loop-spot.rank w.line_of-line.result has
                 w.deref.ensures.value c.in_ok-lines.ensures invariant.rank_is w.line_of-line.ensures in
                 let place : Position = record { function = s.function; line = w.line_of-line.result } in
-                let put = put_here number spots ws i c.loop-spot.self w'.put.new.self s w'.in-Some.node.0 place stands
+                let put = put_here number spots ws i c.loop-spot.self w'.put.new.self s w'.in-Some.node.0 place is_there
                 (ap (option_map (λ (n : NodeId). n.0)) w'.in-Some.is)
                 (ap (λ (l : Option ℕ). record { function = s.function; line = l }) line)
                 w'.in_ok-put.ensures invariant.so_far in
@@ -42,7 +42,7 @@ loop-spot-preserved c =
                       subst (SoFar number spots ws (i + 1)) (sym (w.self-is ∙ w'.self-is)) put;
                 })
             | in_default w' ↦ (
-                let none = no_node number spots ws i c.loop-spot.self s stands
+                let none = no_node number spots ws i c.loop-spot.self s is_there
                 (ap (option_map (λ (n : NodeId). n.0)) w'.in_default.is) invariant.so_far in
                 record {
                   rank_is = ranked;
@@ -52,7 +52,7 @@ loop-spot-preserved c =
           ])
       | else-has_number w ↦ (
           let other = sym c.has_number.ensures ∙ w.if-has_number.false in
-          let same = other_sign number spots ws i c.loop-spot.self s stands other invariant.so_far in
+          let same = other_sign number spots ws i c.loop-spot.self s is_there other invariant.so_far in
           record {
             rank_is = w.rank-is ∙ invariant.rank_is
                 ∙ sym (count_by_more_no (λ (x : Spot). has_number number x.sign) spots i no_spot lt other);

@@ -13,7 +13,7 @@ returns-in_err-read-clause-fault c =
     let ts = map placed_of c.deref.result.now in
     let has : HasTokens text ts = subst (λ xs. HasTokens text (map placed_of xs)) (sym c.deref.ensures.value)
     c.in_ok-found.ensures.found in
-    let told : IsNoPatternText c.args.atoms.now text c.in_err-read.field-0.0 =
+    let reported : IsNoPatternText c.args.atoms.now text c.in_err-read.field-0.0 =
     without_pattern c.args.atoms.now text ts has c.in_err-read.field-0.0 c.in_err-read.ensures.fault in
     search rules
 

@@ -6,8 +6,8 @@ use Rattle.pf_sched.proofs.printing.Printer.new.Goals as goal
 both_none : (xs ys : List Event) → xs ≡ [] → ys ≡ [] → xs ++ ys ≡ []
 both_none xs ys a b = rw (a, b) refl
 
-pub returns-clause-told : goal.returns-clause-told
-returns-clause-told c = (
+pub returns-clause-reported : goal.returns-clause-reported
+returns-clause-reported c = (
   (
     (ap (λ k. k.asked.property) c.job.view_is, (c.new-2.ensures c.args.job.now.asked).0.1),
     (c.new-2.ensures c.args.job.now.asked).1,

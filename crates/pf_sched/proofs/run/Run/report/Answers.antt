@@ -18,7 +18,7 @@ returns c cs run over =
     let ls = labels_in es in
     let o = view_of_outcome c.in_ok-outcome.outcome in
     let same = ap (λ k. k.asked.property) c.job.view_is in
-    let told : c.judge-verdict.result ≡ verdict j.asked.property ls o =
+    let reported : c.judge-verdict.result ≡ verdict j.asked.property ls o =
     c.judge-verdict.ensures ls (subst (λ p. c.args.self.written.ruled_out ≡ some_label (rules_out p) ls)
     (sym same) run.ruled_out) ∙ ap (λ p. verdict p ls o) same in
     let r : WrittenReport = record {
@@ -33,7 +33,7 @@ returns c cs run over =
       events = c.finish.ensures.events;
       outcome = c.in_ok-outcome.ensures.outcome;
       steps = c.steps-steps.ensures;
-      verdict = told;
+      verdict = reported;
     } in (
       (
         means j cs es c.args.self.execution run.run over (report_in r) closes,

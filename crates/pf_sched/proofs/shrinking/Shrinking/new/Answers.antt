@@ -3,6 +3,7 @@ use Rattle.rand_pcg.specs.Pcg.{pcg32}
 use Rattle.pf_choice.specs.Choices.{IsAt}
 use Rattle.pf_choice.specs.Words.{schedule_word}
 use Rattle.pf_model.specs.Meaning.{schedule}
+use Rattle.pf_sched.specs.Choosing.{choices}
 use Rattle.pf_sched.proofs.Shrunk.{shrinking_begins}
 use Rattle.pf_sched.proofs.shrinking.Shrinking.new.Goals as goal
 
@@ -14,4 +15,5 @@ returns-clause-shrinking c =
     shrinking_begins c.args.job.now c.new.result c.in_ok-new.field-0 _ c.args.runs ns c.in_ok-from_slice-2.field-0.items
     c.requires.runs c.requires.job_runs c.requires.job_choices
     c.in_ok-from_slice-2.ensures.items c.new.ensures.begins
-    (c.in_ok-new.ensures.run (schedule ns) (record { at = first; profile = c.schedule-choices.ensures.profile }))
+    (c.in_ok-new.ensures.run (choices (schedule ns))
+    (record { at = first; profile = c.schedule-choices.ensures.profile }))

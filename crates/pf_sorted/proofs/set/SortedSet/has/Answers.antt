@@ -1,7 +1,7 @@
 use Rattle.std.proofs.Common.{◌∙◌}
-use Rattle.pf_sorted.proofs.Sets.{told}
+use Rattle.pf_sorted.proofs.Sets.{reported}
 use Rattle.pf_sorted.proofs.set.SortedSet.has.Goals as goal
 
 pub returns : goal.returns
-returns c = c.is_ok.ensures.value ∙ told c.args.number c.args.self.now c.index_of.result c.index_of.ensures.rises
+returns c = c.is_ok.ensures.value ∙ reported c.args.number c.args.self.now c.index_of.result c.index_of.ensures.rises
     c.index_of.ensures.found

@@ -8,7 +8,7 @@ use Rattle.pf_rules.specs.Static.{names_of_module}
 use Rattle.pf_static_check.specs.Marks.{status_of, trail_of}
 use Rattle.pf_static_check.specs.Walking.{ExprsWalked, ExprPatternsWalked}
 use Rattle.pf_static_check.specs.declared.variable_states.Status.TheVariants.{New}
-use Rattle.pf_static_check.proofs.Passing.{begins_anew}
+use Rattle.pf_static_check.proofs.Passing.{begins_again}
 use Rattle.pf_static_check.proofs.walk.ClauseWalk.head.Goals as goal
 
 pub returns : goal.returns
@@ -20,7 +20,7 @@ returns c =
     (expr_patterns_at node_table ids)) c.deref.ensures.value c.in_ok-expr_patterns.ensures in
     let body = subst (λ (ids : List ExprId). ExprsWalked n c.condition.new.self now (exprs_at node_table ids))
     c.deref-2.ensures.value c.in_ok-exprs.ensures in
-    begins_anew n c.args.self.now c.expr_patterns.new.self c.condition.new.self now _
+    begins_again n c.args.self.now c.expr_patterns.new.self c.condition.new.self now _
     (head_over node_table c.args.head.now) front c.in_ok-condition.ensures body refl
     (λ x. c.in_ok-forget.ensures.set x ∙ ap (λ (k : ℕ). if has (drop k (trail_of now.variables)) x then New
     else status_of now.variables x) c.trail_len-start.ensures)

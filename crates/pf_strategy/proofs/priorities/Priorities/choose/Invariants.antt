@@ -3,7 +3,7 @@ use Rattle.std.specs.Prelude.{drop, take}
 use Rattle.rand_pcg.specs.Pcg.{pcg32}
 use Rattle.pf_strategy.specs.Keys.{keys_among}
 use Rattle.pf_strategy.specs.Priorities.{all_given, highest_from}
-use Rattle.pf_strategy.proofs.Places.{behind}
+use Rattle.pf_strategy.proofs.Places.{following}
 use Rattle.pf_strategy.proofs.priorities.Priorities.choose.Given as goal
 
 -- those of the keys that were gone through are before the index with their priorities, the highest of them is known,
@@ -13,7 +13,7 @@ invariant-loop-at l = record {
   within : l.at ≤ length l.self.held.items;
   given :
       all_given pcg32 (keys_among l.pids l.channels) l.fn.self.generator l.fn.self.held.items
-      ≡ behind (take l.at l.self.held.items) (all_given pcg32 (drop l.at (keys_among l.pids l.channels))
+      ≡ following (take l.at l.self.held.items) (all_given pcg32 (drop l.at (keys_among l.pids l.channels))
       l.self.generator (drop l.at l.self.held.items));
   best : l.best ≤ l.at - 1;
   highest :

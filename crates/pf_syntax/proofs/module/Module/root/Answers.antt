@@ -3,7 +3,7 @@ use Rattle.std.specs.Prelude.{slice_get}
 use Rattle.std.specs.List.{list_any}
 use Rattle.std.specs.Str.{bytes_eq}
 use Rattle.pf_terms.specs.Atoms.{name_of}
-use Rattle.pf_terms.specs.Order.{TellsApart}
+use Rattle.pf_terms.specs.Order.{Distinguishes}
 use Rattle.pf_syntax.specs.Over.{function_over}
 use Rattle.pf_syntax.proofs.Roots.{no_atom, no_function, no_slot, exported, not_exported}
 use Rattle.pf_syntax.proofs.module.Module.root.Goals as goal
@@ -18,7 +18,7 @@ returns-in_err-atom c =
 pub returns-in_err-id : goal.returns-in_err-id
 returns-in_err-id c =
     let m = c.args.self.now in
-    let apart : TellsApart (name_of m.atoms) (length m.atoms) = rw c.atoms.ensures at c.len-names.ensures.distinct in
+    let apart : Distinguishes (name_of m.atoms) (length m.atoms) = rw c.atoms.ensures at c.len-names.ensures.distinct in
     let named : slice_get m.atoms c.in_ok-atom.atom.0 ≡ Some c.args.name.now =
     rw c.atoms-2.ensures at c.in_ok-atom.ensures.found in
     rw c.from_residual-in_err-id.ensures (sym (no_function c.args.name.now m.atoms m.functions c.in_ok-atom.atom.0 apart
@@ -27,7 +27,7 @@ returns-in_err-id c =
 pub returns-in_err-function : goal.returns-in_err-function
 returns-in_err-function c =
     let m = c.args.self.now in
-    let apart : TellsApart (name_of m.atoms) (length m.atoms) = rw c.atoms.ensures at c.len-names.ensures.distinct in
+    let apart : Distinguishes (name_of m.atoms) (length m.atoms) = rw c.atoms.ensures at c.len-names.ensures.distinct in
     let named : slice_get m.atoms c.in_ok-atom.atom.0 ≡ Some c.args.name.now =
     rw c.atoms-2.ensures at c.in_ok-atom.ensures.found in
     rw c.from_residual-in_err-function.ensures
@@ -37,7 +37,7 @@ returns-in_err-function c =
 pub returns-then-function : goal.returns-then-function
 returns-then-function c =
     let m = c.args.self.now in
-    let apart : TellsApart (name_of m.atoms) (length m.atoms) = rw c.atoms.ensures at c.len-names.ensures.distinct in
+    let apart : Distinguishes (name_of m.atoms) (length m.atoms) = rw c.atoms.ensures at c.len-names.ensures.distinct in
     let named : slice_get m.atoms c.in_ok-atom.atom.0 ≡ Some c.args.name.now =
     rw c.atoms-2.ensures at c.in_ok-atom.ensures.found in
     sym (exported c.args.name.now m.atoms m.functions c.in_ok-atom.atom.0 apart named c.in_ok-id.id.0
@@ -47,7 +47,7 @@ returns-then-function c =
 pub returns-else-function : goal.returns-else-function
 returns-else-function c =
     let m = c.args.self.now in
-    let apart : TellsApart (name_of m.atoms) (length m.atoms) = rw c.atoms.ensures at c.len-names.ensures.distinct in
+    let apart : Distinguishes (name_of m.atoms) (length m.atoms) = rw c.atoms.ensures at c.len-names.ensures.distinct in
     let named : slice_get m.atoms c.in_ok-atom.atom.0 ≡ Some c.args.name.now =
     rw c.atoms-2.ensures at c.in_ok-atom.ensures.found in
     sym (not_exported c.args.name.now m.atoms m.functions c.in_ok-atom.atom.0 apart named c.in_ok-id.id.0

@@ -2,7 +2,7 @@ use Rattle.std.proofs.Common.{◌∙◌, ap, sym, subst, length, arith}
 use Rattle.pf_syntax.specs.Expr.{expr_size, expr_depth}
 use Rattle.pf_syntax.specs.Measure.{IsMeasure}
 use Rattle.pf_syntax.specs.SyntaxTree.{ExprArena}
-use Rattle.pf_syntax.specs.SyntaxTreeOver.{expr_over, with_node_table, with_expr, ExprPartsStand}
+use Rattle.pf_syntax.specs.SyntaxTreeOver.{expr_over, with_node_table, with_expr, ExprPartsAreThere}
 use Rattle.pf_syntax.proofs.NodeTableFolds.{count-exprs}
 use Rattle.pf_syntax.proofs.NodeTableGrown.{with_expr_sound, with_expr_view, same_exprs_sound}
 use Rattle.pf_syntax.proofs.Measures.{exact_measure, expr_depth-size}
@@ -22,9 +22,9 @@ invariant_of-self-2 c =
     (sym c.in_ok-measure.ensures.same) exact in
     let measured = subst (λ (m : ExprArena). IsMeasure c.in_ok-measure.measure (expr_size (expr_over m.node_table node))
     (expr_depth (expr_over m.node_table node))) (sym c.self.view_is) kept in
-    let stands = subst (λ (m : ExprArena). ExprPartsStand m.node_table node) (sym c.self.view_is) c.requires in
+    let is_there = subst (λ (m : ExprArena). ExprPartsAreThere m.node_table node) (sym c.self.view_is) c.requires in
     with_expr_sound c.self.inside (record { node = node; measure = c.in_ok-measure.measure }) c.push.new.self
-    c.in_ok-push.ensures.items c.self.invariant stands measured
+    c.in_ok-push.ensures.items c.self.invariant is_there measured
 
 pub returns-clause-id : goal.returns-clause-id
 returns-clause-id c =

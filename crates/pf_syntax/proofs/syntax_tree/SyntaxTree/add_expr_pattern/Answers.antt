@@ -2,7 +2,8 @@ use Rattle.std.proofs.Common.{◌∙◌, ap, sym, subst, length, arith}
 use Rattle.pf_syntax.specs.ExprPattern.{expr_pattern_size, expr_pattern_depth}
 use Rattle.pf_syntax.specs.Measure.{IsMeasure}
 use Rattle.pf_syntax.specs.SyntaxTree.{ExprArena}
-use Rattle.pf_syntax.specs.SyntaxTreeOver.{expr_pattern_over, with_node_table, with_expr_pattern, ExprPatternPartsStand}
+use Rattle.pf_syntax.specs.SyntaxTreeOver.{expr_pattern_over, with_node_table, with_expr_pattern}
+use Rattle.pf_syntax.specs.SyntaxTreeOver.{ExprPatternPartsAreThere}
 use Rattle.pf_syntax.proofs.NodeTableFolds.{count-expr_patterns}
 use Rattle.pf_syntax.proofs.NodeTableGrown.{with_expr_pattern_sound, with_expr_pattern_view, same_expr_patterns_sound}
 use Rattle.pf_syntax.proofs.Measures.{exact_measure, expr_pattern_depth-size}
@@ -24,9 +25,10 @@ invariant_of-self-2 c =
     let measured = subst (λ (m : ExprArena). IsMeasure c.in_ok-measure.measure
     (expr_pattern_size (expr_pattern_over m.node_table node))
     (expr_pattern_depth (expr_pattern_over m.node_table node))) (sym c.self.view_is) kept in
-    let stands = subst (λ (m : ExprArena). ExprPatternPartsStand m.node_table node) (sym c.self.view_is) c.requires in
+    let is_there = subst (λ (m : ExprArena). ExprPatternPartsAreThere m.node_table node)
+    (sym c.self.view_is) c.requires in
     with_expr_pattern_sound c.self.inside (record { node = node; measure = c.in_ok-measure.measure }) c.push.new.self
-    c.in_ok-push.ensures.items c.self.invariant stands measured
+    c.in_ok-push.ensures.items c.self.invariant is_there measured
 
 pub returns-clause-id : goal.returns-clause-id
 returns-clause-id c =

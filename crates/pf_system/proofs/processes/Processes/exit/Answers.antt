@@ -7,8 +7,8 @@ use Rattle.pf_ties.specs.Fates.{fate_at}
 use Rattle.pf_ties.specs.Laws.{without_link}
 use Rattle.pf_system.specs.Placed.{PlacesOf}
 use Rattle.pf_system.specs.declared.processes.Processes.{Processes}
-use Rattle.pf_system.proofs.Placing.{stands_but}
-use Rattle.pf_system.proofs.Delivering.{unlinked_stands, exit_dropped, exit_placed, exit_ends}
+use Rattle.pf_system.proofs.Placing.{is_there_but}
+use Rattle.pf_system.proofs.Delivering.{unlinked_is_there, exit_dropped, exit_placed, exit_ends}
 use Rattle.pf_system.proofs.processes.Processes.exit.Goals as goal
 
 pub returns-in-Drop : goal.returns-in-Drop
@@ -41,11 +41,11 @@ returns-in_ok-end-in-End c k h alive =
     let r = value_of c.args.reason.now in
     let x = suffix.EndingWith c.in_ok-shown-in-End.shown in
     let d = without_link k c.args.from c.args.to c.args.by_link in
-    let stands =
-    unlinked_stands w w1 w2 k c.args.from c.args.to c.args.by_link r x h c.requires.there refl refl refl
+    let is_there =
+    unlinked_is_there w w1 w2 k c.args.from c.args.to c.args.by_link r x h c.requires.there refl refl refl
     c.in-End.ensures.placed refl in
     exit_ends w w1 w2 k c.args.from c.args.to c.args.by_link r x h c.requires.there refl refl refl
     c.in-End.ensures.placed refl (value_of c.in-End.last) (ap label.ending_with c.in_ok-shown-in-End.ensures)
     (c.in-End.ensures.fate ∙ ap (fate_at (ties.of w.shared.ties c.args.to) c.args.from c.args.to c.args.by_link)
     c.in_ok-given.ensures)
-    (c.in_ok-end-in-End.ensures d (stands_but w1 d c.args.to stands c.requires.there))
+    (c.in_ok-end-in-End.ensures d (is_there_but w1 d c.args.to is_there c.requires.there))

@@ -8,12 +8,12 @@ returns-in_ok-open-in-Unbound c =
     let w = c.args.self.now in
     let r = w.shared.ties.next_reference in
     let n : c.len-pid.result ≡ length w.slots.items = omega (arith, c.len-pid.ensures) in
-    let told = answer c.told.result c.told.new.shown in
-    subst (λ b. OpensProcess b c.args.other w c.args.life told c.open.new.self) (sym c.in-Unbound.is)
+    let reported = answer c.reported.result c.reported.new.shown in
+    subst (λ b. OpensProcess b c.args.other w c.args.life reported c.open.new.self) (sym c.in-Unbound.is)
     (record {
       opens = c.in_ok-open-in-Unbound.ensures;
-      tells = subst (λ z. ReportsSpawn bonds.Unbound z r told) n
-          (c.told.ensures r);
+      reports = subst (λ z. ReportsSpawn bonds.Unbound z r reported) n
+          (c.reported.ensures r);
     })
 
 pub returns-in_ok-open-in-Linking : goal.returns-in_ok-open-in-Linking
@@ -21,12 +21,12 @@ returns-in_ok-open-in-Linking c =
     let w = c.args.self.now in
     let r = w.shared.ties.next_reference in
     let n : c.len-pid.result ≡ length w.slots.items = omega (arith, c.len-pid.ensures) in
-    let told = answer c.told-in-Linking.result c.told-in-Linking.new.shown in
-    subst (λ b. OpensProcess b c.args.other w c.args.life told c.open-in-Linking.new.self) (sym c.in-Linking.is)
+    let reported = answer c.reported-in-Linking.result c.reported-in-Linking.new.shown in
+    subst (λ b. OpensProcess b c.args.other w c.args.life reported c.open-in-Linking.new.self) (sym c.in-Linking.is)
     (record {
       opens = c.in_ok-open-in-Linking.ensures;
-      tells = subst (λ z. ReportsSpawn bonds.Linking z r told) n
-          (c.told-in-Linking.ensures r);
+      reports = subst (λ z. ReportsSpawn bonds.Linking z r reported) n
+          (c.reported-in-Linking.ensures r);
     })
 
 pub returns-in-Watching : goal.returns-in-Watching

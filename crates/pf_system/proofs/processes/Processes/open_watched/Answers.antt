@@ -11,11 +11,11 @@ returns c =
     let w = c.args.self.now in
     let k = c.in_ok-pid.ensures in
     let n : c.in_ok-pid.pid ≡ length w.slots.items = k.pid ∙ c.requires.shaped.ties in
-    IfOk-weaker c.told_watched.result _ _
-    (λ v h. let r = answer v c.told_watched.new.shown in record {
+    IfOk-weaker c.reported_watched.result _ _
+    (λ v h. let r = answer v c.reported_watched.new.shown in record {
       opens = opens_tied w c.enter.new.self c.args.life (opened_watched w.shared.ties c.args.watcher)
           c.open_watched.new.self k.opened c.in_ok-enter.ensures;
-      tells = subst (λ z. ReportsSpawn Watching z w.shared.ties.next_reference r) n
+      reports = subst (λ z. ReportsSpawn Watching z w.shared.ties.next_reference r) n
           (subst (λ z. ReportsSpawn Watching c.in_ok-pid.pid z r) k.reference h);
     })
-    c.told_watched.ensures
+    c.reported_watched.ensures

@@ -5,7 +5,7 @@ use Rattle.pf_model.specs.Runs.{is_waiting}
 use Rattle.pf_system.specs.Slots.{slot_body}
 use Rattle.pf_system.specs.Processes.{checked_in}
 use Rattle.pf_system.proofs.Ready.{numbers_in}
-use Rattle.pf_system.proofs.Outcomes.{waiting_more, nothing_behind, numbers_of_processes, sound_at}
+use Rattle.pf_system.proofs.Outcomes.{waiting_more, nothing_after, numbers_of_processes, sound_at}
 use Rattle.pf_system.proofs.processes.Processes.waiting.Goals as goal
 use Rattle.pf_system.proofs.processes.Processes.waiting.Goals.{then-is_waiting+in_ok-push, else-is_waiting}
 
@@ -27,7 +27,7 @@ loop-pid-preserved c =
           ap (λ v. v.items) b.pids-is ∙ b.in_ok-push.ensures.items ∙ ap (λ l. l ++ i ∷ []) c.loop-pid.invariant
           ∙ ap (λ t. before ++ (if t then i ∷ [] else [])) (sym b.if-is_waiting.true) ∙ sym more
       | else-is_waiting b ↦
-          ap (λ v. v.items) b.pids-is ∙ c.loop-pid.invariant ∙ nothing_behind before
+          ap (λ v. v.items) b.pids-is ∙ c.loop-pid.invariant ∙ nothing_after before
           ∙ ap (λ t. before ++ (if t then i ∷ [] else [])) (sym b.if-is_waiting.false) ∙ sym more
     ]
 

@@ -5,7 +5,7 @@ use Rattle.pf_system.proofs.slot.Slot.flush.Goals as goal
 pub returns : goal.returns
 returns c =
     record {
-      keeps = record { life = refl; ahead = λ k h. c.flush-told.ensures.ahead k };
-      mail = ap (λ z. z.messages) c.flush-told.ensures.flushed ∙ ap (λ z. flushed c.args.reference z.messages)
+      keeps = record { life = refl; ahead = λ k h. c.flush-reported.ensures.ahead k };
+      mail = ap (λ z. z.messages) c.flush-reported.ensures.flushed ∙ ap (λ z. flushed c.args.reference z.messages)
           c.reset_mark.ensures.unmarked;
     }

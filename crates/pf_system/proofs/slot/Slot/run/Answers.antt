@@ -11,8 +11,8 @@ pub returns-in_ok-copy-in-Ends : goal.returns-in_ok-copy-in-Ends
 returns-in_ok-copy-in-Ends c m own h =
     let mail = c.args.self.now.mailbox in
     let reason = c.in-Ends.reason in
-    let told = c.in_ok-copy-in-Ends.field-0 in
-    let move = v.End (Err told) in
+    let reported = c.in_ok-copy-in-Ends.field-0 in
+    let move = v.End (Err reported) in
     subst (λ l. RanInSlot m own c.args.left (slot_with l mail) move 1 (slot_with (life.Ends reason) mail))
     (sym c.in-Ends.is)
-    (ran_to_end m own c.args.left reason told mail c.requires.left c.in_ok-copy-in-Ends.ensures)
+    (ran_to_end m own c.args.left reason reported mail c.requires.left c.in_ok-copy-in-Ends.ensures)

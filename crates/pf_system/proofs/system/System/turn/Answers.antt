@@ -9,7 +9,7 @@ use Rattle.pf_system.proofs.Systems.{can_go_of, turn_kept, turn_passes}
 use Rattle.pf_system.proofs.system.System.turn.Goals as goal
 
 pub turn-requires-clause-sound : goal.turn-requires-clause-sound
-turn-requires-clause-sound c = (c.self.invariant c.if-self.false).stands
+turn-requires-clause-sound c = (c.self.invariant c.if-self.false).is_there
 
 pub turn-requires-clause-enabled : goal.turn-requires-clause-enabled
 turn-requires-clause-enabled c =

@@ -6,7 +6,7 @@ use Rattle.std.specs.Ordering.{nat_cmp}
 use Rattle.std.specs.Cmp.Lexicographic.{slice_cmp}
 use Rattle.std.specs.BTreeMap.{get_by}
 use Rattle.pf_terms.proofs.Names.{present}
-use Rattle.pf_terms.proofs.Fronts.{get-behind}
+use Rattle.pf_terms.proofs.Fronts.{get-after}
 use Rattle.pf_terms.proofs.ByName.{updates_bytes, index_more, index_back}
 use Rattle.pf_terms.proofs.atom_numbers.AtomNumbers.enter.Goals as goal
 
@@ -63,6 +63,6 @@ returns-in-Ok-clause-entered c =
     let names = c.self.inside.table in
     let name = c.args.name.now in
     let at : slice_get (names ++ name ∷ []) (length names) ≡ Some name =
-    ap (slice_get (names ++ name ∷ [])) (omega arith) ∙ get-behind names (name ∷ []) 0 in
+    ap (slice_get (names ++ name ∷ [])) (omega arith) ∙ get-after names (name ∷ []) 0 in
     ap (λ all. slice_get all c.in-Ok.atom.0) c.in-Ok.ensures.names
     ∙ ap (slice_get (names ++ name ∷ [])) c.in-Ok.ensures.number ∙ at

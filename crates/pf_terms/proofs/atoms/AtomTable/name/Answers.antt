@@ -1,6 +1,6 @@
 use Rattle.std.proofs.Common.{sym, ap, ◌∙◌}
 use Rattle.pf_terms.specs.Atoms.{fixed_names, name_of}
-use Rattle.pf_terms.proofs.Fronts.{name-front, name-behind}
+use Rattle.pf_terms.proofs.Fronts.{name-front, name-after}
 use Rattle.pf_terms.proofs.atoms.AtomTable.name.Goals as goal
 
 pub returns-then-number-lt20 : goal.returns-then-number-lt20
@@ -14,5 +14,5 @@ pub returns : goal.returns
 returns c =
     let number = c.args.atom.0 in
     c.name.ensures
-    ∙ sym (name-behind fixed_names c.self.inside.entered number c.if-number-lt20.false)
+    ∙ sym (name-after fixed_names c.self.inside.entered number c.if-number-lt20.false)
     ∙ ap (λ all. name_of all number) c.self.view_is

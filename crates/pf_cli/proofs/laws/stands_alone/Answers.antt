@@ -1,5 +1,0 @@
-use Rattle.pf_cli.proofs.Alone.{alone}
-use Rattle.pf_cli.proofs.laws.stands_alone.Goals as goal
-
-pub returns : goal.returns
-returns c = alone

@@ -1,0 +1,4 @@
+pub mod Followed
+pub mod Simulated
+pub mod Charges
+pub mod Many

@@ -1,0 +1,3 @@
+pub mod Order
+pub mod Branching
+pub mod Pending

@@ -1,0 +1,4 @@
+pub mod Failing
+pub mod Branching
+pub mod Level
+pub mod Explored

@@ -1,0 +1,15 @@
+//! What an exploration finds.
+
+use pf_model::report::Report;
+
+/// What an exploration finds, with how many runs it made.
+#[derive(Drop)]
+pub enum Explored {
+    /// No schedule fails.
+    NoneFails { runs: u64 },
+    /// The run of this report fails, by its own choices as a schedule.
+    Fails { report: Report, runs: u64 },
+    /// Not all schedules were seen, but none fails that deviates from the first choice at most so often, if it says how
+    /// often.
+    NotAllSeen { within: Option<u32>, runs: u64 },
+}

@@ -1,0 +1,14 @@
+//! Explorations: the runs of a job by each schedule that deviates from the first choice at most so often, until one
+//! fails, none is left out, or so many were made.
+#![tactic(auto)]
+
+mod branch;
+mod explored;
+mod level;
+mod runs;
+mod search;
+
+pub use branch::choices_of;
+pub use explored::Explored;
+pub use runs::ScheduledRuns;
+pub use search::explore;

@@ -1,0 +1,5 @@
+pub mod Replayed
+pub mod Closed
+pub mod Room
+pub mod Within
+pub mod Parting

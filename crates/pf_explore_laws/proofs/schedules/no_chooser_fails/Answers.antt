@@ -1,0 +1,5 @@
+use Rattle.pf_explore_laws.proofs.Replayed as schedules
+use Rattle.pf_explore_laws.proofs.schedules.no_chooser_fails.Goals as goal
+
+pub returns : goal.returns
+returns g c = schedules.no_chooser_fails _

@@ -1,0 +1,5 @@
+pub mod Schedules
+pub mod Places
+pub mod Room
+pub mod Within
+pub mod Parting

@@ -1,7 +1,0 @@
-use Rattle.std.specs.List.{All}
-use Rattle.pf_hints.specs.Faults.{IsOfFault}
-use Rattle.pf_hints.proofs.telling.told_of_forms.Given as goal
-
--- what is reported so far is of faults
-abbrev pub invariant-loop-end : goal.invariant-loop-end
-invariant-loop-end l = All (IsOfFault l.source) l.told.items

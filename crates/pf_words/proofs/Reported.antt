@@ -1,0 +1,101 @@
+-- What words ask for, and what is done for it.
+use Rattle.std.proofs.Common.{◌≡◌, ◌≤◌, ℕ, Bool, true, false, List, length, Option, Result, Ok, Err, None, Some, refl}
+use Rattle.std.proofs.Common.{sym, ap, ◌∙◌, subst, inl, inr}
+use Rattle.std.specs.Prelude.{IfSome, codes, is_some}
+use Rattle.std.specs.Str.{bytes_eq}
+use Rattle.pf_errors.specs.declared.memory.NoMemory.{NoMemory}
+use Rattle.clap.specs.Words.{Text}
+use Rattle.pf_cli.specs.Args.{ReadWords, Wanted, farm, reading_by, reading_of, reads, reports, view_of_farm_args, works}
+use Rattle.pf_command.specs.Streams.{Streams, streams}
+use Rattle.pf_text.specs.Numbers.{schedule_of}
+use Rattle.pf_words.specs.declared.words.Obeyed.{Obeyed}
+use Rattle.pf_words.specs.declared.words.Obeyed.TheVariants.{Status, Farm}
+use Rattle.pf_words.specs.Schedules.{schedule_in}
+use Rattle.pf_words.specs.Words.{AreContents, AskedIsDone, AskedIsDoneOrRefused, IsDone, IsDoneAs, IsDoneIn}
+use Rattle.pf_words.specs.Words.{IsDoneOrRefused, NothingOut, Obeys, ObeysBy, ObeysByFile, ObeysIn, TextReported}
+
+-- with a text for the schedule no file is named
+pub never_reads : (o : Option Wanted) (file : Option Text) (status : ℕ) (name : Text)
+    → reads name ≡ reading_by o file None status → ⊥
+never_reads None file status name e = absurd (cc)
+never_reads (Some w) file status name e = absurd (cc)
+
+module _ (words : List Text) (old new : Streams) where
+  pub asked_obeys : (w : Wanted) (file : Option Text) (o : Obeyed) → works w file ≡ reading_of None words
+      → AskedIsDone w file old new o
+      → Obeys words old new (Ok o)
+  asked_obeys w file (Status given) e h = subst (λ r. IsDoneAs words r old new given) e h
+  asked_obeys w file (Farm args) e h = (
+    (None, w, sym e ∙ ap (works w) h.1, h.0),
+    (ap (λ s. s.written) h.2, ap (λ s. s.failed_writes) h.2),
+  )
+
+  pub text_obeys : (status : ℕ) (is_fault : Bool) (given : ℕ) → reports status is_fault ≡ reading_of None words
+      → TextReported status is_fault old new given
+      → Obeys words old new (Ok (Status given))
+  text_obeys status is_fault given e h = subst (λ r. IsDoneAs words r old new given) e h
+
+  pub file_obeys : (file : Text) (r : Result Obeyed NoMemory) → reads file ≡ reading_of None words
+      → ObeysByFile words file old new r
+      → Obeys words old new r
+  file_obeys file (Ok (Status given)) e h = subst (λ r. IsDoneAs words r old new given) e h
+  file_obeys file (Ok (Farm args)) e h = h
+  file_obeys file (Err x) e h = h
+
+-- ---- by a text for the schedule
+
+module _ (words : List Text) (text : Text) (old new : Streams) where
+  pub asked_obeys_by : (w : Wanted) (file : Option Text) (o : Obeyed) → works w file ≡ reading_of (Some text) words
+      → AskedIsDoneOrRefused w file old new o → ObeysBy words text old new (Ok o)
+  asked_obeys_by w file (Status given) e (inl h) = inl (subst (λ r. IsDone r old new given) e h)
+  asked_obeys_by w file (Status given) e (inr h) = inr h
+  asked_obeys_by w file (Farm args) e h = (
+    (Some text, w, sym e ∙ ap (works w) h.1, h.0),
+    (ap (λ s. s.written) h.2, ap (λ s. s.failed_writes) h.2),
+  )
+
+  pub text_obeys_by : (status : ℕ) (is_fault : Bool) (given : ℕ)
+      → reports status is_fault ≡ reading_of (Some text) words
+      → TextReported status is_fault old new given → ObeysBy words text old new (Ok (Status given))
+  text_obeys_by status is_fault given e h = inl (subst (λ r. IsDone r old new given) e h)
+
+-- what is done isn't refused
+pub or_refused : (w : Wanted) (file : Option Text) (old new : Streams) (o : Obeyed) → AskedIsDone w file old new o
+    → AskedIsDoneOrRefused w file old new o
+or_refused w file old new (Status given) h = inl h
+or_refused w file old new (Farm args) h = h
+
+-- ---- by a file for the schedule
+
+-- by the schedule in its contents
+pub in_contents : (words : List Text) (contents : Text) (old new : Streams) (r : Result Obeyed NoMemory)
+    → is_some (schedule_of (schedule_in contents)) ≡ true → ObeysBy words (schedule_in contents) old new r
+    → ObeysIn words contents old new r
+in_contents words contents old new (Ok (Status given)) is h = inl (is, h)
+in_contents words contents old new (Ok (Farm args)) is h = h
+in_contents words contents old new (Err e) is h = h
+
+-- what was read
+pub are_contents : (file contents : Text) (u0 u1 w : Option (List ℕ)) (m0 m1 n : ℕ) → length contents ≤ 67108864
+    → (bytes_eq file (codes "-") ≡ false → u1 ≡ u0) → (bytes_eq file (codes "-") ≡ false → m1 ≡ m0)
+    → (bytes_eq file (codes "-") ≡ true → IfSome u0 (λ input. contents ≡ input))
+    → AreContents file contents (streams u0 w m0 n) (streams u1 w m1 n)
+are_contents file contents u0 u1 w m0 m1 n most unread kept whole = (
+  most,
+  (refl, refl),
+  λ other.
+      ap (λ u. streams u w m1 n) (unread other)
+      ∙ ap (λ m. streams u0 w m n) (kept other),
+  whole,
+)
+
+module _ (words : List Text) (file contents : Text) (old read new : Streams) where
+  -- nothing went out since
+  out_since : NothingOut old read → NothingOut read new → NothingOut old new
+  out_since a b = (b.0 ∙ a.0, b.1 ∙ a.1)
+
+  pub by_contents : (r : Result Obeyed NoMemory) → AreContents file contents old read
+      → ObeysIn words contents read new r → ObeysByFile words file old new r
+  by_contents (Ok (Status given)) are h = inl (contents, read, are, h)
+  by_contents (Ok (Farm args)) are h = (h.0, out_since are.1 h.1)
+  by_contents (Err e) are h = out_since are.1 h

@@ -1,0 +1,35 @@
+%% @doc What a translation takes of its 65,536 bytes: a supervisor with one child, and an application of eleven modules;
+%% and what is reported where it doesn't fit.
+-module(check_room).
+-export([check/0]).
+
+-spec check() -> ok.
+check() ->
+    at_most("a supervisor with one child", 12000, [checks:folder("commands/one_child.erl")], #{}),
+    Sources = filelib:wildcard(checks:folder("shop/src/*.erl")),
+    Options = #{includes => [checks:folder("shop/include")], defines => [{'MAX_LINES', 20}]},
+    at_most("an application", 60000, [checks:folder("shop/main.erl") | Sources], Options),
+    too_large().
+
+-spec at_most(string(), pos_integer(), [file:filename()], map()) -> boolean().
+at_most(Name, Most, Files, Options) ->
+    case checks:translate(Files, Options) of
+        {ok, Out, _} ->
+            Bytes = filelib:file_size(Out),
+            checks:expect(io_lib:format("~s takes ~w bytes, ~w at most", [Name, Bytes, Most]), Bytes =< Most);
+        Refused -> checks:expect(Name, taken, Refused)
+    end.
+
+%% What is too large is refused with what takes the room, by module.
+-spec too_large() -> ok.
+too_large() ->
+    File = checks:room("too_large.erl"),
+    Functions = [io_lib:format("f~w(X) -> {~p, f~w(X)}.~n", [I, lists:duplicate(20, {I, some, longer, words}),
+            I + 1]) || I <- lists:seq(1, 200)],
+    ok = file:write_file(File, ["-module(too_large).\n-export([main/0]).\nmain() -> f1(1).\nf201(X) -> X.\n",
+            Functions]),
+    {refused, [{_, 1, Sentence}]} = checks:translate([File]),
+    checks:expect(["what takes the room: ", Sentence], match,
+                  re:run(Sentence, "^the module would have [0-9]+ bytes, over 65536 \\(too_large [0-9]+", [{capture,
+                          none}])),
+    ok.

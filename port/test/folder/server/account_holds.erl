@@ -1,0 +1,5 @@
+%% A folder's folders are searched too.
+-module(account_holds).
+-export([main/0]).
+
+main() -> 0 = account:read(account:start()).
