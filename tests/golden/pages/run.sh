@@ -1,8 +1,8 @@
 #!/bin/sh
 # Runs each block of Erlang in docs/FROM_ERLANG.md, docs/LANGUAGE.md and docs/TUTORIAL.md: its `main` evaluates to
 # `true`, by the schedule of zeros and by each seed below 200. After a line `<!-- fails PROPERTY -->` a hunt has to find
-# a seed below 1,000 that fails; a block of plain Erlang, `erlang plain`, is refused. The three commands of README.md are
-# run too, and its picture is what they write.
+# a seed below 1,000 that fails; a block of plain Erlang, `erlang plain`, is refused. The three commands of README.md
+# are run too, and its picture is what they write.
 #
 # Usage: run.sh [BINARY]; the program is that of the crate `pulsefarm` where none is named.
 set -u
