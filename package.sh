@@ -54,7 +54,7 @@ lay() {
   mkdir -p "$docs/docs" "$docs/examples" "$docs/port" "$1/share/pulsefarm"
   cp "$top"/*.md "$docs"
   tell_licence > "$docs/copyright"
-  cp "$top"/docs/*.md "$top"/docs/*.png "$top"/docs/*.svg "$top"/docs/*.json "$docs/docs"
+  cp "$top"/docs/*.md "$top"/docs/*.svg "$top"/docs/*.json "$docs/docs"
   cp "$top"/examples/*.erl "$top/examples/README.md" "$docs/examples"
   cp -r "$top/examples/many" "$top/examples/ci" "$1/share/pulsefarm"
   find "$1/share/pulsefarm" -name __pycache__ -prune -exec rm -rf {} +

@@ -9,7 +9,7 @@
 -spec check() -> ok.
 check() ->
     Drivers = lists:sort(filelib:wildcard(checks:folder("corpus/*.erl"))),
-    checks:expect("nine drivers", 9, length(Drivers)),
+    checks:expect("ten drivers", 10, length(Drivers)),
     [one(Driver, fetched(hd(words(Driver, "package") ++ ["otp"]))) || Driver <- Drivers],
     {ok, Text} = file:read_file(checks:folder("corpus/modules.txt")),
     [_ | Paragraphs] = string:split(string:trim(Text), "\n\n", all),
@@ -48,6 +48,9 @@ held(Name, File, Names, Folder) ->
         {{ok, Out, _}, none} ->
             Wanted = wanted(checks:normal(checks:value_on_erlang(File, main))),
             case checks:expect(Name, [Wanted], checks:hunt(Out, "main", "returns", ?SEEDS)) of true -> holds; false -> differs end;
+        {{ok, Out, _}, Sentence} ->
+            checks:expect(Name, [{fails, 2000, Sentence}], checks:hunt(Out, "main", "returns", ?SEEDS)),
+            refused;
         {{refused, [{_, _, Why} | _]}, Sentence} when Sentence =/= none ->
             checks:expect(Name, Sentence, lists:sublist(lists:flatten(Why), length(Sentence))),
             refused;

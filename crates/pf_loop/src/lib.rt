@@ -1,0 +1,16 @@
+//! Operations over the words of a heap, and the state of code that words stand for.
+#![tactic(auto)]
+
+mod answers;
+mod flow;
+mod laws;
+mod machine;
+mod setting;
+mod stack;
+
+pub use answers::{Answer, computed, holds, negated, operated};
+pub use flow::{Flow, Halt};
+pub use laws::{cuts_are_steps, runs_reach, sound_code_goes_on};
+pub use machine::{Machine, Waiting};
+pub use setting::Setting;
+pub use stack::Stack;
