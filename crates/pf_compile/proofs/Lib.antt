@@ -1,0 +1,4 @@
+pub mod Grown
+pub mod Laid
+pub mod Dependent
+pub mod Plans

@@ -1,0 +1,4 @@
+pub mod Maker
+pub mod Growth
+pub mod Tests
+pub mod Planned
