@@ -1,7 +1,7 @@
 -- Code that grows at its end.
 use Rattle.std.proofs.Common.{◌≡◌, ◌<◌, ◌≤◌, ◌+◌, ℕ, zero, suc, List, [], ◌∷◌, ◌++◌, length, Some, refl, sym, ap, ◌∙◌}
-use Rattle.std.proofs.Common.{subst, arith}
-use Rattle.std.specs.Prelude.{slice_get}
+use Rattle.std.proofs.Common.{subst, arith, Result, Ok, Err}
+use Rattle.std.specs.Prelude.{slice_get, IfOk}
 use Rattle.std.proofs.lemmas.List.{length-append}
 use Rattle.pf_terms.specs.Value.{Value}
 use Rattle.pf_model.specs.Module.{Module}
@@ -133,3 +133,8 @@ put a b c i next pc r h = record {
       (k.0, h.last ∙ k.1, k.2)
       );
 }
+
+-- what holds of an answer makes something else hold of it
+pub by_ok : {X E : Type 0} (r : Result X E) (P Q : X → Type 0) → IfOk r P → ((x : X) → P x → Q x) → IfOk r Q
+by_ok (Ok x) P Q h w = w x h
+by_ok (Err e) P Q h w = h

@@ -59,11 +59,11 @@ planned_then a b c p q s x y d h k = record {
   leads = λ m own outer later w go o e l g u.
       let first = h.leads m own outer later w (λ z r. chosen (y r z) (λ t. go t r) (o r)) o
       (extends_on b c later k.grown e) l (λ z. chosen_depends p.free (λ r. y r z) go o (d z) g u) u in
-      let then = k.leads m own outer later w go o e l (λ z. depends_more p.free q.free (go z) h.higher (g z))
+      let rest = k.leads m own outer later w go o e l (λ z. depends_more p.free q.free (go z) h.higher (g z))
       (depends_more p.free q.free o h.higher u) in
       carried_then m own outer later.constants w h.added k.added _ _ _ o
       (carried_from m own outer later.constants w h.added _ _ _ o
-      (λ r. chosen_then (x r (scope_in p.slots.items r)) (y r) (λ t. go t r) (o r)) first) then;
+      (λ r. chosen_then (x r (scope_in p.slots.items r)) (y r) (λ t. go t r) (o r)) first) rest;
 }
 
 -- ---- no test
@@ -96,8 +96,8 @@ planned_new a p q s e f t l b = record {
 
 -- an operation takes registers that fit to what was bound in the slots as they are
 abbrev Leads : Code → Plan → Operation → Asked → Type 0
-Leads new p t x = (m : Module) (own : ℕ) (outer : List Frame) (later : Code) (w : ℕ) (go : ValueScope → Point)
-    (o : Point) → Extends new later → 1 ≤ w
+Leads made p t x = (m : Module) (own : ℕ) (outer : List Frame) (later : Code) (w : ℕ) (go : ValueScope → Point)
+    (o : Point) → Extends made later → 1 ≤ w
     → Carries m own outer later.constants t w (λ r. chosen (x r (scope_in p.slots.items r)) (λ e. go e r) (o r))
     (λ r. go (scope_in p.slots.items r) r) o
 
@@ -122,9 +122,9 @@ kept_chosen : (b : Bool) (e : ValueScope) (go : ValueScope → Move) (o : Move)
 kept_chosen true e go o = refl
 kept_chosen false e go o = refl
 
-pub leads_slot : (new : Code) (p : Plan) (x s k : ℕ) → slice_get p.slots.items x ≡ Some k
-    → Leads new p (op.Same (source.Register k) (source.Register s)) (fit_at (slot x) s)
-leads_slot new p x s k e m own outer later w go o g l = (
+pub leads_slot : (made : Code) (p : Plan) (x s k : ℕ) → slice_get p.slots.items x ≡ Some k
+    → Leads made p (op.Same (source.Register k) (source.Register s)) (fit_at (slot x) s)
+leads_slot made p x s k e m own outer later w go o g l = (
   l,
   λ r.
       let is = slice_get-map (reg r) p.slots.items x ∙ ap (option_map (reg r)) e in
@@ -132,17 +132,17 @@ leads_slot new p x s k e m own outer later w go o g l = (
       ∙ kept_chosen (same (reg r k) (reg r s)) (scope_in p.slots.items r) (λ t. go t r) (o r),
 )
 
-pub leads_no_slot : (new : Code) (p : Plan) (x s : ℕ) → slice_get p.slots.items x ≡ None
-    → Leads new p op.Jump (fit_at (slot x) s)
-leads_no_slot new p x s e m own outer later w go o g l = (
+pub leads_no_slot : (made : Code) (p : Plan) (x s : ℕ) → slice_get p.slots.items x ≡ None
+    → Leads made p op.Jump (fit_at (slot x) s)
+leads_no_slot made p x s e m own outer later w go o g l = (
   l,
   λ r.
       let is = slice_get-map (reg r) p.slots.items x ∙ ap (option_map (reg r)) e in
       ap (λ y. chosen (fit_bound y (reg r s) (scope_in p.slots.items r)) (λ t. go t r) (o r)) is,
 )
 
-pub leads_never : (new : Code) (p : Plan) (s : ℕ) → Leads new p op.Jump (fit_at never s)
-leads_never new p s m own outer later w go o g l = (l, λ r. refl)
+pub leads_never : (made : Code) (p : Plan) (s : ℕ) → Leads made p op.Jump (fit_at never s)
+leads_never made p s m own outer later w go o g l = (l, λ r. refl)
 
 -- what an operand of a constant reads
 pub constant_is : (ks : List Value) (k : ℕ) (v : Value) (r : Registers) → slice_get ks k ≡ Some v
@@ -260,16 +260,18 @@ abbrev pattern_count : Patterns → ℕ
 pattern_count no_patterns = 0
 pattern_count (pattern p ps) = 1 + pattern_count ps
 
+none_after : (x : Option ValueScope) (f : ValueScope → Option ValueScope) → ((z : ValueScope) → f z ≡ None)
+    → and_then x f ≡ None
+none_after None f h = refl
+none_after (Some z) f h = h z
+
 pub other_count : (ps : Patterns) (vs : Values) (e : ValueScope) → ¬ (count vs ≡ pattern_count ps)
     → fit_all ps vs e ≡ None
 other_count no_patterns none e h = absurd (h refl)
 other_count no_patterns (more v vs) e h = refl
 other_count (pattern p ps) none e h = refl
-other_count (pattern p ps) (more v vs) e h = by (fit p v e)
-  where
-    by : (x : Option ValueScope) → and_then x (fit_all ps vs) ≡ None
-    by None = refl
-    by (Some z) = other_count ps vs z (λ c. h (omega arith))
+other_count (pattern p ps) (more v vs) e h =
+    none_after (fit p v e) (fit_all ps vs) (λ z. other_count ps vs z (λ c. h (omega arith)))
 
 pub count_at : (t : Tables) (ids : List PatternId) → pattern_count (patterns_at t ids) ≡ length ids
 count_at t [] = refl

@@ -1,5 +1,9 @@
 //! The functions of a checked module compiled to instructions over registers.
 #![tactic(auto)]
 
+mod guards;
 mod maker;
 mod plan;
+mod scope;
+
+pub use scope::NotCompiled;

@@ -1,6 +1,6 @@
 //! The code that is made: instructions from its end towards its beginning, and constants.
 
-ghost use Rattle.std.specs.Prelude.{◌<◌, length, IfOk};
+ghost use Rattle.std.specs.Prelude.{◌≡◌, IfOk};
 ghost use Rattle.pf_terms.specs.Term.{value_of};
 ghost use Rattle.pf_compile.specs.Maker.{code_of, IsPlace};
 ghost use Rattle.pf_compile.specs.Growth.{ConstantPut, Made, Pushed, Put, Reached};

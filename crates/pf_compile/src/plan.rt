@@ -27,7 +27,7 @@ impl Maker {
     #[cycle(plan)]
     pub(crate) fn plan(
         &mut self,
-        module: &Module,
+        code: &Module,
         pattern: PatternId,
         subject: u32,
         plan: &mut Plan,
@@ -35,9 +35,9 @@ impl Maker {
         requires subject_below { subject < plan.old.free }
         requires slots_below { AreBelow plan.old.free plan.old.slots.items }
         ensures { IfOk result (λ _. Planned (code_of self.old) (code_of self.new) plan.old plan.new
-            (fit_at (pattern_at module.now.tables pattern.0) subject)) }
+            (fit_at (pattern_at code.now.tables pattern.0) subject)) }
     {
-        match module.pattern(pattern) {
+        match code.pattern(pattern) {
             None => Ok(()),
             Some(node) => match node {
                 PatternNode::Any => Ok(()),
@@ -49,15 +49,10 @@ impl Maker {
                 PatternNode::Int(n) => self.plan_known(Term::Int(*n), subject, plan),
                 PatternNode::Atom(atom) => self.plan_known(Term::Atom(*atom), subject, plan),
                 PatternNode::Nil => self.plan_known(Term::List(List::Nil), subject, plan),
-                PatternNode::Literal(id) => self.plan_literal(module, *id, subject, plan),
-                PatternNode::Tuple(parts) => self.plan_tuple(
-                    module,
-                    parts.as_slice(),
-                    subject,
-                    plan,
-                ),
+                PatternNode::Literal(id) => self.plan_literal(code, *id, subject, plan),
+                PatternNode::Tuple(parts) => self.plan_tuple(code, parts.as_slice(), subject, plan),
                 PatternNode::Cons(first, rest) => {
-                    self.plan_cons(module, *first, *rest, subject, plan)
+                    self.plan_cons(code, *first, *rest, subject, plan)
                 }
                 PatternNode::Never => {
                     plan.tests.push(Operation::Jump)?;
@@ -74,12 +69,18 @@ impl Maker {
         ensures { IfOk result (λ _. Planned (code_of self.old) (code_of self.new) plan.old plan.new
             (fit_at (slot index) subject)) }
     {
-        let test = match plan.slots.get(index as usize) {
-            Some(known) => Operation::Same(Source::Register(*known), Source::Register(subject)),
-            None => Operation::Jump,
-        };
-        plan.tests.push(test)?;
-        Ok(())
+        match plan.slots.get(index as usize) {
+            Some(known) => {
+                let known = *known;
+                let test = Operation::Same(Source::Register(known), Source::Register(subject));
+                plan.tests.push(test)?;
+                Ok(())
+            }
+            None => {
+                plan.tests.push(Operation::Jump)?;
+                Ok(())
+            }
+        }
     }
 
     /// Plans that a register has this value.
@@ -98,7 +99,7 @@ impl Maker {
     /// Plans that a register has the value of the literal of this number.
     fn plan_literal(
         &mut self,
-        module: &Module,
+        code: &Module,
         id: LiteralId,
         subject: u32,
         plan: &mut Plan,
@@ -106,9 +107,9 @@ impl Maker {
         requires subject_below { subject < plan.old.free }
         requires slots_below { AreBelow plan.old.free plan.old.slots.items }
         ensures { IfOk result (λ _. Planned (code_of self.old) (code_of self.new) plan.old plan.new
-            (fit_at (known (literal_at module.now.tables id.0)) subject)) }
+            (fit_at (known (literal_at code.now.tables id.0)) subject)) }
     {
-        let value = literal(module, id)?;
+        let value = literal(code, id)?;
         self.plan_known(value, subject, plan)
     }
 
@@ -116,7 +117,7 @@ impl Maker {
     #[cycle(plan)]
     fn plan_cons(
         &mut self,
-        module: &Module,
+        code: &Module,
         first: PatternId,
         rest: PatternId,
         subject: u32,
@@ -125,22 +126,22 @@ impl Maker {
         requires subject_below { subject < plan.old.free }
         requires slots_below { AreBelow plan.old.free plan.old.slots.items }
         ensures { IfOk result (λ _. Planned (code_of self.old) (code_of self.new) plan.old plan.new
-            (fit_at (cons_of (pattern_at module.now.tables first.0) (pattern_at module.now.tables rest.0)) subject)) }
+            (fit_at (cons_of (pattern_at code.now.tables first.0) (pattern_at code.now.tables rest.0)) subject)) }
     {
         let head = plan.free;
         let tail = register_after(head, 1)?;
         plan.tests
             .push(Operation::Pair(Source::Register(subject), head))?;
         plan.free = register_after(tail, 1)?;
-        self.plan(module, first, head, plan)?;
-        self.plan(module, rest, tail, plan)
+        self.plan(code, first, head, plan)?;
+        self.plan(code, rest, tail, plan)
     }
 
     /// Plans that a register is a tuple whose elements fit.
     #[cycle(plan)]
     fn plan_tuple(
         &mut self,
-        module: &Module,
+        code: &Module,
         parts: &[PatternId],
         subject: u32,
         plan: &mut Plan,
@@ -148,21 +149,21 @@ impl Maker {
         requires subject_below { subject < plan.old.free }
         requires slots_below { AreBelow plan.old.free plan.old.slots.items }
         ensures { IfOk result (λ _. Planned (code_of self.old) (code_of self.new) plan.old plan.new
-            (fit_at (tuple_of (patterns_at module.now.tables parts.now)) subject)) }
+            (fit_at (tuple_of (patterns_at code.now.tables parts.now)) subject)) }
     {
         let first = plan.free;
         let size = number(parts.len())?;
         plan.tests
             .push(Operation::Parts(Source::Register(subject), size, first))?;
         plan.free = register_after(first, size)?;
-        self.plan_row(module, parts, first, plan)
+        self.plan_row(code, parts, first, plan)
     }
 
     /// Plans that the registers of a row fit their patterns, from left to right.
     #[cycle(plan)]
     pub(crate) fn plan_row(
         &mut self,
-        module: &Module,
+        code: &Module,
         parts: &[PatternId],
         first: u32,
         plan: &mut Plan,
@@ -170,13 +171,13 @@ impl Maker {
         requires row_below { first + length parts.now ≤ plan.old.free }
         requires slots_below { AreBelow plan.old.free plan.old.slots.items }
         ensures { IfOk result (λ _. Planned (code_of self.old) (code_of self.new) plan.old plan.new
-            (fit_row (patterns_at module.now.tables parts.now) first (length parts.now))) }
+            (fit_row (patterns_at code.now.tables parts.now) first (length parts.now))) }
     {
         match parts {
             [] => Ok(()),
             [part, rest @ ..] => {
-                self.plan(module, *part, first, plan)?;
-                self.plan_row(module, rest, first + 1, plan)
+                self.plan(code, *part, first, plan)?;
+                self.plan_row(code, rest, first + 1, plan)
             }
         }
     }
@@ -200,10 +201,10 @@ pub(crate) fn number(n: usize) -> Result<u32, NoMemory>
 }
 
 /// The literal of this number.
-pub(crate) fn literal(module: &Module, id: LiteralId) -> Result<Term, NoMemory>
-    ensures { IfOk result (λ t. value_of t ≡ literal_at module.now.tables id.0) }
+pub(crate) fn literal(code: &Module, id: LiteralId) -> Result<Term, NoMemory>
+    ensures { IfOk result (λ t. value_of t ≡ literal_at code.now.tables id.0) }
 {
-    match module.literal(id) {
+    match code.literal(id) {
         Some(literal) => copy(literal),
         None => Ok(Term::List(List::Nil)),
     }

@@ -1,0 +1,103 @@
+-- Code of expressions: it evaluates a tree in any frames, and its value goes on.
+use Rattle.std.specs.Prelude.{◌≡◌, ◌+◌, ℕ, zero, suc, List, [], ◌∷◌, Option, Some}
+use Rattle.pf_terms.specs.Value.{Value, Values, atom, none, more, count}
+use Rattle.pf_syntax.specs.Pattern.{Patterns}
+use Rattle.pf_syntax.specs.Tree.{Tree, Trees, Clauses, lit, no_trees, tree}
+use Rattle.pf_patterns.specs.Substitution.{sub, sub_trees, sub_clauses}
+use Rattle.pf_ops.specs.Operations.{values_before}
+use Rattle.pf_model.specs.Module.{Module}
+use Rattle.pf_model.specs.Contraction.{Change, Becomes, Raises, contract, picked}
+use Rattle.pf_model.specs.Context.{Frame, Move, around, after_values, literals}
+use Rattle.pf_code.specs.Registers.{Registers, reg, row, scope_in, DependsBelow}
+use Rattle.pf_code.specs.Points.{Point, inside}
+use Rattle.pf_code.specs.Sound.{Code, Carries, IsSoundAt}
+use Rattle.pf_code.specs.declared.instruction.Instruction.{Instruction}
+use Rattle.pf_code.specs.declared.instruction.Operation.{Operation}
+use Rattle.pf_compile.specs.declared.scope.After.{After}
+use Rattle.pf_compile.specs.declared.scope.After.TheVariants as way
+use Rattle.pf_compile.specs.declared.scope.Scope.{Scope}
+use Rattle.pf_compile.specs.declared.scope.Target.{Target}
+use Rattle.pf_compile.specs.Scopes.{model_in, slots_in}
+use Rattle.pf_compile.specs.Tests.{chosen}
+
+-- code goes on with the value of this register in these frames, or they are those of the activation
+abbrev pub Continues : Module → ℕ → List Frame → Code → After → ℕ → (Registers → List Frame) → Type 0
+Continues m own outer later (way.Place k) into frames =
+    IsSoundAt m own outer later k (λ r. inside (frames r) (Becomes (lit (reg r into))))
+Continues m own outer later way.Return into frames = (r : Registers) → frames r ≡ outer
+
+-- in all frames whose value goes on from this register, code is sound for this change
+abbrev pub Gives : Module → ℕ → After → (ℕ → Registers → Change) → ℕ → ℕ → List Frame → Code → Type 0
+Gives m into after change pc own outer later = (frames : Registers → List Frame) → DependsBelow into frames
+    → Continues m own outer later after into frames
+    → IsSoundAt m own outer later pc (λ r. inside (frames r) (change own r))
+
+-- a tree with the values of the variables in scope in their place
+abbrev pub tree_in : Scope → Tree → ℕ → Registers → Change
+tree_in s t own r = Becomes (sub (scope_in (slots_in s) r) t)
+
+-- code that evaluates a tree
+abbrev pub Evaluates : Scope → Tree → Target → ℕ → ℕ → List Frame → Code → Type 0
+Evaluates s t to pc = Gives (model_in s) to.into to.after (tree_in s t) pc
+
+-- a place that goes on with the value of a register, in every module
+abbrev pub Lands : ℕ → After → ℕ → ℕ → List Frame → Code → Type 0
+Lands into after pc own outer later = (m : Module) → Gives m into after (λ own r. Becomes (lit (reg r into))) pc own outer
+    later
+
+-- code that goes on with a value, in every module
+abbrev pub GivesValue : ℕ → After → (Registers → Value) → ℕ → ℕ → List Frame → Code → Type 0
+GivesValue into after value pc own outer later = (m : Module)
+    → Gives m into after (λ own r. Becomes (lit (value r))) pc own outer later
+
+-- code at which each tree that contracts to a raise of this atom is evaluated
+abbrev pub StepsToRaise : ℕ → ℕ → ℕ → List Frame → Code → Type 0
+StepsToRaise a pc own outer later = (m : Module) (frames : Registers → List Frame) (t : Registers → Tree)
+    → ((r : Registers) → contract m own (t r) ≡ Some (Raises (atom a)))
+    → IsSoundAt m own outer later pc (λ r. inside (frames r) (Becomes (t r)))
+
+abbrev pub step_of : Operation → Instruction
+step_of operation = record { operation = operation; contractions = 1; otherwise = 0 }
+
+abbrev pub tree_count : Trees → ℕ
+tree_count no_trees = 0
+tree_count (tree t ts) = 1 + tree_count ts
+
+-- a tree over so many trees, which are evaluated from left to right, each in its frame
+pub record Holder : Type 0 where
+  pub size : ℕ
+  pub whole : Trees → Tree
+  pub frame : Values → Trees → Frame
+  pub holds : (vs : Values) (t : Tree) (ts : Trees) → count vs + (1 + tree_count ts) ≡ size
+      → around (frame vs ts) t ≡ whole (after_values vs (tree t ts))
+
+-- code that evaluates the n last trees of a holder into a row, after those whose values are done
+abbrev pub EvaluatesAll : Scope → Trees → ℕ → ℕ → ℕ → ℕ → ℕ → List Frame → Code → Type 0
+EvaluatesAll s ts n free next pc own outer later = (h : Holder) (frames : Registers → List Frame)
+    (done : Registers → Values) → DependsBelow free frames → DependsBelow free done
+    → ((r : Registers) → count (done r) + n ≡ h.size)
+    → IsSoundAt (model_in s) own outer later next
+    (λ r. inside (frames r) (Becomes (h.whole (literals (values_before (done r) (row r free n))))))
+    → IsSoundAt (model_in s) own outer later pc
+    (λ r. inside (frames r) (Becomes (h.whole (after_values (done r) (sub_trees (scope_in (slots_in s) r) ts)))))
+
+-- code that evaluates the trees of a holder into a row, and then makes an operation, by which the holder contracts
+abbrev pub Operates : Scope → Trees → ℕ → Operation → Target → ℕ → ℕ → List Frame → Code → Type 0
+Operates s ts n operation to pc own outer later = (h : Holder) (change : Values → Change) → h.size ≡ n
+    → ((vs : Values) → count vs ≡ n → contract (model_in s) own (h.whole (literals vs)) ≡ Some (change vs))
+    → (frames : Registers → List Frame) → DependsBelow to.into frames
+    → Continues (model_in s) own outer later to.after to.into frames
+    → ((o : Point) → Carries (model_in s) own outer later.constants operation 0
+    (λ r. inside (frames r) (change (row r to.free n))) (λ r. inside (frames r) (Becomes (lit (reg r to.into)))) o)
+    → IsSoundAt (model_in s) own outer later pc
+    (λ r. inside (frames r) (Becomes (h.whole (sub_trees (scope_in (slots_in s) r) ts))))
+
+-- code of clauses on a register: it goes on with the body of the first one that fits, or elsewhere
+abbrev pub Picks : Scope → Clauses → ℕ → Target → ℕ → ℕ → ℕ → List Frame → Code → Type 0
+Picks s ks subject to otherwise pc own outer later = (frames : Registers → List Frame) (o : Point)
+    → DependsBelow to.into frames → DependsBelow to.free o
+    → Continues (model_in s) own outer later to.after to.into frames
+    → IsSoundAt (model_in s) own outer later otherwise o
+    → IsSoundAt (model_in s) own outer later pc (λ r. chosen
+    (picked (model_in s) own (sub_clauses (scope_in (slots_in s) r) ks) (reg r subject))
+    (λ b. inside (frames r) (Becomes b)) (o r))
