@@ -1,7 +1,7 @@
 -- Code of expressions.
 use Rattle.std.proofs.Common.{◌≡◌, ◌<◌, ◌≤◌, ◌+◌, ℕ, zero, suc, Bool, true, false, List, [], ◌∷◌, Option, Some, None}
 use Rattle.std.proofs.Common.{Result, Ok, Err, length, refl, sym, ap, ◌∙◌, subst, arith}
-use Rattle.std.specs.Prelude.{slice_get, option_map}
+use Rattle.std.specs.Prelude.{slice_get, option_map, if◌then◌else◌}
 use mathlib.Core.Path.{fun_ext}
 use Rattle.pf_terms.specs.Value.{Value, Values, atom, list, none, more, count}
 use Rattle.pf_terms.specs.Value as value
@@ -417,71 +417,77 @@ called_purely own f vs h = absurd (cc)
 abbrev two : Tree → Tree → Trees
 two a b = tree a (tree b no_trees)
 
-module _ (s : Scope) (to : Target) (old new : Code) (pc : ℕ) where
-  pub evaluates_op : (o : Operator) (a b : Tree) (second : ℕ) → second ≡ to.free + 1
-      → Made old new pc (Operates s (two a b) 2
-      (ops.Binary o to.into (source.Register to.free) (source.Register second)) to pc)
-      → Made old new pc (Evaluates s (op o a b) to pc)
-  evaluates_op o a b second e =
-      evaluates_worked s (op o a b) (two a b) 2 _ to old new pc (op_holder o)
-      (λ own r. operated (name_in (model_in s)) o (reg r to.free) (reg r second))
+module _ (s : Scope) (to : Target) (old new : Code) (pc : ℕ) (i : Operation) where
+  pub evaluates_op : (o : Operator) (a b : Tree)
+      → i ≡ ops.Binary o to.into (source.Register to.free) (source.Register (to.free + 1))
+      → Made old new pc (Operates s (two a b) 2 i to pc) → Made old new pc (Evaluates s (op o a b) to pc)
+  evaluates_op o a b e =
+      evaluates_worked s (op o a b) (two a b) 2 i to old new pc (op_holder o)
+      (λ own r. operated (name_in (model_in s)) o (reg r to.free) (reg r (to.free + 1)))
       (λ own. two_change (λ v w. worked_out (operated (name_in (model_in s)) o v w))) refl (λ r. refl)
-      (λ own. two_contracts (model_in s) own (op_whole o) _ (λ v w. refl))
-      (λ own r. ap (λ k. worked_out (operated (name_in (model_in s)) o (reg r to.free) (reg r k))) (sym e))
-      (λ own outer ks c x o h. h)
+      (λ own. two_contracts (model_in s) own (op_whole o)
+      (λ v w. worked_out (operated (name_in (model_in s)) o v w)) (λ v w. refl)) (λ own r. refl)
+      (λ own outer ks c x u h. subst (λ j. Carries (model_in s) own outer ks j 0 c x u) (sym e) h)
 
-  pub evaluates_cons : (a b : Tree) (second : ℕ) → second ≡ to.free + 1
-      → Made old new pc (Operates s (two a b) 2
-      (ops.Cons to.into (source.Register to.free) (source.Register second)) to pc)
-      → Made old new pc (Evaluates s (cons a b) to pc)
-  evaluates_cons a b second e =
-      evaluates_worked s (cons a b) (two a b) 2 _ to old new pc cons_holder
-      (λ own r. consed (reg r to.free) (reg r second)) (λ own. two_change (λ v w. worked_out (consed v w))) refl
-      (λ r. refl) (λ own. two_contracts (model_in s) own cons_whole _ (λ v w. refl))
-      (λ own r. ap (λ k. worked_out (consed (reg r to.free) (reg r k))) (sym e)) (λ own outer ks c x o h. h)
+  pub evaluates_cons : (a b : Tree)
+      → i ≡ ops.Cons to.into (source.Register to.free) (source.Register (to.free + 1))
+      → Made old new pc (Operates s (two a b) 2 i to pc) → Made old new pc (Evaluates s (cons a b) to pc)
+  evaluates_cons a b e =
+      evaluates_worked s (cons a b) (two a b) 2 i to old new pc cons_holder
+      (λ own r. consed (reg r to.free) (reg r (to.free + 1))) (λ own. two_change (λ v w. worked_out (consed v w))) refl
+      (λ r. refl)
+      (λ own. two_contracts (model_in s) own cons_whole (λ v w. worked_out (consed v w)) (λ v w. refl)) (λ own r. refl)
+      (λ own outer ks c x u h. subst (λ j. Carries (model_in s) own outer ks j 0 c x u) (sym e) h)
 
-  pub evaluates_send : (a b : Tree) (second : ℕ) → second ≡ to.free + 1
-      → Made old new pc (Operates s (two a b) 2
-      (ops.Send to.into (source.Register to.free) (source.Register second)) to pc)
-      → Made old new pc (Evaluates s (send a b) to pc)
-  evaluates_send a b second e =
-      evaluates_asked s (send a b) (two a b) 2 _ to old new pc send_holder
+  pub evaluates_send : (a b : Tree)
+      → i ≡ ops.Send to.into (source.Register to.free) (source.Register (to.free + 1))
+      → Made old new pc (Operates s (two a b) 2 i to pc) → Made old new pc (Evaluates s (send a b) to pc)
+  evaluates_send a b e =
+      evaluates_asked s (send a b) (two a b) 2 i to old new pc send_holder
       (λ own. two_change (λ v w. Asks (contraction.send v w))) refl (λ r. refl)
-      (λ own. two_contracts (model_in s) own send_whole _ (λ v w. refl))
-      (λ own outer ks c x o h. subst (λ k. Answers (λ r. Asks (contraction.send (reg r to.free) (reg r k))) to.into c x)
-      (sym e) h)
+      (λ own. two_contracts (model_in s) own send_whole (λ v w. Asks (contraction.send v w)) (λ v w. refl))
+      (λ own outer ks c x u h. subst (λ j. Carries (model_in s) own outer ks j 0 c x u) (sym e) h)
 
-  pub evaluates_neg : (a : Tree)
-      → Made old new pc (Operates s (tree a no_trees) 1 (ops.Negate to.into (source.Register to.free)) to pc)
-      → Made old new pc (Evaluates s (neg a) to pc)
-  evaluates_neg a =
-      evaluates_worked s (neg a) (tree a no_trees) 1 _ to old new pc neg_holder (λ own r. negated (reg r to.free))
+  pub evaluates_neg : (a : Tree) → i ≡ ops.Negate to.into (source.Register to.free)
+      → Made old new pc (Operates s (tree a no_trees) 1 i to pc) → Made old new pc (Evaluates s (neg a) to pc)
+  evaluates_neg a e =
+      evaluates_worked s (neg a) (tree a no_trees) 1 i to old new pc neg_holder (λ own r. negated (reg r to.free))
       (λ own. one_change (λ v. worked_out (negated v))) refl (λ r. refl)
-      (λ own. one_contracts (model_in s) own neg_whole _ (λ v. refl)) (λ own r. refl) (λ own outer ks c x o h. h)
+      (λ own. one_contracts (model_in s) own neg_whole (λ v. worked_out (negated v)) (λ v. refl)) (λ own r. refl)
+      (λ own outer ks c x u h. subst (λ j. Carries (model_in s) own outer ks j 0 c x u) (sym e) h)
 
-  pub evaluates_tuple : (ts : Trees) (n k : ℕ) → k ≡ n
-      → Made old new pc (Operates s ts n (ops.Tuple to.into to.free k) to pc)
-      → Made old new pc (Evaluates s (tuple ts) to pc)
-  evaluates_tuple ts n k e =
-      evaluates_worked s (tuple ts) ts n _ to old new pc (tuple_holder n)
-      (λ own r. limited (value.tuple (row r to.free k))) (λ own vs. worked_out (limited (value.tuple vs))) refl (λ r. refl)
-      (λ own vs h. ap (option_map (λ us. worked_out (limited (value.tuple us)))) (values_are vs))
-      (λ own r. ap (λ j. worked_out (limited (value.tuple (row r to.free j)))) (sym e)) (λ own outer ks c x o h. h)
+  pub evaluates_tuple : (ts : Trees) (n : ℕ) → i ≡ ops.Tuple to.into to.free n
+      → Made old new pc (Operates s ts n i to pc) → Made old new pc (Evaluates s (tuple ts) to pc)
+  evaluates_tuple ts n e =
+      evaluates_worked s (tuple ts) ts n i to old new pc (tuple_holder n)
+      (λ own r. limited (value.tuple (row r to.free n))) (λ own vs. worked_out (limited (value.tuple vs))) refl (λ r. refl)
+      (λ own vs h. ap (option_map (λ us. worked_out (limited (value.tuple us)))) (values_are vs)) (λ own r. refl)
+      (λ own outer ks c x u h. subst (λ j. Carries (model_in s) own outer ks j 0 c x u) (sym e) h)
 
-  pub evaluates_asking : (f : Builtin) (ts : Trees) (n k : ℕ) → k ≡ n
-      → Made old new pc (Operates s ts n (ops.Ask f to.into to.free k) to pc)
-      → Made old new pc (Evaluates s (builtin f ts) to pc)
-  evaluates_asking f ts n k e =
-      evaluates_asked s (builtin f ts) ts n _ to old new pc (builtin_holder f n) (λ own. called own f) refl (λ r. refl)
+  evaluates_asking : (f : Builtin) (ts : Trees) (n : ℕ) → i ≡ ops.Ask f to.into to.free n
+      → Made old new pc (Operates s ts n i to pc) → Made old new pc (Evaluates s (builtin f ts) to pc)
+  evaluates_asking f ts n e =
+      evaluates_asked s (builtin f ts) ts n i to old new pc (builtin_holder f n) (λ own. called own f) refl (λ r. refl)
       (λ own vs h. ap (option_map (called own f)) (values_are vs))
-      (λ own outer ks c x o h. subst (λ j. Answers (λ r. called own f (row r to.free j)) to.into c x) (sym e) h)
+      (λ own outer ks c x u h. subst (λ j. Carries (model_in s) own outer ks j 0 c x u) (sym e) h)
 
-  pub evaluates_pure : (f : Builtin) (ts : Trees) (n k : ℕ) → k ≡ n → is_pure f ≡ true
-      → Made old new pc (Operates s ts n (ops.Pure f to.into to.free k) to pc)
-      → Made old new pc (Evaluates s (builtin f ts) to pc)
-  evaluates_pure f ts n k e pure =
-      evaluates_worked s (builtin f ts) ts n _ to old new pc (builtin_holder f n)
-      (λ own r. or_undefined (computed own f (row r to.free k))) (λ own. called own f) refl (λ r. refl)
+  evaluates_pure : (f : Builtin) (ts : Trees) (n : ℕ) → i ≡ ops.Pure f to.into to.free n → is_pure f ≡ true
+      → Made old new pc (Operates s ts n i to pc) → Made old new pc (Evaluates s (builtin f ts) to pc)
+  evaluates_pure f ts n e pure =
+      evaluates_worked s (builtin f ts) ts n i to old new pc (builtin_holder f n)
+      (λ own r. or_undefined (computed own f (row r to.free n))) (λ own. called own f) refl (λ r. refl)
       (λ own vs h. ap (option_map (called own f)) (values_are vs))
-      (λ own r. called_purely own f (row r to.free n) pure
-      ∙ ap (λ j. worked_out (or_undefined (computed own f (row r to.free j)))) (sym e)) (λ own outer ks c x o h. h)
+      (λ own r. called_purely own f (row r to.free n) pure)
+      (λ own outer ks c x u h. subst (λ j. Carries (model_in s) own outer ks j 0 c x u) (sym e) h)
+
+  -- a built-in function looks at its arguments, or asks
+  builtin_by : (b : Bool) (f : Builtin) (ts : Trees) (n : ℕ) → is_pure f ≡ b
+      → i ≡ (if b then ops.Pure f to.into to.free n else ops.Ask f to.into to.free n)
+      → Made old new pc (Operates s ts n i to pc) → Made old new pc (Evaluates s (builtin f ts) to pc)
+  builtin_by true f ts n p e h = evaluates_pure f ts n e p h
+  builtin_by false f ts n p e h = evaluates_asking f ts n e h
+
+  pub evaluates_builtin : (f : Builtin) (ts : Trees) (n : ℕ)
+      → i ≡ (if is_pure f then ops.Pure f to.into to.free n else ops.Ask f to.into to.free n)
+      → Made old new pc (Operates s ts n i to pc) → Made old new pc (Evaluates s (builtin f ts) to pc)
+  evaluates_builtin f ts n e h = builtin_by (is_pure f) f ts n refl e h

@@ -1,6 +1,7 @@
 -- Code that grows at its end.
 use Rattle.std.proofs.Common.{◌≡◌, ◌<◌, ◌≤◌, ◌+◌, ℕ, zero, suc, List, [], ◌∷◌, ◌++◌, length, Some, refl, sym, ap, ◌∙◌}
-use Rattle.std.proofs.Common.{subst, arith, Result, Ok, Err}
+use Rattle.std.proofs.Common.{subst, arith, Result, Ok, Err, take, drop, ◌-◌}
+use Rattle.std.proofs.Math.Seq.{take-length}
 use Rattle.std.specs.Prelude.{slice_get, IfOk}
 use Rattle.std.proofs.lemmas.List.{length-append}
 use Rattle.pf_terms.specs.Value.{Value}
@@ -138,3 +139,7 @@ put a b c i next pc r h = record {
 pub by_ok : {X E : Type 0} (r : Result X E) (P Q : X → Type 0) → IfOk r P → ((x : X) → P x → Q x) → IfOk r Q
 by_ok (Ok x) P Q h w = w x h
 by_ok (Err e) P Q h w = h
+
+-- the items after the first, as a slice has them
+pub rest_of : {A : Type 0} (x : A) (xs : List A) → take (length (x ∷ xs) - 1) (drop 1 (x ∷ xs)) ≡ xs
+rest_of x xs = let z : length (x ∷ xs) - 1 ≡ length xs = omega arith in ap (λ k. take k xs) z ∙ take-length xs

@@ -3,15 +3,21 @@ use Rattle.std.proofs.Common.{◌≡◌, ◌<◌, ◌≤◌, ◌+◌, ℕ, zero,
 use Rattle.std.proofs.Common.{Some, None, Result, Ok, Err, length, refl, sym, ap, ◌∙◌, subst, arith}
 use Rattle.std.specs.Prelude.{if◌then◌else◌, option_and_then}
 use Rattle.pf_terms.specs.Value.{Value, Values, atom, list, none, more, same}
+use Rattle.pf_terms.specs.Value as value
 use Rattle.pf_terms.specs.Fixed.{true_atom, false_atom}
+use Rattle.pf_syntax.specs.Tree as trees
+use Rattle.pf_syntax.specs.declared.operator.Operator.{Operator}
+use Rattle.pf_syntax.specs.declared.operator.Builtin.{Builtin}
 use Rattle.pf_syntax.specs.Tree.{Tree, Trees, Guard, no_trees, tree, no_alternatives, alternative}
 use Rattle.pf_patterns.specs.Substitution.{sub, sub_trees, sub_guard}
+use Rattle.pf_ops.specs.Arithmetic.{negated}
+use Rattle.pf_ops.specs.Operations.{limited, operated, consed, computed}
 use Rattle.pf_ops.specs.Guards.{value_in, worth, all_worth, is_true, all_true, guard_holds, unless_decided, truth_of}
 use Rattle.pf_model.specs.Module.{Module, name_in}
 use Rattle.pf_model.specs.Context.{Frame, Move}
 use Rattle.pf_code.specs.Registers.{Registers, reg, row, read, scope_in, Sets, SameBelow, DependsBelow}
 use Rattle.pf_code.specs.Points.{Point}
-use Rattle.pf_code.specs.Sound.{Code, Carries, IsSoundAt, Fails, Computes}
+use Rattle.pf_code.specs.Sound.{Code, Carries, IsSoundAt, Fails, Computes, or_undefined}
 use Rattle.pf_code.specs.declared.instruction.Instruction.{Instruction}
 use Rattle.pf_code.specs.declared.instruction.Operation.{Operation}
 use Rattle.pf_code.specs.declared.instruction.Operation.TheVariants as op
@@ -360,6 +366,16 @@ tells_truth b other to old mid new is_false pc h k = record {
       (same (reg r to.free) false_atom) refl refl) yes;
 }
 
+pub tells_truth_by : (b : Bool) (other : ℕ) (to : Exits) (old mid new : Code) (is_false pc x y : ℕ)
+    → x ≡ one_of b other to.next → y ≡ one_of b to.next other
+    → Made old mid is_false (Asks (exits_to to.free x to.otherwise) is_false (has_at to.free false_atom))
+    → Made mid new pc (Asks (exits_to to.free y is_false) pc (has_at to.free true_atom))
+    → Made old new pc (TellsTruth b other to pc)
+tells_truth_by b other to old mid new is_false pc x y e f h k =
+    tells_truth b other to old mid new is_false pc
+    (subst (λ z. Made old mid is_false (Asks (exits_to to.free z to.otherwise) is_false (has_at to.free false_atom))) e h)
+    (subst (λ z. Made mid new pc (Asks (exits_to to.free z is_false) pc (has_at to.free true_atom))) f k)
+
 -- ---- guards
 
 true_chosen : (x : Option Value) (n o : Move)
@@ -457,3 +473,58 @@ asks_one s ts g to old mid new otherwise pc below h k = record {
       (k.meant own outer later e n (λ r. if holds_at s g own r then n r else o r) a
       (if_depends to.free (holds_at s g own) n o (holds_depends s g own to.free below) a b) x rest);
 }
+
+-- ---- each operation in a guard
+
+value_or_undefined : (x : Option (Result Value Value)) → option_and_then value_in x ≡ value_in (or_undefined x)
+value_or_undefined None = refl
+value_or_undefined (Some y) = refl
+
+abbrev two : Tree → Tree → Trees
+two a b = tree a (tree b no_trees)
+
+module _ (s : Scope) (to : Exits) (old new : Code) (pc : ℕ) (i : Operation) (exits : AreExits old to) where
+  pub worth_of_tuple : (ts : Trees) (n : ℕ) → i ≡ op.Tuple to.free to.free n → Made old new pc (Applies s ts n i to pc)
+      → Made old new pc (Worths s (trees.tuple ts) to pc)
+  worth_of_tuple ts n e h =
+      computed_worth s ts n i to old new pc (trees.tuple ts) (λ own r. limited (value.tuple (row r to.free n)))
+      (λ own vs. value_in (limited (value.tuple vs))) exits (λ own r. refl) (λ own r. refl)
+      (λ own outer ks c x o k. subst (λ j. Carries (model_in s) own outer ks j to.otherwise c x o) (sym e) k) h
+
+  pub worth_of_cons : (a b : Tree)
+      → i ≡ op.Cons to.free (source.Register to.free) (source.Register (to.free + 1))
+      → Made old new pc (Applies s (two a b) 2 i to pc) → Made old new pc (Worths s (trees.cons a b) to pc)
+  worth_of_cons a b e h =
+      computed_worth s (two a b) 2 i to old new pc (trees.cons a b)
+      (λ own r. consed (reg r to.free) (reg r (to.free + 1)))
+      (λ own. of_two (λ v w. value_in (consed v w))) exits
+      (λ own r. two_worths (worth_at s a own r) (worth_at s b own r) (λ v w. value_in (consed v w))) (λ own r. refl)
+      (λ own outer ks c x o k. subst (λ j. Carries (model_in s) own outer ks j to.otherwise c x o) (sym e) k) h
+
+  pub worth_of_op : (x : Operator) (a b : Tree)
+      → i ≡ op.Binary x to.free (source.Register to.free) (source.Register (to.free + 1))
+      → Made old new pc (Applies s (two a b) 2 i to pc) → Made old new pc (Worths s (trees.op x a b) to pc)
+  worth_of_op x a b e h =
+      computed_worth s (two a b) 2 i to old new pc (trees.op x a b)
+      (λ own r. operated (name_in (model_in s)) x (reg r to.free) (reg r (to.free + 1)))
+      (λ own. of_two (λ v w. value_in (operated (name_in (model_in s)) x v w))) exits
+      (λ own r. two_worths (worth_at s a own r) (worth_at s b own r)
+      (λ v w. value_in (operated (name_in (model_in s)) x v w))) (λ own r. refl)
+      (λ own outer ks c y o k. subst (λ j. Carries (model_in s) own outer ks j to.otherwise c y o) (sym e) k) h
+
+  pub worth_of_neg : (a : Tree) → i ≡ op.Negate to.free (source.Register to.free)
+      → Made old new pc (Applies s (tree a no_trees) 1 i to pc) → Made old new pc (Worths s (trees.neg a) to pc)
+  worth_of_neg a e h =
+      computed_worth s (tree a no_trees) 1 i to old new pc (trees.neg a) (λ own r. negated (reg r to.free))
+      (λ own. of_one (λ v. value_in (negated v))) exits
+      (λ own r. one_worth (worth_at s a own r) (λ v. value_in (negated v))) (λ own r. refl)
+      (λ own outer ks c x o k. subst (λ j. Carries (model_in s) own outer ks j to.otherwise c x o) (sym e) k) h
+
+  pub worth_of_builtin : (f : Builtin) (ts : Trees) (n : ℕ) → i ≡ op.Pure f to.free to.free n
+      → Made old new pc (Applies s ts n i to pc) → Made old new pc (Worths s (trees.builtin f ts) to pc)
+  worth_of_builtin f ts n e h =
+      computed_worth s ts n i to old new pc (trees.builtin f ts)
+      (λ own r. or_undefined (computed own f (row r to.free n)))
+      (λ own vs. option_and_then value_in (computed own f vs)) exits (λ own r. refl)
+      (λ own r. value_or_undefined (computed own f (row r to.free n)))
+      (λ own outer ks c x o k. subst (λ j. Carries (model_in s) own outer ks j to.otherwise c x o) (sym e) k) h

@@ -1,5 +1,6 @@
 -- Tests one after the other.
-use Rattle.std.proofs.Common.{◌≡◌, ◌<◌, ◌≤◌, ◌+◌, ℕ, List, [], ◌∷◌, refl, sym, subst, arith}
+use Rattle.std.proofs.Common.{◌≡◌, ◌<◌, ◌≤◌, ◌+◌, ◌-◌, ℕ, List, [], ◌∷◌, length, take, drop, get_or, refl, sym, subst}
+use Rattle.std.proofs.Common.{arith}
 use mathlib.Core.Path.{fun_ext}
 use Rattle.pf_model.specs.Module.{Module}
 use Rattle.pf_model.specs.Context.{Frame}
@@ -12,7 +13,7 @@ use Rattle.pf_code.proofs.Charges.{charged_none}
 use Rattle.pf_compile.specs.Maker.{IsPlace}
 use Rattle.pf_compile.specs.Growth.{Extends, Put, Made}
 use Rattle.pf_compile.specs.Tests.{Lays}
-use Rattle.pf_compile.proofs.Grown.{extends_itself, extends_on, put_sound}
+use Rattle.pf_compile.proofs.Grown.{extends_itself, extends_on, put_sound, rest_of}
 
 -- code is sound for a point that is the same for all registers
 pub sound_same : (m : Module) (own : ℕ) (outer : List Frame) (code : Code) (pc : ℕ) (p q : Point)
@@ -40,3 +41,12 @@ lays_more old mid new t ts next first otherwise pc place made h = record {
       (made.meant own outer later (extends_on mid new later h.grown e) m c.0 n o c.2 s f)
       (λ l. ((let a = place.1 in let b = made.grown.longer in omega arith), f));
 }
+
+pub lays_at : (old mid new : Code) (ts : List Operation) (d : Operation) (next first otherwise pc : ℕ)
+    → 1 ≤ length ts → IsPlace old otherwise
+    → Made old mid first (Lays (take (length ts - 1) (drop 1 ts)) next otherwise first)
+    → Put mid new (test_of (get_or ts 0 d) otherwise) first pc → Made old new pc (Lays ts next otherwise pc)
+lays_at old mid new [] d next first otherwise pc l place made h = absurd (omega arith)
+lays_at old mid new (t ∷ ts) d next first otherwise pc l place made h =
+    lays_more old mid new t ts next first otherwise pc place
+    (subst (λ us. Made old mid first (Lays us next otherwise first)) (rest_of t ts) made) h

@@ -5,3 +5,6 @@ pub mod Plans
 pub mod Guards
 pub mod Expressions
 pub mod Sizes
+pub mod Clauses
+pub mod Functions
+pub mod Slices

@@ -1,6 +1,6 @@
 -- The tests of patterns.
 use Rattle.std.proofs.Common.{◌≡◌, ◌<◌, ◌≤◌, ◌+◌, ℕ, zero, suc, Bool, true, false, List, [], ◌∷◌, ◌++◌, Option, Some}
-use Rattle.std.proofs.Common.{None, length, refl, sym, ap, ◌∙◌, subst, arith, append_assoc}
+use Rattle.std.proofs.Common.{◌-◌, take, drop, get_or, None, length, refl, sym, ap, ◌∙◌, subst, arith, append_assoc}
 use Rattle.std.specs.Prelude.{slice_get, if◌then◌else◌, option_map}
 use Rattle.std.proofs.lemmas.List.{append-nil}
 use Rattle.std.proofs.lemmas.Option.{slice_get-map}
@@ -24,7 +24,7 @@ use Rattle.pf_compile.specs.declared.plan.Plan.{Plan}
 use Rattle.pf_compile.specs.Growth.{Extends, ConstantPut}
 use Rattle.pf_compile.specs.Tests.{chosen, Carried}
 use Rattle.pf_compile.specs.Planned.{AreBelow, Asked, fit_at, fit_row, Planned}
-use Rattle.pf_compile.proofs.Grown.{extends_itself, extends_on}
+use Rattle.pf_compile.proofs.Grown.{extends_itself, extends_on, rest_of}
 use Rattle.pf_compile.proofs.Dependent.{depends_more, scope_same, below_more, below_last, below_get, scope_last, row_same}
 use Rattle.pf_compile.proofs.Dependent.{chosen_same, chosen_depends}
 
@@ -326,3 +326,14 @@ pub planned_row : (a b c : Code) (p q s : Plan) (f : Pattern) (ps : Patterns) (f
 planned_row a b c p q s f ps first n l h k =
     planned_then a b c p q s (fit_at f first) (fit_row ps (first + 1) n)
     (λ e r x i. ap (λ vs. fit_all ps vs e) (row_same p.free (first + 1) n r x (omega arith) i)) h k
+
+pub planned_row_at : (t : Tables) (ids : List PatternId) (d : PatternId) (a b c : Code) (p q s : Plan) (first : ℕ)
+    → 1 ≤ length ids → first + length ids ≤ p.free
+    → Planned a b p q (fit_at (pattern_at t (get_or ids 0 d).0) first)
+    → Planned b c q s (fit_row (patterns_at t (take (length ids - 1) (drop 1 ids))) (first + 1)
+    (length (take (length ids - 1) (drop 1 ids))))
+    → Planned a c p s (fit_row (patterns_at t ids) first (length ids))
+planned_row_at t [] d a b c p q s first l r h k = absurd (omega arith)
+planned_row_at t (i ∷ ids) d a b c p q s first l r h k =
+    planned_row a b c p q s (pattern_at t i.0) (patterns_at t ids) first (length ids) (omega arith) h
+    (subst (λ us. Planned b c q s (fit_row (patterns_at t us) (first + 1) (length us))) (rest_of i ids) k)

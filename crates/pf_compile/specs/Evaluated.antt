@@ -1,18 +1,20 @@
 -- Code of expressions: it evaluates a tree in any frames, and its value goes on.
-use Rattle.std.specs.Prelude.{◌≡◌, ◌+◌, ℕ, zero, suc, List, [], ◌∷◌, Option, Some}
+use Rattle.std.specs.Prelude.{◌≡◌, ◌+◌, ℕ, Bool, true, false, zero, suc, List, [], ◌∷◌, Option, Some}
 use Rattle.pf_terms.specs.Value.{Value, Values, atom, none, more, count}
 use Rattle.pf_syntax.specs.Pattern.{Patterns}
-use Rattle.pf_syntax.specs.Tree.{Tree, Trees, Clauses, lit, no_trees, tree}
-use Rattle.pf_patterns.specs.Substitution.{sub, sub_trees, sub_clauses}
+use Rattle.pf_syntax.specs.Tree.{Tree, Trees, Clauses, lit, and_also, or_else, match, bind, call, no_trees, tree}
+use Rattle.pf_patterns.specs.Substitution.{sub, sub_trees, sub_clauses, sub_patterns}
 use Rattle.pf_ops.specs.Operations.{values_before}
+use Rattle.pf_ops.specs.Reasons.{tagged}
 use Rattle.pf_model.specs.Module.{Module}
-use Rattle.pf_model.specs.Contraction.{Change, Becomes, Raises, contract, picked}
+use Rattle.pf_model.specs.Contraction.{Change, Becomes, Raises, contract, picked, matches_left}
 use Rattle.pf_model.specs.Context.{Frame, Move, around, after_values, literals}
 use Rattle.pf_code.specs.Registers.{Registers, reg, row, scope_in, DependsBelow}
 use Rattle.pf_code.specs.Points.{Point, inside}
-use Rattle.pf_code.specs.Sound.{Code, Carries, IsSoundAt}
+use Rattle.pf_code.specs.Sound.{Code, Carries, IsSoundAt, Takes}
 use Rattle.pf_code.specs.declared.instruction.Instruction.{Instruction}
 use Rattle.pf_code.specs.declared.instruction.Operation.{Operation}
+use Rattle.pf_compile.specs.declared.plan.Plan.{Plan}
 use Rattle.pf_compile.specs.declared.scope.After.{After}
 use Rattle.pf_compile.specs.declared.scope.After.TheVariants as way
 use Rattle.pf_compile.specs.declared.scope.Scope.{Scope}
@@ -101,3 +103,43 @@ Picks s ks subject to otherwise pc own outer later = (frames : Registers → Lis
     → IsSoundAt (model_in s) own outer later pc (λ r. chosen
     (picked (model_in s) own (sub_clauses (scope_in (slots_in s) r) ks) (reg r subject))
     (λ b. inside (frames r) (Becomes b)) (o r))
+
+-- code that goes on with a match of what is in a register, for the patterns that are left
+abbrev pub Matches : Scope → Patterns → ℕ → Target → ℕ → ℕ → List Frame → Code → Type 0
+Matches s ps subject to pc = Gives (model_in s) to.into to.after (λ own r. Becomes
+    (matches_left (sub_patterns (scope_in (slots_in s) r) ps) (reg r subject))) pc
+
+-- the same before the rest of a body
+abbrev pub Binds : Scope → Patterns → Tree → ℕ → Target → ℕ → ℕ → List Frame → Code → Type 0
+Binds s ps rest subject to pc = Gives (model_in s) to.into to.after (λ own r. Becomes
+    (bind (sub_patterns (scope_in (slots_in s) r) ps) (lit (reg r subject)) (sub (scope_in (slots_in s) r) rest))) pc
+
+-- code at which a call of this function contracts, whose arguments are in a row
+abbrev pub Calls : ℕ → ℕ → Target → ℕ → ℕ → List Frame → Code → Type 0
+Calls f n to pc own outer later = (m : Module) → Takes m f n
+    → Gives m to.into to.after (λ own r. Becomes (call f (literals (row r to.free n)))) pc own outer later
+
+-- code that raises an atom with the value of a register
+abbrev pub RaisesWith : ℕ → ℕ → ℕ → ℕ → List Frame → Code → Type 0
+RaisesWith a register pc own outer later = (m : Module)
+    → IsSoundAt m own outer later pc (λ r. inside [] (Raises (tagged (atom a) (reg r register))))
+
+-- code that raises an atom
+abbrev pub RaisesAtom : ℕ → ℕ → ℕ → List Frame → Code → Type 0
+RaisesAtom a pc own outer later = (m : Module) → IsSoundAt m own outer later pc (λ r. inside [] (Raises (atom a)))
+
+-- a match of what is in the free register
+abbrev pub MatchesFree : Scope → Patterns → Target → ℕ → ℕ → List Frame → Code → Type 0
+MatchesFree s ps to pc = Gives (model_in s) to.into to.after (λ own r. Becomes
+    (match (sub_patterns (scope_in (slots_in s) r) ps) (lit (reg r to.free)))) pc
+
+-- `orelse` or `andalso`, by the truth that decides
+abbrev pub deciding : Bool → Tree → Tree → Tree
+deciding true a b = or_else a b
+deciding false a b = and_also a b
+
+-- a plan has these variables, and no test
+pub record HasBegun (slots : List ℕ) (free : ℕ) (p : Plan) : Type 0 where
+  pub slots_are : p.slots.items ≡ slots
+  pub free_is : p.free ≡ free
+  pub no_test : p.tests.items ≡ []

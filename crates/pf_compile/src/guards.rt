@@ -3,7 +3,6 @@
 ghost use Rattle.std.specs.Prelude.{◌≡◌, length, IfOk, if◌then◌else◌};
 ghost use Rattle.pf_terms.specs.Value.{atom};
 ghost use Rattle.pf_terms.specs.Term.{value_of};
-ghost use Rattle.pf_syntax.specs.Tree as tree;
 ghost use Rattle.pf_syntax.specs.Over.{alternatives_over, guard_over, part_over, parts_over, tree_over};
 ghost use Rattle.pf_code.specs.Registers.{reg};
 ghost use Rattle.pf_compile.specs.Maker.{code_of, IsPlace};
@@ -14,11 +13,12 @@ ghost use Rattle.pf_compile.specs.Guarded.{all_true_at, has_at, holds_at, is_tru
 ghost use Rattle.pf_compile.specs.Guarded.{Decides, Loads, TellsTruth, Tests, Worths, WorthsAll};
 
 use crate::maker::Maker;
-use crate::plan::{literal, number, register_after};
+use crate::operations::{binary_of, cons_of, negate_of, pure_of, tuple_of};
+use crate::plan::{literal, register_after};
 use crate::scope::{Exits, Scope};
 use pf_code::{Instruction, Operation, Source};
 use pf_errors::NoMemory;
-use pf_syntax::{Alternative, Builtin, Guard, Node, Operand, Operator};
+use pf_syntax::{Alternative, Guard, Node, Operand};
 use pf_terms::{AtomId, List, Term};
 
 impl Maker {
@@ -111,16 +111,27 @@ impl Maker {
             (Worths scope.now (tree_over (tables_in scope.now) node.now) exits pc)) }
     {
         match node {
-            Node::Tuple(parts) => self.tuple_worth(scope, parts.as_slice(), exits),
-            Node::Cons(first, rest) => self.cons_worth(scope, *first, *rest, exits),
-            Node::Binary(operator, left, right) => {
-                self.binary_worth(scope, *operator, *left, *right, exits)
+            Node::Tuple(parts) => {
+                let operation = tuple_of(exits.free, exits.free, parts.len())?;
+                self.applied_worth(scope, operation, parts.as_slice(), exits)
             }
-            Node::Negate(part) => self.negated_worth(scope, *part, exits),
+            Node::Cons(first, rest) => {
+                let operation = cons_of(exits.free, exits.free)?;
+                self.applied_worth(scope, operation, &[*first, *rest], exits)
+            }
+            Node::Binary(operator, left, right) => {
+                let operation = binary_of(*operator, exits.free, exits.free)?;
+                self.applied_worth(scope, operation, &[*left, *right], exits)
+            }
+            Node::Negate(part) => {
+                let operation = negate_of(exits.free, exits.free);
+                self.applied_worth(scope, operation, &[*part], exits)
+            }
             Node::AndAlso(left, right) => self.decided_worth(scope, false, *left, *right, exits),
             Node::OrElse(left, right) => self.decided_worth(scope, true, *left, *right, exits),
             Node::Builtin(builtin, parts) => {
-                self.builtin_worth(scope, *builtin, parts.as_slice(), exits)
+                let operation = pure_of(*builtin, exits.free, exits.free, parts.len())?;
+                self.applied_worth(scope, operation, parts.as_slice(), exits)
             }
             Node::Call(_, _)
             | Node::Match(_, _)
@@ -180,104 +191,6 @@ impl Maker {
             otherwise: exits.otherwise,
         };
         self.all_worth(scope, parts, first)
-    }
-
-    /// Adds a tuple of tests.
-    #[cycle(worth)]
-    fn tuple_worth(
-        &mut self,
-        scope: &Scope,
-        parts: &[Operand],
-        exits: Exits,
-    ) -> Result<u32, NoMemory>
-        requires slots_below { AreBelow exits.free (slots_in scope.now) }
-        requires exits_there { AreExits (code_of self.old) exits }
-        ensures { IfOk result (λ pc. Made (code_of self.old) (code_of self.new) pc
-            (Worths scope.now (tree.tuple (parts_over (tables_in scope.now) parts.now)) exits pc)) }
-    {
-        let operation = Operation::Tuple(exits.free, exits.free, number(parts.len())?);
-        self.applied_worth(scope, operation, parts, exits)
-    }
-
-    /// Adds a list of tests.
-    #[cycle(worth)]
-    fn cons_worth(
-        &mut self,
-        scope: &Scope,
-        first: Operand,
-        rest: Operand,
-        exits: Exits,
-    ) -> Result<u32, NoMemory>
-        requires slots_below { AreBelow exits.free (slots_in scope.now) }
-        requires exits_there { AreExits (code_of self.old) exits }
-        ensures { IfOk result (λ pc. Made (code_of self.old) (code_of self.new) pc
-            (Worths scope.now (tree.cons (part_over (tables_in scope.now) first)
-            (part_over (tables_in scope.now) rest)) exits pc)) }
-    {
-        let tail = register_after(exits.free, 1)?;
-        let operation = Operation::Cons(
-            exits.free,
-            Source::Register(exits.free),
-            Source::Register(tail),
-        );
-        self.applied_worth(scope, operation, &[first, rest], exits)
-    }
-
-    /// Adds an operator on two tests.
-    #[cycle(worth)]
-    fn binary_worth(
-        &mut self,
-        scope: &Scope,
-        operator: Operator,
-        left: Operand,
-        right: Operand,
-        exits: Exits,
-    ) -> Result<u32, NoMemory>
-        requires slots_below { AreBelow exits.free (slots_in scope.now) }
-        requires exits_there { AreExits (code_of self.old) exits }
-        ensures { IfOk result (λ pc. Made (code_of self.old) (code_of self.new) pc
-            (Worths scope.now (tree.op operator (part_over (tables_in scope.now) left)
-            (part_over (tables_in scope.now) right)) exits pc)) }
-    {
-        let second = register_after(exits.free, 1)?;
-        let operation = Operation::Binary(
-            operator,
-            exits.free,
-            Source::Register(exits.free),
-            Source::Register(second),
-        );
-        self.applied_worth(scope, operation, &[left, right], exits)
-    }
-
-    /// Adds unary minus of a test.
-    #[cycle(worth)]
-    fn negated_worth(&mut self, scope: &Scope, part: Operand, exits: Exits) -> Result<u32, NoMemory>
-        requires slots_below { AreBelow exits.free (slots_in scope.now) }
-        requires exits_there { AreExits (code_of self.old) exits }
-        ensures { IfOk result (λ pc. Made (code_of self.old) (code_of self.new) pc
-            (Worths scope.now (tree.neg (part_over (tables_in scope.now) part)) exits pc)) }
-    {
-        let operation = Operation::Negate(exits.free, Source::Register(exits.free));
-        self.applied_worth(scope, operation, &[part], exits)
-    }
-
-    /// Adds a built-in function of tests.
-    #[cycle(worth)]
-    fn builtin_worth(
-        &mut self,
-        scope: &Scope,
-        builtin: Builtin,
-        parts: &[Operand],
-        exits: Exits,
-    ) -> Result<u32, NoMemory>
-        requires slots_below { AreBelow exits.free (slots_in scope.now) }
-        requires exits_there { AreExits (code_of self.old) exits }
-        ensures { IfOk result (λ pc. Made (code_of self.old) (code_of self.new) pc
-            (Worths scope.now (tree.builtin builtin (parts_over (tables_in scope.now) parts.now)) exits pc)) }
-    {
-        let count = number(parts.len())?;
-        let operation = Operation::Pure(builtin, exits.free, exits.free, count);
-        self.applied_worth(scope, operation, parts, exits)
     }
 
     /// Adds `andalso` or `orelse` of two tests: the left one where its truth is the one that decides, else the right

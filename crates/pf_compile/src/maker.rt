@@ -14,6 +14,7 @@ use std::alloc::Global;
 /// Instructions and constants so far. What is added comes after what is there, and nothing is ever changed.
 #[derive(Drop)]
 pub(crate) struct Maker {
+    pub(crate) alloc: Global,
     pub(crate) instructions: Vec<Instruction>,
     pub(crate) constants: Vec<Term>,
 }
@@ -29,6 +30,7 @@ impl Maker {
     /// No instruction and no constant yet.
     pub(crate) fn new(alloc: Global) -> Maker {
         Maker {
+            alloc,
             instructions: Vec::new(alloc),
             constants: Vec::new(alloc),
         }

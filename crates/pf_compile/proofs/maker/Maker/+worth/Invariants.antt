@@ -17,23 +17,6 @@ decreases-all_worth l = 5 * parts_size (parts_over (tables_in l.scope.now) l.par
 abbrev pub decreases-applied_worth : goal.decreases-applied_worth
 decreases-applied_worth l = 5 * parts_size (parts_over (tables_in l.scope.now) l.parts.now) + 6
 
-abbrev pub decreases-tuple_worth : goal.decreases-tuple_worth
-decreases-tuple_worth l = 5 * parts_size (parts_over (tables_in l.scope.now) l.parts.now) + 7
-
-abbrev pub decreases-builtin_worth : goal.decreases-builtin_worth
-decreases-builtin_worth l = 5 * parts_size (parts_over (tables_in l.scope.now) l.parts.now) + 7
-
-abbrev pub decreases-negated_worth : goal.decreases-negated_worth
-decreases-negated_worth l = 5 * tree_size (part_over (tables_in l.scope.now) l.part) + 7
-
-abbrev pub decreases-cons_worth : goal.decreases-cons_worth
-decreases-cons_worth l = 5 * (tree_size (part_over (tables_in l.scope.now) l.first)
-    + tree_size (part_over (tables_in l.scope.now) l.rest)) + 7
-
-abbrev pub decreases-binary_worth : goal.decreases-binary_worth
-decreases-binary_worth l = 5 * (tree_size (part_over (tables_in l.scope.now) l.left)
-    + tree_size (part_over (tables_in l.scope.now) l.right)) + 7
-
 abbrev pub decreases-decided_worth : goal.decreases-decided_worth
 decreases-decided_worth l = 5 * (tree_size (part_over (tables_in l.scope.now) l.left)
     + tree_size (part_over (tables_in l.scope.now) l.right)) + 7
