@@ -43,8 +43,8 @@ use Rattle.pf_compile.specs.Evaluated.{deciding, RaisesWith, RaisesAtom, Lands, 
 use Rattle.pf_compile.proofs.Grown.{extends_itself, extends_on, end_sound, put_sound, nowhere}
 use Rattle.pf_compile.proofs.Laid.{sound_same}
 use Rattle.pf_compile.proofs.Dependent.{depends_more, scope_same, chosen_same, chosen_depends}
-use Rattle.pf_compile.proofs.Guards.{put_there, exits_to}
-use Rattle.pf_compile.proofs.Expressions.{call_holder, target_at}
+use Rattle.pf_compile.proofs.Guarded.{put_there, exits_to}
+use Rattle.pf_compile.proofs.Evaluated.{call_holder, target_at}
 
 -- ---- raises
 

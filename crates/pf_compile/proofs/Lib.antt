@@ -2,9 +2,9 @@ pub mod Grown
 pub mod Laid
 pub mod Dependent
 pub mod Plans
-pub mod Guards
-pub mod Expressions
+pub mod Guarded
+pub mod Evaluated
 pub mod Sizes
 pub mod Clauses
-pub mod Functions
 pub mod Slices
+pub mod Rows

@@ -79,9 +79,9 @@ planned_none a p x b e = record {
   leads = λ m own outer later w go o h l g u r. ap (λ y. chosen y (λ t. go t r) (o r)) (e r (scope_in p.slots.items r));
 }
 
-pub planned_new : (a : Code) (p q : Plan) (s : ℕ) → q.slots.items ≡ p.slots.items ++ s ∷ [] → q.free ≡ p.free
+planned_last : (a : Code) (p q : Plan) (s : ℕ) → q.slots.items ≡ p.slots.items ++ s ∷ [] → q.free ≡ p.free
     → q.tests.items ≡ p.tests.items → s < p.free → AreBelow p.free p.slots.items → Planned a a p q (fit_at new s)
-planned_new a p q s e f t l b = record {
+planned_last a p q s e f t l b = record {
   grown = extends_itself a;
   added = [];
   tests = t ∙ sym (append-nil p.tests.items);
@@ -91,6 +91,11 @@ planned_new a p q s e f t l b = record {
   leads = λ m own outer later w go o h j g u r.
       ap (λ y. go y r) (sym (ap (λ ss. scope_in ss r) e ∙ scope_last p.slots.items s r));
 }
+
+pub planned_new : (a : Code) (p q : Plan) (s : ℕ) (x : Pattern) → new ≡ x → q.slots.items ≡ p.slots.items ++ s ∷ []
+    → q.free ≡ p.free → q.tests.items ≡ p.tests.items → s < p.free → AreBelow p.free p.slots.items
+    → Planned a a p q (fit_at x s)
+planned_new a p q s x is e f t l b = subst (λ y. Planned a a p q (fit_at y s)) is (planned_last a p q s e f t l b)
 
 -- ---- one test
 
@@ -143,6 +148,12 @@ leads_no_slot made p x s e m own outer later w go o g l = (
 
 pub leads_never : (made : Code) (p : Plan) (s : ℕ) → Leads made p op.Jump (fit_at never s)
 leads_never made p s m own outer later w go o g l = (l, λ r. refl)
+
+pub planned_never : (a : Code) (p q : Plan) (s : ℕ) (x : Pattern) → never ≡ x → q.slots.items ≡ p.slots.items
+    → q.free ≡ p.free → q.tests.items ≡ p.tests.items ++ op.Jump ∷ [] → AreBelow p.free p.slots.items
+    → Planned a a p q (fit_at x s)
+planned_never a p q s x is e f t b = subst (λ y. Planned a a p q (fit_at y s)) is
+    (planned_test a a p q op.Jump (fit_at never s) (extends_itself a) e f t b (leads_never a p s))
 
 -- what an operand of a constant reads
 pub constant_is : (ks : List Value) (k : ℕ) (v : Value) (r : Registers) → slice_get ks k ≡ Some v
@@ -256,7 +267,7 @@ planned_cons a b c p q s t i f g o l below h k =
     (planned_then a b c q s t (fit_at f p.free) (fit_at g (p.free + 1))
     (λ e r x n. ap (λ v. fit g v e) (n (p.free + 1) (omega arith))) h k)
 
-abbrev pattern_count : Patterns → ℕ
+abbrev pub pattern_count : Patterns → ℕ
 pattern_count no_patterns = 0
 pattern_count (pattern p ps) = 1 + pattern_count ps
 

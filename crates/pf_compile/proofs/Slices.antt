@@ -15,8 +15,8 @@ use Rattle.pf_compile.specs.Growth.{Made}
 use Rattle.pf_compile.specs.Planned.{AreBelow}
 use Rattle.pf_compile.specs.Guarded.{Worths, WorthsAll, AsksBelow, holds_at, is_true_at, all_true_at}
 use Rattle.pf_compile.proofs.Grown.{rest_of}
-use Rattle.pf_compile.proofs.Guards.{exits_to, worths_none, worths_more, asks_all, asks_none, asks_one}
-use Rattle.pf_compile.proofs.Guards.{asks_no_alternative}
+use Rattle.pf_compile.proofs.Guarded.{exits_to, worths_none, worths_more, asks_all, asks_none, asks_one}
+use Rattle.pf_compile.proofs.Guarded.{asks_no_alternative}
 
 abbrev rest : {A : Type 0} → List A → List A
 rest xs = take (length xs - 1) (drop 1 xs)

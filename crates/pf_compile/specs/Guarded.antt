@@ -24,7 +24,7 @@ Loads value free next pc own outer later = (m : Module) (go : Value → Point) �
 -- code at the first exit goes on with what is in registers, and that at the other without; here what is x leads to both
 abbrev pub LeadsBy : {X : Type 0} → Module → Exits → ℕ → (ℕ → Registers → X) → (ℕ → Registers → Option X) → ℕ
     → List Frame → Code → Type 0
-LeadsBy {X} m to pc got x own outer later = (go : X → Point) (o : Point) → ((v : X) → DependsBelow to.free (go v))
+LeadsBy {X = X} m to pc got x own outer later = (go : X → Point) (o : Point) → ((v : X) → DependsBelow to.free (go v))
     → DependsBelow to.free o → IsSoundAt m own outer later to.next (λ r. go (got to.free r) r)
     → IsSoundAt m own outer later to.otherwise o
     → IsSoundAt m own outer later pc (λ r. chosen (x own r) (λ v. go v r) (o r))

@@ -5,4 +5,3 @@ pub mod Planned
 pub mod Scopes
 pub mod Guarded
 pub mod Evaluated
-pub mod Compiled

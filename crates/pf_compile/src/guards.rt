@@ -14,7 +14,7 @@ ghost use Rattle.pf_compile.specs.Guarded.{Decides, Loads, TellsTruth, Tests, Wo
 
 use crate::maker::Maker;
 use crate::operations::{binary_of, cons_of, negate_of, pure_of, tuple_of};
-use crate::plan::{literal, register_after};
+use crate::plan::{literal, register_after, slot_at};
 use crate::scope::{Exits, Scope};
 use pf_code::{Instruction, Operation, Source};
 use pf_errors::NoMemory;
@@ -88,7 +88,7 @@ impl Maker {
                 Some(node) => self.node_worth(scope, node, exits),
                 None => self.load_value(Term::List(List::Nil), exits.free, exits.next),
             },
-            Operand::Slot(index) => match scope.slots.get(index as usize) {
+            Operand::Slot(index) => match slot_at(scope.slots, index) {
                 Some(register) => self.load(*register, exits.free, exits.next),
                 None => Ok(exits.otherwise),
             },
@@ -221,7 +221,7 @@ impl Maker {
     }
 
     /// Adds tests of the truth in the free register: the one that decides leads on, and the other one to another place.
-    fn truth(&mut self, decides: bool, other: u32, exits: Exits) -> Result<u32, NoMemory>
+    pub(crate) fn truth(&mut self, decides: bool, other: u32, exits: Exits) -> Result<u32, NoMemory>
         requires other_there { IsPlace (code_of self.old) other }
         requires exits_there { AreExits (code_of self.old) exits }
         ensures { IfOk result (λ pc. Made (code_of self.old) (code_of self.new) pc

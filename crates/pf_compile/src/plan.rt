@@ -1,6 +1,6 @@
 //! Patterns: the tests that they make, in order, and the registers of what they bind.
 
-ghost use Rattle.std.specs.Prelude.{◌≡◌, ◌<◌, ◌≤◌, ◌+◌, length, IfOk};
+ghost use Rattle.std.specs.Prelude.{◌≡◌, ◌<◌, ◌≤◌, ◌+◌, length, slice_get, IfOk, MatchOption, None, Some};
 ghost use Rattle.pf_terms.specs.Term.{value_of};
 ghost use Rattle.pf_syntax.specs.Pattern.{cons_of, known, slot, tuple_of};
 ghost use Rattle.pf_syntax.specs.Module.{literal_at, pattern_at};
@@ -69,7 +69,7 @@ impl Maker {
         ensures { IfOk result (λ _. Planned (code_of self.old) (code_of self.new) plan.old plan.new
             (fit_at (slot index) subject)) }
     {
-        match plan.slots.get(index as usize) {
+        match slot_at(plan.slots.as_slice(), index) {
             Some(known) => {
                 let known = *known;
                 let test = Operation::Same(Source::Register(known), Source::Register(subject));
@@ -181,6 +181,13 @@ impl Maker {
             }
         }
     }
+}
+
+/// The register of a variable in scope.
+pub(crate) fn slot_at(slots: &[u32], index: u32) -> Option<&u32>
+    ensures { MatchOption result (slice_get slots.now index ≡ None) (λ s. slice_get slots.now index ≡ Some s.now) }
+{
+    slots.get(index as usize)
 }
 
 /// The register so many after this one.

@@ -4,27 +4,24 @@ use Rattle.pf_syntax.specs.Module.{pattern_at}
 use Rattle.pf_syntax.specs.Over.{pattern_over, patterns_at}
 use Rattle.pf_compile.specs.Maker.{code_of}
 use Rattle.pf_compile.specs.Planned.{fit_at, fit_row, Planned}
-use Rattle.pf_compile.proofs.Grown.{extends_itself, by_ok}
+use Rattle.pf_compile.proofs.Grown.{by_ok}
 use Rattle.pf_compile.proofs.Dependent.{below_more}
-use Rattle.pf_compile.proofs.Plans.{planned_new, planned_test, leads_never, planned_cons, planned_tuple, planned_row_at}
+use Rattle.pf_compile.specs.declared.plan.Plan.{Plan}
+use Rattle.pf_compile.proofs.Plans.{planned_new, planned_never, planned_cons, planned_tuple, planned_row_at}
 use Rattle.pf_compile.proofs.Plans.{count_at}
 use Rattle.pf_compile.proofs.maker.Maker.+plan.Goals as goal
 
 pub plan-returns-in_ok-push-in-New : goal.plan-returns-in_ok-push-in-New
 plan-returns-in_ok-push-in-New t c =
-    let k = code_of c.args.self.now in
-    subst (λ p. Planned k k c.args.plan.now _ (fit_at p c.args.subject))
+    planned_new (code_of c.args.self.now) c.args.plan.now _ c.args.subject _
     (ap (pattern_over c.args.code.now.tables) (sym c.in-New.is) ∙ c.in-Some.ensures.found)
-    (planned_new k c.args.plan.now _ c.args.subject c.in_ok-push-in-New.ensures.items refl refl
-    c.requires.subject_below c.requires.slots_below)
+    c.in_ok-push-in-New.ensures.items refl refl c.requires.subject_below c.requires.slots_below
 
 pub plan-returns-in_ok-push-in-Never : goal.plan-returns-in_ok-push-in-Never
 plan-returns-in_ok-push-in-Never t c =
-    let k = code_of c.args.self.now in
-    subst (λ p. Planned k k c.args.plan.now _ (fit_at p c.args.subject))
-    (ap (pattern_over c.args.code.now.tables) (sym c.in-Never.is) ∙ c.in-Some.ensures.found)
-    (planned_test k k c.args.plan.now _ _ _ (extends_itself k) refl refl c.in_ok-push-in-Never.ensures.items
-    c.requires.slots_below (leads_never k c.args.plan.now c.args.subject))
+    planned_never (code_of c.args.self.now) c.args.plan.now _ c.args.subject _
+    (ap (pattern_over c.args.code.now.tables) (sym c.in-Never.is) ∙ c.in-Some.ensures.found) refl refl
+    c.in_ok-push-in-Never.ensures.items c.requires.slots_below
 
 pub plan_cons-plan-requires : goal.plan_cons-plan-requires
 plan_cons-plan-requires t c = (
@@ -39,8 +36,13 @@ plan_cons-returns t c =
     let d = code_of c.plan-2.new.self in
     let f = pattern_at c.args.code.now.tables c.args.first.0 in
     let g = pattern_at c.args.code.now.tables c.args.rest.0 in
+    let q : Plan = record {
+      slots = c.args.plan.now.slots;
+      free = c.in_ok-plan.field-0;
+      tests = c.push.new.self;
+    } in
     by_ok _ _ _ c.plan-2.ensures
-    (λ x h. planned_cons a b d c.args.plan.now _ c.plan.new.plan c.plan-2.new.plan c.args.subject f g (record {
+    (λ x h. planned_cons a b d c.args.plan.now q c.plan.new.plan c.plan-2.new.plan c.args.subject f g (record {
       slots = refl;
       free = omega arith;
       tests = c.in_ok-push.ensures.items;
@@ -67,11 +69,16 @@ plan_tuple-returns t c =
     let ps = patterns_at c.args.code.now.tables c.args.parts.now in
     let n = c.in_ok-size.size in
     let e : n ≡ length c.args.parts.now = c.in_ok-size.ensures in
+    let q : Plan = record {
+      slots = c.args.plan.now.slots;
+      free = c.in_ok-plan.field-0;
+      tests = c.push.new.self;
+    } in
     by_ok _ _ _ c.plan_row.ensures
-    (λ x h. planned_tuple a b c.args.plan.now _ c.plan_row.new.plan c.args.subject n ps
+    (λ x h. planned_tuple a b c.args.plan.now q c.plan_row.new.plan c.args.subject n ps
     (e ∙ sym (count_at c.args.code.now.tables c.args.parts.now)) (record {
       slots = refl;
       free = omega arith;
       tests = c.in_ok-push.ensures.items;
     }) c.requires.subject_below c.requires.slots_below
-    (subst (λ k. Planned a b _ c.plan_row.new.plan (fit_row ps c.args.plan.now.free k)) (sym e) h))
+    (subst (λ k. Planned a b q c.plan_row.new.plan (fit_row ps c.args.plan.now.free k)) (sym e) h))

@@ -1,4 +1,4 @@
-use Rattle.std.proofs.Common.{◌≡◌, length, map, [], ◌∷◌, ap, ◌∙◌, sym}
+use Rattle.std.proofs.Common.{◌≡◌, length, map, [], ◌∷◌, ap, ◌∙◌, sym, arith}
 use Rattle.std.proofs.lemmas.List.{length-map, map-append}
 use Rattle.pf_terms.specs.Term.{value_of}
 use Rattle.pf_compile.proofs.Grown.{constant_put}
@@ -9,4 +9,4 @@ returns c =
     let s = c.args.self.now in
     constant_put s.instructions.items (map value_of s.constants.items) _ (value_of c.args.value) c.in_ok-k.k
     (ap (map value_of) c.in_ok-push.ensures.items ∙ map-append value_of s.constants.items (c.args.value ∷ []))
-    (cc (length-map s.constants.items value_of))
+    (let l = length-map s.constants.items value_of in omega arith)

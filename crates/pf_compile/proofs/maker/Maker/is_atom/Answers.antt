@@ -1,6 +1,6 @@
 use Rattle.pf_compile.specs.Maker.{code_of}
 use Rattle.pf_compile.proofs.Grown.{by_ok}
-use Rattle.pf_compile.proofs.Guards.{asks_atom}
+use Rattle.pf_compile.proofs.Guarded.{asks_atom}
 use Rattle.pf_compile.proofs.maker.Maker.is_atom.Goals as goal
 
 pub returns : goal.returns

@@ -2,7 +2,7 @@ use Rattle.pf_syntax.specs.Over.{part_over}
 use Rattle.pf_compile.specs.Maker.{code_of}
 use Rattle.pf_compile.specs.Scopes.{tables_in}
 use Rattle.pf_compile.proofs.Grown.{by_ok}
-use Rattle.pf_compile.proofs.Guards.{asks_true}
+use Rattle.pf_compile.proofs.Guarded.{asks_true}
 use Rattle.pf_compile.proofs.maker.Maker.is_true.Goals as goal
 
 pub returns : goal.returns

@@ -1,6 +1,6 @@
 use Rattle.pf_compile.specs.Maker.{code_of}
 use Rattle.pf_compile.proofs.Grown.{by_ok}
-use Rattle.pf_compile.proofs.Guards.{loads_register}
+use Rattle.pf_compile.proofs.Guarded.{loads_register}
 use Rattle.pf_compile.proofs.maker.Maker.load.Goals as goal
 
 pub returns : goal.returns

@@ -1,7 +1,7 @@
 use Rattle.pf_terms.specs.Term.{value_of}
 use Rattle.pf_compile.specs.Maker.{code_of}
 use Rattle.pf_compile.proofs.Grown.{by_ok}
-use Rattle.pf_compile.proofs.Guards.{loads_constant}
+use Rattle.pf_compile.proofs.Guarded.{loads_constant}
 use Rattle.pf_compile.proofs.maker.Maker.load_value.Goals as goal
 
 pub returns : goal.returns

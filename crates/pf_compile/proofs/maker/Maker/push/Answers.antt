@@ -1,4 +1,4 @@
-use Rattle.std.proofs.Common.{◌≡◌, length, map}
+use Rattle.std.proofs.Common.{◌≡◌, length, map, arith}
 use Rattle.pf_terms.specs.Term.{value_of}
 use Rattle.pf_compile.proofs.Grown.{pushed}
 use Rattle.pf_compile.proofs.maker.Maker.push.Goals as goal
@@ -7,4 +7,4 @@ pub returns : goal.returns
 returns c =
     let s = c.args.self.now in
     pushed s.instructions.items _ (map value_of s.constants.items) c.args.instruction c.in_ok-pc.pc
-    c.in_ok-push.ensures.items (cc)
+    c.in_ok-push.ensures.items (omega arith)

@@ -1,6 +1,6 @@
 use Rattle.pf_compile.specs.Maker.{code_of}
 use Rattle.pf_compile.proofs.Grown.{by_ok}
-use Rattle.pf_compile.proofs.Guards.{tests}
+use Rattle.pf_compile.proofs.Guarded.{tests}
 use Rattle.pf_compile.proofs.maker.Maker.test.Goals as goal
 
 pub returns : goal.returns

@@ -1,7 +1,7 @@
 use Rattle.std.proofs.Common.{sym, subst}
 use Rattle.pf_compile.specs.Maker.{code_of}
 use Rattle.pf_compile.proofs.Grown.{by_ok}
-use Rattle.pf_compile.proofs.Guards.{tells_truth_by}
+use Rattle.pf_compile.proofs.Guarded.{tells_truth_by}
 use Rattle.pf_compile.proofs.maker.Maker.truth.Goals as goal
 
 pub returns : goal.returns

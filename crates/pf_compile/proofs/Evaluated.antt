@@ -1,7 +1,8 @@
 -- Code of expressions.
 use Rattle.std.proofs.Common.{◌≡◌, ◌<◌, ◌≤◌, ◌+◌, ℕ, zero, suc, Bool, true, false, List, [], ◌∷◌, Option, Some, None}
 use Rattle.std.proofs.Common.{Result, Ok, Err, length, refl, sym, ap, ◌∙◌, subst, arith}
-use Rattle.std.specs.Prelude.{slice_get, option_map, if◌then◌else◌}
+use Rattle.std.specs.Prelude.{slice_get, option_map, if◌then◌else◌, ℤ, ◌-◌}
+use Rattle.std.proofs.lemmas.Option.{slice_get-map}
 use mathlib.Core.Path.{fun_ext}
 use Rattle.pf_terms.specs.Value.{Value, Values, atom, list, none, more, count}
 use Rattle.pf_terms.specs.Value as value
@@ -10,7 +11,7 @@ use Rattle.pf_syntax.specs.Forms.{is_pure}
 use Rattle.pf_syntax.specs.declared.operator.Operator.{Operator}
 use Rattle.pf_syntax.specs.declared.operator.Builtin.{Builtin}
 use Rattle.pf_syntax.specs.declared.operator.Builtin.TheVariants as builtins
-use Rattle.pf_patterns.specs.Substitution.{sub, sub_trees}
+use Rattle.pf_patterns.specs.Substitution.{sub, sub_trees, value_or_var}
 use Rattle.pf_ops.specs.Arithmetic.{negated}
 use Rattle.pf_ops.specs.Operations.{limited, operated, consed, computed, values_before}
 use Rattle.pf_model.specs.Module.{Module, name_in}
@@ -41,7 +42,7 @@ use Rattle.pf_compile.specs.Evaluated.{tree_count, Holder, EvaluatesAll, Operate
 use Rattle.pf_compile.proofs.Grown.{extends_itself, extends_on, end_sound, put_sound, nowhere}
 use Rattle.pf_compile.proofs.Laid.{sound_same}
 use Rattle.pf_compile.proofs.Dependent.{depends_more, scope_same}
-use Rattle.pf_compile.proofs.Guards.{put_there}
+use Rattle.pf_compile.proofs.Guarded.{put_there}
 
 -- ---- where values go
 
@@ -136,7 +137,7 @@ evaluates_none s free next old place = record {
       (λ r. ap (λ vs. inside (frames r) (Becomes (h.whole (literals vs)))) (sym (before_none (done r)))) x;
 }
 
-abbrev target_at : ℕ → ℕ → Target
+abbrev pub target_at : ℕ → ℕ → Target
 target_at free k = record { into = free; free = free; after = way.Place k }
 
 evaluates_next : (s : Scope) (t : Tree) (ts : Trees) (n free next : ℕ) (old mid new : Code) (k pc : ℕ)
@@ -238,16 +239,16 @@ answers_into change into frames d = record {
 
 -- ---- what holds trees
 
-abbrev op_whole : Operator → Trees → Tree
+abbrev pub op_whole : Operator → Trees → Tree
 op_whole o (tree a (tree b no_trees)) = op o a b
 op_whole o ts = lit (list none)
 
-abbrev op_frame : Operator → Values → Trees → Frame
+abbrev pub op_frame : Operator → Values → Trees → Frame
 op_frame o none (tree b ts) = left_of o b
 op_frame o (more v vs) ts = right_of o v
 op_frame o none no_trees = negation
 
-op_holds : (o : Operator) (vs : Values) (t : Tree) (ts : Trees) → count vs + (1 + tree_count ts) ≡ 2
+pub op_holds : (o : Operator) (vs : Values) (t : Tree) (ts : Trees) → count vs + (1 + tree_count ts) ≡ 2
     → around (op_frame o vs ts) t ≡ op_whole o (after_values vs (tree t ts))
 op_holds o none t no_trees h = absurd (omega arith)
 op_holds o none t (tree b no_trees) h = refl
@@ -259,16 +260,16 @@ op_holds o (more v (more w vs)) t ts h = absurd (omega arith)
 abbrev pub op_holder : Operator → Holder
 op_holder o = record { size = 2; whole = op_whole o; frame = op_frame o; holds = op_holds o }
 
-abbrev cons_whole : Trees → Tree
+abbrev pub cons_whole : Trees → Tree
 cons_whole (tree a (tree b no_trees)) = cons a b
 cons_whole ts = lit (list none)
 
-abbrev cons_frame : Values → Trees → Frame
+abbrev pub cons_frame : Values → Trees → Frame
 cons_frame none (tree b ts) = first_of b
 cons_frame (more v vs) ts = tail_of v
 cons_frame none no_trees = negation
 
-cons_holds : (vs : Values) (t : Tree) (ts : Trees) → count vs + (1 + tree_count ts) ≡ 2
+pub cons_holds : (vs : Values) (t : Tree) (ts : Trees) → count vs + (1 + tree_count ts) ≡ 2
     → around (cons_frame vs ts) t ≡ cons_whole (after_values vs (tree t ts))
 cons_holds none t no_trees h = absurd (omega arith)
 cons_holds none t (tree b no_trees) h = refl
@@ -280,16 +281,16 @@ cons_holds (more v (more w vs)) t ts h = absurd (omega arith)
 abbrev pub cons_holder : Holder
 cons_holder = record { size = 2; whole = cons_whole; frame = cons_frame; holds = cons_holds }
 
-abbrev send_whole : Trees → Tree
+abbrev pub send_whole : Trees → Tree
 send_whole (tree a (tree b no_trees)) = send a b
 send_whole ts = lit (list none)
 
-abbrev send_frame : Values → Trees → Frame
+abbrev pub send_frame : Values → Trees → Frame
 send_frame none (tree b ts) = receiver_of b
 send_frame (more v vs) ts = message_of v
 send_frame none no_trees = negation
 
-send_holds : (vs : Values) (t : Tree) (ts : Trees) → count vs + (1 + tree_count ts) ≡ 2
+pub send_holds : (vs : Values) (t : Tree) (ts : Trees) → count vs + (1 + tree_count ts) ≡ 2
     → around (send_frame vs ts) t ≡ send_whole (after_values vs (tree t ts))
 send_holds none t no_trees h = absurd (omega arith)
 send_holds none t (tree b no_trees) h = refl
@@ -301,11 +302,11 @@ send_holds (more v (more w vs)) t ts h = absurd (omega arith)
 abbrev pub send_holder : Holder
 send_holder = record { size = 2; whole = send_whole; frame = send_frame; holds = send_holds }
 
-abbrev neg_whole : Trees → Tree
+abbrev pub neg_whole : Trees → Tree
 neg_whole (tree a no_trees) = neg a
 neg_whole ts = lit (list none)
 
-neg_holds : (vs : Values) (t : Tree) (ts : Trees) → count vs + (1 + tree_count ts) ≡ 1
+pub neg_holds : (vs : Values) (t : Tree) (ts : Trees) → count vs + (1 + tree_count ts) ≡ 1
     → around negation t ≡ neg_whole (after_values vs (tree t ts))
 neg_holds none t no_trees h = refl
 neg_holds none t (tree b ts) h = absurd (omega arith)
@@ -370,7 +371,7 @@ evaluates_asked s t ts n i to old new pc h change size whole contracts carries m
 }
 
 -- what two values give
-abbrev two_change : (Value → Value → Change) → Values → Change
+abbrev pub two_change : (Value → Value → Change) → Values → Change
 two_change f (more v (more w none)) = f v w
 two_change f vs = Raises (list none)
 
@@ -382,7 +383,7 @@ two_contracts m own whole f is (more v none) h = absurd (omega arith)
 two_contracts m own whole f is (more v (more w none)) h = is v w
 two_contracts m own whole f is (more v (more w (more u vs))) h = absurd (omega arith)
 
-abbrev one_change : (Value → Change) → Values → Change
+abbrev pub one_change : (Value → Change) → Values → Change
 one_change f (more v none) = f v
 one_change f vs = Raises (list none)
 
@@ -414,7 +415,7 @@ called_purely own builtins.IsPid vs h = by_computed (computed own builtins.IsPid
 called_purely own builtins.IsReference vs h = by_computed (computed own builtins.IsReference vs)
 called_purely own f vs h = absurd (cc)
 
-abbrev two : Tree → Tree → Trees
+abbrev pub two : Tree → Tree → Trees
 two a b = tree a (tree b no_trees)
 
 module _ (s : Scope) (to : Target) (old new : Code) (pc : ℕ) (i : Operation) where
@@ -491,3 +492,37 @@ module _ (s : Scope) (to : Target) (old new : Code) (pc : ℕ) (i : Operation) w
       → i ≡ (if is_pure f then ops.Pure f to.into to.free n else ops.Ask f to.into to.free n)
       → Made old new pc (Operates s ts n i to pc) → Made old new pc (Evaluates s (builtin f ts) to pc)
   evaluates_builtin f ts n e h = builtin_by (is_pure f) f ts n refl e h
+
+-- ---- leaves
+
+pub given_value : (s : Scope) (t : Tree) (to : Target) (old new : Code) (pc : ℕ) (v : Value) → t ≡ lit v
+    → Made old new pc (GivesValue to.into to.after (λ r. v) pc) → Made old new pc (Evaluates s t to pc)
+given_value s t to old new pc v e h =
+    value_evaluates s t to old new pc (λ r. v) (λ r. ap (sub (scope_in (slots_in s) r)) e) h
+
+pub given_int : (s : Scope) (t : Tree) (to : Target) (old new : Code) (pc : ℕ) (y z : ℤ) → t ≡ lit (value.int z)
+    → Made old new pc (GivesValue to.into to.after (λ r. value.int y) pc) → y ≡ z
+    → Made old new pc (Evaluates s t to pc)
+given_int s t to old new pc y z e h same =
+    given_value s t to old new pc (value.int y) (e ∙ ap (λ n. lit (value.int n)) (sym same)) h
+
+pub given_slot : (s : Scope) (t : Tree) (to : Target) (old new : Code) (pc x k : ℕ) → t ≡ var x
+    → slice_get (slots_in s) x ≡ Some k → Made old new pc (GivesValue to.into to.after (λ r. reg r k) pc)
+    → Made old new pc (Evaluates s t to pc)
+given_slot s t to old new pc x k e there h =
+    value_evaluates s t to old new pc (λ r. reg r k)
+    (λ r. ap (sub (scope_in (slots_in s) r)) e
+    ∙ ap (λ o. value_or_var o (x - length (scope_in (slots_in s) r)))
+    (slice_get-map (reg r) (slots_in s) x ∙ ap (option_map (reg r)) there)) h
+
+pub raised_slot : (s : Scope) (t : Tree) (to : Target) (old new : Code) (pc x : ℕ) → t ≡ var x
+    → slice_get (slots_in s) x ≡ None → Made old new pc (StepsToRaise 17 pc) → Made old new pc (Evaluates s t to pc)
+raised_slot s t to old new pc x e absent h = record {
+  grown = h.grown;
+  place = h.place;
+  meant = λ own outer later g frames d c.
+      h.meant own outer later g (model_in s) frames (λ r. sub (scope_in (slots_in s) r) t)
+      (λ r. ap (contract (model_in s) own) (ap (sub (scope_in (slots_in s) r)) e
+      ∙ ap (λ o. value_or_var o (x - length (scope_in (slots_in s) r)))
+      (slice_get-map (reg r) (slots_in s) x ∙ ap (option_map (reg r)) absent)));
+}

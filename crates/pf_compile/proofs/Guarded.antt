@@ -1,7 +1,8 @@
 -- Code of guards.
 use Rattle.std.proofs.Common.{◌≡◌, ◌<◌, ◌≤◌, ◌+◌, ℕ, zero, suc, Bool, true, false, ◌&&◌, ◌||◌, List, [], ◌∷◌, Option}
 use Rattle.std.proofs.Common.{Some, None, Result, Ok, Err, length, refl, sym, ap, ◌∙◌, subst, arith}
-use Rattle.std.specs.Prelude.{if◌then◌else◌, option_and_then}
+use Rattle.std.specs.Prelude.{if◌then◌else◌, option_and_then, option_map, slice_get, ◌-◌, ℤ}
+use Rattle.std.proofs.lemmas.Option.{slice_get-map}
 use Rattle.pf_terms.specs.Value.{Value, Values, atom, list, none, more, same}
 use Rattle.pf_terms.specs.Value as value
 use Rattle.pf_terms.specs.Fixed.{true_atom, false_atom}
@@ -9,7 +10,7 @@ use Rattle.pf_syntax.specs.Tree as trees
 use Rattle.pf_syntax.specs.declared.operator.Operator.{Operator}
 use Rattle.pf_syntax.specs.declared.operator.Builtin.{Builtin}
 use Rattle.pf_syntax.specs.Tree.{Tree, Trees, Guard, no_trees, tree, no_alternatives, alternative}
-use Rattle.pf_patterns.specs.Substitution.{sub, sub_trees, sub_guard}
+use Rattle.pf_patterns.specs.Substitution.{sub, sub_trees, sub_guard, value_or_var}
 use Rattle.pf_ops.specs.Arithmetic.{negated}
 use Rattle.pf_ops.specs.Operations.{limited, operated, consed, computed}
 use Rattle.pf_ops.specs.Guards.{value_in, worth, all_worth, is_true, all_true, guard_holds, unless_decided, truth_of}
@@ -160,7 +161,7 @@ worths_none s to old exits = record {
   meant = λ own outer later e go o g d n f. n;
 }
 
-abbrev exits_to : ℕ → ℕ → ℕ → Exits
+abbrev pub exits_to : ℕ → ℕ → ℕ → Exits
 exits_to free next otherwise = record { free = free; next = next; otherwise = otherwise }
 
 worths_next : (s : Scope) (t : Tree) (ts : Trees) (n : ℕ) (to : Exits) (old mid new : Code) (next pc : ℕ)
@@ -480,7 +481,7 @@ value_or_undefined : (x : Option (Result Value Value)) → option_and_then value
 value_or_undefined None = refl
 value_or_undefined (Some y) = refl
 
-abbrev two : Tree → Tree → Trees
+abbrev pub two : Tree → Tree → Trees
 two a b = tree a (tree b no_trees)
 
 module _ (s : Scope) (to : Exits) (old new : Code) (pc : ℕ) (i : Operation) (exits : AreExits old to) where
@@ -528,3 +529,39 @@ module _ (s : Scope) (to : Exits) (old new : Code) (pc : ℕ) (i : Operation) (e
       (λ own vs. option_and_then value_in (computed own f vs)) exits (λ own r. refl)
       (λ own r. value_or_undefined (computed own f (row r to.free n)))
       (λ own outer ks c x o k. subst (λ j. Carries (model_in s) own outer ks j to.otherwise c x o) (sym e) k) h
+
+-- ---- leaves
+
+pub value_worth : (s : Scope) (t : Tree) (to : Exits) (old new : Code) (pc : ℕ) (v : Value) → t ≡ trees.lit v
+    → Made old new pc (Loads (λ r. v) to.free to.next pc) → Made old new pc (Worths s t to pc)
+value_worth s t to old new pc v e h =
+    loads_worth s t to old new (λ r. v) pc (λ own r. ap (λ x. worth_at s x own r) e) h
+
+pub int_worth : (s : Scope) (t : Tree) (to : Exits) (old new : Code) (pc : ℕ) (y z : ℤ) → t ≡ trees.lit (value.int z)
+    → Made old new pc (Loads (λ r. value.int y) to.free to.next pc) → y ≡ z → Made old new pc (Worths s t to pc)
+int_worth s t to old new pc y z e h same =
+    value_worth s t to old new pc (value.int y) (e ∙ ap (λ n. trees.lit (value.int n)) (sym same)) h
+
+slot_is : (s : Scope) (x k : ℕ) (own : ℕ) (r : Registers) → slice_get (slots_in s) x ≡ Some k
+    → worth_at s (trees.var x) own r ≡ Some (reg r k)
+slot_is s x k own r h =
+    ap (λ o. worth (name_in (model_in s)) own (value_or_var o (x - length (scope_in (slots_in s) r))))
+    (slice_get-map (reg r) (slots_in s) x ∙ ap (option_map (reg r)) h)
+
+pub slot_worth : (s : Scope) (t : Tree) (to : Exits) (old new : Code) (pc x k : ℕ) → t ≡ trees.var x
+    → slice_get (slots_in s) x ≡ Some k → Made old new pc (Loads (λ r. reg r k) to.free to.next pc)
+    → Made old new pc (Worths s t to pc)
+slot_worth s t to old new pc x k e there h =
+    loads_worth s t to old new (λ r. reg r k) pc
+    (λ own r. ap (λ y. worth_at s y own r) e ∙ slot_is s x k own r there) h
+
+no_slot_is : (s : Scope) (x : ℕ) (own : ℕ) (r : Registers) → slice_get (slots_in s) x ≡ None
+    → worth_at s (trees.var x) own r ≡ None
+no_slot_is s x own r h =
+    ap (λ o. worth (name_in (model_in s)) own (value_or_var o (x - length (scope_in (slots_in s) r))))
+    (slice_get-map (reg r) (slots_in s) x ∙ ap (option_map (reg r)) h)
+
+pub no_slot_worth : (s : Scope) (t : Tree) (to : Exits) (old : Code) (x : ℕ) → t ≡ trees.var x
+    → slice_get (slots_in s) x ≡ None → AreExits old to → Made old old to.otherwise (Worths s t to to.otherwise)
+no_slot_worth s t to old x e absent exits =
+    no_worth s t to old exits (λ own r. ap (λ y. worth_at s y own r) e ∙ no_slot_is s x own r absent)
