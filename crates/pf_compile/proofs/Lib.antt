@@ -8,3 +8,4 @@ pub mod Sizes
 pub mod Clauses
 pub mod Slices
 pub mod Rows
+pub mod Compiled

@@ -5,3 +5,4 @@ pub mod Planned
 pub mod Scopes
 pub mod Guarded
 pub mod Evaluated
+pub mod Compiled
