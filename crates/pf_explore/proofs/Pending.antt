@@ -12,6 +12,7 @@ use Rattle.pf_explore_laws.specs.Parting.{AreBy}
 use Rattle.pf_explore_laws.proofs.Parting.{reports_part, choices_are_by_schedule}
 use Rattle.pf_explore.specs.Branching.{none_seen, seen_all, deviating}
 use Rattle.pf_explore.specs.Failing.{IsFailing}
+use Rattle.pf_explore.specs.Steps.{StepsAreWithin}
 use Rattle.pf_explore.proofs.Order.{choices, IsFrom, Branches, Follow, follow}
 use Rattle.pf_explore.proofs.Branching.{ComesAfter, branch_of, none_between}
 
@@ -36,26 +37,32 @@ failing j ns r means fails = (
   fails,
 )
 
+-- the property of a run holds, and it has no more steps than this
+abbrev pub IsGood : ℕ → Report → Type 0
+IsGood n s = (s.verdict ≡ Some true) × (s.steps ≤ n)
+
+good_within : (n m : ℕ) (s : Report) → n ≤ m → IsGood n s → IsGood m s
+good_within n m s more good = let few = good.1 in (good.0, omega arith)
+
 -- a schedule deviates no oftener than is asked for, if any was left out that does
 abbrev pub MayBeLeftOut : (most : ℕ) → (all : Bool) → Report → Type 0
 MayBeLeftOut most all s = all ≡ false → deviations s.events ≤ most
 
--- before a run by a schedule: it is the first, or leaves another run; each that isn't left out holds, or comes with
--- it or
--- after it
-pub record IsPending (j : Job) (most : ℕ) (all : Bool) (ns : List ℕ) : Type 0 where
+-- before a run by a schedule: it is the first, or leaves another run; each that isn't left out holds within so many
+-- steps, or comes with it or after it
+pub record IsPending (j : Job) (most : ℕ) (all : Bool) (n : ℕ) (ns : List ℕ) : Type 0 where
   pub leaves : (ns ≡ []) ⊎ ((ms : List ℕ) × (r : Report) × Means (by_schedule j ms) r × Branches ns r.events)
   pub earlier : (ms : List ℕ) (s : Report) → Means (by_schedule j ms) s → MayBeLeftOut most all s
-      → (s.verdict ≡ Some true) ⊎ IsFrom ns (choices s.events)
+      → IsGood n s ⊎ IsFrom ns (choices s.events)
 
-pub first_pending : (j : Job) (most : ℕ) → IsPending j most true []
+pub first_pending : (j : Job) (most : ℕ) → IsPending j most true 0 []
 first_pending j most = record { leaves = inl refl; earlier = λ ms s means may. inr tt }
 
 none_is_some : {A : Type 0} {T : Type 0} (o : Option A) (v : A) → o ≡ None → o ≡ Some v → T
 none_is_some o v none some = absurd (true≢false (ap is_some (sym some ∙ none)))
 
-module _ (j : Job) (most : ℕ) (all : Bool) (ns : List ℕ) (r : Report) (pending : IsPending j most all ns)
-    (means : Means (by_schedule j ns) r) (holds : r.verdict ≡ Some true) where
+module _ (j : Job) (most : ℕ) (all : Bool) (n m : ℕ) (ns : List ℕ) (r : Report) (pending : IsPending j most all n ns)
+    (means : Means (by_schedule j ns) r) (more : n ≤ m) (holds : IsGood m r) where
   abbrev left_out : Bool
   left_out = (seen_all (none_seen most) zero r.events).left_out
 
@@ -83,14 +90,14 @@ module _ (j : Job) (most : ℕ) (all : Bool) (ns : List ℕ) (r : Report) (pendi
   -- each other that isn't left out holds, or comes with the next schedule or after it
   pub after_run : (left : Bool) → left_out ≡ left → (ms : List ℕ) (s : Report) → Means (by_schedule j ms) s
       → MayBeLeftOut most (all && not left) s
-      → (s.verdict ≡ Some true) ⊎ ComesAfter (none_seen most) zero r.events s.events
+      → IsGood m s ⊎ ComesAfter (none_seen most) zero r.events s.events
   after_run left e ms s also may =
       elim (pending.earlier ms s also (was_left_out left s may)) [
-        | inl good ↦ inl good
+        | inl good ↦ inl (good_within n m s more good)
         | inr from ↦ elim (none_between (none_seen most) zero ns r.events s.events (reports_part j ns ms r s
             means also) own
             from (still_left_out left e s may)) [
-              | inl same ↦ inl (sym (ap (λ x. x.verdict) (same_report j ns ms r s means also same)) ∙ holds)
+              | inl same ↦ inl (subst (IsGood m) (same_report j ns ms r s means also same) holds)
               | inr h ↦ inr h
             ]
       ]
@@ -98,21 +105,24 @@ module _ (j : Job) (most : ℕ) (all : Bool) (ns : List ℕ) (r : Report) (pendi
   -- after the last run
   module _ (left : Bool) (e : left_out ≡ left) (last : (seen_all (none_seen most) zero r.events).branch ≡ None) where
     good : (ms : List ℕ) (s : Report) → Means (by_schedule j ms) s → MayBeLeftOut most (all && not left) s
-        → s.verdict ≡ Some true
+        → IsGood m s
     good ms s also may =
         elim (after_run left e ms s also may)
         [ inl h ↦ h | inr h ↦ none_is_some (seen_all (none_seen most) zero r.events).branch (zero + h.0, h.1) last h.2 ]
 
     pub within : HoldsWithin most j
-    within ms s also few = good ms s also (λ b. few)
+    within ms s also few = (good ms s also (λ b. few)).0
 
-    pub by_each : (all && not left) ≡ true → HoldsByEach j
-    by_each whole ms s also = good ms s also (λ none. absurd (true≢false (sym whole ∙ none)))
+    whole_good : (all && not left) ≡ true → (ms : List ℕ) (s : Report) → Means (by_schedule j ms) s → IsGood m s
+    whole_good whole ms s also = good ms s also (λ none. absurd (true≢false (sym whole ∙ none)))
+
+    pub by_each : (all && not left) ≡ true → HoldsByEach j × StepsAreWithin m j
+    by_each whole = (λ ms s also. (whole_good whole ms s also).0, λ ms s also. (whole_good whole ms s also).1)
 
   -- before the next
   pub next_pending : (left : Bool) → left_out ≡ left → (b : ℕ × ℕ)
       → (seen_all (none_seen most) zero r.events).branch ≡ Some b
-      → IsPending j most (all && not left) (deviating r.events b.0 b.1)
+      → IsPending j most (all && not left) m (deviating r.events b.0 b.1)
   next_pending left e b branch =
       record {
         leaves = inr (ns, r, means, new);

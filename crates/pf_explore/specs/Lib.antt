@@ -1,4 +1,5 @@
 pub mod Failing
+pub mod Steps
 pub mod Branching
 pub mod Level
 pub mod Explored

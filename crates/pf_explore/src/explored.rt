@@ -5,8 +5,8 @@ use pf_model::report::Report;
 /// What an exploration finds, with how many runs it made.
 #[derive(Drop)]
 pub enum Explored {
-    /// No schedule fails.
-    NoneFails { runs: u64 },
+    /// No schedule fails: so many runs differ, and none has more steps than this.
+    NoneFails { runs: u64, steps: u32 },
     /// The run of this report fails, by its own choices as a schedule.
     Fails { report: Report, runs: u64 },
     /// Not all schedules were seen, but none fails that deviates from the first choice at most so often, if it says how

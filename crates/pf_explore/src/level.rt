@@ -1,7 +1,7 @@
 //! The runs by schedules that deviate at most so often.
 
-ghost use Rattle.std.specs.Prelude.{◌≡◌, ◌&&◌, not, IfOk};
-ghost use Rattle.pf_explore.specs.Level.{IsEndOfLevel, IsRunEnd};
+ghost use Rattle.std.specs.Prelude.{◌≡◌, ◌≤◌, ◌&&◌, not, IfOk};
+ghost use Rattle.pf_explore.specs.Level.{IsEndOfLevel, IsRunEnd, StopsAt};
 
 use crate::branch::{Next, next_of};
 use crate::runs::ScheduledRuns;
@@ -9,19 +9,26 @@ use pf_errors::NoMemory;
 use pf_model::report::Report;
 use std::alloc::Global;
 
-/// What one run shows: that it fails, or else what comes after it.
+/// A run that holds: how many steps it used, and what comes after it.
+#[derive(Drop)]
+pub(crate) struct HeldRun {
+    pub steps: u32,
+    pub next: Next,
+}
+
+/// What one run shows: that it fails, or else that it holds.
 #[derive(Drop)]
 pub(crate) enum RunEnd {
     Fails(Report),
-    Holds(Next),
+    Holds(HeldRun),
 }
 
-/// How the runs end that deviate at most so often: at one that fails; after the last, and whether no other schedule was
-/// left out; or where there were as many as there may be.
+/// How the runs end that deviate at most so often: at one that fails; after the last, with the most steps of one, and
+/// whether no other schedule was left out; or where there were as many as there may be.
 #[derive(Drop)]
 pub(crate) enum LevelEnd {
     Fails(Report),
-    Holds { all: bool },
+    Holds { all: bool, steps: u32 },
     Cut,
 }
 
@@ -44,10 +51,20 @@ fn run_by<R: ScheduledRuns>(
 {
     let report = runs.report(alloc, schedule)?;
     match report.verdict {
-        Some(true) => Ok(RunEnd::Holds(next_of(alloc, report.events.as_slice(), most)?)),
+        Some(true) => Ok(RunEnd::Holds(HeldRun {
+            steps: report.steps,
+            next: next_of(alloc, report.events.as_slice(), most)?,
+        })),
         Some(false) => Ok(RunEnd::Fails(report)),
         None => Err(NoMemory),
     }
+}
+
+/// The larger of two numbers of steps.
+fn larger(steps: u32, others: u32) -> u32
+    ensures { (steps ≤ result) × (others ≤ result) }
+{
+    steps.max(others)
 }
 
 /// Whether no schedule was left out, with one run more.
@@ -66,13 +83,15 @@ pub(crate) fn search_level<R: ScheduledRuns>(
     budget: u64,
 ) -> Result<Level, NoMemory>
     ensures end { IfOk result (λ level. IsEndOfLevel (R.asked runs.old) most level.end) }
+    ensures runs { IfOk result (λ level. StopsAt budget level.runs level.end) }
     ensures same { R.asked runs.new ≡ R.asked runs.old }
 {
     let mut schedule = Vec::new(alloc);
     let mut all = true;
+    let mut steps = 0;
     for made in 0..budget {
-        let next = match run_by(alloc, runs, schedule.as_slice(), most)? {
-            RunEnd::Holds(next) => next,
+        let held = match run_by(alloc, runs, schedule.as_slice(), most)? {
+            RunEnd::Holds(held) => held,
             RunEnd::Fails(report) => {
                 return Ok(Level {
                     runs: made + 1,
@@ -80,11 +99,12 @@ pub(crate) fn search_level<R: ScheduledRuns>(
                 });
             }
         };
-        all = none_left_out(all, next.left_out);
-        let Some(after) = next.schedule else {
+        steps = larger(steps, held.steps);
+        all = none_left_out(all, held.next.left_out);
+        let Some(after) = held.next.schedule else {
             return Ok(Level {
                 runs: made + 1,
-                end: LevelEnd::Holds { all },
+                end: LevelEnd::Holds { all, steps },
             });
         };
         schedule = after;

@@ -18,7 +18,7 @@ pub fn explore<R: ScheduledRuns>(
     budget: u64,
     levels: u32,
 ) -> Result<Explored, NoMemory>
-    ensures { IfOk result (IsExplored (R.asked runs.old)) }
+    ensures { IfOk result (IsExplored (R.asked runs.old) budget levels) }
 {
     let mut within = None;
     let mut left = budget;
@@ -29,8 +29,13 @@ pub fn explore<R: ScheduledRuns>(
         match level.end {
             LevelEnd::Fails(report) => return Ok(Explored::Fails { report, runs: made }),
             LevelEnd::Cut => return Ok(Explored::NotAllSeen { within, runs: made }),
-            LevelEnd::Holds { all: true } => return Ok(Explored::NoneFails { runs: made }),
-            LevelEnd::Holds { all: false } => within = Some(most),
+            LevelEnd::Holds { all: true, steps } => {
+                return Ok(Explored::NoneFails {
+                    runs: level.runs,
+                    steps,
+                });
+            }
+            LevelEnd::Holds { all: false, .. } => within = Some(most),
         }
     }
     Ok(Explored::NotAllSeen {
