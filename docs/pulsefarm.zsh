@@ -23,7 +23,7 @@ _pulsefarm_properties() {
 
 _pulsefarm() {
   local -a commands job weights strategy schedule format
-  commands=(run hunt shrink chart check steps farm)
+  commands=(run hunt explore shrink chart check steps farm)
   job=(
     '--root[function that runs first]:function:_pulsefarm_roots'
     '--limit[most steps of a run]:steps: '
@@ -57,6 +57,7 @@ _pulsefarm() {
         '--shrink[shrink within N runs]:runs: ' '--all-roots[hunt every root]' '--fail-fast[end behind the first root that fails]'
         '--leaks[waiting processes fail too]' $format)
       ;;
+    explore) own=($job '--budget[most runs]:runs: ' '--deviations[most deviations of a run]:deviations: ' $format) ;;
     shrink) own=($job $schedule '--runs[most runs]:runs: ' $format) ;;
     check) own=('--explain[tell how to mend a refusal]' $format) ;;
     farm) own=('--workers[threads]:threads: ' '--summary[tell what each worker did]') ;;

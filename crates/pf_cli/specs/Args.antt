@@ -15,6 +15,7 @@ use Rattle.pf_text.specs.Numbers.{number_of_digits, long_number_of, schedule_of}
 use Rattle.pf_cli.specs.Seeds.{seeds_named}
 use Rattle.pf_cli.specs.Span.{time_named}
 use Rattle.pf_cli.specs.Form.{format_named}
+use Rattle.pf_cli.specs.Explore.{ExploreArgs, budget_named, deviations_named}
 use Rattle.pf_cli.specs.Reach.{HuntScope, clashes, more_named, names_given, reach_asked, roots_named}
 use Rattle.pf_request.specs.Request as requests
 use Rattle.pf_request.specs.Request.{Request, RequestKind}
@@ -29,10 +30,11 @@ use Rattle.pf_cli.specs.declared.args.Roots.{Roots}
 use Rattle.pf_cli.specs.declared.args.RunArgs as run_code
 use Rattle.pf_cli.specs.declared.args.ChartArgs as chart_code
 use Rattle.pf_cli.specs.declared.args.HuntArgs as hunt_code
+use Rattle.pf_cli.specs.declared.args.ExploreArgs as explore_code
 use Rattle.pf_cli.specs.declared.args.FarmArgs as farm_code
 use Rattle.pf_cli.specs.declared.args.HuntGoal.TheVariants.{Failure, Outcomes}
 use Rattle.pf_cli.specs.declared.args.Args as args_code
-use Rattle.pf_cli.specs.declared.args.Args.TheVariants.{Run, Hunt, Shrink, Chart, Check, Steps, Farm}
+use Rattle.pf_cli.specs.declared.args.Args.TheVariants.{Run, Hunt, Explore, Shrink, Chart, Check, Steps, Farm}
 use Rattle.pf_cli.specs.declared.args.CliCommand as asked_code
 use Rattle.pf_cli.specs.declared.reading.ReadWords as reading_code
 use Rattle.pf_cli.specs.declared.reading.ReadWords.TheVariants as read
@@ -136,6 +138,15 @@ reaching_app =
 abbrev pub hunt_app : App
 hunt_app = with_rule reaching_app format_rule
 
+-- what is explored: explore [FILE] [--root F] [--limit N] [--edition E] [--property P]
+abbrev pub explored_app : App
+explored_app = with_rule (bounded_app file_rule false (codes "explore")) (option_rule (codes "property"))
+
+-- and how far, and in what form: [--budget N] [--deviations K] [--format FORM]
+abbrev pub explore_app : App
+explore_app = with_rule (with_rule (with_rule explored_app (option_rule (codes "budget")))
+    (option_rule (codes "deviations"))) format_rule
+
 -- what is shrunk: shrink [FILE] --root F --limit N [--edition E] --schedule L --property P --runs N
 abbrev pub shrinking_app : App
 shrinking_app =
@@ -175,7 +186,7 @@ bare_app = record (new_app (codes "pulsefarm")) { top = top_shape }
 
 -- with the commands that find a run, and then with those that make something of one
 abbrev pub finding_app : App
-finding_app = with_subcommand (with_subcommand bare_app run_app.top) hunt_app.top
+finding_app = with_subcommand (with_subcommand (with_subcommand bare_app run_app.top) hunt_app.top) explore_app.top
 
 abbrev pub runs_app : App
 runs_app = with_subcommand (with_subcommand finding_app shrink_app.top) chart_app.top
@@ -499,6 +510,28 @@ hunt_of_values rows =
 abbrev pub hunt_of : List Row → Option HuntArgs
 hunt_of rows = if clashes_in rows then None else hunt_of_values rows
 
+-- an exploration is that of the run by the seed 0
+abbrev pub explore_by : (root property : Text) → (bounds : ℕ × ℕ) → (budget : ℕ) → (deviations : Option ℕ) → ExploreArgs
+explore_by root property bounds budget deviations =
+    record {
+      request = request_by root property (requests.run (seed 0)) bounds.0;
+      edition = bounds.1;
+      budget = budget;
+      deviations = deviations;
+    }
+
+abbrev pub explore_asked : (root property : Text) → (bounds : Option (ℕ × ℕ)) → (budget : Option ℕ)
+    → (deviations : Option (Option ℕ)) → Option ExploreArgs
+explore_asked root property (Some bounds) (Some budget) (Some deviations) =
+    Some (explore_by root property bounds budget deviations)
+explore_asked root property _ _ _ = None
+
+abbrev pub explore_of : List Row → Option ExploreArgs
+explore_of rows =
+    explore_asked (root_named (first_of (codes "root") rows)) (property_named (first_of (codes "property") rows))
+    (bounds_in rows) (budget_named (first_of (codes "budget") rows))
+    (deviations_named (first_of (codes "deviations") rows))
+
 -- files are 1 to 64
 abbrev pub as_files : List Text → Option (List Text)
 as_files files = if nat_le 1 (length files) && nat_le (length files) 64 then Some files else None
@@ -517,22 +550,24 @@ farm_of rows =
 abbrev pub explain_of : List Row → Bool
 explain_of rows = is_given (first_of (codes "explain") rows)
 
--- a command asks for a run, for a hunt over seeds, for the shrinking of a schedule, for the chart of a run, for a check
--- that may explain what it refuses, for the steps that a file lists, or for a farm
+-- a command asks for a run, for a hunt over seeds, for an exploration of all schedules, for the shrinking of one, for
+-- the chart of a run, for a check that may explain what it refuses, for the steps that a file lists, or for a farm
 pub data CommandWork : Type 0 where
   run : RunArgs → CommandWork
   hunt : HuntArgs → CommandWork
+  explore : ExploreArgs → CommandWork
   shrink : RunArgs → CommandWork
   chart : ChartArgs → CommandWork
   check : (explain : Bool) → CommandWork
   steps : CommandWork
   farm : FarmArgs → CommandWork
 
--- what a command without runs of its own asks for
+-- what a command without choices of its own asks for
 abbrev pub of_other : Text → List Row → Option CommandWork
 of_other name rows =
-    if bytes_eq name (codes "check") then Some (check (explain_of rows))
-    else (if bytes_eq name (codes "steps") then Some steps else None)
+    if bytes_eq name (codes "explore") then option_map explore (explore_of rows)
+    else (if bytes_eq name (codes "check") then Some (check (explain_of rows))
+    else (if bytes_eq name (codes "steps") then Some steps else None))
 
 -- what a command of one file asks for by the values of its options, and by the text of its schedule's file where it is
 -- known
@@ -635,12 +670,22 @@ view_of_hunt_args a =
       sought = a.sought;
     }
 
+abbrev pub view_of_explore_args : explore_code.ExploreArgs → ExploreArgs
+view_of_explore_args a =
+    record {
+      request = view_of_request a.request;
+      edition = edition_number a.edition;
+      budget = a.budget;
+      deviations = a.deviations;
+    }
+
 abbrev pub view_of_farm_args : farm_code.FarmArgs → FarmArgs
 view_of_farm_args a = record { workers = a.workers; files = map (λ s. s.now) a.files.items; summary = a.summary }
 
 abbrev pub view_of_args : args_code.Args → CommandWork
 view_of_args (Run a) = run (view_of_run_args a)
 view_of_args (Hunt a) = hunt (view_of_hunt_args a)
+view_of_args (Explore a) = explore (view_of_explore_args a)
 view_of_args (Chart a) = chart (view_of_chart_args a)
 view_of_args (Shrink a) = shrink (view_of_run_args a)
 view_of_args (Check a) = check a.explain
@@ -653,6 +698,7 @@ view_of_command a = record { work = view_of_args a.args; format = a.format; expl
 abbrev pub named_file : args_code.Args → Option Text
 named_file (Run a) = option_map (λ s. s.now) a.file
 named_file (Hunt a) = option_map (λ s. s.now) a.file
+named_file (Explore a) = option_map (λ s. s.now) a.file
 named_file (Chart a) = option_map (λ s. s.now) a.run.file
 named_file (Shrink a) = option_map (λ s. s.now) a.file
 named_file (Check a) = option_map (λ s. s.now) a.file

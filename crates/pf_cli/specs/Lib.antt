@@ -1,3 +1,4 @@
+pub mod Explore
 pub mod Args
 pub mod Form
 pub mod Reach

@@ -1,6 +1,7 @@
 //! What the words of a command line ask for.
 
 ghost use Rattle.std.specs.Prelude.{◌≡◌, ◌≤◌, true, vec_len};
+ghost use Rattle.std.specs.Option.{ForSome};
 ghost use Rattle.pf_model.specs.Meaning.{weighted_seed};
 ghost use Rattle.pf_request.specs.Request.{choices_in, may_weigh};
 ghost use Rattle.pf_request.specs.View.{view_of_kind};
@@ -141,6 +142,21 @@ pub struct HuntArgs<'a> {
     ghost weighs: { may_weigh (choices_in (view_of_kind request.kind)) ≡ true },
 }
 
+/// What `explore` asks for: `request` is the run by the seed 0, in whose place those by its schedules go.
+#[derive(Drop)]
+pub struct ExploreArgs<'a> {
+    /// The file of the source; the standard input where there is none.
+    pub file: Option<&'a str>,
+    pub request: Request,
+    /// The edition of each run.
+    pub edition: Edition,
+    /// The most runs.
+    pub budget: u64,
+    /// The most deviations of a run from the first choice, where they are named.
+    pub deviations: Option<u32>,
+    ghost few: { ForSome deviations (λ k. k ≤ 100000) },
+}
+
 /// What `check` asks for.
 #[derive(Drop)]
 pub struct CheckArgs<'a> {
@@ -175,6 +191,7 @@ pub struct FarmArgs<'a> {
 pub enum Args<'a> {
     Run(RunArgs<'a>),
     Hunt(HuntArgs<'a>),
+    Explore(ExploreArgs<'a>),
     Chart(ChartArgs<'a>),
     Shrink(RunArgs<'a>),
     Check(CheckArgs<'a>),
@@ -194,6 +211,7 @@ impl<'a> Args<'a> {
             Args::Run(args) | Args::Shrink(args) => args.file,
             Args::Chart(args) => args.run.file,
             Args::Hunt(args) => args.file,
+            Args::Explore(args) => args.file,
             Args::Check(args) => args.file,
             Args::Steps(args) => args.file,
             Args::Farm(_) => None,

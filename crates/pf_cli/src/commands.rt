@@ -3,7 +3,8 @@
 ghost use Rattle.std.specs.Prelude.{◌≡◌, IfOk, false, codes};
 ghost use Rattle.clap.specs.Words.{app_of, rule_of, new_app};
 ghost use Rattle.clap.specs.declared.builder.command.Command.TheViews.{out-Command};
-ghost use Rattle.pf_cli.specs.Args.{bare_app, bounded_app, chart_app, check_app, farm_app, file_rule, files_rule};
+ghost use Rattle.pf_cli.specs.Args.{bare_app, bounded_app, chart_app, check_app, explore_app, explored_app, farm_app};
+ghost use Rattle.pf_cli.specs.Args.{file_rule, files_rule};
 ghost use Rattle.pf_cli.specs.Args.{flag_rule, finding_app, format_rule, hunt_app, judged_app, many_rule, one_file_app};
 ghost use Rattle.pf_cli.specs.Args.{one_run_app, option_rule, pulsefarm, reaching_app, required_rule, rooted_app};
 ghost use Rattle.pf_cli.specs.Args.{run_app, runs_app, seeded_app, shrink_app, shrinking_app, steps_app, reporting_app};
@@ -372,6 +373,34 @@ pub(crate) fn hunt_command<'a>(alloc: Global) -> Result<Command<'a>, AllocError>
     Ok(hunt)
 }
 
+/// An exploration without the options of how far it goes and of its form.
+fn explored<'a>(alloc: Global) -> Result<Command<'a>, AllocError>
+    ensures app { IfOk result (λ c. app_of c ≡ explored_app) }
+    ensures local { IfOk result (λ c. (out-Command c).has_globals ≡ false) }
+{
+    let about =
+        "Runs a module by each of its schedules and reports one that fails, or that none does";
+    let source = file(alloc, SOURCE_HELP);
+    let judging = option(alloc, "property", "P", JUDGING_HELP);
+    let explored = bounded(alloc, source, "explore", about, false)?.arg(judging)?;
+    Ok(explored)
+}
+
+/// `explore`.
+pub(crate) fn explore_command<'a>(alloc: Global) -> Result<Command<'a>, AllocError>
+    ensures app { IfOk result (λ c. app_of c ≡ explore_app) }
+    ensures local { IfOk result (λ c. (out-Command c).has_globals ≡ false) }
+{
+    let budget = "Most runs, from 1 to 18446744073709551615 [default: 2000000]";
+    let deviations =
+        "Most deviations of a run from the first choice, from 0 to 100,000 [default: as many as it can have]";
+    let explore = explored(alloc)?
+        .arg(option(alloc, "budget", "N", budget))?
+        .arg(option(alloc, "deviations", "K", deviations))?
+        .arg(format(alloc))?;
+    Ok(explore)
+}
+
 /// A shrinking without the option of its form.
 fn shrinking<'a>(alloc: Global, about: &'a str) -> Result<Command<'a>, AllocError>
     ensures app { IfOk result (λ c. app_of c ≡ shrinking_app) }
@@ -457,7 +486,8 @@ fn commands_that_find<'a>(alloc: Global) -> Result<Command<'a>, AllocError>
 {
     let some = top(alloc)
         .subcommand(run_command(alloc)?)?
-        .subcommand(hunt_command(alloc)?)?;
+        .subcommand(hunt_command(alloc)?)?
+        .subcommand(explore_command(alloc)?)?;
     Ok(some)
 }
 

@@ -15,6 +15,7 @@ use crate::args::{
     Args, ChartArgs, CheckArgs, CliCommand, HuntArgs, RunArgs, StepsArgs, WeightArgs,
 };
 use crate::commands::command;
+use crate::explore::explore_args;
 use crate::farm::farm_args;
 use crate::form::format;
 use crate::reach::{clash, reach_of};
@@ -50,7 +51,7 @@ fn bytes(alloc: Global, word: &str) -> Result<ShortBytes, Error>
 }
 
 /// The request of these words and this kind.
-fn request(
+pub(crate) fn request(
     alloc: Global,
     root: &str,
     property: &str,
@@ -280,7 +281,7 @@ fn entered<'m, 'a>(matches: &'m ArgMatches<'a>) -> Option<(&'a str, &'m ArgMatch
     matches.subcommand()
 }
 
-/// What a command without runs of its own asks for.
+/// What a command without choices of its own asks for.
 fn other_args<'a>(alloc: Global, name: &str, rows: &ArgMatches<'a>) -> Result<Args<'a>, Error>
     ensures ok { IfOk result (λ a.
         of_other name.now (rows_of (found_of rows.now)) ≡ Some (view_of_args a)) }
@@ -290,6 +291,12 @@ fn other_args<'a>(alloc: Global, name: &str, rows: &ArgMatches<'a>) -> Result<Ar
         ⊎ ((kind_of e ≡ ErrorKind.InvalidValue)
         × (of_other name.now (rows_of (found_of rows.now)) ≡ None))) }
 {
+    if name == "explore" {
+        return match explore_args(alloc, rows) {
+            Ok(args) => Ok(Args::Explore(args)),
+            Err(e) => Err(e),
+        };
+    }
     if name == "check" {
         let checked = named_file(rows);
         let explain = is_given(rows, "explain");

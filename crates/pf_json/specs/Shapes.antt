@@ -1,5 +1,5 @@
 -- The shapes of lines that report several facts, or one in words of their own.
-use Rattle.std.specs.Prelude.{true, false, List, [], ◌∷◌, codes}
+use Rattle.std.specs.Prelude.{ℕ, true, false, List, [], ◌∷◌, codes}
 use Rattle.pf_json.specs.Facts.{ShapePart, fact, number, text, truth, words, maybe, count, word, code, rest, says}
 use Rattle.pf_json.specs.Facts.{reports}
 
@@ -58,6 +58,30 @@ summary =
     ∷ words (codes ", ")
     ∷ count (codes "refused") ∷ words (codes " refused") ∷ []
 
+-- ---- lines of an exploration
+
+-- `no schedule fails: 20 runs; a run has at most 14 steps`
+abbrev pub none_fails : List ShapePart
+none_fails =
+    reports (fact (codes "failure") (truth false)) ∷ words (codes "no schedule fails: ") ∷ count (codes "runs")
+    ∷ words (codes " runs; a run has at most ")
+    ∷ count (codes "steps") ∷ words (codes " steps") ∷ []
+
+-- how many runs were made, and how often one deviates at most of which none fails
+abbrev pub runs_within : (between : List ℕ) → List ShapePart
+runs_within between =
+    reports (fact (codes "unseen") (truth true)) ∷ words (codes "not all seen: ") ∷ count (codes "runs")
+    ∷ words between
+    ∷ count (codes "deviations") ∷ words (codes " deviations fails") ∷ []
+
+-- `not all seen: 50 runs; no schedule with at most 2 deviations fails`
+abbrev pub deviated : List ShapePart
+deviated = runs_within (codes " runs; no schedule with at most ")
+
+-- `not all seen: 50 runs (budget); no schedule with at most 2 deviations fails`
+abbrev pub cut : List ShapePart
+cut = reports (fact (codes "budget") (truth true)) ∷ runs_within (codes " runs (budget); no schedule with at most ")
+
 -- ---- refusals
 
 -- `B2`
@@ -86,9 +110,9 @@ blank_line = reports (fact (codes "blank") (truth true)) ∷ []
 
 abbrev pub shapes : List (List ShapePart)
 shapes =
-    event_shape ∷ no_verdict ∷ schedule ∷ no_failure ∷ stopped ∷ row_holds ∷ row_fails ∷ row_without ∷ summary ∷ refusal
-    ∷ refusal_at ∷ position ∷ instead
-    ∷ write ∷ blank_line ∷ []
+    event_shape ∷ no_verdict ∷ schedule ∷ no_failure ∷ stopped ∷ row_holds ∷ row_fails ∷ row_without ∷ summary
+    ∷ none_fails ∷ deviated
+    ∷ cut ∷ refusal ∷ refusal_at ∷ position ∷ instead ∷ write ∷ blank_line ∷ []
 
 -- ---- what is reported after a name, in a hunt over several files or roots
 

@@ -110,6 +110,49 @@ const SUMMARY: [ShapePart<'static>; 14] = [
     ShapePart::Words(b" refused"),
 ];
 
+/// `no schedule fails: 20 runs; a run has at most 14 steps`
+const NONE_FAILS: [ShapePart<'static>; 6] = [
+    ShapePart::Reports(Fact {
+        key: b"failure",
+        value: Value::Truth(false),
+    }),
+    ShapePart::Words(b"no schedule fails: "),
+    ShapePart::Count(b"runs"),
+    ShapePart::Words(b" runs; a run has at most "),
+    ShapePart::Count(b"steps"),
+    ShapePart::Words(b" steps"),
+];
+
+/// `not all seen: 50 runs; no schedule with at most 2 deviations fails`
+const DEVIATED: [ShapePart<'static>; 6] = [
+    ShapePart::Reports(Fact {
+        key: b"unseen",
+        value: Value::Truth(true),
+    }),
+    ShapePart::Words(b"not all seen: "),
+    ShapePart::Count(b"runs"),
+    ShapePart::Words(b" runs; no schedule with at most "),
+    ShapePart::Count(b"deviations"),
+    ShapePart::Words(b" deviations fails"),
+];
+
+/// `not all seen: 50 runs (budget); no schedule with at most 2 deviations fails`
+const CUT: [ShapePart<'static>; 7] = [
+    ShapePart::Reports(Fact {
+        key: b"budget",
+        value: Value::Truth(true),
+    }),
+    ShapePart::Reports(Fact {
+        key: b"unseen",
+        value: Value::Truth(true),
+    }),
+    ShapePart::Words(b"not all seen: "),
+    ShapePart::Count(b"runs"),
+    ShapePart::Words(b" runs (budget); no schedule with at most "),
+    ShapePart::Count(b"deviations"),
+    ShapePart::Words(b" deviations fails"),
+];
+
 /// `B2`
 const REFUSAL: [ShapePart<'static>; 1] = [ShapePart::Code(b"refusal")];
 
@@ -147,7 +190,7 @@ const BLANK: [ShapePart<'static>; 1] = [ShapePart::Reports(Fact {
 })];
 
 /// The shapes, in the order in which they are tried.
-pub(crate) const SHAPES: [&[ShapePart<'static>]; 15] = [
+pub(crate) const SHAPES: [&[ShapePart<'static>]; 18] = [
     &EVENT,
     &NO_VERDICT,
     &SCHEDULE,
@@ -157,6 +200,9 @@ pub(crate) const SHAPES: [&[ShapePart<'static>]; 15] = [
     &ROW_FAILS,
     &ROW_WITHOUT,
     &SUMMARY,
+    &NONE_FAILS,
+    &DEVIATED,
+    &CUT,
     &REFUSAL,
     &REFUSAL_AT,
     &POSITION,

@@ -8,8 +8,10 @@ use Rattle.pf_errors.specs.declared.fault.OrNoMemory.{OrNoMemory}
 use Rattle.pf_streams.specs.declared.stream.StreamFault.{StreamFault}
 use Rattle.pf_text.specs.Numbers.{schedule_of}
 use Rattle.clap.specs.Words.{Text}
-use Rattle.pf_cli.specs.Args.{ReadWords, Wanted, CommandWork, check, chart, farm, hunt, reading_of, reads, run, shrink}
+use Rattle.pf_cli.specs.Args.{ReadWords, Wanted, CommandWork, check, chart, explore, farm, hunt, reading_of, reads, run}
+use Rattle.pf_cli.specs.Args.{shrink}
 use Rattle.pf_cli.specs.Args.{steps, reports, view_of_farm_args, works}
+use Rattle.pf_cli.specs.Explore.{ExploreArgs}
 use Rattle.pf_cli.specs.declared.args.FarmArgs.{FarmArgs}
 use Rattle.pf_cli.specs.declared.args.Format.{Format}
 use Rattle.pf_cli.specs.declared.args.Format.TheVariants.{Json}
@@ -20,6 +22,7 @@ use Rattle.pf_command.specs.Guided.{DrawnAnswers, RunAnswers}
 use Rattle.pf_command.specs.Hunts.{HuntAnswers}
 use Rattle.pf_command.specs.Streams.{Answering, NoneFailed, Serves, Streams}
 use Rattle.pf_command.specs.declared.serving.TheConstants as command
+use Rattle.pf_explore_answer.specs.Answers.{Exploration, ExploreAnswers}
 use Rattle.pf_wire.specs.Steps.{SimulatesSteps, StepsLeaves}
 use Rattle.pf_wire.specs.declared.steps.TheConstants as wire
 use Rattle.pf_steps.specs.Profile.{run_profile}
@@ -35,10 +38,16 @@ use Rattle.pf_words.specs.declared.words.Obeyed.TheVariants.{Status, Farm}
 abbrev pub End : Type 0
 End = Result ℕ (OrNoMemory StreamFault)
 
+-- the exploration that words ask for
+abbrev pub exploration_of : ExploreArgs → Exploration
+exploration_of a =
+    record { request = a.request; edition = a.edition; budget = a.budget; deviations = a.deviations }
+
 -- which texts and statuses answer which bytes of a source of which this is asked for; of no source `steps` or a farm is
 abbrev pub AnswersOf : CommandWork → Answering
 AnswersOf (run a) = RunAnswers a
 AnswersOf (hunt h) = HuntAnswers h
+AnswersOf (explore a) = ExploreAnswers (exploration_of a)
 AnswersOf (chart a) = DrawnAnswers a
 AnswersOf (shrink a) = AnswersRun a
 AnswersOf (check explain) = Checks explain

@@ -8,6 +8,7 @@ ghost use Rattle.pf_command.specs.Streams.{Sends, Serves, streams};
 ghost use Rattle.pf_command.specs.declared.serving.TheConstants as command;
 ghost use Rattle.pf_words.specs.Words.{AnswersOf, TakesAtMost, WorkEnds, has_source, is_farm};
 
+use crate::explore::Explore;
 use crate::steps::answer_steps;
 use pf_check::ReadSource;
 use pf_cli::{Args, CliCommand, HuntArgs, HuntGoal, RunArgs};
@@ -32,7 +33,12 @@ pub fn has_source(args: &Args) -> bool
     ensures { result ≡ has_source (view_of_args args.now) }
 {
     match args {
-        Args::Run(_) | Args::Hunt(_) | Args::Chart(_) | Args::Shrink(_) | Args::Check(_) => true,
+        Args::Run(_)
+        | Args::Hunt(_)
+        | Args::Explore(_)
+        | Args::Chart(_)
+        | Args::Shrink(_)
+        | Args::Check(_) => true,
         Args::Steps(_) | Args::Farm(_) => false,
     }
 }
@@ -109,6 +115,7 @@ fn answer_source<W: Write, M: Ledger>(
         Args::Run(args) => answer_run(rt, args, source, writer),
         Args::Chart(args) => answer_by(alloc, Chart { args }, source, writer),
         Args::Hunt(args) => answer_hunt(rt, args, source, writer, line),
+        Args::Explore(args) => answer_by(alloc, Explore { args }, source, writer),
         Args::Shrink(args) => {
             let observer = Runs::new(line, args.request.kind.runs());
             answer_by(alloc, Shrink { args, observer }, source, writer)
