@@ -1,6 +1,7 @@
 -- The rows of answers, for texts and statuses that are equal to theirs.
 use Rattle.std.proofs.Common.{◌≡◌, ◌∙◌, ℕ, Bool, true, false, List, Option, Some, None, Ok, Err, ap, sym, subst, map, arith}
 use Rattle.std.specs.Prelude.{◌==◌, IfSome}
+use Rattle.std.proofs.lemmas.Bool.Decides.{nat_tests}
 use Rattle.std.proofs.lemmas.Simd.{map-map}
 use Rattle.pf_errors.specs.Codes.{code_text, refusal_text}
 use Rattle.pf_errors.specs.declared.code.Code.{Code}

@@ -22,8 +22,8 @@ verdict_fails None leaks e = absurd cc
 -- the least seed that fails by priorities fails by the choices of its run as a schedule
 failing_by : (j : Job) (a b : ℕ) (x : Option (ℕ × Report)) → FirstFailing false Priorities j a b x
     → IfSome x (λ p. IsFailing j p.1)
-failing_by j a b None h = tt
-failing_by j a b (Some p) (first s r above below means so least) = (
+failing_by j a b _ (none_is h) = tt
+failing_by j a b _ (first s r above below means so least) = (
   replay_of_choosers (PriorityState Lcg) choose_by_priorities (priorities.first s) j r means,
   verdict_fails r.verdict (is_leak r) so,
 )

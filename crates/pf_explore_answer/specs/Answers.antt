@@ -1,5 +1,5 @@
 -- What a source is answered with whose schedules are explored: the text that goes out and the status.
-use Rattle.std.specs.Prelude.{◌≡◌, ℕ, suc, ◌==◌, Bool, true, false, List, [], ◌++◌, codes, map, Option, None, Some}
+use Rattle.std.specs.Prelude.{◌≡◌, ℕ, ◌==◌, Bool, false, List, [], ◌++◌, codes, map, Option, None, Some}
 use Rattle.std.specs.Prelude.{IfSome, Ok, Err, unwrap_or}
 use Rattle.std.specs.Fmt.{decimal}
 use Rattle.pf_errors.specs.Codes.{code_text, refusal_text}

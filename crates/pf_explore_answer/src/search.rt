@@ -1,7 +1,7 @@
 //! How the schedules of a job are explored: first those of some seeds, unless it is said how often a run may deviate,
 //! and then all, by rising deviations.
 
-ghost use Rattle.std.specs.Prelude.{◌≡◌, ◌<◌, suc, IfOk, IfSome};
+ghost use Rattle.std.specs.Prelude.{◌≡◌, ◌<◌, false, suc, IfOk, IfSome};
 ghost use Rattle.pf_model.specs.Reports.{view_of_report};
 ghost use Rattle.pf_explore.specs.Explored.{IsExplored};
 ghost use Rattle.pf_explore.specs.Failing.{IsFailing};
