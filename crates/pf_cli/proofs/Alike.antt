@@ -272,7 +272,8 @@ alike_built a e k h words =
     alike_no)
 
 alike_words : (words : List Text) → Alike (fault_of pulsefarm words)
-alike_words words = alike_built (built pulsefarm) refl (refl, (refl, (refl, (refl, (refl, (refl, (refl, (refl, tt))))))))
+alike_words words =
+    alike_built (built pulsefarm) refl (refl, (refl, (refl, (refl, (refl, (refl, (refl, (refl, tt))))))))
     nothing_held (argument_words (built pulsefarm) words)
 
 -- ---- statuses

@@ -17,7 +17,8 @@ returns-in-NoneFails c =
     let j = c.args.job.now in
     let runs = c.in-NoneFails.runs in
     let steps = c.in-NoneFails.steps in
-    let holds = subst (IsExplored j.asked x.budget (suc (most_of x.deviations))) c.in-NoneFails.is c.requires.explored in
+    let holds =
+    subst (IsExplored j.asked x.budget (suc (most_of x.deviations))) c.in-NoneFails.is c.requires.explored in
     IfOk-weaker c.write_holds.result (λ a. (a.text.items ≡ holds_text runs steps) × (a.status ≡ 0))
     (λ a. Explores x j a.text.items a.status) (λ a is. row_holds x j a runs steps holds is) c.write_holds.ensures
 
