@@ -6,10 +6,10 @@ _pulsefarm_properties='returns true nocrash nodeadlock withinlimit never:'
 # The options of the command $1.
 _pulsefarm_options() {
   case $1 in
-    run) echo '--root --limit --edition --seed --weights --strategy --schedule --property --format --explain --help' ;;
-    chart) echo '--root --limit --edition --seed --weights --strategy --schedule --property --compact --page --help' ;;
+    run) echo '--root --limit --edition --seed --weights --strategy --last --schedule --property --format --explain --help' ;;
+    chart) echo '--root --limit --edition --seed --weights --strategy --last --schedule --property --compact --page --help' ;;
     hunt)
-      echo '--root --limit --edition --property --seeds --for --weights --strategy --workers --all --shrink --all-roots --fail-fast --leaks --format --help'
+      echo '--root --limit --edition --property --seeds --for --weights --strategy --last --workers --all --shrink --all-roots --fail-fast --leaks --format --help'
       ;;
     explore) echo '--root --limit --edition --property --budget --deviations --format --help' ;;
     shrink) echo '--root --limit --edition --schedule --property --runs --format --help' ;;
@@ -52,7 +52,8 @@ _pulsefarm() {
     --strategy) mapfile -t COMPREPLY < <(compgen -W 'pos uniform' -- "$word") ;;
     --format) mapfile -t COMPREPLY < <(compgen -W 'text json' -- "$word") ;;
     --edition) mapfile -t COMPREPLY < <(compgen -W '1 2' -- "$word") ;;
-    --limit | --seed | --seeds | --for | --weights | --workers | --shrink | --runs | --page | --budget | --deviations) ;;
+    --limit | --seed | --seeds | --for | --weights | --last | --workers | --shrink | --runs | --page) ;;
+    --budget | --deviations) ;;
     *)
       if [ "${word:0:1}" = - ]; then
         mapfile -t COMPREPLY < <(compgen -W "$(_pulsefarm_options "$command")" -- "$word")

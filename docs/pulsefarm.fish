@@ -38,6 +38,7 @@ complete -c pulsefarm -n '__fish_seen_subcommand_from run hunt explore shrink ch
 complete -c pulsefarm -n '__fish_seen_subcommand_from run chart' -l seed -x -d 'Seed'
 complete -c pulsefarm -n '__fish_seen_subcommand_from run hunt chart' -l weights -x -d 'Weights R:D'
 complete -c pulsefarm -n '__fish_seen_subcommand_from run hunt chart' -l strategy -x -a 'pos uniform' -d 'How a seed chooses'
+complete -c pulsefarm -n '__fish_seen_subcommand_from run hunt chart' -l last -x -d 'Process that is chosen where nobody else may go'
 complete -c pulsefarm -n '__fish_seen_subcommand_from run shrink chart' -l schedule -x -a '(__pulsefarm_schedules)' -d 'Choices, or @FILE'
 complete -c pulsefarm -n '__fish_seen_subcommand_from hunt' -l seeds -x -d 'Seeds A..B'
 complete -c pulsefarm -n '__fish_seen_subcommand_from hunt' -l for -x -d 'Time after which it stops'

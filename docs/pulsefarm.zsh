@@ -22,7 +22,7 @@ _pulsefarm_properties() {
 }
 
 _pulsefarm() {
-  local -a commands job weights strategy schedule format
+  local -a commands job weights strategy last schedule format
   commands=(run hunt explore shrink chart check steps farm)
   job=(
     '--root[function that runs first]:function:_pulsefarm_roots'
@@ -32,6 +32,7 @@ _pulsefarm() {
   )
   weights='--weights[weights of a process and of a channel]:R\:D: '
   strategy='--strategy[how a seed chooses]:strategy:(pos uniform)'
+  last='--last[process that is chosen where nobody else may go]:process: '
   format='--format[lines of text or JSON]:format:(text json)'
   schedule="--schedule[scheduler's numbers]:schedule:_pulsefarm_schedules"
   if ((CURRENT == 2)); then
@@ -48,12 +49,12 @@ _pulsefarm() {
   ((CURRENT--))
   local -a own
   case $command in
-    run) own=($job '--seed[seed]:seed: ' $weights $strategy $schedule $format '--explain[say how each process stands at the end]') ;;
+    run) own=($job '--seed[seed]:seed: ' $weights $strategy $last $schedule $format '--explain[say how each process stands at the end]') ;;
     chart)
-      own=($job '--seed[seed]:seed: ' $weights $strategy $schedule '--compact[join send and receive]' '--page[page of 500 rows]:page: ')
+      own=($job '--seed[seed]:seed: ' $weights $strategy $last $schedule '--compact[join send and receive]' '--page[page of 500 rows]:page: ')
       ;;
     hunt)
-      own=($job '--seeds[seeds A..B]:seeds: ' '--for[time after which it stops]:time: ' $weights $strategy '--workers[threads]:threads: ' '--all[tell each outcome]'
+      own=($job '--seeds[seeds A..B]:seeds: ' '--for[time after which it stops]:time: ' $weights $strategy $last '--workers[threads]:threads: ' '--all[tell each outcome]'
         '--shrink[shrink within N runs]:runs: ' '--all-roots[hunt every root]' '--fail-fast[end behind the first root that fails]'
         '--leaks[waiting processes fail too]' $format)
       ;;

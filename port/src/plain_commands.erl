@@ -1,7 +1,7 @@
 %% @doc Commands of a state machine: made from its generators, written as the body of a root, and held against all
 %% orders of them.
 -module(plain_commands).
--export([load/2, load_all/2, generated/3, calls/2, body/2, failing_body/3, explained/3, smaller/2, shown/1]).
+-export([load/2, load_all/2, generated/3, calls/2, body/2, failing_body/3, explained/3, smaller/2, shown/1, term/1]).
 
 %% How often a command is drawn anew whose precondition doesn't hold.
 -define(TRIES, 50).
@@ -223,7 +223,7 @@ substituted([Head | Tail], Known) -> [substituted(Head, Known) | substituted(Tai
 substituted(Map, Known) when is_map(Map) -> maps:map(fun(_, Value) -> substituted(Value, Known) end, Map);
 substituted(Term, _) -> Term.
 
-%% A value of the profile as one of Erlang: pids and references are some of this node.
+%% @doc A value of the profile as one of Erlang: pids and references are some of this node.
 -spec term(binary()) -> term().
 term(Text) ->
     References = re:replace(Text, <<"#Ref<([0-9]+)>">>, <<"{'#ref',\\1}">>, [global, {return, binary}]),
@@ -235,6 +235,7 @@ term(Text) ->
 -spec of_erlang(term()) -> term().
 of_erlang({'#bin', Bytes}) -> list_to_binary(Bytes);
 of_erlang({'#map', Pairs}) -> maps:from_list(of_erlang(Pairs));
+of_erlang({'#float', Key}) -> plain_float:value(Key);
 of_erlang({'#pid', Number}) -> list_to_pid("<0." ++ integer_to_list(Number) ++ ".0>");
 of_erlang({'#ref', Number}) -> list_to_ref("#Ref<0.0.0." ++ integer_to_list(Number) ++ ">");
 of_erlang(Tuple) when is_tuple(Tuple) -> list_to_tuple(of_erlang(tuple_to_list(Tuple)));

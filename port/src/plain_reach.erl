@@ -250,7 +250,7 @@ exporting(Function, Arity) ->
 
 %% @doc The functions by whose use a service is seen to be used.
 -spec client(atom()) -> [atom()].
-client(pf_clock) -> [now_ms, send, unsend];
+client(pf_clock) -> [now_ms, send, unsend, quiet];
 client(pf_names) -> [register, register_global, name_of];
 client(rand) -> [flip];
 client(_) -> [ask].

@@ -3,6 +3,9 @@
 -module(plain_story).
 -export([tell/3]).
 
+%% Where an event is in the source, or the first of several places where it may be.
+-type place() :: plain_translation:place() | {several, plain_translation:place()} | none.
+
 %% @doc The lines of a story, each with the number of its event.
 -spec tell([plain_report:event()], [plain_translation:place() | none], {plain_answer:reported(), #{atom() => plain_translation:place()}}) -> [plain_json:line()].
 tell(Events, Places, {Reported, Names}) ->
@@ -11,10 +14,21 @@ tell(Events, Places, {Reported, Names}) ->
     {Lines, _} = lists:mapfoldl(fun({Number, Event, Place}, Asking) ->
         case Event of
             #{subject := {turn, P}, label := <<"receive ", _/binary>>} when is_map_key(P, Asking) -> {[], maps:remove(P, Asking)};
-            _ -> {line(Number, Event, Place, Services, Names), asking(Event, Services, Asking)}
+            _ -> {line(Number, Event, taken(Event, Place, Reported), Services, Names), asking(Event, Services, Asking)}
         end
     end, #{}, lists:zip3(lists:seq(1, length(Events)), Events, Places)),
     lists:append(Lines).
+
+%% Where a server takes a message: at the clause of its callback. Where the message fits several, its line isn't shown.
+-spec taken(plain_report:event(), plain_translation:place() | none, plain_answer:reported()) -> place().
+taken(_, {Kind, _, _, _} = Place, _) when Kind =:= user; Kind =:= called -> Place;
+taken(#{subject := {turn, P}, label := <<"receive ", Message/binary>>}, Place, {ok, _, Traced} = Reported) ->
+    case plain_callback:place(plain_answer:role(P, Reported), Message, Traced) of
+        {only, Clause} -> Clause;
+        {first, Clause} -> {several, Clause};
+        none -> Place
+    end;
+taken(_, Place, _) -> Place.
 
 %% Who waits for the answer of a service, which is the next that it receives.
 -spec asking(plain_report:event(), [non_neg_integer()], #{non_neg_integer() => true}) -> #{non_neg_integer() => true}.
@@ -31,9 +45,9 @@ asking(_, _, Asking) -> Asking.
 is_service(unknown) -> false;
 is_service(Role) -> lists:prefix("the service", lists:flatten(io_lib:format("~ts", [Role]))).
 
--spec line(pos_integer(), plain_report:event(), plain_translation:place() | none, [non_neg_integer()], map()) -> [plain_json:line()].
+-spec line(pos_integer(), plain_report:event(), place(), [non_neg_integer()], map()) -> [plain_json:line()].
 line(Number, #{subject := {turn, P}, label := Label} = Event, Place, Services, Names) ->
-    case lists:member(P, Services) orelse not is_told(Label, Place, Services) of
+    case lists:member(P, Services) orelse not is_told(Label, the_place(Place), Services) of
         true -> [];
         false ->
             Said = plain_words_back:line(said(Label), Names),
@@ -44,12 +58,17 @@ line(Number, #{subject := {delivery, A, B}, label := <<"deliver exit ends ", Rea
     [{io_lib:format("~w <~w> ~ts", [Number, B, Said]), object(Number, B, Said, Event)}];
 line(_, _, _, _, _) -> [].
 
+-spec the_place(place()) -> plain_translation:place() | none.
+the_place({several, Place}) -> Place;
+the_place(Place) -> Place.
+
 %% What an object has of an event: its number in the run, its choice, who goes, and what it does.
 -spec object(pos_integer(), non_neg_integer(), unicode:chardata(), plain_report:event()) -> plain_json:object().
 object(Number, P, Said, #{choice := Choice, among := Among}) ->
     [{event, Number}, {choice, Choice}, {count, Among}, {actor, io_lib:format("<~w>", [P])}, {label, Said}].
 
--spec place(plain_translation:place() | none) -> plain_json:object().
+-spec place(place()) -> plain_json:object().
+place({several, Place}) -> plain_json:place(Place);
 place({Kind, File, Line, _} = Place) when Kind =:= user; Kind =:= called -> plain_json:place(Place) ++ [{source, Text} || Text <- [source(File, Line)], Text =/= none];
 place(_) -> [].
 
@@ -96,7 +115,8 @@ said(Label) ->
                  {<<"^receive {#Ref<[0-9]+>,(.*)}$">>, <<"gets the reply: \\1">>}]).
 
 %% The place in the source, with its text.
--spec placed(plain_translation:place() | none) -> iodata().
+-spec placed(place()) -> iodata().
+placed({several, Place}) -> ["  % ", plain_words_back:place(Place)];
 placed({Kind, File, Line, _} = Place) when Kind =:= user; Kind =:= called ->
     case source(File, Line) of
         none -> ["  % ", plain_words_back:place(Place)];

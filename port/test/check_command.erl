@@ -64,6 +64,7 @@ replayed() ->
     ok = file:write_file(Room, Found),
     {Story, 1} = checks:command(["run", File, "--schedule", "@" ++ Room]),
     has("a story", "^[0-9]+ <[0-9]+> calls <[0-9]+>: \\{set,alice,(5|10)\\}  % bank\\.erl:15 bank:deposit/2: gen_server:call\\(\\?MODULE, \\{set, Who, B \\+ N\\}\\)\\.$", Story),
+    has("where a call is taken", "^[0-9]+ <[0-9]+> takes the call of <[0-9]+>: \\{balance,alice\\}  % bank\\.erl:19 bank:handle_call/3: handle_call\\(\\{balance, Who\\}", Story),
     has("a reply", "^[0-9]+ <[0-9]+> gets the reply: ok  % bank\\.erl:15 bank:deposit/2: gen_server:call", Story),
     has("its last line", "^[0-9]+ <0> end \\{\\{lost_update,[0-9]+\\},\\[\\]\\}  % bank\\.erl:38 bank:main/0: B =:= 15 orelse error\\(\\{lost_update, B\\}\\),$", Story),
     checks:expect("no service in a story", nomatch, re:run(Story, "service|deliver|#Ref<[0-9]+>,<|port@")),
@@ -215,7 +216,7 @@ refused() ->
         has(Name, Expression, Answer)
     end,
     File = checks:folder("../examples/bank.erl"),
-    Expect("a construct", ["check", checks:folder("refused/refused_float.erl")], [], "^refused_float\\.erl:3: the float 1\\.5: "),
+    Expect("a construct", ["check", checks:folder("refused/refused_float.erl")], [], "^refused_float\\.erl:3: erlang:float_to_list/1 is for texts "),
     Expect("no pulsefarm", ["run", File], [{"PULSEFARM", ""}, {"PATH", os:getenv("NO_FARM_PATH", "/usr/bin:/bin")}], "^pulsefarm-erl: the program pulsefarm "),
     Expect("a word", ["walk", File], [], "^pulsefarm-erl: no command walk"),
     Expect("no file", ["hunt"], [], "^pulsefarm-erl: no file"),
@@ -241,20 +242,20 @@ refused() ->
                                                                                         "--runs --page --compact --explain --limit --shrink ", Word) =:= nomatch],
     checks:expect("the words of the completions stand in the help", [], Unknown).
 
-%% A time seldom passes while others go on: in less than one of twenty seeds.
+%% No time passes while others go on.
 -spec timed() -> boolean().
 timed() ->
     File = checks:folder("commands/patient.erl"),
     {ok, Out, _} = checks:translate([File]),
     Late = lists:sum([Number || {fails, Number, _} <- checks:hunt(Out, "main", "nocrash", "0..1000")]),
-    checks:expect(io_lib:format("~w of 1000 seeds see a time pass", [Late]), Late < 50),
+    checks:expect("seeds of 1000 that see a time pass", 0, Late),
     {ok, Eager, _} = checks:translate([File], #{library_defines => [{'PATIENCE', 0}]}),
     Early = lists:sum([Number || {fails, Number, _} <- checks:hunt(Eager, "main", "nocrash", "0..1000")]),
     checks:expect("without patience some pass", Early > 50),
     {ok, Never, _} = checks:translate([File], #{never => 1000}),
     checks:expect("and with --never none of the receive", true, is_list(checks:hunt(Never, "main", "nocrash", "0..10"))).
 
-%% A run that fails by a time which passes while others may go is left out, unless a patience is given.
+%% A time of seconds or of milliseconds passes only where nobody else may go, unless a patience is given.
 -spec early() -> boolean().
 early() ->
     File = checks:folder("commands/seconds.erl"),
@@ -267,7 +268,6 @@ early() ->
     has("by halves", "^crash <0> at seconds\\.erl:9 seconds:answered/0: exit too_late$", Mixed),
     {Lost, 1} = checks:command(["hunt", File, "--root", "lost", "--seeds", "0..40"]),
     has("a time that passes where nobody else may go", "^crash <0> at seconds\\.erl:14 seconds:lost/0: exit too_late$", Lost),
-    checks:expect("and that is printed without a word", nomatch, string:find(Lost, "of these seeds")),
     {Ordered, 0} = checks:command(["hunt", File, "--root", "ordered", "--seeds", "0..40"]),
     has("times pass in the order of their deadlines", "^no failure in 40 seeds$", Ordered).
 
@@ -285,9 +285,13 @@ one_node() ->
 
 -spec answered(file:filename(), string()) -> boolean().
 answered(File, Root) ->
-    {Answered, 0} = checks:command(["hunt", File, "--root", Root, "--seeds", "0..40"]),
-    has([Root, ": a time that passes early"], "^pulsefarm-erl: [0-9]+ of these seeds fail by a time that passes while others may go, and are left out", Answered),
-    has([Root, ": and no other failure"], "^no failure in 40 seeds$", Answered).
+    [begin
+         {Answered, 0} = checks:command(["hunt", File, "--root", Root | Words]),
+         has([Root, ": no time passes"], "^no failure in 1000 seeds$", Answered),
+         checks:expect([Root, ": and no seed is left out"], nomatch, string:find(Answered, "of these seeds"))
+     end || Words <- [[], ["--strategy", "uniform"], ["--weights", "1:9"]]],
+    {Early, 1} = checks:command(["run", File, "--root", Root, "--schedule", "none"]),
+    has([Root, ": a schedule that chooses the ticker early"], "^pulsefarm-erl: here a time passes while others may go; no hunt finds such a run$", Early).
 
 %% Where nobody reads its answer it ends as pulsefarm does, with 141, and where its output is full it says so.
 -spec unread() -> boolean().

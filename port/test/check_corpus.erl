@@ -9,7 +9,7 @@
 -spec check() -> ok.
 check() ->
     Drivers = lists:sort(filelib:wildcard(checks:folder("corpus/*.erl"))),
-    checks:expect("nine drivers", 9, length(Drivers)),
+    checks:expect("ten drivers", 10, length(Drivers)),
     [one(Driver, fetched(hd(words(Driver, "package") ++ ["otp"]))) || Driver <- Drivers],
     {ok, Text} = file:read_file(checks:folder("corpus/modules.txt")),
     [_ | Paragraphs] = string:split(string:trim(Text), "\n\n", all),

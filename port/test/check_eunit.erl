@@ -31,9 +31,9 @@ check() ->
 alone() ->
     {Answer, 2} = checks:command(["eunit", checks:folder("alone"), "--seeds", "0..40"]),
     [checks:expect(["a test alone: ", Line], match, re:run(Answer, ["^alone_tests:set_test_", Line], [multiline, {capture, none}])) || Line <-
-        ["\\[1\\] answers: no failure in 40 seeds$", "\\[2\\] lives: refused: alone_tests\\.erl:7: erlang:is_process_alive/1 can't be asked in the profile; .*$",
+        ["\\[1\\] answers: no failure in 40 seeds$", "\\[2\\] lives: no failure in 40 seeds$",
          "\\[3\\.1\\]: no failure in 40 seeds$", "\\[3\\.2\\] is watched: refused: alone_tests\\.erl:12: erlang:process_info\\(_, monitors\\) is not translated.*$"]],
-    told("4 tests", "0 fail, 2 refused", Answer),
+    told("4 tests", "0 fail, 1 refused", Answer),
     ok.
 
 %% A project of two applications and one that they depend on, of which a file that nothing names couldn't be read.

@@ -4,6 +4,7 @@ use Rattle.clap.specs.Words.{Text, Row, first_of}
 use Rattle.clap.specs.declared.error.kind.ErrorKind.TheVariants as kind
 use Rattle.std.specs.Prelude.{Bool, codes, ℕ}
 use Rattle.pf_model.specs.Meaning.{Choices}
+use Rattle.pf_strategy.specs.declared.strategy.SeedChoice.{SeedChoice}
 use Rattle.pf_cli.specs.Args.{RunArgs, bounds_in, chart_asked, choices_in, choices_named, guided_in, property_named}
 use Rattle.pf_cli.specs.Args.{root_named, run_asked, run_fault, run_args_of, values_fault}
 
@@ -17,10 +18,10 @@ values_chosen text None (Some v) None cs e = absurd (cc)
 values_chosen text None (Some v) (Some b) cs e = absurd (cc)
 values_chosen text (Some a) w (Some b) cs e = absurd (cc)
 
-unasked : (root : Text) (bounds : Option (ℕ × ℕ)) (property : Text) (a : RunArgs)
-    → run_asked root bounds None None property ≡ Some a → ⊥
-unasked root None property a e = absurd cc
-unasked root (Some b) property a e = absurd cc
+unasked : (root : Text) (bounds : Option (ℕ × ℕ)) (by_seed : Option (Option SeedChoice)) (property : Text)
+    (a : RunArgs) → run_asked root bounds None by_seed property ≡ Some a → ⊥
+unasked root None by_seed property a e = absurd cc
+unasked root (Some b) by_seed property a e = absurd cc
 
 -- a run that is asked for has choices
 pub run_chosen : (text : Option Text) (rows : List Row) (a : RunArgs) → run_args_of text rows ≡ Some a
@@ -34,7 +35,7 @@ run_chosen text rows a e = by (choices_in text rows) refl e
     by (Some cs) chosen h = values_chosen text (first_of (codes "seed") rows) (first_of (codes "weights") rows)
         (first_of (codes "schedule") rows) cs chosen
     by None chosen h = absurd (unasked (root_named (first_of (codes "root") rows)) (bounds_in rows)
-        (property_named (first_of (codes "property") rows)) a h)
+        (guided_in None rows) (property_named (first_of (codes "property") rows)) a h)
 
 -- nor is a chart whose page is invalid
 pub unpaged : (r : Option RunArgs) (compact : Bool) → chart_asked r compact None ≡ None
@@ -53,5 +54,5 @@ none_guided text rows cs e h =
     let root = root_named (first_of (codes "root") rows) in
     let property = property_named (first_of (codes "property") rows) in
     ap (λ (q : Option Choices). run_asked root (bounds_in rows) q (guided_in q rows) property) e
-    ∙ ap (λ (p : Option (Option ℕ)). run_asked root (bounds_in rows) (Some cs) p property) h
+    ∙ ap (λ (p : Option (Option SeedChoice)). run_asked root (bounds_in rows) (Some cs) p property) h
     ∙ none_asked root (bounds_in rows) cs property

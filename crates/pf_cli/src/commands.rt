@@ -8,7 +8,7 @@ ghost use Rattle.pf_cli.specs.Args.{file_rule, files_rule};
 ghost use Rattle.pf_cli.specs.Args.{flag_rule, finding_app, format_rule, hunt_app, judged_app, many_rule, one_file_app};
 ghost use Rattle.pf_cli.specs.Args.{one_run_app, option_rule, pulsefarm, reaching_app, required_rule, rooted_app};
 ghost use Rattle.pf_cli.specs.Args.{run_app, runs_app, seeded_app, shrink_app, shrinking_app, steps_app, reporting_app};
-ghost use Rattle.pf_cli.specs.Args.{wanted_rule, weighted_app, working_app};
+ghost use Rattle.pf_cli.specs.Args.{wanted_rule, weighted_app, choosing_app};
 
 use clap::{Arg, ArgAction, Command};
 use std::alloc::{AllocError, Global};
@@ -50,6 +50,9 @@ const RUN_STRATEGY: &str =
 
 const HUNT_STRATEGY: &str =
     "How a seed chooses: by priorities, `pos`, which finds deep races, or `uniform` [default: pos; with weights uniform]";
+
+const LAST_HELP: &str =
+    "Process that is chosen, with its signals to itself, only where nobody else may go, as 3 or <3>";
 
 const RUN_USAGE: &str =
     "pulsefarm run [OPTIONS] --root <F> --limit <N> <--seed <N>|--schedule <L>> [FILE]";
@@ -167,6 +170,13 @@ fn strategy<'a>(alloc: Global, help: &'a str) -> Arg<'a>
     option(alloc, "strategy", "S", help)
 }
 
+fn last<'a>(alloc: Global) -> Arg<'a>
+    ensures rule { rule_of result ≡ option_rule (codes "last") }
+    ensures local { result.global ≡ false }
+{
+    option(alloc, "last", "PID", LAST_HELP)
+}
+
 fn schedule<'a>(alloc: Global) -> Arg<'a>
     ensures rule { rule_of result ≡ option_rule (codes "schedule") }
     ensures local { result.global ≡ false }
@@ -267,6 +277,7 @@ fn one_run<'a>(
     ensures local { IfOk result (λ c. (out-Command c).has_globals ≡ false) }
 {
     let run = weighted(alloc, name, about, usage, wanted)?
+        .arg(last(alloc))?
         .arg(schedule(alloc))?
         .arg(property(alloc))?;
     Ok(run)
@@ -322,17 +333,16 @@ fn seeded<'a>(alloc: Global, about: &'a str) -> Result<Command<'a>, AllocError>
     Ok(seeded)
 }
 
-/// A hunt without the options of what it reports.
-fn working<'a>(alloc: Global, about: &'a str) -> Result<Command<'a>, AllocError>
-    ensures app { IfOk result (λ c. app_of c ≡ working_app) }
+/// A hunt without the options of its threads and of what it reports.
+fn choosing<'a>(alloc: Global, about: &'a str) -> Result<Command<'a>, AllocError>
+    ensures app { IfOk result (λ c. app_of c ≡ choosing_app) }
     ensures local { IfOk result (λ c. (out-Command c).has_globals ≡ false) }
 {
-    let workers = "Threads that run seeds, from 1 to 64 [default: the machine's processors]";
-    let working = seeded(alloc, about)?
+    let choosing = seeded(alloc, about)?
         .arg(weights(alloc))?
         .arg(strategy(alloc, HUNT_STRATEGY))?
-        .arg(option(alloc, "workers", "N", workers))?;
-    Ok(working)
+        .arg(last(alloc))?;
+    Ok(choosing)
 }
 
 /// A hunt without the options of what it goes over.
@@ -342,7 +352,9 @@ fn reporting<'a>(alloc: Global, about: &'a str) -> Result<Command<'a>, AllocErro
 {
     let all = "Tells each outcome, by how many seeds and the least of them, and runs all seeds";
     let shrink = "Shrinks the schedule of the seed that fails, within N runs from 1 to 1,000";
-    let reporting = working(alloc, about)?
+    let workers = "Threads that run seeds, from 1 to 64 [default: the machine's processors]";
+    let reporting = choosing(alloc, about)?
+        .arg(option(alloc, "workers", "N", workers))?
         .arg(flag(alloc, "all", all))?
         .arg(option(alloc, "shrink", "N", shrink))?;
     Ok(reporting)

@@ -19,7 +19,7 @@ use pf_errors::{NoMemory, OrNoMemory};
 use pf_explore::Explored;
 use pf_hunt::Hunt;
 use pf_sched::Job;
-use pf_strategy::Strategy;
+use pf_strategy::{Sampling, Strategy};
 use std::alloc::Global;
 
 /// Whether the runs that deviate so often are those that may deviate most often.
@@ -76,7 +76,10 @@ fn answer_job(alloc: Global, asked: &Exploration, job: Job) -> Result<ExploreAns
     let hunt = Hunt {
         job,
         others: Vec::new(alloc),
-        strategy: Strategy::Priorities,
+        strategy: Strategy {
+            sampling: Sampling::Priorities,
+            last: None,
+        },
         leaks: false,
     };
     let explored = explored_of(alloc, &hunt, asked)?;

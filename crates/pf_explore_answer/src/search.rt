@@ -14,7 +14,6 @@ use pf_explore::{Explored, explore};
 use pf_hunt::{Hunt, first_in};
 use pf_model::report::Report;
 use pf_sched::{Job, Scratch};
-use pf_strategy::Strategy;
 use std::alloc::Global;
 
 /// How many seeds are run before the schedules are explored: most that fails at all fails by one of these.
@@ -29,7 +28,6 @@ fn seeds_before(deviations: Option<u32>) -> u64 {
 /// The run by the priorities of the least of so many seeds that fails, if one does.
 fn failing_by_seed(alloc: Global, hunt: &Hunt, seeds: u64) -> Result<Option<Report>, NoMemory>
     requires leaks { hunt.now.leaks ≡ false }
-    requires strategy { hunt.now.strategy ≡ Strategy.Priorities }
     ensures { IfOk result (λ found. IfSome found (λ r. IsFailing hunt.now.job.asked (view_of_report r))) }
 {
     let searched = first_in(alloc, hunt, 0, 0, seeds)?;
@@ -56,7 +54,6 @@ pub(crate) fn explored_of(
     asked: &Exploration,
 ) -> Result<Explored, NoMemory>
     requires leaks { hunt.now.leaks ≡ false }
-    requires strategy { hunt.now.strategy ≡ Strategy.Priorities }
     requires few { IfSome asked.now.deviations (λ k. k < 4294967295) }
     ensures { IfOk result
         (IsExplored hunt.now.job.asked asked.now.budget (suc (most_of asked.now.deviations))) }

@@ -12,10 +12,14 @@ use Rattle.pf_trace.specs.contracts.event_lines.EventLines as EventLines
 use Rattle.pf_trace.specs.contracts.lines.LinesSoFar as LinesSoFar
 use Rattle.pf_trace.specs.contracts.lines.WrittenReport as WrittenReport
 use Rattle.pf_shrink.specs.contracts.hunt.ShrinkingSearch as Hunt
+use Rattle.pf_strategy.specs.contracts.last.Others as Others
+use Rattle.pf_sched.specs.contracts.chooser.ActorChooser as Chooser
 use Rattle.pf_sched.specs.contracts.execution.Execution as Execution
 use Rattle.pf_sched.specs.contracts.finished.JobEnd as Ending
 use Rattle.pf_sched.specs.contracts.finished.Finished as Finished
 use Rattle.pf_sched.specs.contracts.job.Job as Job
+use Rattle.pf_sched.specs.contracts.last.LastChooser as LastChooser
+use Rattle.pf_sched.specs.contracts.last.Sampler as Sampler
 use Rattle.pf_sched.specs.contracts.parked.Parked as Parked
 use Rattle.pf_sched.specs.contracts.parked.ParkedWork as Work
 use Rattle.pf_sched.specs.contracts.result.JobResult as JobResult
@@ -62,8 +66,20 @@ written_report_sync = recorded_sync (WrittenReport.the_field).row _ _ (WrittenRe
 hunt_send : IsSend Hunt.the_row
 hunt_send = search (heap.crosses, sendable) depth 30
 
+others_field_send : IsSend (Others.the_field).row
+others_field_send = search (heap.crosses, sendable) depth 30
+
+sampler_field_send : IsSend (Sampler.the_field).row
+sampler_field_send = search (heap.crosses, sendable) depth 30
+
+last_field_send : IsSend (LastChooser.the_field).row
+last_field_send = search (others_field_send, sampler_field_send, heap.crosses, sendable) depth 30
+
+chooser_field_send : IsSend (Chooser.the_field).row
+chooser_field_send = search (last_field_send, heap.crosses, sendable) depth 30
+
 execution_field_send : IsSend (Execution.the_field).row
-execution_field_send = search (system.crosses, heap.crosses, sendable) depth 30
+execution_field_send = search (chooser_field_send, system.crosses, heap.crosses, sendable) depth 30
 
 written_field_send : IsSend (Written.the_field).row
 written_field_send = search (lines_field_send, sendable) depth 30

@@ -22,11 +22,11 @@ pub returns : goal.returns
 returns c =
     let x = view_of_exploration c.args.asked.now in
     let within = c.args.within in
+    let most = most_of c.args.asked.now.deviations in
     let all : c.args.runs ≡ x.budget =
     elim c.requires.end [
       | inl e ↦ e
-      | inr last ↦ absurd (not_last within c.most_of.result (most_of c.args.asked.now.deviations)
-          c.if-is_last.ensures c.most_of.ensures.most last)
+      | inr last ↦ absurd (not_last within c.most_of.result most c.if-is_last.ensures c.most_of.ensures.most last)
     ] in
     IfOk-weaker c.write_cut.result (λ a. (a.text.items ≡ cut_text c.args.runs within) × (a.status ≡ 3))
     (λ a. (j : Job) → IfSome within (λ k. HoldsWithin k j.asked) → Explores x j a.text.items a.status)

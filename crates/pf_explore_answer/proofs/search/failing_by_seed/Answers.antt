@@ -12,4 +12,4 @@ returns-in-Some c =
     subst (λ f. FirstFailing h.leaks h.strategy h.job.asked 0 c.args.seeds (option_map failure_of f)) c.in-Some.is
     c.in_ok-searched.ensures.failure in
     failing_seed h.job.asked 0 c.args.seeds h.leaks h.strategy (Some (failure_of c.in-Some.failure))
-    c.requires.leaks c.requires.strategy known
+    c.requires.leaks known
