@@ -7,6 +7,7 @@ ghost use Rattle.pf_protocol.specs.View.{view_of_client_line};
 ghost use Rattle.pf_protocol.specs.Clients.{calls};
 ghost use Rattle.pf_request.specs.View.{view_of_call};
 ghost use Rattle.pf_wire.specs.Steps.{last_text, AreRead};
+ghost use Rattle.pf_wire.specs.declared.outcome.Requester.TheVariants as requester;
 ghost use Rattle.pf_wire.specs.Whole.{whole_text};
 ghost use Rattle.pf_clients.specs.Faults.{ended_by};
 ghost use Rattle.pf_pool.specs.Responses.{response_in};
@@ -93,6 +94,13 @@ fn response_of(outcome: Result<Reply, NoMemory>) -> Result<Response, NoMemory>
     }
 }
 
+/// The client of a project, as who is sent an answer.
+fn client_of(project: u32) -> Requester
+    ensures { result ≡ requester.Client project }
+{
+    Requester::Client { project }
+}
+
 /// The text of what came of a project's call.
 fn text_of(
     alloc: Global,
@@ -106,12 +114,7 @@ fn text_of(
         text: Vec::new(alloc),
         report: None,
     };
-    put_outcome(
-        alloc,
-        &mut reported,
-        Requester::Client { project },
-        response,
-    )?;
+    put_outcome(alloc, &mut reported, client_of(project), response)?;
     Ok(reported)
 }
 

@@ -1,7 +1,8 @@
 -- What the program does for words, between the standard input and the standard output.
-use Rattle.std.specs.Prelude.{◌≡◌, ◌⊎◌, ℕ, List, length, Option, None, Result, Ok, Err}
+use Rattle.std.specs.Prelude.{◌≡◌, ◌⊎◌, ⊤, ℕ, List, [], ◌∷◌, map, codes, if◌then◌else◌, Option, None, Result, Ok, Err}
+use Rattle.std.specs.Str.{bytes_eq}
 use Rattle.pf_errors.specs.declared.memory.NoMemory.{NoMemory}
-use Rattle.pf_cli.specs.Args.{reading_of}
+use Rattle.pf_cli.specs.Args.{reading_of, view_of_farm_args}
 use Rattle.pf_cli.specs.declared.args.FarmArgs.{FarmArgs}
 use Rattle.pf_command.specs.Streams.{Streams}
 use Rattle.pf_cli_messages.specs.Texts.{HasStatus, IsFailure}
@@ -18,34 +19,46 @@ abbrev pub FarmEnds : List (Option (List ℕ)) → (written_old written_new : Op
 FarmEnds inputs w0 w1 n0 n1 (Ok status) = FarmPrints inputs status w0 w1 × (n1 ≡ n0)
 FarmEnds inputs w0 w1 n0 n1 (Err e) = ((w1 ≡ w0) × (n1 ≡ n0)) ⊎ FarmLeaves inputs e w0 w1 n0 n1
 
--- a farm of so many files was run, and the program has the status of its end; or it wasn't begun, which is a failure,
--- and nothing went out
-abbrev pub FarmIsDone : (files : ℕ) → (written_old written_new : Option (List ℕ))
-    → (failed_old failed_new : ℕ) → ℕ → Type 0
-FarmIsDone n w0 w1 n0 n1 given =
-    ((w1 ≡ w0) × (n1 ≡ n0) × IsFailure given)
-    ⊎ ((inputs : List (Option (List ℕ))) × (end : End) × (length inputs ≡ n) × FarmEnds inputs w0 w1 n0 n1 end
-    × HasStatus end given)
+-- the path that a word of a farm names: `-` is the standard input
+abbrev pub path_of : (word : List ℕ) → List ℕ
+path_of word = if bytes_eq word (codes "-") then codes "/dev/stdin" else word
 
--- it is done, whatever status this end of it has
-abbrev pub FarmAnswers : (files : ℕ) → (written_old written_new : Option (List ℕ))
-    → (failed_old failed_new : ℕ) → End → Type 0
-FarmAnswers n w0 w1 n0 n1 end = (given : ℕ) → HasStatus end given → FarmIsDone n w0 w1 n0 n1 given
+-- F is what files are to the system: it says which files a path may open, and what each still holds
+module _ {F : Type 0} (opens : (path : List ℕ) → F → Type 0) (remaining : F → Option (List ℕ)) where
+  -- these files were opened, that of each word in the words' order
+  abbrev pub AreOpened : (words : List (List ℕ)) → (files : List F) → Type 0
+  AreOpened [] [] = ⊤
+  AreOpened (w ∷ ws) (f ∷ fs) = opens (path_of w) f × AreOpened ws fs
+  AreOpened _ _ = ⊥
 
--- ---- words
+  -- the files of these words were opened and a farm was run over what they held, and the program has the status of its
+  -- end; or it wasn't begun, which is a failure, and nothing went out
+  abbrev pub FarmIsDone : (words : List (List ℕ)) → (written_old written_new : Option (List ℕ))
+      → (failed_old failed_new : ℕ) → ℕ → Type 0
+  FarmIsDone words w0 w1 n0 n1 given =
+      ((w1 ≡ w0) × (n1 ≡ n0) × IsFailure given)
+      ⊎ ((files : List F) × (end : End) × AreOpened words files × FarmEnds (map remaining files) w0 w1 n0 n1 end
+      × HasStatus end given)
 
--- what words ask for is done, a farm too; or memory ran out, and nothing went out
-abbrev pub Does : (words : List (List ℕ)) → (old new : Streams) → Result ℕ NoMemory → Type 0
-Does words old new (Ok given) =
-    IsDoneAs words (reading_of None words) old new given
-    ⊎ ((args : FarmArgs) × IsFarmOf words args
-    × FarmIsDone (length args.files.items) old.written new.written old.failed_writes new.failed_writes given)
-Does words old new (Err e) = NothingOut old new
+  -- it is done, whatever status this end of it has
+  abbrev pub FarmAnswers : (words : List (List ℕ)) → (written_old written_new : Option (List ℕ))
+      → (failed_old failed_new : ℕ) → End → Type 0
+  FarmAnswers words w0 w1 n0 n1 end = (given : ℕ) → HasStatus end given → FarmIsDone words w0 w1 n0 n1 given
 
--- the same for the words that the system gives, of which nothing is known
-abbrev pub DoesGiven : (old new : Streams) → Result ℕ NoMemory → Type 0
-DoesGiven old new result = (given : List (List ℕ)) × Does (words_of given) old new result
+  -- ---- words
 
--- a status of the program: that of what words ask for, or 2 where memory ran out
-abbrev pub IsStatus : ℕ → Type 0
-IsStatus given = ((old : Streams) × (new : Streams) × DoesGiven old new (Ok given)) ⊎ (given ≡ 2)
+  -- what words ask for is done, a farm too; or memory ran out, and nothing went out
+  abbrev pub Does : (words : List (List ℕ)) → (old new : Streams) → Result ℕ NoMemory → Type 0
+  Does words old new (Ok given) =
+      IsDoneAs words (reading_of None words) old new given
+      ⊎ ((args : FarmArgs) × IsFarmOf words args
+      × FarmIsDone (view_of_farm_args args).files old.written new.written old.failed_writes new.failed_writes given)
+  Does words old new (Err e) = NothingOut old new
+
+  -- the same for the words that the system gives, of which nothing is known
+  abbrev pub DoesGiven : (old new : Streams) → Result ℕ NoMemory → Type 0
+  DoesGiven old new result = (given : List (List ℕ)) × Does (words_of given) old new result
+
+  -- a status of the program: that of what words ask for, or 2 where memory ran out
+  abbrev pub IsStatus : ℕ → Type 0
+  IsStatus given = ((old : Streams) × (new : Streams) × DoesGiven old new (Ok given)) ⊎ (given ≡ 2)

@@ -1,8 +1,10 @@
 //! `farm`: a client for each file, and workers, on one running farm.
 
-ghost use Rattle.std.specs.Prelude.{◌≡◌, ◌<◌, ◌≤◌, IfOk, IfSome, Some, length, map, vec_len};
-ghost use Rattle.pulsefarm.specs.Program.{FarmAnswers, FarmEnds, FarmIsDone};
+ghost use Rattle.std.specs.Prelude.{◌≡◌, ◌<◌, ◌≤◌, IfOk, IfSome, Some, map, vec_len};
+ghost use Rattle.pf_cli.specs.Args.{view_of_farm_args};
+ghost use Rattle.pulsefarm.specs.Program.{path_of, AreOpened, FarmAnswers, FarmEnds, FarmIsDone};
 
+use crate::opening::Opens;
 use crate::watch::FarmWatch;
 use pf_cli::FarmArgs;
 use pf_cli_messages::{REFUSED, end, failed, say};
@@ -10,11 +12,10 @@ use pf_clients::run_farm;
 use pf_errors::OrNoMemory;
 use pf_farm::{Blanks, MOST_SEATS};
 use pf_farm_accounts::{FarmNames, NewRegister};
-use pf_files::{AnsweredRoot, open};
+use pf_files::AnsweredRoot;
 use pf_streams::{Counted, StreamFault};
 use pf_words::random_keys;
 use std::alloc::AllocGlobal;
-use std::fs::Files;
 use std::io::{self, Stderr, Write};
 use std::marker::Brand;
 use std::random::RandomSource;
@@ -45,9 +46,9 @@ pub fn farm<R, W: Write, M: Ledger>(
     writer: &mut Counted<W, M>,
 ) -> u8
 where
-    R: Files + Print + Eprint + AllocGlobal + RandomSource + Clock + Threads + Wait + Sync,
+    R: Opens + Print + Eprint + AllocGlobal + RandomSource + Clock + Threads + Wait + Sync,
     R::File: Send + Drop,
-    ensures { FarmIsDone (vec_len args.now.files)
+    ensures { FarmIsDone R.opens R.File.remaining (view_of_farm_args args.now).files
         (W.contents writer.old.inner) (W.contents writer.new.inner)
         writer.old.failures.total writer.new.failures.total result }
 {
@@ -62,9 +63,9 @@ fn answer<R, W: Write, M: Ledger>(
     writer: &mut Counted<W, M>,
 ) -> AnsweredRoot
 where
-    R: Files + Print + Eprint + AllocGlobal + RandomSource + Clock + Threads + Wait + Sync,
+    R: Opens + Print + Eprint + AllocGlobal + RandomSource + Clock + Threads + Wait + Sync,
     R::File: Send + Drop,
-    ensures { FarmAnswers (vec_len args.now.files)
+    ensures { FarmAnswers R.opens R.File.remaining (view_of_farm_args args.now).files
         (W.contents writer.old.inner) (W.contents writer.new.inner)
         writer.old.failures.total writer.new.failures.total result }
 {
@@ -107,11 +108,19 @@ where
     Ok(status)
 }
 
+/// The path that a word names.
+fn path_of(word: &str) -> &str
+    ensures { result.now ≡ path_of word.now }
+{
+    if word == "-" { "/dev/stdin" } else { word }
+}
+
 /// Opens the files of all clients; none, if one can't be opened, which is said then. `-` names the standard input.
 fn opened<R>(rt: &R, names: &[&str]) -> Result<Option<Vec<R::File>>, OrNoMemory<StreamFault>>
 where
-    R: Files + Print + Eprint + AllocGlobal,
-    ensures { IfOk result (λ files. IfSome files (λ v. vec_len v ≡ length names.now)) }
+    R: Opens + Print + Eprint + AllocGlobal,
+    ensures { IfOk result (λ files. IfSome files (λ v.
+        AreOpened R.opens R.File.remaining (map (λ w. w.now) names.now) v.items)) }
 {
     let mut files = Vec::new(rt.alloc());
     let mut is_read = false;
@@ -122,7 +131,7 @@ where
             return Ok(None);
         }
         is_read |= is_input;
-        match open(rt, if is_input { "/dev/stdin" } else { name }) {
+        match rt.open_path(path_of(name)) {
             Ok(file) => files.push(file)?,
             Err(error) if error.kind() == io::ErrorKind::OutOfMemory => {
                 return Err(OrNoMemory::NoMemory);
@@ -146,7 +155,7 @@ fn run_by<N: FarmNames + Send + Sync, R, W: Write, M: Ledger>(
     writer: &mut Counted<W, M>,
 ) -> AnsweredRoot
 where
-    R: Files + AllocGlobal + RandomSource + Clock + Threads + Wait + Sync,
+    R: Opens + AllocGlobal + RandomSource + Clock + Threads + Wait + Sync,
     R::File: Send + Drop,
     requires opened { (blanks.opened.name ≡ N.opened) × (blanks.opened.parts ≡ N.workers) }
     requires ended { (blanks.ended.name ≡ N.ended) × (blanks.ended.parts ≡ N.workers) }

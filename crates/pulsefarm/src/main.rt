@@ -3,6 +3,7 @@
 
 mod args;
 mod farm;
+mod opening;
 mod stack;
 mod watch;
 
@@ -14,6 +15,7 @@ ghost use Rattle.pulsefarm.specs.Words.{words_of};
 
 use crate::args::given_words;
 use crate::farm::{Host, farm};
+use crate::opening::Opens;
 use crate::stack::{STACK_BYTES, first_thread_has_stack};
 use pf_cli_messages::{Clearing, ProgressLine, REFUSED, no_memory};
 use pf_errors::NoMemory;
@@ -21,7 +23,6 @@ use pf_streams::Counted;
 use pf_words::{Obeyed, obey};
 use std::alloc::{AllocGlobal, Global};
 use std::env::Env;
-use std::fs::Files;
 use std::io::{self, Read, Write};
 use std::marker::Brand;
 use std::process::ExitCode;
@@ -68,9 +69,9 @@ fn obeyed<R, I: Read, W: Write, L: Ledger, M: Ledger>(
     host: Host,
 ) -> Result<u8, NoMemory>
 where
-    R: Files + Print + Eprint + AllocGlobal + RandomSource + Clock + Threads + Wait + Sync,
+    R: Opens + Print + Eprint + AllocGlobal + RandomSource + Clock + Threads + Wait + Sync,
     R::File: Send + Drop,
-    ensures { Does (map (λ w. w.now) words.now)
+    ensures { Does R.opens R.File.remaining (map (λ w. w.now) words.now)
         (streams (I.remaining reader.old.inner) (W.contents writer.old.inner)
         reader.old.failures.total writer.old.failures.total)
         (streams (I.remaining reader.new.inner) (W.contents writer.new.inner)
@@ -92,9 +93,9 @@ fn answer_words<R, I: Read, W: Write, L: Ledger, M: Ledger>(
     host: Host,
 ) -> Result<u8, NoMemory>
 where
-    R: Env + Files + Print + Eprint + AllocGlobal + RandomSource + Clock + Threads + Wait + Sync,
+    R: Env + Opens + Print + Eprint + AllocGlobal + RandomSource + Clock + Threads + Wait + Sync,
     R::File: Send + Drop,
-    ensures { DoesGiven
+    ensures { DoesGiven R.opens R.File.remaining
         (streams (I.remaining reader.old.inner) (W.contents writer.old.inner)
         reader.old.failures.total writer.old.failures.total)
         (streams (I.remaining reader.new.inner) (W.contents writer.new.inner)
@@ -116,7 +117,7 @@ fn try_all_by<R, I: Read + Drop, W: Write + Drop, L: Ledger, M: Ledger>(
     writes: Blank,
 ) -> Result<u8, NoMemory>
 where
-    R: Env + Files + Print + Eprint + AllocGlobal + RandomSource + Clock + Threads + Wait + Sync,
+    R: Env + Opens + Print + Eprint + AllocGlobal + RandomSource + Clock + Threads + Wait + Sync,
     R::File: Send + Drop,
     requires reads { reads.name ≡ L.name }
     requires read_parts { reads.parts ≡ L.parts }
@@ -124,7 +125,8 @@ where
     requires writes { writes.name ≡ M.name }
     requires write_parts { writes.parts ≡ M.parts }
     requires some_writes { 0 < writes.parts }
-    ensures { (after : Streams) × DoesGiven (streams (I.remaining stdin) (W.contents stdout) 0 0) after result }
+    ensures { (after : Streams)
+        × DoesGiven R.opens R.File.remaining (streams (I.remaining stdin) (W.contents stdout) 0 0) after result }
 {
     let mut reader = Counted::<I, L>::new(stdin, reads);
     let mut writer = Counted::<W, M>::new(stdout, writes);
@@ -140,9 +142,10 @@ fn try_all<R, I: Read + Drop, W: Write + Drop>(
     host: Host,
 ) -> Result<u8, NoMemory>
 where
-    R: Env + Files + Print + Eprint + AllocGlobal + RandomSource + Clock + Threads + Wait + Sync,
+    R: Env + Opens + Print + Eprint + AllocGlobal + RandomSource + Clock + Threads + Wait + Sync,
     R::File: Send + Drop,
-    ensures { (after : Streams) × DoesGiven (streams (I.remaining stdin) (W.contents stdout) 0 0) after result }
+    ensures { (after : Streams)
+        × DoesGiven R.opens R.File.remaining (streams (I.remaining stdin) (W.contents stdout) 0 0) after result }
 {
     let inner = stdout;
     let clearing = Clearing { line, inner };
@@ -155,9 +158,9 @@ where
 /// Does all work; what it gives is the status.
 fn all<R, I: Read + Drop>(rt: &R, stdin: I, host: Host) -> u8
 where
-    R: Env + Files + Print + Eprint + AllocGlobal + RandomSource + Clock + Threads + Wait + Sync,
+    R: Env + Opens + Print + Eprint + AllocGlobal + RandomSource + Clock + Threads + Wait + Sync,
     R::File: Send + Drop,
-    ensures { IsStatus result }
+    ensures { IsStatus R.opens R.File.remaining result }
 {
     match try_all(
         rt,

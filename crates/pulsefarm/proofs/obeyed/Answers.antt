@@ -1,9 +1,8 @@
-use Rattle.std.proofs.Common.{inr, arith}
+use Rattle.std.proofs.Common.{inr}
 use Rattle.pulsefarm.proofs.Farms.{from_beginning}
 use Rattle.pulsefarm.proofs.obeyed.Goals as goal
 
 pub returns : goal.returns
 returns g c =
     let done = rw (c.in_ok-done.was, c.in-Farm.is) at c.obey.ensures in
-    let ok = c.in-Farm.args.files.ok in
-    inr (c.in-Farm.args, done.0, from_beginning _ _ _ _ _ _ _ _ _ (omega (arith, ok)) done.1.0 done.1.1 c.farm.ensures)
+    inr (c.in-Farm.args, done.0, from_beginning _ _ _ _ _ _ _ _ _ _ done.1.0 done.1.1 c.farm.ensures)

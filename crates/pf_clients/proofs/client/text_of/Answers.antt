@@ -1,4 +1,4 @@
-use Rattle.std.proofs.Common.{◌++◌, refl, ap, ◌∙◌}
+use Rattle.std.proofs.Common.{◌++◌, ap, ◌∙◌}
 use Rattle.pf_request.specs.Calls.{usage}
 use Rattle.pf_world.specs.Steps.{client_calls}
 use Rattle.pf_world.specs.Reported.{step_text}
@@ -11,6 +11,6 @@ pub returns : goal.returns
 returns c =
     let q = c.args.project in
     let step = client_calls q usage in
-    c.in_ok-put_outcome.ensures step refl ∙ ap (λ t. t ++ step_text step (response_in c.response_of-response.result))
+    c.in_ok-put_outcome.ensures step c.client_of.ensures ∙ ap (λ t. t ++ step_text step (response_in c.response_of-response.result))
     c.new.ensures.items
     ∙ ap (step_text step) c.response_of-response.ensures ∙ outcome_of_call q usage c.args.outcome

@@ -1,5 +1,8 @@
-use Rattle.std.proofs.Common.{◌≡◌, vec_len}
+use Rattle.std.proofs.Common.{map, take}
+use Rattle.pulsefarm.specs.Program.{AreOpened}
 use Rattle.pulsefarm.proofs.farm.opened.Given as goal
 
+-- the files of the words so far are opened
 abbrev pub invariant-names : goal.invariant-names
-invariant-names g l = record { files : vec_len l.files ≡ l.name-index }
+invariant-names g l = AreOpened g.R.Opens.opens g.R.Files.File.Read.remaining
+    (map (λ w. w.now) (take l.name-index l.names)) l.files.items
