@@ -1,8 +1,6 @@
 -- What a farm of clients and workers answers, and what goes out of it.
-use Rattle.std.specs.Prelude.{◌≡◌, ◌⊎◌, ⊤, ℕ, suc, ◌+◌, List, [], ◌∷◌, ◌++◌, Option, Some, None}
+use Rattle.std.specs.Prelude.{◌≡◌, ◌⊎◌, ⊤, ℕ, suc, ◌+◌, List, [], ◌∷◌, ◌++◌, map, Option, Some, None}
 use Rattle.std.specs.Io.KnownBytes.{Appends}
-use Rattle.std.specs.Global.{Vec}
-use Rattle.pf_wire.specs.declared.reported.WrittenAnswer as wire
 use Rattle.pf_errors.specs.declared.fault.OrNoMemory.{OrNoMemory}
 use Rattle.pf_errors.specs.declared.fault.OrNoMemory.TheVariants.{Fault, NoMemory}
 use Rattle.pf_streams.specs.declared.stream.StreamFault.{StreamFault}
@@ -17,7 +15,9 @@ use Rattle.pf_farm_state.specs.Clients.{all_receipts, closed_as, AreFull, AreLeg
 use Rattle.pf_farm_state.specs.declared.client.ClosedSeat.{ClosedSeat}
 use Rattle.pf_farm_state.specs.declared.closing.Closing.{Closing}
 use Rattle.pf_clients.specs.declared.client.FileEnd.{FileEnd}
-use Rattle.pf_clients.specs.declared.client.FileEnd.TheVariants.{Answered, NoCommand, Unread, NoMemory as OutOfMemory}
+use Rattle.pf_clients.specs.declared.client.FileEnd.TheVariants.{Answered, NoCommand, Unread, Unwritten}
+use Rattle.pf_clients.specs.declared.client.FileEnd.TheVariants.{NoMemory as OutOfMemory}
+use Rattle.pf_clients.specs.declared.outlet.Held.{Held}
 use Rattle.pf_clients.specs.declared.reported.ClientAnswers.{ClientAnswers}
 use Rattle.pf_clients.specs.Lines.{AnswersFile}
 use Rattle.pf_clients.specs.Texts.{reported_text}
@@ -29,17 +29,18 @@ pub record ClientText : Type 0 where
   pub text : List ℕ
   pub ended : FileEnd
 
-abbrev pub answers_of : Vec wire.WrittenAnswer → FileEnd → ClientAnswers
-answers_of reported e = record { reported = reported; ended = e }
+abbrev pub answers_of : {O : Type 0} → O → FileEnd → ClientAnswers O
+answers_of outlet e = record { outlet = outlet; ended = e }
 
-abbrev pub client_text : ClientAnswers → ClientText
-client_text a = record { text = reported_text a.reported.items; ended = a.ended }
+abbrev pub client_text : ClientAnswers Held → ClientText
+client_text a = record { text = reported_text a.outlet.answers.items; ended = a.ended }
 
 -- why no file is printed after one that ended so, if none is
 abbrev pub stop_at : FileEnd → Option (OrNoMemory StreamFault)
 stop_at Answered = None
 stop_at NoCommand = None
 stop_at (Unread e) = Some (Fault (Read e))
+stop_at (Unwritten e) = Some (Fault (Read e))
 stop_at OutOfMemory = Some NoMemory
 
 abbrev pub or_else : Option (OrNoMemory StreamFault) → Option (OrNoMemory StreamFault) → Option (OrNoMemory StreamFault)
@@ -64,6 +65,7 @@ abbrev pub status_at : FileEnd → (others : ℕ) → ℕ
 status_at NoCommand n = 2
 status_at Answered n = n
 status_at (Unread e) n = n
+status_at (Unwritten e) n = n
 status_at OutOfMemory n = n
 
 abbrev pub status_of : List ClientText → ℕ
@@ -85,17 +87,35 @@ PrintsInPart cs NoMemory w0 w1 n0 n1 = (n1 ≡ n0) × (first_stop cs ≡ Some No
 
 -- ---- a farm
 
--- these are what is left of the clients of these files, and what they were answered; the first is of project k, and
--- each is of the next project
-abbrev pub AreAnswered : (k : ℕ) → List (Option (List ℕ)) → List ClosedSeat → List ClientText → Type 0
+-- what a client was sent before and after, where that is known, and how its file ended
+pub record SentText : Type 0 where
+  pub before : Option (List ℕ)
+  pub after : Option (List ℕ)
+  pub ended : FileEnd
+
+-- a client that is sent nothing before has its answers held
+abbrev pub held_text : ClientText → SentText
+held_text c = record { before = Some []; after = Some c.text; ended = c.ended }
+
+-- what went to these outlets
+abbrev pub sent_texts : {O : Type 0} → (sent : O → Option (List ℕ)) → List O → List (ClientAnswers O) → List SentText
+sent_texts sent [] _ = []
+sent_texts sent (o ∷ os) [] = []
+sent_texts sent (o ∷ os) (a ∷ more) = record { before = sent o; after = sent a.outlet; ended = a.ended }
+    ∷ sent_texts sent os more
+
+-- these are what is left of the clients of these files, and what they were sent; the first is of project k, and each is
+-- of the next project
+abbrev pub AreAnswered : (k : ℕ) → List (Option (List ℕ)) → List ClosedSeat → List SentText → Type 0
 AreAnswered k [] [] [] = ⊤
-AreAnswered k (f ∷ fs) (s ∷ ss) (c ∷ cs) = AnswersFile k f (closed_as s) c.text c.ended × AreAnswered (suc k) fs ss cs
+AreAnswered k (f ∷ fs) (s ∷ ss) (c ∷ cs) = AnswersFile k f (closed_as s) c.before c.after c.ended
+    × AreAnswered (suc k) fs ss cs
 AreAnswered k _ _ _ = ⊥
 
 -- a farm of a client for each of these files, file k being that of project k, in which the clients were answered this;
 -- and what is left when it is closed: the receipts of the clients are those of all calls that the histories note, each
 -- once, and these histories are legal
-pub record FarmOf (inputs : List (Option (List ℕ))) (clients : List ClientText) : Type 0 where
+pub record FarmOf (inputs : List (Option (List ℕ))) (clients : List SentText) : Type 0 where
   pub closing : Closing
   pub answered : AreAnswered 1 inputs closing.seats.items clients
   pub receipts : ForRight (λ p. AreTheCalls (all_receipts closing.seats.items) closing.book)
@@ -106,7 +126,14 @@ pub record FarmOf (inputs : List (Option (List ℕ))) (clients : List ClientText
 
 -- what such a farm answered its clients was printed
 abbrev pub FarmPrints : List (Option (List ℕ)) → (status : ℕ) → (written_old written_new : Option (List ℕ)) → Type 0
-FarmPrints inputs status w0 w1 = (clients : List ClientText) × FarmOf inputs clients × Prints clients status w0 w1
+FarmPrints inputs status w0 w1 = (clients : List ClientText) × FarmOf inputs (map held_text clients)
+    × Prints clients status w0 w1
+
+-- this is no fault of a writer
+abbrev pub IsNoWrite : OrNoMemory StreamFault → Type 0
+IsNoWrite (Fault (Write e)) = ⊥
+IsNoWrite (Fault (Read e)) = ⊤
+IsNoWrite NoMemory = ⊤
 
 -- nothing was written, since memory ran out before the farm began, or no thread can be started
 abbrev pub NeverBegins : OrNoMemory StreamFault → (written_old written_new : Option (List ℕ))
@@ -119,5 +146,5 @@ NeverBegins NoMemory w0 w1 n0 n1 = (w1 ≡ w0) × (n1 ≡ n0)
 abbrev pub FarmLeaves : List (Option (List ℕ)) → OrNoMemory StreamFault → (written_old written_new : Option (List ℕ))
     → (failed_old failed_new : ℕ) → Type 0
 FarmLeaves inputs e w0 w1 n0 n1 =
-    NeverBegins e w0 w1 n0 n1 ⊎ ((clients : List ClientText) × FarmOf inputs clients
+    NeverBegins e w0 w1 n0 n1 ⊎ ((clients : List ClientText) × FarmOf inputs (map held_text clients)
     × PrintsInPart clients e w0 w1 n0 n1)

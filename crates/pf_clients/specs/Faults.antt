@@ -5,7 +5,7 @@ use Rattle.pf_errors.specs.declared.fault.OrNoMemory.TheVariants.{Fault, NoMemor
 use Rattle.pf_streams.specs.declared.stream.StreamFault.{StreamFault}
 use Rattle.pf_streams.specs.declared.stream.StreamFault.TheVariants.{Read, Write}
 use Rattle.pf_clients.specs.declared.client.FileEnd.{FileEnd}
-use Rattle.pf_clients.specs.declared.client.FileEnd.TheVariants.{Unread, NoMemory as OutOfMemory}
+use Rattle.pf_clients.specs.declared.client.FileEnd.TheVariants.{Unread, Unwritten, NoMemory as OutOfMemory}
 
 -- a write that failed was counted, once; a file that can't be read and running out of memory are no fault of the writer
 abbrev pub CountsFault : OrNoMemory StreamFault → (failed_old failed_new : ℕ) → Type 0
@@ -13,8 +13,8 @@ CountsFault (Fault (Write e)) m n = n ≡ m + 1
 CountsFault (Fault (Read e)) m n = n ≡ m
 CountsFault NoMemory m n = n ≡ m
 
--- how a file ends that can't be read
+-- how a file ends that can't be read, or whose answers can't be written
 abbrev pub ended_by : OrNoMemory StreamFault → FileEnd
 ended_by (Fault (Read e)) = Unread e
-ended_by (Fault (Write e)) = Unread e
+ended_by (Fault (Write e)) = Unwritten e
 ended_by NoMemory = OutOfMemory

@@ -3,3 +3,4 @@ pub mod Faults
 pub mod Lines
 pub mod Pairs
 pub mod Texts
+pub mod Pieces

@@ -1,9 +1,14 @@
--- What the lines of a client's file ask for, and what the client is answered.
+-- What the lines of a client's file ask for, and what the client is sent.
 use Rattle.std.specs.Prelude.{◌≡◌, ◌⊎◌, ⊤, ℕ, ◌+◌, false, List, [], ◌∷◌, ◌++◌, length, Option, Some, None, IfSome}
 use Rattle.std.specs.Prelude.{Result, Ok, Err, codes}
 use Rattle.pf_errors.specs.Codes.{no_memory_text}
 use Rattle.pf_errors.specs.declared.code.Code.TheVariants as code
 use Rattle.pf_errors.specs.declared.memory.NoMemory.{NoMemory}
+use Rattle.pf_errors.specs.declared.fault.OrNoMemory.{OrNoMemory}
+use Rattle.pf_errors.specs.declared.fault.OrNoMemory.TheVariants as stop
+use Rattle.pf_streams.specs.declared.stream.StreamFault.{StreamFault}
+use Rattle.pf_streams.specs.declared.stream.StreamFault.TheVariants.{Write}
+use Rattle.std.specs.Io.KnownBytes.{Appends}
 use Rattle.pf_request.specs.Calls.{Call}
 use Rattle.pf_request.specs.View.{view_of_call}
 use Rattle.pf_desks.specs.Desk.{Reply, refused}
@@ -16,10 +21,12 @@ use Rattle.pf_book.specs.View.{view_of_reply}
 use Rattle.pf_farm_state.specs.Clients.{ClientReplies, ClientView, empty_client, full_seat, with_receipt}
 use Rattle.pf_protocol.specs.Clients.{ClientLine, calls, awaits, client_line_at}
 use Rattle.pf_wire.specs.Steps.{AreRead, last_text}
-use Rattle.pf_wire.specs.declared.reported.WrittenAnswer as wire
 use Rattle.pf_clients.specs.declared.client.FileEnd.{FileEnd}
-use Rattle.pf_clients.specs.declared.client.FileEnd.TheVariants.{Answered, NoCommand, Unread, NoMemory as OutOfMemory}
-use Rattle.pf_clients.specs.Texts.{reported_text}
+use Rattle.pf_clients.specs.declared.client.FileEnd.TheVariants.{Answered, NoCommand, Unread, Unwritten}
+use Rattle.pf_clients.specs.declared.client.FileEnd.TheVariants.{NoMemory as OutOfMemory}
+use Rattle.pf_clients.specs.declared.client.LinesEnd.{LinesEnd}
+use Rattle.pf_clients.specs.declared.client.LinesEnd.TheVariants as lines
+use Rattle.pf_clients.specs.Texts.{AddsInPart, IsBegun}
 
 -- ---- one line
 
@@ -63,36 +70,43 @@ Leaves (one_too_many c) s s' = s' ≡ full_seat s
 Leaves (without_memory c) s s' = (s.is_full ≡ false) × (s' ≡ s)
 Leaves (waited t) s s' = s' ≡ s
 
--- AnswersLine m s s' before after: a line that asks for this was answered, and what came of it was added to what its
--- client was answered
-abbrev pub AnswersLine : ClientLine → (was is : ClientView) → (before after : List ℕ) → Type 0
-AnswersLine m s s' t t' = (l : Line) × (asked_in l ≡ m) × Leaves l s s' × (t' ≡ t ++ line_text s.project l)
+-- AnswersLine m s s' t t': a line that asks for this was answered, and what came of it was added to what its client was
+-- sent, where that is known
+abbrev pub AnswersLine : ClientLine → (was is : ClientView) → (before after : Option (List ℕ)) → Type 0
+AnswersLine m s s' t t' = (l : Line) × (asked_in l ≡ m) × Leaves l s s' × Appends t t' (line_text s.project l)
 
--- the same where memory ran out before what came of it was added
-abbrev pub CutsLine : ClientLine → (was is : ClientView) → (before after : List ℕ) → Type 0
-CutsLine m s s' t t' = (l : Line) × (asked_in l ≡ m) × Leaves l s s' × (t' ≡ t)
+-- the same where this stopped it before all of what came of it was added
+abbrev pub CutsLine : OrNoMemory StreamFault → ClientLine → (was is : ClientView)
+    → (before after : Option (List ℕ)) → Type 0
+CutsLine e m s s' t t' = (l : Line) × (asked_in l ≡ m) × Leaves l s s' × AddsInPart e t t' (line_text s.project l)
 
 -- ---- the line in front
 
 -- the line at the front of some bytes of a client's file, of this number, was answered, and these bytes follow it; or
 -- it is no command
 abbrev pub AnswersFront : List ℕ → (number : ℕ) → Option (List ℕ) → (was is : ClientView)
-    → (before after : List ℕ) → Type 0
+    → (before after : Option (List ℕ)) → Type 0
 AnswersFront bytes k (Some rest) s s' t t' =
     (m : ClientLine) × (client_line_at s.project bytes ≡ Some (m, rest)) × AnswersLine m s s' t t'
-AnswersFront bytes k None s s' t t' = (client_line_at s.project bytes ≡ None) × (s' ≡ s) × (t' ≡ t ++ last_text false k)
+AnswersFront bytes k None s s' t t' =
+    (client_line_at s.project bytes ≡ None) × (s' ≡ s) × Appends t t' (last_text false k)
 
--- memory ran out before it was read, or before what came of it was added
-abbrev pub IsCut : List ℕ → (was is : ClientView) → Type 0
-IsCut bytes s s' = (s' ≡ s) ⊎ ((l : Line) × (rest : List ℕ) × (client_line_at s.project bytes ≡ Some (asked_in l, rest))
-    × Leaves l s s')
+-- this stopped the work before the line was read; or before all of what came of it was added; or before it was added
+-- that it is no command
+abbrev pub IsCut : OrNoMemory StreamFault → List ℕ → (number : ℕ) → (was is : ClientView) → (added : List ℕ) → Type 0
+IsCut e bytes k s s' added =
+    ((s' ≡ s) × (added ≡ []))
+    ⊎ ((l : Line) × (rest : List ℕ) × (client_line_at s.project bytes ≡ Some (asked_in l, rest)) × Leaves l s s'
+    × IsBegun e added (line_text s.project l))
+    ⊎ ((client_line_at s.project bytes ≡ None) × (s' ≡ s) × IsBegun e added (last_text false k))
 
-abbrev pub CutsFront : List ℕ → (was is : ClientView) → (before after : List ℕ) → Type 0
-CutsFront bytes s s' t t' = IsCut bytes s s' × (t' ≡ t)
+abbrev pub CutsFront : OrNoMemory StreamFault → List ℕ → (number : ℕ) → (was is : ClientView)
+    → (before after : Option (List ℕ)) → Type 0
+CutsFront e bytes k s s' t t' = (added : List ℕ) × IsCut e bytes k s s' added × Appends t t' added
 
 -- ---- a file
 
--- what a client is answered for some lines
+-- what a client is sent for some lines
 abbrev pub lines_text : ℕ → List Line → List ℕ
 lines_text q [] = []
 lines_text q (l ∷ ls) = line_text q l ++ lines_text q ls
@@ -105,40 +119,47 @@ AnswersLines q bytes s (l ∷ ls) rest s' =
     (after : List ℕ) × (k : ClientView) × (client_line_at q bytes ≡ Some (asked_in l, after)) × Leaves l s k
     × AnswersLines q after k ls rest s'
 
--- how a file ends after so many lines, of which this rest is left, and what is answered of the end: nothing is left; or
--- what is left begins with no command, and that is answered; or the file can't be read, and none of its lines was; or
--- memory ran out
-abbrev pub EndsAt : FileEnd → (lines : ℕ) → (rest : List ℕ) → (was is : ClientView) → (reported : List ℕ) → Type 0
-EndsAt Answered n rest s s' t = (rest ≡ []) × (s' ≡ s) × (t ≡ [])
-EndsAt NoCommand n rest s s' t = (client_line_at s.project rest ≡ None) × ¬ (rest ≡ []) × (s' ≡ s)
-    × (t ≡ last_text false (n + 1))
-EndsAt (Unread e) n rest s s' t = (n ≡ 0) × (s' ≡ s) × (t ≡ [])
-EndsAt OutOfMemory n rest s s' t = IsCut rest s s' × (t ≡ [])
+-- how the lines of a file end, where this rest is left, which would begin with the line of this number, and what is
+-- added of the end: nothing is left; or what is left begins with no command, and that is answered; or what is left
+-- can't be read; or its first line can't be answered, since a write failed or memory ran out
+abbrev pub EndsAt : FileEnd → (number : ℕ) → (rest : List ℕ) → (was is : ClientView) → (added : List ℕ) → Type 0
+EndsAt Answered k rest s s' t = (rest ≡ []) × (s' ≡ s) × (t ≡ [])
+EndsAt NoCommand k rest s s' t = (client_line_at s.project rest ≡ None) × ¬ (rest ≡ []) × (s' ≡ s)
+    × (t ≡ last_text false k)
+EndsAt (Unread e) k rest s s' t = (s' ≡ s) × (t ≡ [])
+EndsAt (Unwritten e) k rest s s' t = IsCut (stop.Fault (Write e)) rest k s s' t
+EndsAt OutOfMemory k rest s s' t = IsCut stop.NoMemory rest k s s' t
 
--- AnswersBytes bytes s s' before after ended: the lines of a client's file were answered in order up to an end, and
--- their results were added to what it was answered
-pub record AnswersBytes (bytes : List ℕ) (was is : ClientView) (before after : List ℕ) (ended : FileEnd) : Type 0 where
+-- how it ends where nothing stopped it
+abbrev pub lines_end : LinesEnd → FileEnd
+lines_end lines.Answered = Answered
+lines_end lines.NoCommand = NoCommand
+
+-- AnswersBytes bytes s s' t t' ended: the lines of a client's file were answered in order up to an end, and their
+-- results were added to what it was sent
+pub record AnswersBytes (bytes : List ℕ) (was is : ClientView) (before after : Option (List ℕ))
+    (ended : FileEnd) : Type 0 where
   pub lines : List Line
   pub rest : List ℕ
   pub last : ClientView
-  pub reported : List ℕ
+  pub added : List ℕ
   pub answered : AnswersLines was.project bytes was lines rest last
-  pub ends : EndsAt ended (length lines) rest last is reported
-  pub text : after ≡ before ++ (lines_text was.project lines ++ reported)
+  pub ends : EndsAt ended (length lines + 1) rest last is added
+  pub text : Appends before after (lines_text was.project lines ++ added)
 
--- the client of a project's file was answered this text: of the first 67,108,864 bytes of the file, if it is known what
--- there is. Its seat began empty
-abbrev pub AnswersFile : (project : ℕ) → Option (List ℕ) → (seat : ClientView) → (text : List ℕ) → FileEnd → Type 0
-AnswersFile q input s text ended = (bytes : List ℕ) × AreRead input bytes × AnswersBytes bytes (empty_client q)
-    s [] text ended
+-- the client of a project's file was sent what its lines are answered: those of the first 67,108,864 bytes of the file,
+-- if it is known what there is. Its seat began empty
+abbrev pub AnswersFile : (project : ℕ) → Option (List ℕ) → (seat : ClientView) → (before after : Option (List ℕ))
+    → FileEnd → Type 0
+AnswersFile q input s t t' ended = (bytes : List ℕ) × AreRead input bytes
+    × AnswersBytes bytes (empty_client q) s t t' ended
 
--- a client's seat has no receipt yet, and it was answered nothing
-abbrev pub IsNew : ClientView → List wire.WrittenAnswer → Type 0
-IsNew s reported = (s ≡ empty_client s.project) × (reported ≡ [])
+-- a client's seat has no receipt yet
+abbrev pub IsNew : ClientView → Type 0
+IsNew s = s ≡ empty_client s.project
 
--- the lines of a client's file, if it had one, were answered: this is left of its seat, this is what it was answered,
--- and so its file ended
+-- the lines of a client's file, if it had one, were answered: this is left of its seat, this was added to what it was
+-- sent, and so its file ended
 abbrev pub IsServed : {R : Type 0} → (remaining : R → Option (List ℕ)) → Option R → (project : ℕ) → (seat : ClientView)
-    → List wire.WrittenAnswer → FileEnd → Type 0
-IsServed remaining file q s reported ended = IfSome file
-    (λ f. AnswersFile q (remaining f) s (reported_text reported) ended)
+    → (before after : Option (List ℕ)) → FileEnd → Type 0
+IsServed remaining file q s t t' ended = IfSome file (λ f. AnswersFile q (remaining f) s t t' ended)

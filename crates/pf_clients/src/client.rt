@@ -1,87 +1,92 @@
 //! One client: the lines of its file are answered one after another.
 
-ghost use Rattle.std.specs.Prelude.{◌≡◌, ◌<◌, ◌≤◌, ◌++◌, None, length, IfOk, OnOk, OnErr, false};
-ghost use Rattle.std.specs.Bool.{OnTrue};
+ghost use Rattle.std.specs.Prelude.{◌≡◌, ◌+◌, ◌<◌, ◌≤◌, ◌^◌, false, length, IfErr, IfOk, MatchOption, OnOk};
 ghost use Rattle.std.specs.Option.{option_copied};
 ghost use Rattle.pf_protocol.specs.View.{view_of_client_line};
 ghost use Rattle.pf_protocol.specs.Clients.{calls};
+ghost use Rattle.pf_protocol.specs.Complete.{is_due};
 ghost use Rattle.pf_request.specs.View.{view_of_call};
-ghost use Rattle.pf_wire.specs.Steps.{last_text, AreRead};
-ghost use Rattle.pf_wire.specs.declared.outcome.Requester.TheVariants as requester;
+ghost use Rattle.pf_wire.specs.Steps.{last_text};
 ghost use Rattle.pf_wire.specs.Whole.{whole_text};
+ghost use Rattle.pf_wire.specs.declared.outcome.Requester.TheVariants as requester;
 ghost use Rattle.pf_clients.specs.Faults.{ended_by};
 ghost use Rattle.pf_pool.specs.Responses.{response_in};
-ghost use Rattle.pf_clients.specs.Lines.{answer_in, call_text, AnswersBytes, AnswersFront, AnswersLine, CutsFront};
-ghost use Rattle.pf_clients.specs.Lines.{CutsLine, IsNew, IsServed};
-ghost use Rattle.pf_clients.specs.Texts.{reported_text, EndsInText};
+ghost use Rattle.pf_clients.specs.Lines.{answer_in, call_text, lines_end, AnswersFile, AnswersFront, AnswersLine};
+ghost use Rattle.pf_clients.specs.Lines.{CutsFront, CutsLine, IsNew, IsServed};
+ghost use Rattle.pf_clients.specs.Pieces.{AnswersUpTo, StopsAt};
 
+use crate::outlet::Outlet;
 use crate::watch::Watch;
 use pf_book::Reply;
 use pf_errors::{NoMemory, OrNoMemory};
 use pf_farm::{ClientSeat, Floor};
 use pf_farm_accounts::FarmNames;
 use pf_pool::Response;
-use pf_protocol::{ClientLine, NoCommand, is_due, read_client_line};
+use pf_protocol::{ClientLine, NoCommand, first_line, is_due, read_client_line};
 use pf_request::Call;
 use pf_streams::{Counted, StreamFault};
-use pf_wire::{MOST_BYTES, Requester, WrittenAnswer, put_no_command, put_outcome};
+use pf_wire::{Input, ROOM, Requester, WrittenAnswer, put_no_command, put_outcome};
 use std::alloc::Global;
 use std::io::{Error, Read};
 use std::marker::Brand;
 use std::sync::Wait;
 use std::sync::ledger::{Blank, Ledger};
 
-/// How long a text of several replies gets, in bytes, before another is begun.
-const MOST_TEXT: usize = 65_536;
-
 /// How the lines of a file ended.
 #[derive(Drop)]
-pub(crate) enum FileEnd {
+pub enum FileEnd {
     /// All were answered.
     Answered,
     /// One was no command, and none after it was read.
     NoCommand,
     /// The file can't be read any more.
     Unread(Error),
+    /// An answer can't be written, or not all of it.
+    Unwritten(Error),
     /// Memory ran out.
     NoMemory,
 }
 
-/// How a file ended that can't be read, or for which memory ran out.
+/// How the lines of a file ended that were read.
+#[derive(Clone, Copy, PartialEq, Eq)]
+enum LinesEnd {
+    Answered,
+    NoCommand,
+}
+
+/// How a file ended that can't be read, whose answers can't be written, or for which memory ran out.
 fn stopped(stop: OrNoMemory<StreamFault>) -> FileEnd
     ensures { result ≡ ended_by stop }
 {
     match stop {
-        OrNoMemory::Fault(StreamFault::Read(error) | StreamFault::Write(error)) => {
-            FileEnd::Unread(error)
-        }
+        OrNoMemory::Fault(StreamFault::Read(error)) => FileEnd::Unread(error),
+        OrNoMemory::Fault(StreamFault::Write(error)) => FileEnd::Unwritten(error),
         OrNoMemory::NoMemory => FileEnd::NoMemory,
     }
 }
 
-/// A client: its seat, its file until that is read, and what it was answered, reply by reply.
+/// A client: its seat, its file until that is read, and where its answers go.
 #[derive(Drop)]
-pub(crate) struct Client<N: FarmNames, R> {
+pub(crate) struct Client<N: FarmNames, R, O> {
     pub seat: ClientSeat<N>,
     pub file: Option<R>,
-    pub reported: Vec<WrittenAnswer>,
+    pub outlet: O,
     pub ended: FileEnd,
 }
 
-/// What a file holds, up to 64 MiB.
-fn contents<R: Read + Drop, L: Ledger>(
-    alloc: Global,
-    file: R,
-    reads: Blank,
-) -> Result<Vec<u8>, OrNoMemory<StreamFault>>
-    requires reads { reads.name ≡ L.name }
-    requires read_parts { reads.parts ≡ L.parts }
-    requires some_reads { 0 < reads.parts }
-    ensures read { IfOk result (λ v. AreRead (R.remaining file) v.items) }
-    ensures len { IfOk result (λ v. length v.items ≤ MOST_BYTES) }
-{
-    let mut reader = Counted::<R, L>::new(file, reads);
-    reader.take_front(alloc, MOST_BYTES)
+/// Where clients work: the floor of their farm, what waits there, and who watches.
+pub(crate) struct Place<'a, N: FarmNames, T, G> {
+    pub rt: &'a T,
+    pub floor: &'a Floor<N>,
+    pub watch: &'a G,
+}
+
+/// Bytes of a client's file whose lines aren't answered, the first of which has this number; and whether that is all.
+#[derive(Clone, Copy)]
+struct LeftLines<'a> {
+    bytes: &'a [u8],
+    number: u64,
+    is_over: bool,
 }
 
 /// What came of a call, as what a world responds.
@@ -127,121 +132,154 @@ fn refusal(alloc: Global, number: u64) -> Result<WrittenAnswer, NoMemory>
     Ok(WrittenAnswer { text, report: None })
 }
 
-/// Whether an answer may join the last text: neither has a report, and that text isn't long.
-fn joins(all: &[WrittenAnswer], reported: &WrittenAnswer) -> bool
-    ensures { OnTrue result ((reported.now.report ≡ None) × EndsInText all.now) }
-{
-    if reported.report.is_some() {
-        return false;
-    }
-    match all.last() {
-        Some(last) => last.report.is_none() && last.text.len() < MOST_TEXT,
-        None => false,
-    }
-}
-
-/// Adds an answer, to the last text where it may join that.
-fn add(all: &mut Vec<WrittenAnswer>, reported: WrittenAnswer) -> Result<(), NoMemory>
-    ensures added { OnOk result (reported_text all.new.items ≡ reported_text all.old.items ++ whole_text reported) }
-    ensures err { OnErr result (reported_text all.new.items ≡ reported_text all.old.items) }
-{
-    if joins(all, &reported) {
-        let last = all.len() - 1;
-        all[last].text.extend_from_slice(&reported.text)?;
-    } else {
-        all.push(reported)?;
-    }
-    Ok(())
-}
-
-impl<N: FarmNames, R: Read + Drop> Client<N, R> {
-    /// Answers the lines of its file, at most 64 MiB of it, up to one that is no command.
-    pub fn work<T: Wait, G: Watch>(&mut self, alloc: Global, rt: &T, floor: &Floor<N>, watch: &G)
-        requires { IsNew self.old.seat self.old.reported.items }
+impl<N: FarmNames, R: Read + Drop, O: Outlet> Client<N, R, O> {
+    /// Answers the lines of its file as they come, at most 64 MiB of it, up to one that is no command.
+    pub fn work<T: Wait, G: Watch>(&mut self, alloc: Global, place: &Place<N, T, G>)
+        requires { IsNew self.old.seat }
         ensures { IsServed R.remaining self.old.file self.old.seat.project
-            self.new.seat self.new.reported.items self.new.ended }
+            self.new.seat (O.sent self.old.outlet) (O.sent self.new.outlet) self.new.ended }
     {
-        self.ended = self.answer_file(alloc, rt, floor, watch);
+        self.ended = self.answer_file(alloc, place);
     }
 
     /// Answers the lines of its file, if it has one.
-    fn answer_file<T: Wait, G: Watch>(
-        &mut self,
-        alloc: Global,
-        rt: &T,
-        floor: &Floor<N>,
-        watch: &G,
-    ) -> FileEnd
-        requires { IsNew self.old.seat self.old.reported.items }
+    fn answer_file<T: Wait, G: Watch>(&mut self, alloc: Global, place: &Place<N, T, G>) -> FileEnd
+        requires { IsNew self.old.seat }
         ensures { IsServed R.remaining self.old.file self.old.seat.project
-            self.new.seat self.new.reported.items result }
+            self.new.seat (O.sent self.old.outlet) (O.sent self.new.outlet) result }
     {
         let Some(file) = self.file.take() else {
             return FileEnd::Answered;
         };
-        match contents::<R, Brand>(alloc, file, Blank::new(1)) {
-            Ok(bytes) => self.answer_lines(alloc, rt, floor, watch, &bytes),
+        match self.answer_read::<Brand, T, G>(alloc, place, file, Blank::new(1)) {
+            Ok(LinesEnd::Answered) => FileEnd::Answered,
+            Ok(LinesEnd::NoCommand) => FileEnd::NoCommand,
             Err(stop) => stopped(stop),
         }
     }
 
-    /// Answers the lines of these bytes, one after another.
-    fn answer_lines<T: Wait, G: Watch>(
+    /// Answers the lines of this file. Nobody asks how many of its reads failed.
+    fn answer_read<L: Ledger, T: Wait, G: Watch>(
         &mut self,
         alloc: Global,
-        rt: &T,
-        floor: &Floor<N>,
-        watch: &G,
-        bytes: &[u8],
-    ) -> FileEnd
-        requires { length bytes.now ≤ MOST_BYTES }
-        ensures { AnswersBytes bytes.now self.old.seat self.new.seat
-            (reported_text self.old.reported.items) (reported_text self.new.reported.items) result }
+        place: &Place<N, T, G>,
+        file: R,
+        reads: Blank,
+    ) -> Result<LinesEnd, OrNoMemory<StreamFault>>
+        requires new { IsNew self.old.seat }
+        requires reads { reads.name ≡ L.name }
+        requires read_parts { reads.parts ≡ L.parts }
+        requires some_reads { 0 < reads.parts }
+        ensures answered { IfOk result (λ end. AnswersFile self.old.seat.project (R.remaining file)
+            self.new.seat (O.sent self.old.outlet) (O.sent self.new.outlet) (lines_end end)) }
+        ensures stopped { IfErr result (λ e. AnswersFile self.old.seat.project (R.remaining file)
+            self.new.seat (O.sent self.old.outlet) (O.sent self.new.outlet) (ended_by e)) }
     {
-        let mut rest = bytes;
+        let mut reader = Counted::<R, L>::new(file, reads);
+        let mut room = vec![in alloc; 0u8; ROOM]?;
+        self.answer_pieces(alloc, place, &mut reader, room.as_mut_slice())
+    }
+
+    /// Reads and answers, a piece at a time.
+    fn answer_pieces<L: Ledger, T: Wait, G: Watch>(
+        &mut self,
+        alloc: Global,
+        place: &Place<N, T, G>,
+        reader: &mut Counted<R, L>,
+        piece: &mut [u8],
+    ) -> Result<LinesEnd, OrNoMemory<StreamFault>>
+        requires new { IsNew self.old.seat }
+        requires room { 0 < length piece.old }
+        ensures answered { IfOk result (λ end. AnswersFile self.old.seat.project (R.remaining reader.old.inner)
+            self.new.seat (O.sent self.old.outlet) (O.sent self.new.outlet) (lines_end end)) }
+        ensures stopped { IfErr result (λ e. AnswersFile self.old.seat.project (R.remaining reader.old.inner)
+            self.new.seat (O.sent self.old.outlet) (O.sent self.new.outlet) (ended_by e)) }
+    {
+        let mut input = Input::new(alloc);
         let mut number: u64 = 1;
-        'lines: while is_due(rest, true) {
-            let follows = match self.answer_front(alloc, rt, floor, watch, number, rest) {
-                Ok(follows) => follows,
-                Err(NoMemory) => return FileEnd::NoMemory,
+        let mut is_over = false;
+        'pieces: while !is_over {
+            is_over = input.take_piece(reader, piece)?;
+            if input.is_due(is_over) {
+                let due = LeftLines {
+                    bytes: &input.bytes,
+                    number,
+                    is_over,
+                };
+                let Some(left) = self.answer_due(alloc, place, due)? else {
+                    return Ok(LinesEnd::NoCommand);
+                };
+                number = left.number;
+                let rest = Vec::from_slice(alloc, left.bytes)?;
+                input.keep(rest);
+            }
+        }
+        Ok(LinesEnd::Answered)
+    }
+
+    /// Answers the lines that are due, up to one that is no command; what is left before it, if none is.
+    fn answer_due<'a, T: Wait, G: Watch>(
+        &mut self,
+        alloc: Global,
+        place: &Place<N, T, G>,
+        due: LeftLines<'a>,
+    ) -> Result<Option<LeftLines<'a>>, OrNoMemory<StreamFault>>
+        requires { due.number + length due.bytes.now < 2 ^ 63 }
+        ensures answered { IfOk result (λ left. MatchOption left
+            (StopsAt due.is_over due.bytes.now self.old.seat self.new.seat (O.sent self.old.outlet)
+            (O.sent self.new.outlet) due.number (lines_end LinesEnd.NoCommand))
+            (λ l. AnswersUpTo due.is_over due.bytes.now self.old.seat self.new.seat (O.sent self.old.outlet)
+            (O.sent self.new.outlet) due.number l.bytes.now l.number
+            × (is_due due.is_over l.bytes.now ≡ false)
+            × (l.number + length l.bytes.now ≤ due.number + length due.bytes.now))) }
+        ensures stopped { IfErr result (λ e. StopsAt due.is_over due.bytes.now self.old.seat self.new.seat
+            (O.sent self.old.outlet) (O.sent self.new.outlet) due.number (ended_by e)) }
+    {
+        let is_over = due.is_over;
+        let mut bytes = due.bytes;
+        let mut number = due.number;
+        'lines: while is_due(bytes, is_over) {
+            let Some(after) = self.answer_front(alloc, place, number, bytes)? else {
+                return Ok(None);
             };
-            let Some(after) = follows else {
-                return FileEnd::NoCommand;
-            };
-            rest = after;
+            bytes = after;
             number += 1;
         }
-        FileEnd::Answered
+        Ok(Some(LeftLines {
+            bytes,
+            number,
+            is_over,
+        }))
     }
 
     /// Answers the line of this number, which is first; returns what follows it, unless it is no command.
     fn answer_front<'a, T: Wait, G: Watch>(
         &mut self,
         alloc: Global,
-        rt: &T,
-        floor: &Floor<N>,
-        watch: &G,
+        place: &Place<N, T, G>,
         number: u64,
         bytes: &'a [u8],
-    ) -> Result<Option<&'a [u8]>, NoMemory>
+    ) -> Result<Option<&'a [u8]>, OrNoMemory<StreamFault>>
         ensures answered { IfOk result (λ rest. AnswersFront bytes.now number (option_copied rest)
-            self.old.seat self.new.seat (reported_text self.old.reported.items)
-            (reported_text self.new.reported.items)) }
-        ensures err { OnErr result (CutsFront bytes.now
-            self.old.seat self.new.seat (reported_text self.old.reported.items)
-            (reported_text self.new.reported.items)) }
+            self.old.seat self.new.seat (O.sent self.old.outlet) (O.sent self.new.outlet)) }
+        ensures stopped { IfErr result (λ e. CutsFront e bytes.now number
+            self.old.seat self.new.seat (O.sent self.old.outlet) (O.sent self.new.outlet)) }
     {
         match read_client_line(alloc, self.seat.project(), bytes) {
             Ok((line, rest)) => {
-                self.answer_line(alloc, rt, floor, watch, line)?;
+                self.answer_line(alloc, place, line)?;
                 Ok(Some(rest))
             }
             Err(OrNoMemory::Fault(NoCommand)) => {
+                let project = self.seat.project();
+                place
+                    .watch
+                    .refused(alloc, project, number, first_line(bytes).text);
                 let reported = refusal(alloc, number)?;
-                add(&mut self.reported, reported)?;
+                self.outlet.send(reported)?;
                 Ok(None)
             }
-            Err(OrNoMemory::NoMemory) => Err(NoMemory),
+            Err(OrNoMemory::NoMemory) => Err(OrNoMemory::NoMemory),
         }
     }
 
@@ -249,50 +287,41 @@ impl<N: FarmNames, R: Read + Drop> Client<N, R> {
     fn answer_line<T: Wait, G: Watch>(
         &mut self,
         alloc: Global,
-        rt: &T,
-        floor: &Floor<N>,
-        watch: &G,
+        place: &Place<N, T, G>,
         line: ClientLine,
-    ) -> Result<(), NoMemory>
+    ) -> Result<(), OrNoMemory<StreamFault>>
         ensures answered { OnOk result (AnswersLine (view_of_client_line line)
-            self.old.seat self.new.seat (reported_text self.old.reported.items)
-            (reported_text self.new.reported.items)) }
-        ensures err { OnErr result (CutsLine (view_of_client_line line)
-            self.old.seat self.new.seat (reported_text self.old.reported.items)
-            (reported_text self.new.reported.items)) }
+            self.old.seat self.new.seat (O.sent self.old.outlet) (O.sent self.new.outlet)) }
+        ensures stopped { IfErr result (λ e. CutsLine e (view_of_client_line line)
+            self.old.seat self.new.seat (O.sent self.old.outlet) (O.sent self.new.outlet)) }
     {
         match line {
-            ClientLine::Call(call) => self.answer_call(alloc, rt, floor, watch, call),
+            ClientLine::Call(call) => self.answer_call(alloc, place, call),
             ClientLine::Await(ticket) => {
-                floor.wait_done(rt, &self.seat, ticket);
+                place.floor.wait_done(place.rt, &self.seat, ticket);
                 Ok(())
             }
         }
     }
 
-    /// Makes a call, and adds its result to what the client was answered: the reply that its new receipt bears, or
-    /// that the call is refused.
+    /// Makes a call, and sends its result: the reply that its new receipt bears, or that the call is refused.
     fn answer_call<T: Wait, G: Watch>(
         &mut self,
         alloc: Global,
-        rt: &T,
-        floor: &Floor<N>,
-        watch: &G,
+        place: &Place<N, T, G>,
         call: Call,
-    ) -> Result<(), NoMemory>
+    ) -> Result<(), OrNoMemory<StreamFault>>
         ensures answered { OnOk result (AnswersLine (calls (view_of_call call))
-            self.old.seat self.new.seat (reported_text self.old.reported.items)
-            (reported_text self.new.reported.items)) }
-        ensures err { OnErr result (CutsLine (calls (view_of_call call))
-            self.old.seat self.new.seat (reported_text self.old.reported.items)
-            (reported_text self.new.reported.items)) }
+            self.old.seat self.new.seat (O.sent self.old.outlet) (O.sent self.new.outlet)) }
+        ensures stopped { IfErr result (λ e. CutsLine e (calls (view_of_call call))
+            self.old.seat self.new.seat (O.sent self.old.outlet) (O.sent self.new.outlet)) }
     {
         let project = self.seat.project();
-        let outcome = floor.call(alloc, rt, &mut self.seat, call);
+        let outcome = place.floor.call(alloc, place.rt, &mut self.seat, call);
         if let Ok(Reply::Ticket(_)) = &outcome {
-            watch.ordered(project);
+            place.watch.ordered(project);
         }
         let reported = text_of(alloc, project, outcome)?;
-        add(&mut self.reported, reported)
+        self.outlet.send(reported)
     }
 }

@@ -8,6 +8,7 @@ ghost use Rattle.pf_clients.specs.Faults.{CountsFault};
 ghost use Rattle.pf_clients.specs.Texts.{reported_text};
 
 use crate::client::FileEnd;
+use crate::outlet::Held;
 use pf_errors::OrNoMemory;
 use pf_streams::{Counted, StreamFault};
 use pf_wire::{Gathered, WrittenAnswer};
@@ -15,10 +16,10 @@ use std::alloc::Global;
 use std::io::Write;
 use std::sync::ledger::Ledger;
 
-/// What a client was answered, and how its file ended.
+/// Where a client's answers went, and how its file ended.
 #[derive(Drop)]
-pub(crate) struct ClientAnswers {
-    pub reported: Vec<WrittenAnswer>,
+pub struct ClientAnswers<O> {
+    pub outlet: O,
     pub ended: FileEnd,
 }
 
@@ -51,6 +52,7 @@ fn next_status(status: u8, ended: FileEnd) -> Result<u8, OrNoMemory<StreamFault>
     match ended {
         FileEnd::Answered => Ok(status),
         FileEnd::NoCommand => Ok(2),
+        FileEnd::Unwritten(error) => Err(OrNoMemory::Fault(StreamFault::Read(error))),
         FileEnd::Unread(error) => Err(OrNoMemory::Fault(StreamFault::Read(error))),
         FileEnd::NoMemory => Err(OrNoMemory::NoMemory),
     }
@@ -60,7 +62,7 @@ fn next_status(status: u8, ended: FileEnd) -> Result<u8, OrNoMemory<StreamFault>
 /// the status, 2 if a line was no command, and else 0.
 pub(crate) fn write_all<W: Write, M: Ledger>(
     alloc: Global,
-    answers: Vec<ClientAnswers>,
+    answers: Vec<ClientAnswers<Held>>,
     writer: &mut Counted<W, M>,
 ) -> Result<u8, OrNoMemory<StreamFault>>
     ensures printed { IfOk result (λ status. Prints (map client_text answers.items) status
@@ -73,8 +75,8 @@ pub(crate) fn write_all<W: Write, M: Ledger>(
 {
     let mut status = 0;
     'files: for answered in answers {
-        let ClientAnswers { reported, ended } = answered;
-        write_one(alloc, &reported, writer)?;
+        let ClientAnswers { outlet, ended } = answered;
+        write_one(alloc, &outlet.answers, writer)?;
         status = next_status(status, ended)?;
     }
     Ok(status)

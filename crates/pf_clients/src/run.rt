@@ -4,14 +4,15 @@ ghost use Rattle.std.specs.Prelude.{◌≡◌, ◌<◌, ◌≤◌, [], map, All,
 ghost use Rattle.std.specs.Prelude.{vec_len};
 ghost use Rattle.std.specs.Bool.{OnTrue};
 ghost use Rattle.pf_farm_state.specs.Clients.{empty_client};
-ghost use Rattle.pf_clients.specs.Farms.{answers_of, FarmLeaves, FarmPrints};
+ghost use Rattle.pf_clients.specs.Farms.{answers_of, sent_texts, FarmLeaves, FarmOf, FarmPrints, IsNoWrite};
 ghost use Rattle.pf_clients.specs.Faults.{CountsFault};
 ghost use Rattle.pf_clients.specs.Lines.{IsNew, IsServed};
 ghost use Rattle.pf_clients.specs.Pairs.{EachTwo};
 ghost use Rattle.pf_farm.specs.Farms.{opened_farm};
 ghost use Rattle.pf_farm.specs.Seats.{AllIdle, IsRing};
 
-use crate::client::{Client, FileEnd};
+use crate::client::{Client, FileEnd, Place};
+use crate::outlet::{Held, Outlet};
 use crate::reported::{ClientAnswers, write_all};
 use crate::start::FarmStart;
 use crate::watch::Watch;
@@ -27,44 +28,55 @@ use std::sync::ledger::Ledger;
 use std::thread::{Threads, for_each_mut, join_mut};
 use std::time::Clock;
 
-/// Has so many workers and a client for each file work on one farm, file k, counted from 1, being that of project k,
-/// each in a thread of its own; then writes what each client was answered, file by file. Gives the status: 2 if a line
-/// was no command, after which that file isn't read any further, and else 0.
-pub fn run_farm<
+/// What a farm is opened with: keys for its tables, blanks for its accounts, and how many workers it has.
+#[derive(Drop)]
+pub struct FarmSetup {
+    pub keys: RandomState,
+    pub blanks: Blanks,
+    pub workers: usize,
+}
+
+/// A client's file, and where its answers go.
+#[derive(Drop)]
+pub struct ClientEnds<R, O> {
+    pub file: R,
+    pub outlet: O,
+}
+
+/// Has workers and a client for each file work on one farm, file k, counted from 1, being that of project k, each in a
+/// thread of its own. What each client was sent, and how its file ended.
+pub fn run_clients<
     N: FarmNames + Send + Sync,
     R: Read + Send + Drop,
-    W: Write,
-    M: Ledger,
+    O: Outlet + Send + Drop,
     T: Threads + Wait + Clock + Sync,
     G: Gate + Watch + Sync,
 >(
     alloc: Global,
     rt: &T,
-    keys: RandomState,
-    blanks: Blanks,
-    workers: usize,
-    files: Vec<R>,
+    setup: FarmSetup,
+    ends: Vec<ClientEnds<R, O>>,
     gate: &G,
-    writer: &mut Counted<W, M>,
-) -> Result<u8, OrNoMemory<StreamFault>>
-    requires opened { (blanks.opened.name ≡ N.opened) × (blanks.opened.parts ≡ N.workers) }
-    requires ended { (blanks.ended.name ≡ N.ended) × (blanks.ended.parts ≡ N.workers) }
-    requires calls { (blanks.calls.name ≡ N.calls) × (blanks.calls.parts ≡ N.seats) }
-    requires claims { N.claims ≡ Some blanks.claims }
-    requires receipts { N.receipts ≡ Some blanks.receipts }
-    requires workers { (0 < workers) × (workers < N.workers) }
+) -> Result<Vec<ClientAnswers<O>>, OrNoMemory<StreamFault>>
+    requires opened { (setup.blanks.opened.name ≡ N.opened) × (setup.blanks.opened.parts ≡ N.workers) }
+    requires ended { (setup.blanks.ended.name ≡ N.ended) × (setup.blanks.ended.parts ≡ N.workers) }
+    requires calls { (setup.blanks.calls.name ≡ N.calls) × (setup.blanks.calls.parts ≡ N.seats) }
+    requires claims { N.claims ≡ Some setup.blanks.claims }
+    requires receipts { N.receipts ≡ Some setup.blanks.receipts }
+    requires workers { (0 < setup.workers) × (setup.workers < N.workers) }
     requires seats { MOST_SEATS < N.seats }
-    requires files { (0 < vec_len files) × (vec_len files ≤ MOST_SEATS) }
-    ensures answered { IfOk result (λ status. FarmPrints (map R.remaining files.items) status
-        (W.contents writer.old.inner) (W.contents writer.new.inner)) }
-    ensures fault { IfErr result (λ e. FarmLeaves (map R.remaining files.items) e
-        (W.contents writer.old.inner) (W.contents writer.new.inner)
-        writer.old.failures.total writer.new.failures.total) }
-    ensures kept { OnOk result (writer.new.failures.total ≡ writer.old.failures.total) }
-    ensures counted { IfErr result (λ e. CountsFault e writer.old.failures.total writer.new.failures.total) }
+    requires files { (0 < vec_len ends) × (vec_len ends ≤ MOST_SEATS) }
+    ensures answered { IfOk result (λ v. FarmOf (map (λ e. R.remaining e.file) ends.items)
+        (sent_texts O.sent (map (λ e. e.outlet) ends.items) v.items)) }
+    ensures fault { IfErr result IsNoWrite }
 {
+    let FarmSetup {
+        keys,
+        blanks,
+        workers,
+    } = setup;
     let (mut farm, mut seats) = Farm::<N>::open(alloc, keys, blanks, workers)?;
-    let mut clients = seated(alloc, &mut farm, files)?;
+    let mut clients = seated(alloc, &mut farm, ends)?;
     let room = ClientSeats {
         seats: Vec::with_capacity(alloc, clients.len())?,
         answers: Vec::with_capacity(alloc, clients.len())?,
@@ -83,36 +95,92 @@ pub fn run_farm<
         let error = Error::new(ErrorKind::Other, "no thread can be started");
         return Err(OrNoMemory::Fault(StreamFault::Read(error)));
     }
+    Ok(answers)
+}
+
+/// These files, for clients whose answers are held.
+fn held_ends<R: Drop>(alloc: Global, files: Vec<R>) -> Result<Vec<ClientEnds<R, Held>>, NoMemory>
+    ensures len { IfOk result (λ v. vec_len v ≡ vec_len files) }
+    ensures files { IfOk result (λ v. map (λ e. e.file) v.items ≡ files.items) }
+    ensures none { IfOk result (λ v. All (λ e. e.outlet.answers.items ≡ []) v.items) }
+{
+    let mut ends = Vec::new(alloc);
+    'files: for file in files {
+        let answers = Vec::new(alloc);
+        ends.push(ClientEnds {
+            file,
+            outlet: Held { answers },
+        })?;
+    }
+    Ok(ends)
+}
+
+/// Runs a farm of clients of these files, and then writes what each client was answered, file by file. Gives the status:
+/// 2 if a line was no command, after which that file isn't read any further, and else 0.
+pub fn run_farm<
+    N: FarmNames + Send + Sync,
+    R: Read + Send + Drop,
+    W: Write,
+    M: Ledger,
+    T: Threads + Wait + Clock + Sync,
+    G: Gate + Watch + Sync,
+>(
+    alloc: Global,
+    rt: &T,
+    setup: FarmSetup,
+    files: Vec<R>,
+    gate: &G,
+    writer: &mut Counted<W, M>,
+) -> Result<u8, OrNoMemory<StreamFault>>
+    requires opened { (setup.blanks.opened.name ≡ N.opened) × (setup.blanks.opened.parts ≡ N.workers) }
+    requires ended { (setup.blanks.ended.name ≡ N.ended) × (setup.blanks.ended.parts ≡ N.workers) }
+    requires calls { (setup.blanks.calls.name ≡ N.calls) × (setup.blanks.calls.parts ≡ N.seats) }
+    requires claims { N.claims ≡ Some setup.blanks.claims }
+    requires receipts { N.receipts ≡ Some setup.blanks.receipts }
+    requires workers { (0 < setup.workers) × (setup.workers < N.workers) }
+    requires seats { MOST_SEATS < N.seats }
+    requires files { (0 < vec_len files) × (vec_len files ≤ MOST_SEATS) }
+    ensures answered { IfOk result (λ status. FarmPrints (map R.remaining files.items) status
+        (W.contents writer.old.inner) (W.contents writer.new.inner)) }
+    ensures fault { IfErr result (λ e. FarmLeaves (map R.remaining files.items) e
+        (W.contents writer.old.inner) (W.contents writer.new.inner)
+        writer.old.failures.total writer.new.failures.total) }
+    ensures kept { OnOk result (writer.new.failures.total ≡ writer.old.failures.total) }
+    ensures counted { IfErr result (λ e. CountsFault e writer.old.failures.total writer.new.failures.total) }
+{
+    let ends = held_ends(alloc, files)?;
+    let answers = run_clients::<N, R, Held, T, G>(alloc, rt, setup, ends, gate)?;
     write_all(alloc, answers, writer)
 }
 
 /// A client with a seat for each file.
-fn seated<N: FarmNames, R: Drop>(
+fn seated<N: FarmNames, R: Drop, O: Drop>(
     alloc: Global,
     farm: &mut Farm<N>,
-    files: Vec<R>,
-) -> Result<Vec<Client<N, R>>, NoMemory>
+    ends: Vec<ClientEnds<R, O>>,
+) -> Result<Vec<Client<N, R, O>>, NoMemory>
     requires none { farm.old.given ≡ 0 }
-    requires files { vec_len files ≤ MOST_SEATS }
-    ensures clients { IfOk result (λ v. vec_len v ≡ vec_len files) }
-    ensures seated { IfOk result (λ v. EachTwo (λ k f c.
-        (c.seat ≡ empty_client k) × (c.file ≡ Some f) × (c.reported.items ≡ [])) 1 files.items v.items) }
-    ensures new { IfOk result (λ v. All (λ c. IsNew c.seat c.reported.items) v.items) }
-    ensures given { IfOk result (λ v. farm.new ≡ opened_farm farm.old.workers (vec_len files)) }
+    requires files { vec_len ends ≤ MOST_SEATS }
+    ensures clients { IfOk result (λ v. vec_len v ≡ vec_len ends) }
+    ensures seated { IfOk result (λ v. EachTwo (λ k e c.
+        (c.seat ≡ empty_client k) × (c.file ≡ Some e.file) × (c.outlet ≡ e.outlet)) 1 ends.items v.items) }
+    ensures new { IfOk result (λ v. All (λ c. IsNew c.seat) v.items) }
+    ensures given { IfOk result (λ v. farm.new ≡ opened_farm farm.old.workers (vec_len ends)) }
 {
     let mut clients = Vec::new(alloc);
     let mut project = 0;
-    'files: for file in files {
+    'files: for end in ends {
         project += 1;
         let seat = match farm.seat(alloc, project) {
             Ok(seat) => seat,
             Err(OrNoMemory::Fault(NoSeat)) => unreachable!(),
             Err(OrNoMemory::NoMemory) => return Err(NoMemory),
         };
+        let ClientEnds { file, outlet } = end;
         clients.push(Client {
             seat,
             file: Some(file),
-            reported: Vec::new(alloc),
+            outlet,
             ended: FileEnd::Answered,
         })?;
     }
@@ -125,6 +193,7 @@ fn serve<
     'a,
     N: FarmNames + Send + Sync,
     R: Read + Send + Drop,
+    O: Outlet + Send + Drop,
     T: Threads + Wait + Clock + Sync,
     G: Gate + Watch + Sync,
 >(
@@ -133,15 +202,15 @@ fn serve<
     floor: &'a Floor<N>,
     gate: &'a G,
     start: &'a FarmStart,
-    clients: &'a mut [Client<N, R>],
+    clients: &'a mut [Client<N, R, O>],
     seats: &'a mut [WorkSeat<N>],
 ) -> bool
     requires some { (0 < length clients.old) × (0 < length seats.old) }
-    requires new { All (λ c. IsNew c.seat c.reported.items) clients.old }
+    requires new { All (λ c. IsNew c.seat) clients.old }
     requires idle { AllIdle seats.old }
     ensures clients { length clients.new ≡ length clients.old }
     ensures served { OnTrue result (EachTwo (λ k c d. IsServed R.remaining c.file c.seat.project
-        d.seat d.reported.items d.ended) 1 clients.old clients.new) }
+        d.seat (O.sent c.outlet) (O.sent d.outlet) d.ended) 1 clients.old clients.new) }
     ensures seats { length seats.new ≡ length seats.old }
     ensures ring { IsRing seats.old → IsRing seats.new }
     ensures idle { AllIdle seats.new }
@@ -153,10 +222,10 @@ fn serve<
         ensures idle { AllIdle seats.exit.now }
     { farm_out(alloc, rt, floor, gate, start, seats) };
     let mut answer = || -> bool
-        requires { (0 < length clients.now) × All (λ c. IsNew c.seat c.reported.items) clients.now }
+        requires { (0 < length clients.now) × All (λ c. IsNew c.seat) clients.now }
         ensures len { length clients.exit.now ≡ length clients.entry.now }
         ensures served { OnTrue result (EachTwo (λ k c d. IsServed R.remaining c.file c.seat.project
-            d.seat d.reported.items d.ended) 1 clients.entry.now clients.exit.now) }
+            d.seat (O.sent c.outlet) (O.sent d.outlet) d.ended) 1 clients.entry.now clients.exit.now) }
     { answer_all(alloc, rt, floor, gate, start, clients) };
     join_mut(rt, &mut work, &mut answer).1
 }
@@ -185,6 +254,7 @@ fn farm_out<N: FarmNames + Send + Sync, T: Threads + Wait + Sync, G: Gate + Sync
 fn answer_all<
     N: FarmNames + Send + Sync,
     R: Read + Send + Drop,
+    O: Outlet + Send + Drop,
     T: Threads + Wait + Clock + Sync,
     G: Watch + Sync,
 >(
@@ -193,13 +263,13 @@ fn answer_all<
     floor: &Floor<N>,
     watch: &G,
     start: &FarmStart,
-    clients: &mut [Client<N, R>],
+    clients: &mut [Client<N, R, O>],
 ) -> bool
     requires some { 0 < length clients.old }
-    requires new { All (λ c. IsNew c.seat c.reported.items) clients.old }
+    requires new { All (λ c. IsNew c.seat) clients.old }
     ensures len { length clients.new ≡ length clients.old }
     ensures served { OnTrue result (EachTwo (λ k c d. IsServed R.remaining c.file c.seat.project
-        d.seat d.reported.items d.ended) 1 clients.old clients.new) }
+        d.seat (O.sent c.outlet) (O.sent d.outlet) d.ended) 1 clients.old clients.new) }
 {
     let begun = start.wait(rt);
     if begun {
@@ -213,21 +283,23 @@ fn answer_all<
 fn answer_each<
     N: FarmNames + Send + Sync,
     R: Read + Send + Drop,
+    O: Outlet + Send + Drop,
     T: Threads + Wait + Sync,
     G: Watch + Sync,
->(alloc: Global, rt: &T, floor: &Floor<N>, watch: &G, clients: &mut [Client<N, R>])
+>(alloc: Global, rt: &T, floor: &Floor<N>, watch: &G, clients: &mut [Client<N, R, O>])
     requires some { 0 < length clients.old }
-    requires new { All (λ c. IsNew c.seat c.reported.items) clients.old }
+    requires new { All (λ c. IsNew c.seat) clients.old }
     ensures len { length clients.new ≡ length clients.old }
     ensures served { EachTwo (λ k c d. IsServed R.remaining c.file c.seat.project
-        d.seat d.reported.items d.ended) 1 clients.old clients.new }
+        d.seat (O.sent c.outlet) (O.sent d.outlet) d.ended) 1 clients.old clients.new }
 {
     let count = clients.len();
-    let work_one = move |_: usize, client: &mut Client<N, R>|
-        requires { IsNew client.now.seat client.now.reported.items }
+    let work_one = move |_: usize, client: &mut Client<N, R, O>|
+        requires { IsNew client.now.seat }
         ensures { IsServed R.remaining client.entry.now.file client.entry.now.seat.project
-            client.exit.now.seat client.exit.now.reported.items client.exit.now.ended }
-    { client.work(alloc, rt, floor, watch) };
+            client.exit.now.seat (O.sent client.entry.now.outlet) (O.sent client.exit.now.outlet)
+            client.exit.now.ended }
+    { client.work(alloc, &Place { rt, floor, watch }) };
     for_each_mut(rt, clients, count, &work_one);
 }
 
@@ -240,19 +312,22 @@ fn notify_work<N: FarmNames, G: Watch>(seats: &[WorkSeat<N>], watch: &G) {
 
 /// The seats of clients, and what these were answered.
 #[derive(Drop)]
-struct ClientSeats<N: FarmNames> {
+struct ClientSeats<N: FarmNames, O> {
     seats: Vec<ClientSeat<N>>,
-    answers: Vec<ClientAnswers>,
+    answers: Vec<ClientAnswers<O>>,
 }
 
 /// The clients' seats apart from what they were answered, in room that was made before.
-fn parted<N: FarmNames, R: Drop>(clients: Vec<Client<N, R>>, room: ClientSeats<N>) -> ClientSeats<N>
+fn parted<N: FarmNames, R: Drop, O: Drop>(
+    clients: Vec<Client<N, R, O>>,
+    room: ClientSeats<N, O>,
+) -> ClientSeats<N, O>
     requires none { (room.seats.items ≡ []) × (room.answers.items ≡ []) }
     requires seats { vec_len clients ≤ vec_capacity room.seats }
     requires answers { vec_len clients ≤ vec_capacity room.answers }
     ensures len { vec_len result.seats ≡ vec_len clients }
     ensures seats { result.seats.items ≡ map (λ c. c.seat) clients.items }
-    ensures answers { result.answers.items ≡ map (λ c. answers_of c.reported c.ended) clients.items }
+    ensures answers { result.answers.items ≡ map (λ c. answers_of c.outlet c.ended) clients.items }
 {
     let ClientSeats {
         mut seats,
@@ -262,11 +337,11 @@ fn parted<N: FarmNames, R: Drop>(clients: Vec<Client<N, R>>, room: ClientSeats<N
         let Client {
             seat,
             file: _,
-            reported,
+            outlet,
             ended,
         } = client;
         seats.push_reserved(seat);
-        answers.push_reserved(ClientAnswers { reported, ended });
+        answers.push_reserved(ClientAnswers { outlet, ended });
     }
     ClientSeats { seats, answers }
 }

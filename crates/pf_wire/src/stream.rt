@@ -19,11 +19,11 @@ use std::io::{Read, Write};
 use std::sync::ledger::Ledger;
 
 /// The most bytes of a piece, and of what is gathered.
-pub(crate) const ROOM: usize = 65_536;
+pub const ROOM: usize = 65_536;
 
 /// What was taken of an input and isn't answered yet.
 #[derive(Drop)]
-pub(crate) struct Input {
+pub struct Input {
     pub bytes: Vec<u8>,
     /// How many bytes were taken in all.
     pub taken: usize,

@@ -1,7 +1,7 @@
-use Rattle.std.proofs.Common.{refl, sym, ap, append-nil}
+use Rattle.std.proofs.Common.{refl, sym, ap}
+use Rattle.std.proofs.KnownBytes.{Appends-nil}
 use Rattle.pf_protocol.specs.View.{view_of_client_line}
 use Rattle.pf_clients.specs.Lines.{waited}
-use Rattle.pf_clients.specs.Texts.{reported_text}
 use Rattle.pf_clients.proofs.client.Client.answer_line.Goals as goal
 
 pub returns-in-Await-clause-answered : goal.returns-in-Await-clause-answered
@@ -9,5 +9,5 @@ returns-in-Await-clause-answered g c = (
   waited c.in-Await.ticket,
   sym (ap view_of_client_line c.in-Await.is),
   refl,
-  sym (append-nil (reported_text c.args.self.now.reported.items)),
+  Appends-nil (g.O.Outlet.sent c.args.self.now.outlet),
 )
