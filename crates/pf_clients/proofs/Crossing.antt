@@ -20,6 +20,7 @@ use Rattle.pf_wire.specs.contracts.reported.ReportedReport as Report
 use Rattle.pf_clients.specs.contracts.client.FileEnd as Ended
 use Rattle.pf_clients.proofs.start.StartStage.TheSendSync as stage
 use Rattle.pf_clients.specs.contracts.client.Client as Client
+use Rattle.pf_clients.specs.contracts.outlet.Held as Held
 use Rattle.pf_clients.specs.contracts.start.FarmStart as Start
 use Rattle.std.specs.contracts.alloc.Global as Global
 
@@ -35,23 +36,31 @@ reported_send = recorded_send (Reported.the_field).row _ _ (Reported.the_type).t
 ended_field_send : IsSend (Ended.the_field).row
 ended_field_send = search (error.the_field_send, sendable) depth 30
 
-module _ (N R : RattleType) (g : names.Ghosts N.Denot) (s : IsSend R) where
-  client_field_send : IsSend (Client.the_field N R g).row
+module _ (N R O : RattleType) (g : names.Ghosts N.Denot) (s : IsSend R) (o : IsSend O) where
+  client_field_send : IsSend (Client.the_field N R O g).row
   client_field_send =
-      let all : AllSend (shape (Client.the_type N R g)).fields = (
+      let all : AllSend (shape (Client.the_type N R O g)).fields = (
         search (hall.client_seat_send N g, sendable) depth 30,
         (
           search (s, sendable) depth 30,
           (
-            search (reported_send, heap.crosses, sendable) depth 30,
+            search (o, sendable) depth 30,
             (search (ended_field_send, sendable) depth 30, tt),
           ),
         ),
       ) in
-      struct_send (shape (Client.the_type N R g)) all
+      struct_send (shape (Client.the_type N R O g)) all
 
-  pub client_send : IsSend (Client.the_row N R g)
-  client_send = recorded_send (Client.the_field N R g).row _ _ (Client.the_type N R g).to_one client_field_send
+  pub client_send : IsSend (Client.the_row N R O g)
+  client_send = recorded_send (Client.the_field N R O g).row _ _ (Client.the_type N R O g).to_one client_field_send
+
+-- ---- answers that are held
+
+held_field_send : IsSend (Held.the_field).row
+held_field_send = search (reported_send, heap.crosses, sendable) depth 30
+
+pub held_send : IsSend Held.the_row
+held_send = recorded_send (Held.the_field).row _ _ (Held.the_type).to_one held_field_send
 
 -- ---- the start is shared
 

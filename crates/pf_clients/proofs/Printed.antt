@@ -19,7 +19,8 @@ use Rattle.pf_wire.proofs.Leaving.{IsAdded}
 use Rattle.pf_wire.specs.Whole.{whole_text, with_report}
 use Rattle.pf_wire.specs.declared.reported.WrittenAnswer.{WrittenAnswer}
 use Rattle.pf_clients.specs.declared.client.FileEnd.{FileEnd}
-use Rattle.pf_clients.specs.declared.client.FileEnd.TheVariants.{Answered, NoCommand, Unread, NoMemory as OutOfMemory}
+use Rattle.pf_clients.specs.declared.client.FileEnd.TheVariants.{Answered, NoCommand, Unread, Unwritten}
+use Rattle.pf_clients.specs.declared.client.FileEnd.TheVariants.{NoMemory as OutOfMemory}
 use Rattle.pf_clients.specs.Faults.{CountsFault}
 use Rattle.pf_clients.specs.Farms.{ClientText, stop_at, or_else, first_stop, unless, printed, status_at, status_of}
 use Rattle.pf_clients.specs.Farms.{Prints, PrintsInPart}
@@ -178,6 +179,9 @@ pub in_part_by_stop : (cs : List ClientText) (c : FileEnd) (e : OrNoMemory Strea
 in_part_by_stop cs Answered e w0 w1 n0 n1 is same h = absurd (cc)
 in_part_by_stop cs NoCommand e w0 w1 n0 n1 is same h = absurd (cc)
 in_part_by_stop cs (Unread x) e w0 w1 n0 n1 is same h =
+    let stop : Fault (Read x) ≡ e = cc in
+    subst (λ k. PrintsInPart cs k w0 w1 n0 n1) stop (same, h.0 ∙ ap Some (sym stop), h.1)
+in_part_by_stop cs (Unwritten x) e w0 w1 n0 n1 is same h =
     let stop : Fault (Read x) ≡ e = cc in
     subst (λ k. PrintsInPart cs k w0 w1 n0 n1) stop (same, h.0 ∙ ap Some (sym stop), h.1)
 in_part_by_stop cs OutOfMemory e w0 w1 n0 n1 is same h =

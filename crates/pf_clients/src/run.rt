@@ -68,6 +68,7 @@ pub fn run_clients<
     requires files { (0 < vec_len ends) × (vec_len ends ≤ MOST_SEATS) }
     ensures answered { IfOk result (λ v. FarmOf (map (λ e. R.remaining e.file) ends.items)
         (sent_texts O.sent (map (λ e. e.outlet) ends.items) v.items)) }
+    ensures len { IfOk result (λ v. vec_len v ≡ vec_len ends) }
     ensures fault { IfErr result IsNoWrite }
 {
     let FarmSetup {

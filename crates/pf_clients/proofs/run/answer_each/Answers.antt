@@ -12,8 +12,9 @@ use Rattle.pf_clients.proofs.run.answer_each.Goals as goal
 
 pub for_each_mut-requires-send-T : goal.for_each_mut-requires-send-T
 for_each_mut-requires-send-T g c κs within = param_send 1
-    (arg _ no (Client.the_row (param 0 g.row.N) (param 1 g.row.R) g.N.FarmNames))
-    (arg_send _ no _ (client_send (param 0 g.row.N) (param 1 g.row.R) g.N.FarmNames c.type_bounds.send-R))
+    (arg _ no (Client.the_row (param 0 g.row.N) (param 1 g.row.R) (param 2 g.row.O) g.N.FarmNames))
+    (arg_send _ no _ (client_send (param 0 g.row.N) (param 1 g.row.R) (param 2 g.row.O) g.N.FarmNames
+    c.type_bounds.send-R c.type_bounds.send-O))
 
 pub for_each_mut-requires-sync-F : goal.for_each_mut-requires-sync-F
 for_each_mut-requires-sync-F g c κs within =
@@ -22,8 +23,10 @@ for_each_mut-requires-sync-F g c κs within =
 
 pub returns-clause-served : goal.returns-clause-served
 returns-clause-served g c =
-    let P : declared.Client g.row.N.Denot g.row.R.Denot → declared.Client g.row.N.Denot g.row.R.Denot → Type 0 =
-    λ x y. IsServed g.R.Read.remaining x.file x.seat.project y.seat y.reported.items y.ended in
+    let P : declared.Client g.row.N.Denot g.row.R.Denot g.row.O.Denot
+    → declared.Client g.row.N.Denot g.row.R.Denot g.row.O.Denot → Type 0 =
+    λ x y. IsServed g.R.Read.remaining x.file x.seat.project y.seat (g.O.Outlet.sent x.outlet)
+    (g.O.Outlet.sent y.outlet) y.ended in
     let old = c.args.clients.now in
     let new = c.for_each_mut.new.s in
     let len : length new ≡ length old = search rules in

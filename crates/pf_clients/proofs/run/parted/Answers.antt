@@ -16,9 +16,9 @@ clients-preserved g c =
     record {
       seats = c.push_reserved.ensures.items ∙ ap (λ t. t ++ x.seat ∷ []) l.invariant.seats
           ∙ sym (map-append (λ k. k.seat) l.yielded (x ∷ []));
-      answers = c.push_reserved-in-clients.ensures.items ∙ ap (λ t. t ++ answers_of x.reported x.ended ∷ [])
+      answers = c.push_reserved-in-clients.ensures.items ∙ ap (λ t. t ++ answers_of x.outlet x.ended ∷ [])
           l.invariant.answers
-          ∙ sym (map-append (λ k. answers_of k.reported k.ended) l.yielded (x ∷ []));
+          ∙ sym (map-append (λ k. answers_of k.outlet k.ended) l.yielded (x ∷ []));
       seats_len = omega (arith, c.push_reserved.ensures.len, l.invariant.seats_len, more);
       answers_len = omega (arith, c.push_reserved-in-clients.ensures.len, l.invariant.answers_len, more);
       rest = l.invariant.rest ∙ ap (λ t. l.yielded ++ t) steps ∙ sym (append_assoc l.yielded (x ∷ []) left);
@@ -43,4 +43,4 @@ returns-clause-answers g c =
     ∙ c.in-None.ensures.steps.0 in
     let all = l.invariant.rest ∙ ap (λ t. l.yielded ++ t) (nothing_left (into_iter_items l.client-iterator) left)
     ∙ append-nil l.yielded in
-    l.invariant.answers ∙ sym (ap (λ t. map (λ k. answers_of k.reported k.ended) t) all)
+    l.invariant.answers ∙ sym (ap (λ t. map (λ k. answers_of k.outlet k.ended) t) all)

@@ -7,7 +7,7 @@ use Rattle.pf_clients.proofs.run.parted.Given as goal
 abbrev pub invariant-clients : goal.invariant-clients
 invariant-clients g l = record {
   seats : l.seats.items ≡ map (λ c. c.seat) l.yielded;
-  answers : l.answers.items ≡ map (λ c. answers_of c.reported c.ended) l.yielded;
+  answers : l.answers.items ≡ map (λ c. answers_of c.outlet c.ended) l.yielded;
   seats_len : vec_len l.seats ≡ length l.yielded;
   answers_len : vec_len l.answers ≡ length l.yielded;
   rest : l.fn.clients.items ≡ l.yielded ++ into_iter_items l.client-iterator;
