@@ -102,9 +102,11 @@ stop_both (c ∷ cs) ds h =
 status_apart : (a b : FileEnd) (n : ℕ) → status_at a (status_at b n) ≡ status_at b (status_at a n)
 status_apart Answered b n = refl
 status_apart (Unread e) b n = refl
+status_apart (Unwritten e) b n = refl
 status_apart OutOfMemory b n = refl
 status_apart NoCommand Answered n = refl
 status_apart NoCommand (Unread e) n = refl
+status_apart NoCommand (Unwritten e) n = refl
 status_apart NoCommand OutOfMemory n = refl
 status_apart NoCommand NoCommand n = refl
 

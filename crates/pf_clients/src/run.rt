@@ -103,7 +103,7 @@ pub fn run_clients<
 fn held_ends<R: Drop>(alloc: Global, files: Vec<R>) -> Result<Vec<ClientEnds<R, Held>>, NoMemory>
     ensures len { IfOk result (λ v. vec_len v ≡ vec_len files) }
     ensures files { IfOk result (λ v. map (λ e. e.file) v.items ≡ files.items) }
-    ensures none { IfOk result (λ v. All (λ e. e.outlet.answers.items ≡ []) v.items) }
+    ensures none { IfOk result (λ v. All (λ o. o.answers.items ≡ []) (map (λ e. e.outlet) v.items)) }
 {
     let mut ends = Vec::new(alloc);
     'files: for file in files {

@@ -6,7 +6,7 @@ use Rattle.pf_clients.proofs.run.held_ends.Given as goal
 abbrev pub invariant-files : goal.invariant-files
 invariant-files g l = record {
   files : map (λ e. e.file) l.ends.items ≡ l.yielded;
-  none : All (λ e. e.outlet.answers.items ≡ []) l.ends.items;
+  none : All (λ o. o.answers.items ≡ []) (map (λ e. e.outlet) l.ends.items);
   len : vec_len l.ends ≡ length l.yielded;
   rest : l.fn.files.items ≡ l.yielded ++ into_iter_items l.file-iterator;
 }
