@@ -8,7 +8,7 @@ use crate::opening::Opens;
 use crate::watch::FarmWatch;
 use pf_cli::FarmArgs;
 use pf_cli_messages::{REFUSED, end, failed, say};
-use pf_clients::run_farm;
+use pf_clients::{FarmSetup, run_farm};
 use pf_errors::OrNoMemory;
 use pf_farm::{Blanks, MOST_SEATS};
 use pf_farm_accounts::{FarmNames, NewRegister};
@@ -99,12 +99,6 @@ where
         Err(stop) => return Err(stop),
     };
     watch.end();
-    if status == REFUSED {
-        say(
-            rt,
-            "a line of a file is no command there: those before it were answered, and nothing behind it was read",
-        );
-    }
     Ok(status)
 }
 
@@ -170,14 +164,10 @@ where
         writer.old.failures.total writer.new.failures.total result }
 {
     let keys = random_keys(rt)?;
-    run_farm::<N, R::File, W, M, R, FarmWatch<R>>(
-        rt.alloc(),
-        rt,
+    let setup = FarmSetup {
         keys,
         blanks,
-        workers as usize,
-        files,
-        watch,
-        writer,
-    )
+        workers: workers as usize,
+    };
+    run_farm::<N, R::File, W, M, R, FarmWatch<R>>(rt.alloc(), rt, setup, files, watch, writer)
 }

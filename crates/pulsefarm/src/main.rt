@@ -4,6 +4,7 @@
 mod args;
 mod farm;
 mod opening;
+mod refusal;
 mod stack;
 mod watch;
 

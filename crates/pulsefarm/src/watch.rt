@@ -3,6 +3,7 @@
 ghost use Rattle.std.specs.Prelude.{◌≡◌, IfOk, vec_len};
 ghost use Rattle.pf_sched.specs.Slices.{SimulatesSlice};
 
+use crate::refusal::refusal;
 use pf_clients::Watch;
 use pf_errors::NoMemory;
 use pf_farm::{DueSlice, Gate, WorkTally};
@@ -147,6 +148,17 @@ impl<C: Clock> Watch for FarmWatch<'_, C> {
             trials.ordered.fetch_add(1, Ordering::SeqCst);
         }
         self.show();
+    }
+
+    fn refused(&self, alloc: Global, project: u32, number: u64, line: &[u8]) {
+        self.clear();
+        let stderr = self.stderr;
+        let _printed = match refusal(alloc, project, number, line) {
+            Ok(text) => eprintln!(stderr; "pulsefarm: {text}"),
+            Err(NoMemory) => {
+                eprintln!(stderr; "pulsefarm: client {project}: command {number} is none")
+            }
+        };
     }
 
     fn worked(&self, worker: usize, tally: WorkTally) {
