@@ -57,15 +57,15 @@ two_files() {
 
 # A line that is no command ends its file, and that file alone.
 lines_that_are_none() {
+  none='those before it were answered, and nothing after it was read'
   begin 1 one.erl
   printf 'usage 2\nusage 1\n' >> c1
   begin 2 one.erl
   printf 'log 2\n' >> c2
   printf 'p1 module 1\ncommand 2 refused C1\np2 module 1\np2 log 1\n' > wanted
   farm 2 2 c1 c2
-  [ "$(cat err)" = \
-    'pulsefarm: a line of a file is no command there: those before it were answered, and nothing behind it was read' ]
-  note 'what is said of a line that is none' $?
+  grep -qx "pulsefarm: client 1: command 2 is none: it names project 2, and these are the lines of project 1; $none" err
+  note 'what is said of a line of another project' $?
   for line in 'claim 0 1 1' 'slice 0 1 1 5' 'park 0 1 1' 'await 2 1' 'await 1' 'await 1 1 1' 'await  1 1' 'await 1 01' \
     'await 1 -1' 'await 1 4294967296' \
     'once 1 1' 'AWAIT 1 1' 'await' '' 'fetch 2 1' 'submit 2 3' 'submit 1 500'; do
@@ -76,6 +76,11 @@ lines_that_are_none() {
   printf 'await 2 1\n' > c1
   printf 'command 1 refused C1\n' > wanted
   farm 2 2 c1
+  printf 'log 1\nclaim 0 1 1\n' > c1
+  printf 'p1 log 0\ncommand 2 refused C1\n' > wanted
+  farm 2 2 c1
+  [ "$(cat err)" = "pulsefarm: client 1: command 2 is none: a client sends no lines of workers; $none" ]
+  note 'what is said of a line of a worker' $?
   printf 'await 1 1\n' | timeout 20 "$program" steps > out 2> err
   [ $? = 2 ] && [ "$(cat out)" = 'command 1 refused C1' ]
   note 'await is no line of steps' $?
