@@ -12,18 +12,18 @@ pub of_fault : (r : End) (given : ℕ) → IsErr r → HasStatus r given → IsF
 of_fault (Ok s) given is h = absurd cc
 of_fault (Err e) given is h = h
 
-module _ {F : Type 0} (opens : (path : List ℕ) → F → Type 0) (remaining : F → Option (List ℕ)) where
-  -- one more word opened its file
-  pub opened_more : (ws : List (List ℕ)) (fs : List F) (w : List ℕ) (f : F) → AreOpened opens remaining ws fs
-      → opens (path_of w) f → AreOpened opens remaining (ws ++ w ∷ []) (fs ++ f ∷ [])
-  opened_more [] [] w f all one = (one, tt)
-  opened_more [] (g ∷ fs) w f all one = absurd all
-  opened_more (v ∷ ws) [] w f all one = absurd all
-  opened_more (v ∷ ws) (g ∷ fs) w f all one = (all.0, opened_more ws fs w f all.1 one)
+-- one more word opened its file
+pub opened_more : {F : Type 0} (opens : (path : List ℕ) → F → Type 0) (ws : List (List ℕ)) (fs : List F) (w : List ℕ)
+    (f : F) → AreOpened opens ws fs → opens (path_of w) f → AreOpened opens (ws ++ w ∷ []) (fs ++ f ∷ [])
+opened_more opens [] [] w f all one = (one, tt)
+opened_more opens [] (g ∷ fs) w f all one = absurd all
+opened_more opens (v ∷ ws) [] w f all one = absurd all
+opened_more opens (v ∷ ws) (g ∷ fs) w f all one = (all.0, opened_more opens ws fs w f all.1 one)
 
+module _ {F : Type 0} (opens : (path : List ℕ) → F → Type 0) (remaining : F → Option (List ℕ)) where
   -- a farm of the files of these words that a fault ended is done, with a status of what fails
   pub ended_by : (ws : List (List ℕ)) (fs : List F) (w0 w1 : Option (List ℕ)) (n0 n1 : ℕ) (r : End)
-      (e : OrNoMemory StreamFault) → AreOpened opens remaining ws fs
+      (e : OrNoMemory StreamFault) → AreOpened opens ws fs
       → r ≡ Err e → FarmEnds (map remaining fs) w0 w1 n0 n1 r → (given : ℕ) → IsFailure given
       → FarmIsDone opens remaining ws w0 w1 n0 n1 given
   ended_by ws fs w0 w1 n0 n1 r e opened is ends given fails =

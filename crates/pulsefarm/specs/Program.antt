@@ -23,21 +23,22 @@ FarmEnds inputs w0 w1 n0 n1 (Err e) = ((w1 ≡ w0) × (n1 ≡ n0)) ⊎ FarmLeave
 abbrev pub path_of : (word : List ℕ) → List ℕ
 path_of word = if bytes_eq word (codes "-") then codes "/dev/stdin" else word
 
--- F is what files are to the system: it says which files a path may open, and what each still holds
-module _ {F : Type 0} (opens : (path : List ℕ) → F → Type 0) (remaining : F → Option (List ℕ)) where
-  -- these files were opened, that of each word in the words' order
-  abbrev pub AreOpened : (words : List (List ℕ)) → (files : List F) → Type 0
-  AreOpened [] [] = ⊤
-  AreOpened (w ∷ ws) (f ∷ fs) = opens (path_of w) f × AreOpened ws fs
-  AreOpened _ _ = ⊥
+-- these files were opened, that of each word in the words' order, where it is known which files a path may open
+abbrev pub AreOpened : {F : Type 0} → (opens : (path : List ℕ) → F → Type 0) → (words : List (List ℕ))
+    → (files : List F) → Type 0
+AreOpened opens [] [] = ⊤
+AreOpened opens (w ∷ ws) (f ∷ fs) = opens (path_of w) f × AreOpened opens ws fs
+AreOpened opens _ _ = ⊥
 
+-- F is what files are to the system, which says which of them a path may open and what each still holds
+module _ {F : Type 0} (opens : (path : List ℕ) → F → Type 0) (remaining : F → Option (List ℕ)) where
   -- the files of these words were opened and a farm was run over what they held, and the program has the status of its
   -- end; or it wasn't begun, which is a failure, and nothing went out
   abbrev pub FarmIsDone : (words : List (List ℕ)) → (written_old written_new : Option (List ℕ))
       → (failed_old failed_new : ℕ) → ℕ → Type 0
   FarmIsDone words w0 w1 n0 n1 given =
       ((w1 ≡ w0) × (n1 ≡ n0) × IsFailure given)
-      ⊎ ((files : List F) × (end : End) × AreOpened words files × FarmEnds (map remaining files) w0 w1 n0 n1 end
+      ⊎ ((files : List F) × (end : End) × AreOpened opens words files × FarmEnds (map remaining files) w0 w1 n0 n1 end
       × HasStatus end given)
 
   -- it is done, whatever status this end of it has

@@ -114,7 +114,7 @@ fn opened<R>(rt: &R, names: &[&str]) -> Result<Option<Vec<R::File>>, OrNoMemory<
 where
     R: Opens + Print + Eprint + AllocGlobal,
     ensures { IfOk result (λ files. IfSome files (λ v.
-        AreOpened R.opens R.File.remaining (map (λ w. w.now) names.now) v.items)) }
+        AreOpened R.opens (map (λ w. w.now) names.now) v.items)) }
 {
     let mut files = Vec::new(rt.alloc());
     let mut is_read = false;

@@ -8,7 +8,7 @@ pub returns-in_err-reported-in-Err-Fault-Read : goal.returns-in_err-reported-in-
 returns-in_err-reported-in-Err-Fault-Read g c =
     let opens = g.R.Opens.opens in
     let remaining = g.R.File.Read.remaining in
-    let opened = subst (λ o. IfSome o (λ v. AreOpened opens remaining (map (λ w. w.now) c.deref.result.now) v.items))
+    let opened = subst (λ o. IfSome o (λ v. AreOpened opens (map (λ w. w.now) c.deref.result.now) v.items))
     c.in-Some.is c.in_ok-files.ensures in
     λ given h.
     ended_by opens remaining _ _ _ _ _ _ c.run_by-answered.result c.in-Err-Fault-Read.field-0
@@ -19,7 +19,7 @@ pub returns-in-Err : goal.returns-in-Err
 returns-in-Err g c =
     let opens = g.R.Opens.opens in
     let remaining = g.R.File.Read.remaining in
-    let opened = subst (λ o. IfSome o (λ v. AreOpened opens remaining (map (λ w. w.now) c.deref.result.now) v.items))
+    let opened = subst (λ o. IfSome o (λ v. AreOpened opens (map (λ w. w.now) c.deref.result.now) v.items))
     c.in-Some.is c.in_ok-files.ensures in
     λ given fails.
     ended_by opens remaining _ _ _ _ _ _ c.run_by-answered.result c.in-Err.stop

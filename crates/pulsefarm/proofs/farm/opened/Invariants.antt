@@ -4,5 +4,5 @@ use Rattle.pulsefarm.proofs.farm.opened.Given as goal
 
 -- the files of the words so far are opened
 abbrev pub invariant-names : goal.invariant-names
-invariant-names g l = AreOpened g.R.Opens.opens g.R.File.Read.remaining
-    (map (λ w. w.now) (take l.name-index l.names)) l.files.items
+invariant-names g l = AreOpened g.R.Opens.opens (map (λ w. w.now) (take l.name-index l.names))
+    l.files.items
