@@ -9,6 +9,7 @@ ghost use Rattle.pf_request.specs.View.{view_of_call};
 ghost use Rattle.pf_wire.specs.Steps.{last_text};
 ghost use Rattle.pf_wire.specs.Whole.{whole_text};
 ghost use Rattle.pf_wire.specs.declared.outcome.Requester.TheVariants as requester;
+ghost use Rattle.pf_clients.specs.declared.client.FileEnd.TheVariants as file_end;
 ghost use Rattle.pf_clients.specs.Faults.{ended_by};
 ghost use Rattle.pf_pool.specs.Responses.{response_in};
 ghost use Rattle.pf_clients.specs.Lines.{answer_in, call_text, lines_end, AnswersFile, AnswersFront, AnswersLine};
@@ -227,7 +228,7 @@ impl<N: FarmNames, R: Read + Drop, O: Outlet> Client<N, R, O> {
         requires { due.number + length due.bytes.now < 2 ^ 63 }
         ensures answered { IfOk result (λ left. MatchOption left
             (StopsAt due.is_over due.bytes.now self.old.seat self.new.seat (O.sent self.old.outlet)
-            (O.sent self.new.outlet) due.number (lines_end LinesEnd.NoCommand))
+            (O.sent self.new.outlet) due.number file_end.NoCommand)
             (λ l. AnswersUpTo due.is_over due.bytes.now self.old.seat self.new.seat (O.sent self.old.outlet)
             (O.sent self.new.outlet) due.number l.bytes.now l.number
             × (is_due due.is_over l.bytes.now ≡ false)
