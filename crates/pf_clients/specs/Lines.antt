@@ -25,7 +25,7 @@ use Rattle.pf_clients.specs.declared.client.FileEnd.{FileEnd}
 use Rattle.pf_clients.specs.declared.client.FileEnd.TheVariants.{Answered, NoCommand, Unread, Unwritten}
 use Rattle.pf_clients.specs.declared.client.FileEnd.TheVariants.{NoMemory as OutOfMemory}
 use Rattle.pf_clients.specs.declared.client.LinesEnd.{LinesEnd}
-use Rattle.pf_clients.specs.declared.client.LinesEnd.TheVariants as lines
+use Rattle.pf_clients.specs.declared.client.LinesEnd.TheVariants as read_lines
 use Rattle.pf_clients.specs.Texts.{AddsInPart, IsBegun}
 
 -- ---- one line
@@ -96,9 +96,9 @@ AnswersFront bytes k None s s' t t' =
 abbrev pub IsCut : OrNoMemory StreamFault → List ℕ → (number : ℕ) → (was is : ClientView) → (added : List ℕ) → Type 0
 IsCut e bytes k s s' added =
     ((s' ≡ s) × (added ≡ []))
-    ⊎ ((l : Line) × (rest : List ℕ) × (client_line_at s.project bytes ≡ Some (asked_in l, rest)) × Leaves l s s'
+    ⊎ (((l : Line) × (rest : List ℕ) × (client_line_at s.project bytes ≡ Some (asked_in l, rest)) × Leaves l s s'
     × IsBegun e added (line_text s.project l))
-    ⊎ ((client_line_at s.project bytes ≡ None) × (s' ≡ s) × IsBegun e added (last_text false k))
+    ⊎ ((client_line_at s.project bytes ≡ None) × (s' ≡ s) × IsBegun e added (last_text false k)))
 
 abbrev pub CutsFront : OrNoMemory StreamFault → List ℕ → (number : ℕ) → (was is : ClientView)
     → (before after : Option (List ℕ)) → Type 0
@@ -132,8 +132,8 @@ EndsAt OutOfMemory k rest s s' t = IsCut stop.NoMemory rest k s s' t
 
 -- how it ends where nothing stopped it
 abbrev pub lines_end : LinesEnd → FileEnd
-lines_end lines.Answered = Answered
-lines_end lines.NoCommand = NoCommand
+lines_end read_lines.Answered = Answered
+lines_end read_lines.NoCommand = NoCommand
 
 -- AnswersBytes bytes s s' t t' ended: the lines of a client's file were answered in order up to an end, and their
 -- results were added to what it was sent
