@@ -1,9 +1,11 @@
 //! Files that words name: how they are opened, which a folder has, and hunts over several of them.
 #![tactic(auto)]
 
+mod contents;
 mod folder;
 mod names;
 mod suite;
 
+pub use contents::bytes_of_file;
 pub use names::{open, read_word};
 pub use suite::{AnsweredRoot, hunt_suite, is_suite, workers_of};

@@ -1,14 +1,14 @@
 //! Hunts over several sources and roots: a line for each root as soon as its hunt is over, and a summary.
 
-ghost use Rattle.std.specs.Prelude.{◌≡◌, ◌≢◌, ◌<◌, ◌≤◌, true, is_some, ◌||◌, None, Ok, IfNone, IfSome, IfOk, IsSomeAnd};
-ghost use Rattle.std.specs.Prelude.{MatchOption, OnOk, take};
+ghost use Rattle.std.specs.Prelude.{◌≡◌, ◌≢◌, ◌≤◌, true, is_some, ◌||◌, None, Ok, IfNone, IfSome, IsSomeAnd};
+ghost use Rattle.std.specs.Prelude.{MatchOption, OnOk};
 ghost use Rattle.std.specs.Io.KnownBytes.{Appends};
 ghost use Rattle.pf_cli.specs.declared.args.HuntGoal.TheVariants.{Failure};
 ghost use Rattle.pf_cli.specs.Args.{view_of_hunt_args};
 ghost use Rattle.pf_files.specs.Suites.{goes_over_several};
 
+use crate::contents::bytes_of_file;
 use crate::folder::{files_in, is_folder};
-use crate::names::open;
 use pf_check::{ReadModule, ReadSource};
 use pf_cli::{HuntArgs, HuntGoal, Roots};
 use pf_cli_messages::{
@@ -25,8 +25,7 @@ use pf_streams::{Counted, StreamFault};
 use std::alloc::{AllocGlobal, Global};
 use std::fs::Files;
 use std::io::{self, Read, Write};
-use std::marker::Brand;
-use std::sync::ledger::{Blank, Ledger};
+use std::sync::ledger::Ledger;
 use std::thread::{Threads, available_parallelism};
 use std::time::{Clock, Instant};
 
@@ -81,22 +80,6 @@ struct SuiteHunt<'a, R> {
     is_input_read: bool,
 }
 
-/// What a file holds, up to one byte more than a source may have.
-fn bytes_in<F: Read + Drop, L: Ledger>(
-    alloc: Global,
-    file: F,
-    reads: Blank,
-) -> Result<Vec<u8>, OrNoMemory<StreamFault>>
-where
-    requires reads { reads.name ≡ L.name }
-    requires read_parts { reads.parts ≡ L.parts }
-    requires some_reads { 0 < reads.parts }
-    ensures { IfOk result (λ bytes. IfSome (F.remaining file) (λ input. bytes.items ≡ take MOST_BYTES input)) }
-{
-    let mut reader = Counted::<F, L>::new(file, reads);
-    reader.take_front(alloc, MOST_BYTES)
-}
-
 /// What goes out at once.
 fn put_now<W: Write, M: Ledger>(
     text: &[u8],
@@ -149,12 +132,8 @@ where
         name: &str,
         stdin: &mut Counted<I, L>,
     ) -> Result<Vec<u8>, OrNoMemory<StreamFault>> {
-        let alloc = self.rt.alloc();
         if name != "-" {
-            return match open(self.rt, name) {
-                Ok(file) => bytes_in::<R::File, Brand>(alloc, file, Blank::new(1)),
-                Err(error) => Err(OrNoMemory::Fault(StreamFault::Read(error))),
-            };
+            return bytes_of_file(self.rt, name);
         }
         if self.is_input_read {
             let reason = "the standard input can be read once only";
@@ -162,7 +141,7 @@ where
             return Err(OrNoMemory::Fault(StreamFault::Read(error)));
         }
         self.is_input_read = true;
-        stdin.take_front(alloc, MOST_BYTES)
+        stdin.take_front(self.rt.alloc(), MOST_BYTES)
     }
 
     /// Says on standard error why something of this name is refused.

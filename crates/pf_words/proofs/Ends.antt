@@ -1,9 +1,11 @@
 -- How the work of a command ends.
-use Rattle.std.proofs.Common.{◌≡◌, ℕ, Bool, true, false, List, [], Option, Result, Ok, Err, None, Some, refl, sym, ap}
-use Rattle.std.proofs.Common.{◌∙◌, subst, inl, inr, arith}
+use Rattle.std.proofs.Common.{◌≡◌, ◌≤◌, ℕ, Bool, true, false, List, [], length, Option, Result, Ok, Err, None, Some}
+use Rattle.std.proofs.Common.{refl, sym, ap, ◌∙◌, subst, inl, inr, arith}
 use Rattle.std.proofs.KnownBytes.{Consumes-nil}
 use Rattle.std.specs.Io.KnownBytes.{Consumes}
-use Rattle.std.specs.Prelude.{IfErr, IfOk, IfSome, IsErr, IsErrAnd, OnOk, is_some, option_map, take, ◌||◌}
+use Rattle.std.specs.Prelude.{IfErr, IfOk, IfSome, IsErr, IsErrAnd, OnOk, is_none, is_some, option_map, take, ◌||◌}
+use denote.Ref.{Bor}
+use Rattle.pf_streams.specs.Streams.{CountsReadOrNone}
 use Rattle.pf_errors.specs.declared.fault.OrNoMemory.{OrNoMemory}
 use Rattle.pf_errors.specs.declared.fault.OrNoMemory.TheVariants.{NoMemory, Fault}
 use Rattle.pf_streams.specs.declared.stream.StreamFault.{StreamFault}
@@ -15,31 +17,15 @@ use Rattle.pf_cli.specs.declared.args.Args.TheVariants.{Run, Hunt, Shrink, Chart
 use Rattle.pf_cli.specs.declared.args.FarmArgs.{FarmArgs}
 use Rattle.pf_cli.specs.declared.args.HuntArgs as hunt_code
 use Rattle.pf_files.specs.Suites.{goes_over_several}
-use Rattle.pf_command.specs.Streams.{Answering, Sends, Serves, Streams, streams}
+use Rattle.pf_command.specs.Streams.{Sends, Serves, Streams, streams}
 use Rattle.pf_command.specs.declared.serving.TheConstants as command
-use Rattle.pf_command.proofs.Streaming.{sent_as, sent_on}
+use Rattle.pf_command.proofs.Streaming.{source_ends, unread_ends}
 use Rattle.pf_wire.specs.Steps.{SimulatesSteps, StepsLeaves}
 use Rattle.pf_wire.specs.declared.steps.TheConstants as wire
 use Rattle.pf_steps.specs.Profile.{run_profile}
 use Rattle.pf_cli_messages.specs.Texts.{HasStatus, IsFailure}
 use Rattle.pf_words.specs.Words.{AnswerEnds, AnswersOf, End, FromFile, FromInput, FromNamed, FromOne, StepsEnd}
 use Rattle.pf_words.specs.Words.{TakesAtMost, WorkEnds, has_source, is_farm, may_be_several, most_bytes, unless_several}
-
--- ---- of a source
-
-pub sent_well : (P : Answering) (bytes known : List ℕ) (w0 w1 : Option (List ℕ)) (n0 n1 status : ℕ) (answered : End)
-    → bytes ≡ known → answered ≡ Ok status
-    → Sends (P bytes) w0 w1 n0 n1 answered → Sends (P known) w0 w1 n0 n1 (Ok status)
-sent_well P bytes known w0 w1 n0 n1 status answered same was h = sent_as P bytes known w0 w1 n0 n1 (Ok status) same
-    (subst (Sends (P bytes) w0 w1 n0 n1) was h)
-
-pub sent_back : (P : Answering) (bytes known : List ℕ) (w0 w1 : Option (List ℕ)) (n0 n1 : ℕ) (answered r : End)
-    (e : OrNoMemory StreamFault) → bytes ≡ known
-    → answered ≡ Err e → IsErr r × IsErrAnd r (λ f. f ≡ e) → Sends (P bytes) w0 w1 n0 n1 answered
-    → Sends (P known) w0 w1 n0 n1 r
-sent_back P bytes known w0 w1 n0 n1 answered r e same was is h =
-    sent_on (P known) w0 w1 n0 n1 r e is (sent_as P bytes known w0 w1 n0 n1 (Err e) same
-    (subst (Sends (P bytes) w0 w1 n0 n1) was h))
 
 -- ---- of commands
 
@@ -70,15 +56,15 @@ module _ (s t : Streams) (r : End) where
   of_source steps is h most = absurd cc
   of_source (farm a) is h most = absurd cc
 
-  pub of_steps : (w : CommandWork) → has_source w ≡ false → is_farm w ≡ false → StepsEnd s t r
-      → TakesAtMost wire.MOST_BYTES s t → WorkEnds w s t r
-  of_steps (run a) is not h most = absurd cc
-  of_steps (hunt a) is not h most = absurd cc
-  of_steps (chart a) is not h most = absurd cc
-  of_steps (shrink a) is not h most = absurd cc
-  of_steps (check explain) is not h most = absurd cc
-  of_steps steps is not h most = (h, most)
-  of_steps (farm a) is not h most = absurd cc
+-- commands are all that has no source and is no farm
+pub only_steps : (w : CommandWork) → has_source w ≡ false → is_farm w ≡ false → w ≡ steps
+only_steps (run a) is not = absurd cc
+only_steps (hunt a) is not = absurd cc
+only_steps (chart a) is not = absurd cc
+only_steps (shrink a) is not = absurd cc
+only_steps (check explain) is not = absurd cc
+only_steps steps is not = refl
+only_steps (farm a) is not = absurd cc
 
 -- nothing is read
 pub none_read : (most : ℕ) (s t : Streams) → t.unread ≡ s.unread → TakesAtMost most s t
@@ -120,13 +106,11 @@ module _ (w : CommandWork) (old new : Streams) (given : ℕ) where
       by true = tt
       by false = h
 
--- a file that can't be opened
-pub unopened : (w : CommandWork) (unread written : Option (List ℕ)) (failed_reads failed_writes given : ℕ)
-    → is_farm w ≡ false → IsFailure given
-    → FromFile w (streams unread written failed_reads failed_writes)
-    (streams unread written failed_reads failed_writes) given
-unopened w unread written m n given not is =
-    (refl, refl, None, None, 0, 0, (Err NoMemory, undone w (streams None written 0 n) not, is))
+-- a file that can't be opened or read
+pub unopened : (w : CommandWork) (u0 u1 w0 : Option (List ℕ)) (m0 m1 n0 given : ℕ) → is_farm w ≡ false → u1 ≡ u0
+    → m1 ≡ m0 → IsFailure given → FromFile w (streams u0 w0 m0 n0) (streams u1 w0 m1 n0) given
+unopened w u0 u1 w0 m0 m1 n0 given not unread kept is =
+    (unread, kept, None, None, 0, 0, (Err NoMemory, undone w (streams None w0 0 n0) not, is))
 
 -- and one that is
 pub from_file : (w : CommandWork) (unread before after w0 w1 : Option (List ℕ)) (m n k n0 n1 given : ℕ) (end : End)
@@ -134,12 +118,85 @@ pub from_file : (w : CommandWork) (unread before after w0 w1 : Option (List ℕ)
     → FromFile w (streams unread w0 m n0) (streams unread w1 m n1) given
 from_file w unread before after w0 w1 m n k n0 n1 given end h has = (refl, refl, before, after, k, n, (end, h, has))
 
-module _ (w : CommandWork) (old new : Streams) (given : ℕ) (named : Option Text) where
-  pub with_file : (name : Text) → named ≡ Some name → FromFile w old new given → FromOne w named old new given
-  with_file name is h = from_one w old new given named (subst (λ f. FromNamed w f old new given) (sym is) h)
+-- what has a source is no farm
+no_farm : (w : CommandWork) → has_source w ≡ true → is_farm w ≡ false
+no_farm (run a) is = refl
+no_farm (hunt a) is = refl
+no_farm (chart a) is = refl
+no_farm (shrink a) is = refl
+no_farm (check explain) is = refl
+no_farm steps is = absurd cc
+no_farm (farm a) is = absurd cc
 
-  pub without_file : named ≡ None → FromInput w old new given → FromOne w named old new given
-  without_file is h = from_one w old new given named (subst (λ f. FromNamed w f old new given) (sym is) h)
+-- a source is answered, whose file is named or which is the standard input
+module _ (w : CommandWork) (is : has_source w ≡ true) (u0 u1 w0 w1 : Option (List ℕ)) (m0 m1 n0 n1 given : ℕ)
+    (file : Option (Bor (List ℕ))) (named : Option Text) (same : option_map (λ s. s.now) file ≡ named)
+    (taken : (b : List ℕ) × (length b ≤ command.MOST_BYTES) × Consumes u0 u1 b)
+    (unread : is_some file ≡ true → u1 ≡ u0) where
+  pub source_from : (bytes : List ℕ) (end : End)
+      → (is_none file ≡ true → IfSome u0 (λ input. bytes ≡ take command.MOST_BYTES input)) → m1 ≡ m0
+      → Sends (AnswersOf w bytes) w0 w1 n0 n1 end → HasStatus end given
+      → FromOne w named (streams u0 w0 m0 n0) (streams u1 w1 m1 n1) given
+  source_from bytes end read kept sent has =
+      from_one w (streams u0 w0 m0 n0) (streams u1 w1 m1 n1) given named
+      (subst (λ f. FromNamed w f (streams u0 w0 m0 n0) (streams u1 w1 m1 n1) given) same (by file read unread))
+    where
+      by : (f : Option (Bor (List ℕ))) → (is_none f ≡ true → IfSome u0 (λ input. bytes ≡ take command.MOST_BYTES input))
+          → (is_some f ≡ true → u1 ≡ u0)
+          → FromNamed w (option_map (λ s. s.now) f) (streams u0 w0 m0 n0) (streams u1 w1 m1 n1) given
+      by None read unread = (
+        end,
+        of_source (streams u0 w0 m0 n0) (streams u1 w1 m1 n1) end w is
+            (source_ends (AnswersOf w) bytes u0 u1 w0 w1 m0 m1 n0 n1 (read refl) kept end sent) taken,
+        has,
+      )
+      by (Some name) read unread = (
+        unread refl,
+        kept,
+        None,
+        None,
+        0,
+        0,
+        (
+          end,
+          of_source (streams None w0 0 n0) (streams None w1 0 n1) end w is
+              (source_ends (AnswersOf w) bytes None None w0 w1 0 0 n0 n1 tt refl end sent)
+              (none_read command.MOST_BYTES (streams None w0 0 n0) (streams None w1 0 n1) refl),
+          has,
+        ),
+      )
+
+-- it can't be read
+module _ (w : CommandWork) (is : has_source w ≡ true) (u0 u1 w0 : Option (List ℕ)) (m0 m1 n0 given : ℕ)
+    (file : Option (Bor (List ℕ))) (named : Option Text) (same : option_map (λ s. s.now) file ≡ named)
+    (taken : (b : List ℕ) × (length b ≤ command.MOST_BYTES) × Consumes u0 u1 b)
+    (unread : is_some file ≡ true → u1 ≡ u0) where
+  pub unread_from : (e : OrNoMemory StreamFault) → (is_none file ≡ true → CountsReadOrNone e m0 m1)
+      → (is_some file ≡ true → m1 ≡ m0) → IsFailure given
+      → FromOne w named (streams u0 w0 m0 n0) (streams u1 w0 m1 n0) given
+  unread_from e counted kept failure =
+      from_one w (streams u0 w0 m0 n0) (streams u1 w0 m1 n0) given named
+      (subst (λ f. FromNamed w f (streams u0 w0 m0 n0) (streams u1 w0 m1 n0) given) same (by file counted kept unread))
+    where
+      by : (f : Option (Bor (List ℕ))) → (is_none f ≡ true → CountsReadOrNone e m0 m1) → (is_some f ≡ true → m1 ≡ m0)
+          → (is_some f ≡ true → u1 ≡ u0)
+          → FromNamed w (option_map (λ s. s.now) f) (streams u0 w0 m0 n0) (streams u1 w0 m1 n0) given
+      by None counted kept unread = (
+        Err e,
+        of_source (streams u0 w0 m0 n0) (streams u1 w0 m1 n0) (Err e) w is
+            (unread_ends (AnswersOf w) u0 u1 w0 m0 m1 n0 e (counted refl)) taken,
+        failure,
+      )
+      by (Some name) counted kept unread =
+          unopened w u0 u1 w0 m0 m1 n0 given (no_farm w is) (unread refl) (kept refl) failure
+
+-- commands are
+pub steps_from : (w : CommandWork) (old new : Streams) (given : ℕ) (file named : Option Text) → file ≡ named
+    → has_source w ≡ false → is_farm w ≡ false → FromNamed steps file old new given → FromOne w named old new given
+steps_from w old new given file named same none not h =
+    from_one w old new given named
+    (subst (λ f. FromNamed w f old new given) same
+    (subst (λ x. FromNamed x file old new given) (sym (only_steps w none not)) h))
 
 -- ---- what is asked for
 

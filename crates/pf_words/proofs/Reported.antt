@@ -7,18 +7,29 @@ use Rattle.pf_errors.specs.declared.memory.NoMemory.{NoMemory}
 use Rattle.clap.specs.Words.{Text}
 use Rattle.pf_cli.specs.Args.{ReadWords, Wanted, farm, reading_by, reading_of, reads, reports, view_of_farm_args, works}
 use Rattle.pf_command.specs.Streams.{Streams, streams}
+use Rattle.pf_cli_messages.specs.Texts.{IsFailure}
 use Rattle.pf_text.specs.Numbers.{schedule_of}
 use Rattle.pf_words.specs.declared.words.Obeyed.{Obeyed}
 use Rattle.pf_words.specs.declared.words.Obeyed.TheVariants.{Status, Farm}
 use Rattle.pf_words.specs.Schedules.{schedule_in}
-use Rattle.pf_words.specs.Words.{AreContents, AskedIsDone, AskedIsDoneOrRefused, IsDone, IsDoneAs, IsDoneIn}
-use Rattle.pf_words.specs.Words.{IsDoneOrRefused, NothingOut, Obeys, ObeysBy, ObeysByFile, ObeysIn, TextReported}
+use Rattle.pf_words.specs.declared.request.WordsRequest.{WordsRequest}
+use Rattle.pf_words.specs.declared.request.WordsRequest.TheVariants as request
+use Rattle.pf_words.specs.Words.{AreContents, AskedIsDone, AskedIsDoneOrRefused, AsksFor, IsDone, IsDoneAs, IsDoneIn}
+use Rattle.pf_words.specs.Words.{IsDoneOrRefused, NothingOut, Obeys, ObeysBy, ObeysByFile, ObeysIn, RequestIsDone}
+use Rattle.pf_words.specs.Words.{TextReported}
 
 -- with a text for the schedule no file is named
 pub never_reads : (o : Option Wanted) (file : Option Text) (status : ℕ) (name : Text)
     → reads name ≡ reading_by o file None status → ⊥
 never_reads None file status name e = absurd (cc)
 never_reads (Some w) file status name e = absurd (cc)
+
+-- what a request asks for, if it asks for as much
+pub asks_more : (P Q : (new : Streams) → Result Obeyed NoMemory → Type 0) (read : Streams)
+    (r : Result WordsRequest NoMemory)
+    → ((new : Streams) (r : Result Obeyed NoMemory) → P new r → Q new r) → AsksFor P read r → AsksFor Q read r
+asks_more P Q read (Ok x) more h = λ new o done. more new (Ok o) (h new o done)
+asks_more P Q read (Err e) more h = more read (Err e) h
 
 module _ (words : List Text) (old new : Streams) where
   pub asked_obeys : (w : Wanted) (file : Option Text) (o : Obeyed) → works w file ≡ reading_of None words
@@ -34,6 +45,13 @@ module _ (words : List Text) (old new : Streams) where
       → TextReported status is_fault old new given
       → Obeys words old new (Ok (Status given))
   text_obeys status is_fault given e h = subst (λ r. IsDoneAs words r old new given) e h
+
+  -- the same of the request
+  pub text_asks : (text : Text) (status : ℕ) (is_fault : Bool) (o : Obeyed)
+      → reports status is_fault ≡ reading_of None words
+      → RequestIsDone (request.Text text status is_fault) old new o → Obeys words old new (Ok o)
+  text_asks text status is_fault (Status given) e h = text_obeys status is_fault given e h
+  text_asks text status is_fault (Farm args) e h = absurd h
 
   pub file_obeys : (file : Text) (r : Result Obeyed NoMemory) → reads file ≡ reading_of None words
       → ObeysByFile words file old new r
@@ -59,13 +77,36 @@ module _ (words : List Text) (text : Text) (old new : Streams) where
       → TextReported status is_fault old new given → ObeysBy words text old new (Ok (Status given))
   text_obeys_by status is_fault given e h = inl (subst (λ r. IsDone r old new given) e h)
 
+  pub text_asks_by : (said : Text) (status : ℕ) (is_fault : Bool) (o : Obeyed)
+      → reports status is_fault ≡ reading_of (Some text) words
+      → RequestIsDone (request.Text said status is_fault) old new o → ObeysBy words text old new (Ok o)
+  text_asks_by said status is_fault (Status given) e h = text_obeys_by status is_fault given e h
+  text_asks_by said status is_fault (Farm args) e h = absurd h
+
 -- what is done isn't refused
 pub or_refused : (w : Wanted) (file : Option Text) (old new : Streams) (o : Obeyed) → AskedIsDone w file old new o
     → AskedIsDoneOrRefused w file old new o
 or_refused w file old new (Status given) h = inl h
 or_refused w file old new (Farm args) h = h
 
+-- the source is to be what the schedule's file is: nothing is done
+pub refused_status : (w : Wanted) (file : Option Text) (old new : Streams) (o : Obeyed)
+    → RequestIsDone (request.Refused 2) old new o → AskedIsDoneOrRefused w file old new o
+refused_status w file old new o h = rw (h.0, h.1) (inr ((refl, refl), inl refl))
+
 -- ---- by a file for the schedule
+
+-- which has none
+pub refused_in : (words : List Text) (contents : Text) (old new : Streams) (status : ℕ) (o : Obeyed)
+    → IsFailure status → RequestIsDone (request.Refused status) old new o → ObeysIn words contents old new (Ok o)
+refused_in words contents old new status o is h = rw (h.0, h.1) (inr ((refl, refl), is))
+
+-- or can't be read
+pub refused_by_file : (words : List Text) (file : Text) (u0 u1 w : Option (List ℕ)) (m0 m1 n : ℕ) (new : Streams)
+    (status : ℕ) (o : Obeyed)
+    → IsFailure status → RequestIsDone (request.Refused status) (streams u1 w m1 n) new o
+    → ObeysByFile words file (streams u0 w m0 n) new (Ok o)
+refused_by_file words file u0 u1 w m0 m1 n new status o is h = rw (h.0, h.1) (inr ((refl, refl), is))
 
 -- by the schedule in its contents
 pub in_contents : (words : List Text) (contents : Text) (old new : Streams) (r : Result Obeyed NoMemory)

@@ -9,7 +9,7 @@ use Rattle.pf_streams.specs.declared.stream.StreamFault.{StreamFault}
 use Rattle.pf_text.specs.Numbers.{schedule_of}
 use Rattle.clap.specs.Words.{Text}
 use Rattle.pf_cli.specs.Args.{ReadWords, Wanted, CommandWork, check, chart, farm, hunt, reading_of, reads, run, shrink}
-use Rattle.pf_cli.specs.Args.{steps, reports, view_of_farm_args, works}
+use Rattle.pf_cli.specs.Args.{named_file, steps, reports, view_of_command, view_of_farm_args, works}
 use Rattle.pf_cli.specs.declared.args.FarmArgs.{FarmArgs}
 use Rattle.pf_cli.specs.declared.args.Format.{Format}
 use Rattle.pf_cli.specs.declared.args.Format.TheVariants.{Json}
@@ -26,6 +26,8 @@ use Rattle.pf_steps.specs.Profile.{run_profile}
 use Rattle.pf_cli_messages.specs.Texts.{HasStatus, IsFailure, PrintsText}
 use Rattle.pf_files.specs.Suites.{goes_over_several}
 use Rattle.pf_words.specs.Schedules.{schedule_in}
+use Rattle.pf_words.specs.declared.request.WordsRequest.{WordsRequest}
+use Rattle.pf_words.specs.declared.request.WordsRequest.TheVariants as request
 use Rattle.pf_words.specs.declared.words.Obeyed.{Obeyed}
 use Rattle.pf_words.specs.declared.words.Obeyed.TheVariants.{Status, Farm}
 
@@ -92,8 +94,8 @@ FromInput w old new given = (end : End) × WorkEnds w old new end × HasStatus e
 abbrev pub reading_from : (unread : Option (List ℕ)) → (failed_reads : ℕ) → Streams → Streams
 reading_from unread failed s = record s { unread = unread; failed_reads = failed }
 
--- it is answered from a file, which has some bytes, and nothing is read of the standard input. A file that can't be
--- opened is none that is answered: nothing goes out then
+-- it is answered from a file, which has some bytes, no more is read of it than may be, and nothing of the standard
+-- input. A file that can't be opened is none that is answered: nothing goes out then
 abbrev pub FromFile : CommandWork → (old new : Streams) → ℕ → Type 0
 FromFile w old new given =
     (new.unread ≡ old.unread) × (new.failed_reads ≡ old.failed_reads)
@@ -202,6 +204,19 @@ AskedIsDone w file old new (Farm args) = (w.work ≡ farm (view_of_farm_args arg
 abbrev pub AskedIsDoneOrRefused : Wanted → (file : Option Text) → (old new : Streams) → Obeyed → Type 0
 AskedIsDoneOrRefused w file old new (Status given) = AskedIsDone w file old new (Status given) ⊎ IsRefused old new given
 AskedIsDoneOrRefused w file old new (Farm args) = AskedIsDone w file old new (Farm args)
+
+-- what is done for a request
+abbrev pub RequestIsDone : WordsRequest → (old new : Streams) → Obeyed → Type 0
+RequestIsDone (request.Asked c) old new o = AskedIsDone (view_of_command c) (named_file c.args) old new o
+RequestIsDone (request.Text text status is_fault) old new (Status given) = TextReported status is_fault old new given
+RequestIsDone (request.Text text status is_fault) old new (Farm args) = ⊥
+RequestIsDone (request.Refused status) old new o = (new ≡ old) × (o ≡ Status status)
+
+-- what may be done is whatever is done for this request from here on, where so much was read for it; or memory ran out
+abbrev pub AsksFor : (may : (new : Streams) → Result Obeyed NoMemory → Type 0) → (read : Streams)
+    → Result WordsRequest NoMemory → Type 0
+AsksFor P read (Ok x) = (new : Streams) (o : Obeyed) → RequestIsDone x read new o → P new (Ok o)
+AsksFor P read (Err e) = P read (Err e)
 
 -- what words ask for by this text for their schedule is done
 abbrev pub ObeysBy : (words : List Text) → (text : Text) → (old new : Streams) → Result Obeyed NoMemory → Type 0

@@ -1,28 +1,22 @@
-//! The answer to what a reader holds, and what is said beside it.
+//! The answer to a source, and what is said beside it.
 
-ghost use Rattle.std.specs.Prelude.{◌≡◌, false, true};
-ghost use Rattle.pf_cli.specs.Args.{view_of_args, view_of_hunt_args, view_of_run_args};
+ghost use Rattle.std.specs.Prelude.{◌≡◌, true};
+ghost use Rattle.pf_cli.specs.Args.{view_of_args, view_of_run_args};
 ghost use Rattle.pf_command.specs.Guided.{RunAnswers};
-ghost use Rattle.pf_command.specs.Hunts.{HuntAnswers};
-ghost use Rattle.pf_command.specs.Streams.{Sends, Serves, streams};
-ghost use Rattle.pf_command.specs.declared.serving.TheConstants as command;
-ghost use Rattle.pf_words.specs.Words.{AnswersOf, TakesAtMost, WorkEnds, has_source, is_farm};
+ghost use Rattle.pf_command.specs.Streams.{Sends};
+ghost use Rattle.pf_words.specs.Words.{AnswersOf, has_source};
 
-use crate::steps::answer_steps;
 use pf_check::ReadSource;
 use pf_cli::{Args, CliCommand, HuntArgs, HuntGoal, RunArgs};
 use pf_cli_messages::{
     ProgressLine, REFUSED, Runs, Seeds, WaitingProcesses, lacking_of, say, say_processes,
     say_waiting, why,
 };
-use pf_command::{
-    Chart, CheckCommand, HuntRequest, MOST_BYTES, Shrink, answer_by, print_hunt, print_source,
-};
+use pf_command::{Chart, CheckCommand, HuntRequest, Shrink, answer_by, print_hunt, print_source};
 use pf_files::{AnsweredRoot, workers_of};
 use pf_streams::Counted;
-use std::alloc::{AllocGlobal, Global};
-use std::io::{Read, Write};
-use std::random::RandomSource;
+use std::alloc::AllocGlobal;
+use std::io::Write;
 use std::sync::ledger::Ledger;
 use std::thread::Threads;
 use std::time::Clock;
@@ -65,34 +59,21 @@ fn most_runs(args: &HuntArgs) -> u32 {
     }
 }
 
-/// Answers a source whose seeds are run; the line shows the progress.
-fn answer_hunt<W: Write, M: Ledger>(
-    rt: &(impl Eprint + AllocGlobal + Clock + Threads + Sync),
-    args: &HuntArgs,
-    source: &ReadSource,
-    writer: &mut Counted<W, M>,
+/// Says of a hunt that was answered how many processes still wait by a seed.
+fn say_waiting_of_seeds<C: Clock>(
+    rt: &impl Eprint,
+    seeds: &Seeds<'_, C>,
     line: &ProgressLine,
-) -> AnsweredRoot
-    ensures { Sends (HuntAnswers (view_of_hunt_args args.now) source.now)
-        (W.contents writer.old.inner) (W.contents writer.new.inner)
-        writer.old.failures.total writer.new.failures.total result }
-{
-    let asked = HuntRequest {
-        args,
-        workers: workers_of(rt, args),
-    };
-    let mut seeds = Seeds::new(line, rt, args.end.saturating_sub(args.first), args.time);
-    let mut runs = Runs::new(line, most_runs(args));
-    let status = print_hunt(rt, &asked, source, writer, &mut seeds, &mut runs)?;
-    if let Some(waiting) = seeds.waiting() {
+    answered: &AnsweredRoot,
+) {
+    if let (Ok(_), Some(waiting)) = (answered, seeds.waiting()) {
         line.clear();
         say_waiting(rt, waiting);
     }
-    Ok(status)
 }
 
 /// Answers a source; the line shows the progress of a hunt or a shrinking.
-fn answer_source<W: Write, M: Ledger>(
+pub fn answer<W: Write, M: Ledger>(
     rt: &(impl Eprint + AllocGlobal + Clock + Threads + Sync),
     asked: &Args,
     source: &ReadSource,
@@ -108,7 +89,16 @@ fn answer_source<W: Write, M: Ledger>(
     match asked {
         Args::Run(args) => answer_run(rt, args, source, writer),
         Args::Chart(args) => answer_by(alloc, Chart { args }, source, writer),
-        Args::Hunt(args) => answer_hunt(rt, args, source, writer, line),
+        Args::Hunt(args) => {
+            let workers = workers_of(rt, args);
+            let asked = HuntRequest { args, workers };
+            let seeds = args.end.saturating_sub(args.first);
+            let mut seeds = Seeds::new(line, rt, seeds, args.time);
+            let mut runs = Runs::new(line, most_runs(args));
+            let answered = print_hunt(rt, &asked, source, writer, &mut seeds, &mut runs);
+            say_waiting_of_seeds(rt, &seeds, line, &answered);
+            answered
+        }
         Args::Shrink(args) => {
             let observer = Runs::new(line, args.request.kind.runs());
             answer_by(alloc, Shrink { args, observer }, source, writer)
@@ -121,84 +111,27 @@ fn answer_source<W: Write, M: Ledger>(
     }
 }
 
-/// Says more of a source on standard error: if it is refused, or what is asked for of it, why.
-fn say_more(rt: &(impl Eprint + AllocGlobal), asked: &CliCommand, source: &ReadSource, status: u8) {
+/// Says more of a source that was answered on standard error: if it is refused, or what is asked for of it, why.
+pub fn say_more(
+    rt: &(impl Eprint + AllocGlobal),
+    asked: &CliCommand,
+    source: &ReadSource,
+    answered: &AnsweredRoot,
+) {
     let args = &asked.args;
     // The answer went out: nothing more is said where memory runs out now.
-    if status != REFUSED {
-        if let Ok(Some(reported)) = lacking_of(rt.alloc(), args, source) {
-            say(rt, &reported);
+    match answered {
+        Ok(REFUSED) => {
+            if let Ok(reported) = why(rt.alloc(), args, source) {
+                say(rt, &reported);
+            }
         }
-        say_processes(rt, asked, source);
-    } else if let Ok(reported) = why(rt.alloc(), args, source) {
-        say(rt, &reported);
-    }
-}
-
-/// Answers a source of these bytes, which is read once, and says more of it; the line is empty at the end.
-fn answer_bytes<W: Write, M: Ledger>(
-    rt: &(impl Eprint + AllocGlobal + Clock + Threads + Sync),
-    asked: &CliCommand,
-    bytes: Vec<u8>,
-    writer: &mut Counted<W, M>,
-    line: &ProgressLine,
-) -> AnsweredRoot
-    requires { has_source (view_of_args asked.now.args) ≡ true }
-    ensures { Sends (AnswersOf (view_of_args asked.now.args) bytes.items)
-        (W.contents writer.old.inner) (W.contents writer.new.inner)
-        writer.old.failures.total writer.new.failures.total result }
-{
-    let source = ReadSource::new(rt.alloc(), bytes)?;
-    let answered = answer_source(rt, &asked.args, &source, writer, line);
-    line.clear();
-    let status = answered?;
-    say_more(rt, asked, &source, status);
-    Ok(status)
-}
-
-/// Answers the source that a reader holds, and says more of it.
-fn answer_read<R: Read, W: Write, L: Ledger, M: Ledger>(
-    rt: &(impl Eprint + AllocGlobal + Clock + Threads + Sync),
-    asked: &CliCommand,
-    reader: &mut Counted<R, L>,
-    writer: &mut Counted<W, M>,
-    line: &ProgressLine,
-) -> AnsweredRoot
-    requires { has_source (view_of_args asked.now.args) ≡ true }
-    ensures served { Serves (AnswersOf (view_of_args asked.now.args))
-        (streams (R.remaining reader.old.inner) (W.contents writer.old.inner)
-        reader.old.failures.total writer.old.failures.total)
-        (streams (R.remaining reader.new.inner) (W.contents writer.new.inner)
-        reader.new.failures.total writer.new.failures.total) result }
-    ensures taken { TakesAtMost command.MOST_BYTES
-        (streams (R.remaining reader.old.inner) (W.contents writer.old.inner)
-        reader.old.failures.total writer.old.failures.total)
-        (streams (R.remaining reader.new.inner) (W.contents writer.new.inner)
-        reader.new.failures.total writer.new.failures.total) }
-{
-    let bytes = reader.take_front(rt.alloc(), MOST_BYTES)?;
-    answer_bytes(rt, asked, bytes, writer, line)
-}
-
-/// Does what is asked for between a reader and a writer; the line shows the progress of a hunt or a shrinking, and is
-/// empty at the end.
-pub fn answer<R: Read, W: Write, L: Ledger, M: Ledger>(
-    rt: &(impl Eprint + AllocGlobal + RandomSource + Clock + Threads + Sync),
-    asked: &CliCommand,
-    reader: &mut Counted<R, L>,
-    writer: &mut Counted<W, M>,
-    line: &ProgressLine,
-) -> AnsweredRoot
-    requires { is_farm (view_of_args asked.now.args) ≡ false }
-    ensures { WorkEnds (view_of_args asked.now.args)
-        (streams (R.remaining reader.old.inner) (W.contents writer.old.inner)
-        reader.old.failures.total writer.old.failures.total)
-        (streams (R.remaining reader.new.inner) (W.contents writer.new.inner)
-        reader.new.failures.total writer.new.failures.total) result }
-{
-    if has_source(&asked.args) {
-        answer_read(rt, asked, reader, writer, line)
-    } else {
-        answer_steps(rt, reader, writer)
+        Ok(_) => {
+            if let Ok(Some(reported)) = lacking_of(rt.alloc(), args, source) {
+                say(rt, &reported);
+            }
+            say_processes(rt, asked, source);
+        }
+        Err(_) => {}
     }
 }

@@ -2,6 +2,7 @@
 #![tactic(auto)]
 
 mod answer;
+mod request;
 mod schedule;
 mod steps;
 mod words;

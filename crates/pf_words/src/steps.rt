@@ -1,8 +1,10 @@
 //! Commands that are answered, and what is said of them.
 
+ghost use Rattle.std.specs.Prelude.{◌≡◌, ◌<◌, ℕ};
+ghost use Rattle.pf_cli.specs.Args.{steps};
 ghost use Rattle.pf_command.specs.Streams.{streams};
 ghost use Rattle.pf_wire.specs.declared.steps.TheConstants as wire;
-ghost use Rattle.pf_words.specs.Words.{StepsEnd, TakesAtMost};
+ghost use Rattle.pf_words.specs.Words.{StepsEnd, TakesAtMost, WorkEnds};
 
 use pf_cli_messages::{line_reason, say};
 use pf_errors::{NoMemory, OrNoMemory};
@@ -14,7 +16,7 @@ use std::alloc::{AllocGlobal, Global};
 use std::hash::RandomState;
 use std::io::{self, Read, Write};
 use std::random::RandomSource;
-use std::sync::ledger::Ledger;
+use std::sync::ledger::{Blank, Ledger};
 
 /// Keys for tables. They are random, so that no choice of projects or sources makes a table slow.
 pub fn random_keys(rt: &impl RandomSource) -> Result<RandomState, OrNoMemory<StreamFault>> {
@@ -97,4 +99,31 @@ pub fn answer_steps<R: Read, W: Write, L: Ledger, M: Ledger>(
     let status = answer_commands(rt, reader, writer, &mut ending)?;
     say_ending(rt, &ending);
     Ok(status)
+}
+
+/// How the commands of a file were answered, and the file after that.
+#[derive(Drop)]
+pub struct AnsweredFile<F> {
+    pub answered: AnsweredRoot,
+    pub file: F,
+}
+
+/// Answers the commands that an open file holds.
+pub fn answer_file<F: Read, W: Write, L: Ledger, M: Ledger>(
+    rt: &(impl Eprint + AllocGlobal + RandomSource),
+    file: F,
+    writer: &mut Counted<W, M>,
+    reads: Blank,
+) -> AnsweredFile<F>
+    requires reads { reads.name ≡ L.name }
+    requires read_parts { reads.parts ≡ L.parts }
+    requires some_reads { 0 < reads.parts }
+    ensures { (n : ℕ) × WorkEnds steps
+        (streams (F.remaining file) (W.contents writer.old.inner) 0 writer.old.failures.total)
+        (streams (F.remaining result.file) (W.contents writer.new.inner) n writer.new.failures.total) result.answered }
+{
+    let mut reader = Counted::<F, L>::new(file, reads);
+    let answered = answer_steps(rt, &mut reader, writer);
+    let file = reader.inner;
+    AnsweredFile { answered, file }
 }

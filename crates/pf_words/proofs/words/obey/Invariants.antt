@@ -1,4 +1,4 @@
-use Rattle.pf_words.proofs.work.work.Given as goal
+use Rattle.pf_words.proofs.words.obey.Given as goal
 
 -- the ledger of what goes out is named by its blank
 abbrev pub ghosts-work_in_json : goal.ghosts-work_in_json

@@ -1,4 +1,0 @@
-use Rattle.pf_words.proofs.work.work_in_json.Goals as goal
-
-pub returns : goal.returns
-returns g c = (_, _, _, _, c.work_by.ensures)
