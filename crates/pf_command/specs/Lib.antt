@@ -5,3 +5,4 @@ pub mod Guided
 pub mod Checks
 pub mod Streams
 pub mod Waiting
+pub mod Outcomes

@@ -1,54 +1,26 @@
 //! The work of a run between a reader and a writer: its report goes out as the run goes, so that no more of it is held
 //! than a piece.
 
-ghost use Rattle.std.specs.Prelude.{◌≡◌, List, ℕ, zero, IfOk, IsNone};
-ghost use Rattle.pf_errors.specs.Codes.{code_text, refusal_text};
+ghost use Rattle.std.specs.Prelude.{IfOk};
 ghost use Rattle.pf_cli.specs.Args.{view_of_run_args};
 ghost use Rattle.pf_command.specs.Answers.{Counts, IsNoMemory, ReportsJob};
-ghost use Rattle.pf_check.specs.Reading.{IsModuleOf};
 ghost use Rattle.pf_command.specs.Guided.{RunAnswers, RunCounts, RunsAs};
 ghost use Rattle.pf_request.specs.Job as request;
-ghost use Rattle.pf_command.specs.Streams.{IsAnsweredSo, IsAnswer, IsRefusedText, PrintsAnswer, Sends, Serves};
-ghost use Rattle.pf_command.specs.Streams.{TakesBytes, WentOut, streams};
+ghost use Rattle.pf_command.specs.Streams.{IsAnsweredSo, IsAnswer, PrintsAnswer, Sends, Serves, TakesBytes, WentOut};
+ghost use Rattle.pf_command.specs.Streams.{streams};
 
-use crate::answer::{Output, REFUSED, refused_at, refused_by_code, run_status};
-use crate::run::answer_job;
+use crate::answer::{Output, REFUSED, run_status};
+use crate::outcome::{RunToPrint, print_outcome};
+use crate::run::outcome_of_run;
 use crate::serving::MOST_BYTES;
-use pf_check::{ReadModule, ReadSource};
+use pf_check::ReadSource;
 use pf_cli::RunArgs;
-use pf_errors::{Code, OrNoMemory, SourceRefusal};
-use pf_sched::{Job, Scratch, Silent, print_run};
+use pf_errors::OrNoMemory;
+use pf_sched::{Scratch, Silent, print_run};
 use pf_streams::{Counted, StreamFault};
 use std::alloc::Global;
 use std::io::{Read, Write};
 use std::sync::ledger::Ledger;
-
-/// Writes the line of a code, as `B2`, with the status of what is refused.
-fn print_code<W: Write, M: Ledger>(
-    alloc: Global,
-    code: Code,
-    writer: &mut Counted<W, M>,
-) -> Result<u8, OrNoMemory<StreamFault>>
-    ensures { Sends (IsRefusedText (code_text code)) (W.contents writer.old.inner) (W.contents writer.new.inner)
-        writer.old.failures.total writer.new.failures.total result }
-{
-    let answer = refused_by_code(alloc, code)?;
-    Ok(print_answer(&answer, writer)?)
-}
-
-/// Writes the line of a refusal with its offset, as `E6 at 41`.
-fn print_refusal<W: Write, M: Ledger>(
-    alloc: Global,
-    refusal: SourceRefusal,
-    writer: &mut Counted<W, M>,
-) -> Result<u8, OrNoMemory<StreamFault>>
-    ensures { Sends (IsRefusedText (refusal_text refusal.code refusal.offset))
-        (W.contents writer.old.inner) (W.contents writer.new.inner)
-        writer.old.failures.total writer.new.failures.total result }
-{
-    let answer = refused_at(alloc, refusal)?;
-    Ok(print_answer(&answer, writer)?)
-}
 
 /// Writes what is reported of a run within which memory ran out, after the lines that went out. It takes no memory.
 pub(crate) fn print_no_memory<W: Write, M: Ledger>(
@@ -75,22 +47,21 @@ pub(crate) fn print_answer<W: Write, M: Ledger>(
 
 /// Prints the report of the run of a job, by its own choices or by the priorities of a seed, as the run goes, and
 /// counts how many processes still wait though its root returned.
-fn print_one_run<W: Write, M: Ledger>(
+pub(crate) fn print_one_run<W: Write, M: Ledger>(
     alloc: Global,
-    job: &Job,
-    priorities: Option<u64>,
+    run: &RunToPrint,
     writer: &mut Counted<W, M>,
     waiting: &mut u32,
 ) -> Result<u8, StreamFault>
-    requires { IsNone priorities → job.now.asked.runs ≡ zero }
-    ensures reported { (k : request.Job) × RunsAs priorities job.now k
+    ensures reported { (k : request.Job) × RunsAs run.now.priorities run.now.job k
         × PrintsAnswer (ReportsJob k) (W.contents writer.old.inner) (W.contents writer.new.inner)
         writer.old.failures.total writer.new.failures.total result }
-    ensures waits { (k : request.Job) × RunsAs priorities job.now k
+    ensures waits { (k : request.Job) × RunsAs run.now.priorities run.now.job k
         × IfOk result (WentOut (Counts k waiting.old waiting.new)
         (W.contents writer.old.inner) (W.contents writer.new.inner)) }
 {
-    match print_run(alloc, job, priorities, &mut Scratch::new(alloc), writer) {
+    let RunToPrint { job, priorities } = run;
+    match print_run(alloc, job, *priorities, &mut Scratch::new(alloc), writer) {
         Ok(printed) => {
             *waiting = printed.waiting;
             Ok(run_status(printed.verdict))
@@ -100,56 +71,9 @@ fn print_one_run<W: Write, M: Ledger>(
     }
 }
 
-/// Prints what is reported of a job, or of its run by the priorities of a seed. Of one run it counts how many processes
-/// still wait though its root returned.
-fn print_job<W: Write, M: Ledger>(
-    alloc: Global,
-    job: Job,
-    priorities: Option<u64>,
-    writer: &mut Counted<W, M>,
-    waiting: &mut u32,
-) -> Result<u8, OrNoMemory<StreamFault>>
-    ensures reported { (k : request.Job) × RunsAs priorities job k
-        × Sends (ReportsJob k) (W.contents writer.old.inner) (W.contents writer.new.inner)
-        writer.old.failures.total writer.new.failures.total result }
-    ensures waits { (k : request.Job) × RunsAs priorities job k
-        × IfOk result (WentOut (Counts k waiting.old waiting.new)
-        (W.contents writer.old.inner) (W.contents writer.new.inner)) }
-{
-    if priorities.is_none() && job.runs() > 0 {
-        let answer = answer_job(alloc, job, &mut Silent)?;
-        Ok(print_answer(&answer, writer)?)
-    } else {
-        Ok(print_one_run(alloc, &job, priorities, writer, waiting)?)
-    }
-}
-
-/// Prints the answer to a module of which a run is asked for.
-fn print_module<W: Write, M: Ledger>(
-    alloc: Global,
-    args: &RunArgs,
-    module: ReadModule,
-    writer: &mut Counted<W, M>,
-    waiting: &mut u32,
-) -> Result<u8, OrNoMemory<StreamFault>>
-    ensures reported { (bytes : List ℕ) → IsModuleOf bytes «module»
-        → Sends (RunAnswers (view_of_run_args args.now) bytes)
-        (W.contents writer.old.inner) (W.contents writer.new.inner)
-        writer.old.failures.total writer.new.failures.total result }
-    ensures waits { (bytes : List ℕ) → IsModuleOf bytes «module»
-        → IfOk result (WentOut (RunCounts (view_of_run_args args.now) waiting.old waiting.new bytes)
-        (W.contents writer.old.inner) (W.contents writer.new.inner)) }
-{
-    match Job::new(alloc, module, &args.request, args.edition.number()) {
-        Ok(job) => print_job(alloc, job, args.priorities, writer, waiting),
-        Err(OrNoMemory::NoMemory) => Err(OrNoMemory::NoMemory),
-        Err(OrNoMemory::Fault(refusal)) => print_code(alloc, refusal.code(), writer),
-    }
-}
-
 /// Prints the answer to a source of which a run is asked for. Where a report is printed, how many
 /// processes still wait though the root returned is put in `waiting`.
-pub fn print_source<W: Write, M: Ledger>(
+fn print_source<W: Write, M: Ledger>(
     alloc: Global,
     args: &RunArgs,
     source: &ReadSource,
@@ -162,10 +86,8 @@ pub fn print_source<W: Write, M: Ledger>(
     ensures waits { IfOk result (WentOut (RunCounts (view_of_run_args args.now) waiting.old waiting.new source.now)
         (W.contents writer.old.inner) (W.contents writer.new.inner)) }
 {
-    match source.module() {
-        Ok(module) => print_module(alloc, args, module.share()?, writer, waiting),
-        Err(refusal) => print_refusal(alloc, refusal, writer),
-    }
+    let outcome = outcome_of_run(alloc, args, source)?;
+    Ok(print_outcome(alloc, outcome, &mut Silent, writer, waiting)?)
 }
 
 /// Answers a source of which a run is asked for: reads at most one byte more than a source may have, writes the report

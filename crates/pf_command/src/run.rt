@@ -1,4 +1,4 @@
-//! What a source is answered with of which a shrinking is asked for.
+//! What a source is answered with of which a run or a shrinking is asked for.
 
 ghost use Rattle.std.specs.Prelude.{◌≡◌, List, ℕ, zero, IfOk, Some};
 ghost use Rattle.pf_terms.specs.Atoms.{name_of};
@@ -7,16 +7,19 @@ ghost use Rattle.pf_model.specs.Text.{report_text};
 ghost use Rattle.pf_request.specs.Job.{memory_report};
 ghost use Rattle.pf_trace.specs.Written.{AreWritten, report_in};
 ghost use Rattle.pf_sched.specs.Views.{IsWritten, result_of};
+ghost use Rattle.pf_cli.specs.Args.{view_of_run_args};
 ghost use Rattle.pf_command.specs.Answers.{AnswersRun, ReportsJob, PrintsResult, run_args};
+ghost use Rattle.pf_command.specs.Outcomes.{JobEndsAs, RunEndsAs};
 ghost use Rattle.pf_check.specs.Reading.{IsModuleOf};
 
 use crate::answer::{FAILED, Output, refused_at, refused_by_code, run_status};
+use crate::outcome::{Outcome, RunToPrint};
 use crate::serving::Answering;
 use pf_check::{ReadModule, ReadSource};
 use pf_cli::{Edition, RunArgs};
 use pf_errors::{Code, NoMemory, OrNoMemory};
 use pf_request::Request;
-use pf_sched::{Finished, Job, JobResult, Observer, Scratch, memory_report, run_to_end};
+use pf_sched::{Finished, Job, JobResult, Observer, Scratch, Silent, memory_report, run_to_end};
 use pf_terms::AtomTable;
 use pf_trace::{WrittenReport, put_found, put_written};
 use std::alloc::Global;
@@ -138,6 +141,55 @@ fn answer_source(
     match source.module() {
         Ok(module) => answer_module(alloc, request, edition, module.share()?, observer),
         Err(refusal) => refused_at(alloc, refusal),
+    }
+}
+
+/// What a job is answered with, or its run by the priorities of a seed: a run, which is still to be printed, or the
+/// answer of a shrinking.
+fn outcome_of_job<'a>(
+    alloc: Global,
+    job: Job,
+    priorities: Option<u64>,
+) -> Result<Outcome<'a>, NoMemory>
+    ensures { IfOk result (JobEndsAs priorities job) }
+{
+    if priorities.is_none() && job.runs() > 0 {
+        Ok(Outcome::Reported(answer_job(alloc, job, &mut Silent)?))
+    } else {
+        Ok(Outcome::Run(RunToPrint { job, priorities }))
+    }
+}
+
+/// What a module is answered with of which a run is asked for.
+fn outcome_of_module<'a>(
+    alloc: Global,
+    args: &RunArgs,
+    module: ReadModule,
+) -> Result<Outcome<'a>, NoMemory>
+    ensures { IfOk result (λ x. (bytes : List ℕ) → IsModuleOf bytes «module»
+        → RunEndsAs (view_of_run_args args.now) bytes x) }
+{
+    match Job::new(alloc, module, &args.request, args.edition.number()) {
+        Ok(job) => outcome_of_job(alloc, job, args.priorities),
+        Err(OrNoMemory::NoMemory) => Err(NoMemory),
+        Err(OrNoMemory::Fault(refusal)) => {
+            let answer = refused_by_code(alloc, refusal.code())?;
+            Ok(Outcome::Reported(answer))
+        }
+    }
+}
+
+/// What a source is answered with of which a run is asked for.
+pub fn outcome_of_run<'a>(
+    alloc: Global,
+    args: &RunArgs,
+    source: &ReadSource,
+) -> Result<Outcome<'a>, NoMemory>
+    ensures { IfOk result (RunEndsAs (view_of_run_args args.now) source.now) }
+{
+    match source.module() {
+        Ok(module) => outcome_of_module(alloc, args, module.share()?),
+        Err(refusal) => Ok(Outcome::Reported(refused_at(alloc, refusal)?)),
     }
 }
 

@@ -4,10 +4,11 @@ use Rattle.pf_hunt.specs.Notices.{HearsSome}
 use Rattle.pf_hunt.proofs.Hearing.{hears_none, hears_weaker}
 use Rattle.pf_cli.specs.Args.{view_of_hunt_args}
 use Rattle.pf_cli.specs.declared.args.HuntGoal.TheVariants.{Failure, Outcomes}
-use Rattle.pf_command.specs.Hunts.{HuntEndsAs, OfEach, PrintsAs}
-use Rattle.pf_command.specs.declared.ending.HuntEnd.TheVariants.{Reported}
+use Rattle.pf_command.specs.Hunts.{OfEach}
+use Rattle.pf_command.specs.Outcomes.{HuntEndsAs, PrintsAs}
+use Rattle.pf_command.specs.declared.outcome.Outcome.TheVariants.{Reported}
 use Rattle.pf_command.proofs.Found.{answered_as, ends_as, refused_as}
-use Rattle.pf_command.proofs.hunt.end_of_hunt.Goals as goal
+use Rattle.pf_command.proofs.hunt.outcome_of_hunt.Goals as goal
 
 pub returns-in-Failure : goal.returns-in-Failure
 returns-in-Failure g c =

@@ -1,0 +1,10 @@
+use Rattle.std.proofs.Common.{rules, refl, ◌<◌}
+use Rattle.pf_command.specs.Guided.{RunsAs}
+use Rattle.pf_command.proofs.run.outcome_of_job.Goals as goal
+
+pub returns-then-branch : goal.returns-then-branch
+returns-then-branch c =
+    let j = c.args.job in
+    let own : RunsAs c.args.priorities j j = search rules in
+    let several : 0 < j.asked.runs = search rules in
+    (own, several, c.in_ok-field-0.ensures)

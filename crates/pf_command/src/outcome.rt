@@ -1,0 +1,71 @@
+//! What a source is answered with, and how that is printed.
+
+ghost use Rattle.std.specs.Prelude.{◌≡◌, List, ℕ, zero, IfOk, IsNone};
+ghost use Rattle.pf_hunt.specs.Notices.{Notice};
+ghost use Rattle.pf_command.specs.Outcomes.{IsFound, IsOutcomeOf, MaySay, WaitsAs};
+ghost use Rattle.pf_command.specs.Streams.{PrintsAnswer};
+
+use crate::answer::Output;
+use crate::ending::{FailingRun, print_found};
+use crate::printing::{print_answer, print_one_run};
+use crate::serving::Answering;
+use pf_check::ReadSource;
+use pf_errors::NoMemory;
+use pf_sched::{Job, Observer};
+use pf_streams::{Counted, StreamFault};
+use std::alloc::Global;
+use std::io::Write;
+use std::sync::ledger::Ledger;
+
+/// A run that is asked for: its job, and the seed by whose priorities it goes in place of the job's choices, if it does.
+#[derive(Drop)]
+pub struct RunToPrint {
+    pub job: Job,
+    pub priorities: Option<u64>,
+    ghost is_run: { IsNone priorities → job.asked.runs ≡ zero },
+}
+
+/// What a source is answered with.
+#[derive(Drop)]
+pub enum Outcome<'a> {
+    /// A refusal, or a report that is whole.
+    Reported(Output),
+    /// A run, whose report goes out as it goes.
+    Run(RunToPrint),
+    /// A run that fails by a seed: it is reported after its seed and its choices.
+    Found(FailingRun<'a>),
+}
+
+/// What a source is answered with by a command.
+pub fn outcome_by<'a, C: Answering + Drop>(
+    alloc: Global,
+    command: C,
+    source: &ReadSource,
+) -> Result<Outcome<'a>, NoMemory>
+    ensures { IfOk result (IsOutcomeOf (C.answers command) source.now) }
+{
+    Ok(Outcome::Reported(command.answer(alloc, source)?))
+}
+
+/// Prints what a source is answered with, and gives the status. Of a run whose report is printed, how many processes
+/// still wait though the root returned is put in `waiting`. The observer receives the progress of a shrinking.
+pub fn print_outcome<W: Write, M: Ledger>(
+    alloc: Global,
+    outcome: Outcome<'_>,
+    observer: &mut impl Observer,
+    writer: &mut Counted<W, M>,
+    waiting: &mut u32,
+) -> Result<u8, StreamFault>
+    ensures printed { (bytes : List ℕ) (ns : List Notice) → IsFound bytes ns outcome
+        → PrintsAnswer (MaySay bytes ns outcome)
+        (W.contents writer.old.inner) (W.contents writer.new.inner)
+        writer.old.failures.total writer.new.failures.total result }
+    ensures waits { IfOk result (WaitsAs outcome waiting.old waiting.new
+        (W.contents writer.old.inner) (W.contents writer.new.inner)) }
+{
+    match outcome {
+        Outcome::Reported(answer) => print_answer(&answer, writer),
+        Outcome::Run(run) => print_one_run(alloc, &run, writer, waiting),
+        Outcome::Found(found) => print_found(alloc, found, observer, writer),
+    }
+}
