@@ -17,7 +17,8 @@ use std::alloc::Global;
 use std::io::Write;
 use std::sync::ledger::Ledger;
 
-/// A run that is asked for: its job, and the seed by whose priorities it goes in place of the job's choices, if it does.
+/// A run that is asked for: its job, and the seed by whose priorities it goes in place of the job's choices, if it
+/// does.
 #[derive(Drop)]
 pub struct RunToPrint {
     pub job: Job,

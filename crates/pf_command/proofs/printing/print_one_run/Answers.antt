@@ -7,7 +7,8 @@ use Rattle.pf_command.proofs.printing.print_one_run.Goals as goal
 pub returns-in-Ok-clause-reported : goal.returns-in-Ok-clause-reported
 returns-in-Ok-clause-reported g c =
     let w = g.W.Write.contents c.args.writer.now.inner in
-    let k = printed_as c.args.run.now.priorities c.args.run.now.job c.in-Ok.printed _ _ c.args.run.now.is_run c.in-Ok.ensures.printed in (
+    let k = printed_as c.args.run.now.priorities c.args.run.now.job c.in-Ok.printed _ _ c.args.run.now.is_run
+    c.in-Ok.ensures.printed in (
       k.0,
       k.1,
       run_printed k.0 k.2 w w _ _ 0 _ c.in-Ok.printed c.run_status.result k.3 c.run_status.ensures
@@ -17,7 +18,8 @@ returns-in-Ok-clause-reported g c =
 pub returns-in-Ok-clause-waits : goal.returns-in-Ok-clause-waits
 returns-in-Ok-clause-waits g c =
     let w = g.W.Write.contents c.args.writer.now.inner in
-    let k = printed_as c.args.run.now.priorities c.args.run.now.job c.in-Ok.printed _ _ c.args.run.now.is_run c.in-Ok.ensures.printed in (
+    let k = printed_as c.args.run.now.priorities c.args.run.now.job c.in-Ok.printed _ _ c.args.run.now.is_run
+    c.in-Ok.ensures.printed in (
       k.0,
       k.1,
       run_counted k.0 k.2 c.args.waiting.now w w _ 0 0 0 c.in-Ok.printed c.run_status.result k.3 c.run_status.ensures,
