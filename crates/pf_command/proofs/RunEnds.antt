@@ -9,7 +9,8 @@ use Rattle.pf_check.specs.Reading.{IsModuleOf}
 use Rattle.pf_request.specs.Job.{Job}
 use Rattle.pf_sched.specs.Asked.{Asks}
 use Rattle.pf_cli.specs.Args.{RunArgs}
-use Rattle.pf_command.specs.Answers.{Counts, Refuses, ReportsJob, counted, job_refused, refused_before, reported, shrunk, source_refused}
+use Rattle.pf_command.specs.Answers.{Counts, Refuses, ReportsJob, counted, job_refused, refused_before, reported}
+use Rattle.pf_command.specs.Answers.{shrunk, source_refused}
 use Rattle.pf_command.specs.Guided.{RunAnswers, RunCounts, RunsAs, asked, refused}
 use Rattle.pf_command.specs.Outcomes.{JobEndsAs, RunEndsAs}
 use Rattle.pf_command.specs.declared.answer.Output.{Output}
