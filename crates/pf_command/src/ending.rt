@@ -227,10 +227,11 @@ pub(crate) fn print_found<W: Write, M: Ledger>(
     observer: &mut impl Observer,
     writer: &mut Counted<W, M>,
 ) -> Result<u8, StreamFault>
-    ensures { (bytes : List ℕ) (ns : List Notice) → IsModuleOf bytes found.«module»
-        → IsLeastFailure (view_of_hunt_args found.args.now) found.job ns found.args.now.end
-        (Some (failure_of found.failure))
-        → PrintsAnswer (PrintsSought (view_of_hunt_args found.args.now) bytes found.job ns (Failure found.runs))
+    ensures { (bytes : List ℕ) (ns : List Notice) → IsModuleOf bytes found.entry.«module»
+        → IsLeastFailure (view_of_hunt_args found.entry.args.now) found.entry.job ns found.entry.args.now.end
+        (Some (failure_of found.entry.failure))
+        → PrintsAnswer (PrintsSought (view_of_hunt_args found.entry.args.now) bytes found.entry.job ns
+        (Failure found.entry.runs))
         (W.contents writer.old.inner) (W.contents writer.new.inner)
         writer.old.failures.total writer.new.failures.total result }
 {

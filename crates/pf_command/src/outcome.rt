@@ -57,11 +57,11 @@ pub fn print_outcome<W: Write, M: Ledger>(
     writer: &mut Counted<W, M>,
     waiting: &mut u32,
 ) -> Result<u8, StreamFault>
-    ensures printed { (bytes : List ℕ) (ns : List Notice) → IsFound bytes ns outcome
-        → PrintsAnswer (MaySay bytes ns outcome)
+    ensures printed { (bytes : List ℕ) (ns : List Notice) → IsFound bytes ns outcome.entry
+        → PrintsAnswer (MaySay bytes ns outcome.entry)
         (W.contents writer.old.inner) (W.contents writer.new.inner)
         writer.old.failures.total writer.new.failures.total result }
-    ensures waits { IfOk result (WaitsAs outcome waiting.old waiting.new
+    ensures waits { IfOk result (WaitsAs outcome.entry waiting.old waiting.new
         (W.contents writer.old.inner) (W.contents writer.new.inner)) }
 {
     match outcome {
