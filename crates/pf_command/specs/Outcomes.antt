@@ -14,7 +14,7 @@ use Rattle.pf_command.specs.Hunts.{IsLeastFailure, PrintsSought, SoughtAnswers}
 use Rattle.pf_command.specs.Streams.{Answering, IsAnswer, WentOut}
 use Rattle.pf_command.specs.declared.outcome.Outcome.{Outcome}
 use Rattle.pf_command.specs.declared.outcome.Outcome.TheVariants.{Reported, Run, Found}
-use Rattle.pf_command.specs.declared.outcome.RunToPrint.{RunToPrint}
+use Rattle.pf_command.specs.declared.one_run.RunToPrint.{RunToPrint}
 
 -- the run that is asked for is that of this job
 abbrev pub IsRunOf : RunToPrint → Job → Type 0

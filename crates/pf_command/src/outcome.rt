@@ -1,30 +1,22 @@
 //! What a source is answered with, and how that is printed.
 
-ghost use Rattle.std.specs.Prelude.{◌≡◌, List, ℕ, zero, IfOk, IsNone};
+ghost use Rattle.std.specs.Prelude.{List, ℕ, IfOk};
 ghost use Rattle.pf_hunt.specs.Notices.{Notice};
 ghost use Rattle.pf_command.specs.Outcomes.{IsFound, IsOutcomeOf, MaySay, WaitsAs};
 ghost use Rattle.pf_command.specs.Streams.{PrintsAnswer};
 
 use crate::answer::Output;
 use crate::ending::{FailingRun, print_found};
+use crate::one_run::RunToPrint;
 use crate::printing::{print_answer, print_one_run};
 use crate::serving::Answering;
 use pf_check::ReadSource;
 use pf_errors::NoMemory;
-use pf_sched::{Job, Observer};
+use pf_sched::Observer;
 use pf_streams::{Counted, StreamFault};
 use std::alloc::Global;
 use std::io::Write;
 use std::sync::ledger::Ledger;
-
-/// A run that is asked for: its job, and the seed by whose priorities it goes in place of the job's choices, if it
-/// does.
-#[derive(Drop)]
-pub struct RunToPrint {
-    pub job: Job,
-    pub priorities: Option<u64>,
-    ghost is_run: { IsNone priorities → job.asked.runs ≡ zero },
-}
 
 /// What a source is answered with.
 #[derive(Drop)]

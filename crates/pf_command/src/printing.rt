@@ -10,7 +10,8 @@ ghost use Rattle.pf_command.specs.Streams.{IsAnsweredSo, IsAnswer, PrintsAnswer,
 ghost use Rattle.pf_command.specs.Streams.{streams};
 
 use crate::answer::{Output, REFUSED, run_status};
-use crate::outcome::{RunToPrint, print_outcome};
+use crate::one_run::RunToPrint;
+use crate::outcome::print_outcome;
 use crate::run::outcome_of_run;
 use crate::serving::MOST_BYTES;
 use pf_check::ReadSource;

@@ -13,7 +13,8 @@ ghost use Rattle.pf_command.specs.Outcomes.{JobEndsAs, RunEndsAs};
 ghost use Rattle.pf_check.specs.Reading.{IsModuleOf};
 
 use crate::answer::{FAILED, Output, refused_at, refused_by_code, run_status};
-use crate::outcome::{Outcome, RunToPrint};
+use crate::one_run::RunToPrint;
+use crate::outcome::Outcome;
 use crate::serving::Answering;
 use pf_check::{ReadModule, ReadSource};
 use pf_cli::{Edition, RunArgs};
