@@ -1,5 +1,6 @@
 -- What is printed of an outcome.
-use Rattle.std.proofs.Common.{◌≡◌, ℕ, List, [], Option, Result, Ok, sym, subst}
+use Rattle.std.proofs.Common.{◌≡◌, ℕ, List, [], Option, Result, Ok, Err, sym, subst}
+use Rattle.std.specs.Prelude.{IfOk}
 use Rattle.pf_streams.specs.declared.stream.StreamFault.{StreamFault}
 use Rattle.pf_hunt.specs.Notices.{HearsSome, Notice}
 use Rattle.pf_cli.specs.Args.{HuntArgs, RunArgs}
@@ -11,6 +12,11 @@ use Rattle.pf_command.specs.declared.answer.Output.{Output}
 use Rattle.pf_command.specs.declared.outcome.Outcome.{Outcome}
 use Rattle.pf_command.specs.declared.outcome.Outcome.TheVariants.{Reported, Run, Found}
 use Rattle.pf_command.proofs.Streaming.{prints_more}
+
+-- what holds of each value holds of one that there is
+pub ok_all : {A E : Type 0} (P : A → Type 0) (r : Result A E) → ((s : A) → P s) → IfOk r P
+ok_all P (Ok s) f = f s
+ok_all P (Err e) f = tt
 
 -- an answer is printed as it is
 pub reported_so : (P : Answering) (bytes : List ℕ) (a : Output) → P bytes a.text.items a.status

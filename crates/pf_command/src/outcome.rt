@@ -37,7 +37,8 @@ pub fn outcome_by<'a, C: Answering + Drop>(
 ) -> Result<Outcome<'a>, NoMemory>
     ensures { IfOk result (IsOutcomeOf (C.answers command) source.now) }
 {
-    Ok(Outcome::Reported(command.answer(alloc, source)?))
+    let answer = command.answer(alloc, source)?;
+    Ok(Outcome::Reported(answer))
 }
 
 /// Prints what a source is answered with, and gives the status. Of a run whose report is printed, how many processes

@@ -155,7 +155,8 @@ fn outcome_of_job<'a>(
     ensures { IfOk result (JobEndsAs priorities job) }
 {
     if priorities.is_none() && job.runs() > 0 {
-        Ok(Outcome::Reported(answer_job(alloc, job, &mut Silent)?))
+        let answer = answer_job(alloc, job, &mut Silent)?;
+        Ok(Outcome::Reported(answer))
     } else {
         Ok(Outcome::Run(RunToPrint { job, priorities }))
     }
@@ -190,7 +191,10 @@ pub fn outcome_of_run<'a>(
 {
     match source.module() {
         Ok(module) => outcome_of_module(alloc, args, module.share()?),
-        Err(refusal) => Ok(Outcome::Reported(refused_at(alloc, refusal)?)),
+        Err(refusal) => {
+            let answer = refused_at(alloc, refusal)?;
+            Ok(Outcome::Reported(answer))
+        }
     }
 }
 

@@ -3,5 +3,5 @@ use Rattle.pf_command.proofs.outcome.outcome_by.Goals as goal
 
 pub returns : goal.returns
 returns g c =
-    reported_so (g.C.Answering.answers c.args.command) c.args.source.now c.in_ok-field-0.field-0
-    c.in_ok-field-0.ensures
+    reported_so (g.C.Answering.answers c.args.command) c.args.source.now c.in_ok-answer.answer
+    c.in_ok-answer.ensures

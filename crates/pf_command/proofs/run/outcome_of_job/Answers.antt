@@ -7,4 +7,4 @@ returns-then-branch c =
     let j = c.args.job in
     let own : RunsAs c.args.priorities j j = search rules in
     let several : 0 < j.asked.runs = search rules in
-    (own, several, c.in_ok-field-0.ensures)
+    (own, several, c.in_ok-answer.ensures)
