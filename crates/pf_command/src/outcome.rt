@@ -59,7 +59,7 @@ pub fn print_outcome<W: Write, M: Ledger>(
 {
     match outcome {
         Outcome::Reported(answer) => print_answer(&answer, writer),
-        Outcome::Run(run) => print_one_run(alloc, &run, writer, waiting),
+        Outcome::Run(one) => print_one_run(alloc, &one, writer, waiting),
         Outcome::Found(found) => print_found(alloc, found, observer, writer),
     }
 }

@@ -27,7 +27,7 @@ returns-in-Run-clause-printed g c bytes ns found =
     (g.W.Write.contents c.print_one_run.new.writer.inner) c.args.writer.now.failures.total
     c.print_one_run.new.writer.failures.total c.print_one_run.result)
     (sym c.in-Run.is)
-    (prints_more (ReportsJob k.0) (ReportsRun c.in-Run.run) _ _ _ _ (λ t s is. (k.0, k.1, is)) c.print_one_run.result
+    (prints_more (ReportsJob k.0) (ReportsRun c.in-Run.one) _ _ _ _ (λ t s is. (k.0, k.1, is)) c.print_one_run.result
     k.2)
 
 pub returns-in-Found-clause-printed : goal.returns-in-Found-clause-printed
@@ -56,7 +56,7 @@ returns-in-Run-clause-waits g c =
     let w1 = g.W.Write.contents c.print_one_run.new.writer.inner in
     let k = c.print_one_run.ensures.waits in
     subst (λ x. IfOk c.print_one_run.result (WaitsAs x old new w0 w1)) (sym c.in-Run.is)
-    (IfOk-weaker c.print_one_run.result (WentOut (Counts k.0 old new) w0 w1) (WaitsAs (Run c.in-Run.run) old new w0 w1)
+    (IfOk-weaker c.print_one_run.result (WentOut (Counts k.0 old new) w0 w1) (WaitsAs (Run c.in-Run.one) old new w0 w1)
     (λ s went. (k.0, k.1, went)) k.2)
 
 pub returns-in-Found-clause-waits : goal.returns-in-Found-clause-waits

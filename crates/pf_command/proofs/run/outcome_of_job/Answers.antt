@@ -2,8 +2,8 @@ use Rattle.std.proofs.Common.{rules, refl, ◌<◌}
 use Rattle.pf_command.specs.Guided.{RunsAs}
 use Rattle.pf_command.proofs.run.outcome_of_job.Goals as goal
 
-pub returns-then-branch : goal.returns-then-branch
-returns-then-branch c =
+pub returns-in_ok-answer : goal.returns-in_ok-answer
+returns-in_ok-answer c =
     let j = c.args.job in
     let own : RunsAs c.args.priorities j j = search rules in
     let several : 0 < j.asked.runs = search rules in
