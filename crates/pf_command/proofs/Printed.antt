@@ -1,5 +1,5 @@
 -- What is printed of an outcome.
-use Rattle.std.proofs.Common.{◌≡◌, ℕ, List, [], Option, Result, Ok, Err, sym, subst}
+use Rattle.std.proofs.Common.{ℕ, List, [], Option, Result, Ok, Err, sym, subst}
 use Rattle.std.specs.Prelude.{IfOk}
 use Rattle.pf_streams.specs.declared.stream.StreamFault.{StreamFault}
 use Rattle.pf_hunt.specs.Notices.{HearsSome, Notice}

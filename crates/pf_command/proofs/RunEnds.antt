@@ -1,5 +1,5 @@
 -- What a run that is asked for ends as, before it is printed.
-use Rattle.std.proofs.Common.{◌≡◌, ◌<◌, ℕ, List, Option, Ok, Err, None, Some, refl, sym, subst}
+use Rattle.std.proofs.Common.{ℕ, List, Ok, Err, sym, subst}
 use Rattle.pf_errors.specs.Codes.{code_text, refusal_text}
 use Rattle.pf_errors.specs.declared.code.Code.{Code}
 use Rattle.pf_check.specs.Module.{ReadModule}

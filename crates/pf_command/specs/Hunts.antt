@@ -20,7 +20,6 @@ use Rattle.pf_strategy.specs.declared.strategy.Strategy.TheVariants.{Uniform, Pr
 use Rattle.pf_hunt.specs.Hunts.{FirstFailing, SearchedTo, Tallies}
 use Rattle.pf_hunt.specs.Notices.{Notice, SearchNotices, TallyNotices}
 use Rattle.pf_hunt.specs.Rows.{OutcomeRow}
-use Rattle.pf_hunt.specs.Views.{failure_of}
 use Rattle.pf_cli.specs.Args.{HuntArgs, RunArgs}
 use Rattle.pf_cli.specs.declared.args.HuntGoal.{HuntGoal}
 use Rattle.pf_cli.specs.declared.args.HuntGoal.TheVariants.{Failure, Outcomes}

@@ -1,7 +1,6 @@
 -- What a source is answered with, before it is printed.
 use Rattle.std.specs.Prelude.{◌≡◌, ◌<◌, ℕ, List, Option, Some}
 use Rattle.pf_request.specs.Job.{Job}
-use Rattle.pf_check.specs.Module.{ReadModule}
 use Rattle.pf_check.specs.Reading.{IsModuleOf}
 use Rattle.pf_hunt.specs.Notices.{Notice}
 use Rattle.pf_hunt.specs.Views.{failure_of}

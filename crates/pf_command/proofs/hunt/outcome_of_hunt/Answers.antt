@@ -1,4 +1,4 @@
-use Rattle.std.proofs.Common.{ℕ, List, [], ◌∙◌, sym, subst}
+use Rattle.std.proofs.Common.{[], sym, subst}
 use Rattle.std.proofs.lemmas.Result.{IfOk-weaker}
 use Rattle.pf_hunt.specs.Notices.{HearsSome}
 use Rattle.pf_hunt.proofs.Hearing.{hears_none, hears_weaker}

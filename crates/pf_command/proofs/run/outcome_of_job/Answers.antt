@@ -1,4 +1,4 @@
-use Rattle.std.proofs.Common.{rules, refl, ◌<◌}
+use Rattle.std.proofs.Common.{rules, ◌<◌}
 use Rattle.pf_command.specs.Guided.{RunsAs}
 use Rattle.pf_command.proofs.run.outcome_of_job.Goals as goal
 

@@ -1,11 +1,11 @@
-use Rattle.std.proofs.Common.{◌≡◌, Ok, Err, subst, sym}
+use Rattle.std.proofs.Common.{Ok, Err}
 use Rattle.std.proofs.lemmas.Result.{IfOk-weaker}
 use Rattle.pf_errors.specs.Codes.{code_text}
 use Rattle.pf_sched.specs.Asked.{Asks}
 use Rattle.pf_sched.specs.Views.{code_of}
 use Rattle.pf_cli.specs.Args.{view_of_run_args}
 use Rattle.pf_command.specs.Answers.{Refuses}
-use Rattle.pf_command.specs.Outcomes.{JobEndsAs, RunEndsAs}
+use Rattle.pf_command.specs.Outcomes.{JobEndsAs}
 use Rattle.pf_command.proofs.Asking.{asks_in}
 use Rattle.pf_command.proofs.RunEnds.{job_refused_so, job_runs_so}
 use Rattle.pf_command.proofs.run.outcome_of_module.Goals as goal
