@@ -5,7 +5,7 @@ use Rattle.std.specs.Prelude.{IfSome, codes, is_some}
 use Rattle.std.specs.Str.{bytes_eq}
 use Rattle.pf_errors.specs.declared.memory.NoMemory.{NoMemory}
 use Rattle.clap.specs.Words.{Text}
-use Rattle.pf_cli.specs.Args.{ReadWords, Wanted, farm, reading_by, reading_of, reads, reports, view_of_farm_args, works}
+use Rattle.pf_cli.specs.Args.{Wanted, reading_by, reading_of, reads, reports, works}
 use Rattle.pf_cli.specs.Args.{named_file, view_of_args, view_of_command}
 use Rattle.pf_cli.specs.declared.args.CliCommand.{CliCommand}
 use Rattle.pf_command.specs.Streams.{Streams, streams}
@@ -16,8 +16,8 @@ use Rattle.pf_words.specs.declared.words.Obeyed.TheVariants.{Status, Farm}
 use Rattle.pf_words.specs.Schedules.{schedule_in}
 use Rattle.pf_words.specs.declared.request.WordsRequest.{WordsRequest}
 use Rattle.pf_words.specs.declared.request.WordsRequest.TheVariants as request
-use Rattle.pf_words.specs.Words.{AreContents, AskedIsDone, AskedIsDoneOrRefused, AsksFor, IsDone, IsDoneAs, IsDoneIn}
-use Rattle.pf_words.specs.Words.{IsDoneOrRefused, NothingOut, Obeys, ObeysBy, ObeysByFile, ObeysIn, RequestIsDone}
+use Rattle.pf_words.specs.Words.{AreContents, AskedIsDone, AskedIsDoneOrRefused, AsksFor, IsDone, IsDoneAs}
+use Rattle.pf_words.specs.Words.{NothingOut, Obeys, ObeysBy, ObeysByFile, ObeysIn, RequestIsDone}
 use Rattle.pf_words.specs.Words.{FromOne, InForm, TextReported}
 
 -- with a text for the schedule no file is named

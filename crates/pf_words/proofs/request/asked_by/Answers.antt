@@ -1,4 +1,3 @@
-use Rattle.std.proofs.Common.{refl, inl, inr}
 use Rattle.pf_cli.specs.Args.{named_file, view_of_command}
 use Rattle.pf_words.proofs.Reported.{or_refused, refused_status}
 use Rattle.pf_words.proofs.request.asked_by.Goals as goal

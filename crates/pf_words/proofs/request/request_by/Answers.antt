@@ -1,4 +1,4 @@
-use Rattle.std.proofs.Common.{◌∙◌, Some, refl, map, sym, ap}
+use Rattle.std.proofs.Common.{◌∙◌, Some, map, sym, ap}
 use Rattle.pf_cli.specs.Args.{file_of, named_file, view_of_command, view_of_reading, wanted_by, words_status}
 use Rattle.pf_words.proofs.Reported.{asked_obeys_by, never_reads, text_asks_by}
 use Rattle.pf_words.proofs.request.request_by.Goals as goal

@@ -1,4 +1,4 @@
-use Rattle.std.proofs.Common.{◌∙◌, refl, sym, ap, map, inl, inr, subst}
+use Rattle.std.proofs.Common.{◌∙◌, sym, ap, map, inl}
 use Rattle.std.specs.Prelude.{is_some}
 use Rattle.pf_text.specs.Numbers.{schedule_of}
 use Rattle.pf_words.specs.Schedules.{schedule_in}

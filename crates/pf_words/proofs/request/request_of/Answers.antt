@@ -1,4 +1,4 @@
-use Rattle.std.proofs.Common.{◌∙◌, refl, map, sym, ap}
+use Rattle.std.proofs.Common.{◌∙◌, map, sym, ap}
 use Rattle.pf_cli.specs.Args.{named_file, view_of_command, view_of_reading}
 use Rattle.pf_words.specs.Words.{Obeys, ObeysByFile}
 use Rattle.pf_words.proofs.Reported.{asked_obeys, asks_more, file_obeys, text_asks}

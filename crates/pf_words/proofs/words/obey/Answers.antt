@@ -1,5 +1,5 @@
-use Rattle.std.proofs.Common.{Ok, map, refl, ap}
-use Rattle.pf_cli.specs.Args.{named_file, view_of_args, view_of_command}
+use Rattle.std.proofs.Common.{map, refl, ap}
+use Rattle.pf_cli.specs.Args.{named_file, view_of_args}
 use Rattle.pf_words.specs.Words.{Obeys}
 use Rattle.pf_words.specs.declared.request.WordsRequest.TheVariants as request
 use Rattle.pf_words.specs.declared.words.Obeyed.TheVariants.{Status, Farm}
