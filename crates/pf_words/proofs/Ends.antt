@@ -1,5 +1,5 @@
 -- How the work of a command ends.
-use Rattle.std.proofs.Common.{◌≡◌, ◌≤◌, ℕ, Bool, true, false, List, [], length, Option, Result, Ok, Err, None, Some}
+use Rattle.std.proofs.Common.{◌≡◌, ◌≤◌, ℕ, Bool, true, false, List, [], length, Option, Ok, Err, None, Some}
 use Rattle.std.proofs.Common.{refl, sym, ap, ◌∙◌, subst, inl, inr, arith}
 use Rattle.std.proofs.KnownBytes.{Consumes-nil}
 use Rattle.std.specs.Io.KnownBytes.{Consumes}
@@ -7,7 +7,7 @@ use Rattle.std.specs.Prelude.{IfErr, IfOk, IfSome, IsErr, IsErrAnd, OnOk, is_non
 use denote.Ref.{Bor}
 use Rattle.pf_streams.specs.Streams.{CountsReadOrNone}
 use Rattle.pf_errors.specs.declared.fault.OrNoMemory.{OrNoMemory}
-use Rattle.pf_errors.specs.declared.fault.OrNoMemory.TheVariants.{NoMemory, Fault}
+use Rattle.pf_errors.specs.declared.fault.OrNoMemory.TheVariants.{NoMemory}
 use Rattle.pf_streams.specs.declared.stream.StreamFault.{StreamFault}
 use Rattle.clap.specs.Words.{Text}
 use Rattle.pf_cli.specs.Args.{CommandWork, check, chart, farm, hunt, named_file, run, shrink, steps, view_of_args}
@@ -24,7 +24,7 @@ use Rattle.pf_wire.specs.Steps.{SimulatesSteps, StepsLeaves}
 use Rattle.pf_wire.specs.declared.steps.TheConstants as wire
 use Rattle.pf_steps.specs.Profile.{run_profile}
 use Rattle.pf_cli_messages.specs.Texts.{HasStatus, IsFailure}
-use Rattle.pf_words.specs.Words.{AnswerEnds, AnswersOf, End, FromFile, FromInput, FromNamed, FromOne, StepsEnd}
+use Rattle.pf_words.specs.Words.{AnswerEnds, AnswersOf, End, FromFile, FromNamed, FromOne, StepsEnd}
 use Rattle.pf_words.specs.Words.{TakesAtMost, WorkEnds, has_source, is_farm, may_be_several, most_bytes, unless_several}
 
 -- ---- of commands

@@ -1,11 +1,13 @@
 -- What words ask for, and what is done for it.
 use Rattle.std.proofs.Common.{◌≡◌, ◌≤◌, ℕ, Bool, true, false, List, length, Option, Result, Ok, Err, None, Some, refl}
-use Rattle.std.proofs.Common.{sym, ap, ◌∙◌, subst, inl, inr}
+use Rattle.std.proofs.Common.{sym, ap, ◌∙◌, subst, inl, inr, String, Global}
 use Rattle.std.specs.Prelude.{IfSome, codes, is_some}
 use Rattle.std.specs.Str.{bytes_eq}
 use Rattle.pf_errors.specs.declared.memory.NoMemory.{NoMemory}
 use Rattle.clap.specs.Words.{Text}
-use Rattle.pf_cli.specs.Args.{ReadWords, Wanted, farm, reading_by, reading_of, reads, reports, view_of_farm_args, works}
+use Rattle.pf_cli.specs.Args.{Wanted, reading_by, reading_of, reads, reports, works}
+use Rattle.pf_cli.specs.Args.{named_file, view_of_args, view_of_command}
+use Rattle.pf_cli.specs.declared.args.CliCommand.{CliCommand}
 use Rattle.pf_command.specs.Streams.{Streams, streams}
 use Rattle.pf_cli_messages.specs.Texts.{IsFailure}
 use Rattle.pf_text.specs.Numbers.{schedule_of}
@@ -14,9 +16,9 @@ use Rattle.pf_words.specs.declared.words.Obeyed.TheVariants.{Status, Farm}
 use Rattle.pf_words.specs.Schedules.{schedule_in}
 use Rattle.pf_words.specs.declared.request.WordsRequest.{WordsRequest}
 use Rattle.pf_words.specs.declared.request.WordsRequest.TheVariants as request
-use Rattle.pf_words.specs.Words.{AreContents, AskedIsDone, AskedIsDoneOrRefused, AsksFor, IsDone, IsDoneAs, IsDoneIn}
-use Rattle.pf_words.specs.Words.{IsDoneOrRefused, NothingOut, Obeys, ObeysBy, ObeysByFile, ObeysIn, RequestIsDone}
-use Rattle.pf_words.specs.Words.{TextReported}
+use Rattle.pf_words.specs.Words.{AreContents, AskedIsDone, AskedIsDoneOrRefused, AsksFor, IsDone, IsDoneAs}
+use Rattle.pf_words.specs.Words.{NothingOut, Obeys, ObeysBy, ObeysByFile, ObeysIn, RequestIsDone}
+use Rattle.pf_words.specs.Words.{FromOne, InForm, TextReported}
 
 -- with a text for the schedule no file is named
 pub never_reads : (o : Option Wanted) (file : Option Text) (status : ℕ) (name : Text)
@@ -30,6 +32,19 @@ pub asks_more : (P Q : (new : Streams) → Result Obeyed NoMemory → Type 0) (r
     → ((new : Streams) (r : Result Obeyed NoMemory) → P new r → Q new r) → AsksFor P read r → AsksFor Q read r
 asks_more P Q read (Ok x) more h = λ new o done. more new (Ok o) (h new o done)
 asks_more P Q read (Err e) more h = more read (Err e) h
+
+-- what is done for a request that is known
+pub asks_then : (P : (new : Streams) → Result Obeyed NoMemory → Type 0) (read new : Streams) (x y : WordsRequest)
+    (o : Obeyed) → x ≡ y → AsksFor P read (Ok x) → RequestIsDone y read new o → P new (Ok o)
+asks_then P read new x y o same asks done =
+    asks new o (subst (λ (z : WordsRequest). RequestIsDone z read new o) (sym same) done)
+
+-- the work that is asked for is done
+pub work_asks : (asked other : CliCommand) (old new : Streams) (given : ℕ) → other ≡ asked
+    → InForm other.format (FromOne (view_of_args other.args) (named_file other.args)) old new given
+    → AskedIsDone (view_of_command asked) (named_file asked.args) old new (Status given)
+work_asks asked other old new given same done =
+    subst (λ (k : CliCommand). AskedIsDone (view_of_command k) (named_file k.args) old new (Status given)) same done
 
 module _ (words : List Text) (old new : Streams) where
   pub asked_obeys : (w : Wanted) (file : Option Text) (o : Obeyed) → works w file ≡ reading_of None words
@@ -47,7 +62,7 @@ module _ (words : List Text) (old new : Streams) where
   text_obeys status is_fault given e h = subst (λ r. IsDoneAs words r old new given) e h
 
   -- the same of the request
-  pub text_asks : (text : Text) (status : ℕ) (is_fault : Bool) (o : Obeyed)
+  pub text_asks : (text : String Global) (status : ℕ) (is_fault : Bool) (o : Obeyed)
       → reports status is_fault ≡ reading_of None words
       → RequestIsDone (request.Text text status is_fault) old new o → Obeys words old new (Ok o)
   text_asks text status is_fault (Status given) e h = text_obeys status is_fault given e h
@@ -77,7 +92,7 @@ module _ (words : List Text) (text : Text) (old new : Streams) where
       → TextReported status is_fault old new given → ObeysBy words text old new (Ok (Status given))
   text_obeys_by status is_fault given e h = inl (subst (λ r. IsDone r old new given) e h)
 
-  pub text_asks_by : (said : Text) (status : ℕ) (is_fault : Bool) (o : Obeyed)
+  pub text_asks_by : (said : String Global) (status : ℕ) (is_fault : Bool) (o : Obeyed)
       → reports status is_fault ≡ reading_of (Some text) words
       → RequestIsDone (request.Text said status is_fault) old new o → ObeysBy words text old new (Ok o)
   text_asks_by said status is_fault (Status given) e h = text_obeys_by status is_fault given e h
@@ -89,24 +104,31 @@ pub or_refused : (w : Wanted) (file : Option Text) (old new : Streams) (o : Obey
 or_refused w file old new (Status given) h = inl h
 or_refused w file old new (Farm args) h = h
 
+nothing_out : (old new : Streams) → new ≡ old → NothingOut old new
+nothing_out old new same = (ap (λ s. s.written) same, ap (λ s. s.failed_writes) same)
+
 -- the source is to be what the schedule's file is: nothing is done
 pub refused_status : (w : Wanted) (file : Option Text) (old new : Streams) (o : Obeyed)
     → RequestIsDone (request.Refused 2) old new o → AskedIsDoneOrRefused w file old new o
-refused_status w file old new o h = rw (h.0, h.1) (inr ((refl, refl), inl refl))
+refused_status w file old new o h =
+    subst (λ (x : Obeyed). AskedIsDoneOrRefused w file old new x) (sym h.1) (inr (nothing_out old new h.0, inl refl))
 
 -- ---- by a file for the schedule
 
 -- which has none
 pub refused_in : (words : List Text) (contents : Text) (old new : Streams) (status : ℕ) (o : Obeyed)
     → IsFailure status → RequestIsDone (request.Refused status) old new o → ObeysIn words contents old new (Ok o)
-refused_in words contents old new status o is h = rw (h.0, h.1) (inr ((refl, refl), is))
+refused_in words contents old new status o is h =
+    subst (λ (x : Obeyed). ObeysIn words contents old new (Ok x)) (sym h.1) (inr (nothing_out old new h.0, is))
 
 -- or can't be read
 pub refused_by_file : (words : List Text) (file : Text) (u0 u1 w : Option (List ℕ)) (m0 m1 n : ℕ) (new : Streams)
     (status : ℕ) (o : Obeyed)
     → IsFailure status → RequestIsDone (request.Refused status) (streams u1 w m1 n) new o
     → ObeysByFile words file (streams u0 w m0 n) new (Ok o)
-refused_by_file words file u0 u1 w m0 m1 n new status o is h = rw (h.0, h.1) (inr ((refl, refl), is))
+refused_by_file words file u0 u1 w m0 m1 n new status o is h =
+    subst (λ (x : Obeyed). ObeysByFile words file (streams u0 w m0 n) new (Ok x)) (sym h.1)
+    (inr (nothing_out (streams u1 w m1 n) new h.0, is))
 
 -- by the schedule in its contents
 pub in_contents : (words : List Text) (contents : Text) (old new : Streams) (r : Result Obeyed NoMemory)

@@ -59,8 +59,33 @@ where
     }
 }
 
-/// The source, from the file that is named or from the standard input: it is read once, and what is past one byte more
-/// than a source may have isn't read.
+/// The bytes of a source, from the file that is named or from the standard input: up to one more than it may have. What
+/// follows isn't read.
+fn bytes_of<R, I: Read, L: Ledger>(
+    rt: &R,
+    file: Option<&str>,
+    stdin: &mut Counted<I, L>,
+) -> Result<Vec<u8>, OrNoMemory<StreamFault>>
+where
+    R: Files + AllocGlobal,
+    R::File: Drop,
+    ensures front { is_none file.entry ≡ true
+        → IfOk result (λ v. IfSome (I.remaining stdin.old.inner) (λ input. v.items ≡ take MOST_BYTES input)) }
+    ensures taken { (bytes : List ℕ) × (length bytes ≤ MOST_BYTES)
+        × Consumes (I.remaining stdin.old.inner) (I.remaining stdin.new.inner) bytes }
+    ensures kept { OnOk result (stdin.new.failures.total ≡ stdin.old.failures.total) }
+    ensures counted { is_none file.entry ≡ true
+        → IfErr result (λ e. CountsReadOrNone e stdin.old.failures.total stdin.new.failures.total) }
+    ensures unread { is_some file.entry ≡ true → I.remaining stdin.new.inner ≡ I.remaining stdin.old.inner }
+    ensures unfailed { is_some file.entry ≡ true → stdin.new.failures.total ≡ stdin.old.failures.total }
+{
+    match file {
+        Some(name) => bytes_of_file(rt, name),
+        None => stdin.take_front(rt.alloc(), MOST_BYTES),
+    }
+}
+
+/// The same source, read: whatever is done with it, it is read once.
 fn source_of<R, I: Read, L: Ledger>(
     rt: &R,
     file: Option<&str>,
@@ -70,7 +95,7 @@ where
     R: Files + AllocGlobal,
     R::File: Drop,
     ensures front { is_none file.entry ≡ true
-        → IfOk result (λ s. IfSome (I.remaining stdin.old.inner) (λ input. s.now ≡ take MOST_BYTES input)) }
+        → IfOk result (λ s. IfSome (I.remaining stdin.old.inner) (λ input. s ≡ take MOST_BYTES input)) }
     ensures taken { (bytes : List ℕ) × (length bytes ≤ MOST_BYTES)
         × Consumes (I.remaining stdin.old.inner) (I.remaining stdin.new.inner) bytes }
     ensures kept { OnOk result (stdin.new.failures.total ≡ stdin.old.failures.total) }
@@ -79,12 +104,8 @@ where
     ensures unread { is_some file.entry ≡ true → I.remaining stdin.new.inner ≡ I.remaining stdin.old.inner }
     ensures unfailed { is_some file.entry ≡ true → stdin.new.failures.total ≡ stdin.old.failures.total }
 {
-    let alloc = rt.alloc();
-    let bytes = match file {
-        Some(name) => bytes_of_file(rt, name)?,
-        None => stdin.take_front(alloc, MOST_BYTES)?,
-    };
-    Ok(ReadSource::new(alloc, bytes)?)
+    let bytes = bytes_of(rt, file, stdin)?;
+    Ok(ReadSource::new(rt.alloc(), bytes)?)
 }
 
 /// Does what is asked for, with the file that is named or with the standard input; its status.

@@ -1,4 +1,4 @@
-use Rattle.std.proofs.Common.{refl, map, inr}
+use Rattle.std.proofs.Common.{map}
 use Rattle.pf_command.specs.Streams.{streams}
 use Rattle.pf_words.specs.Words.{ObeysByFile, ObeysIn}
 use Rattle.pf_words.proofs.Reported.{are_contents, asks_more, by_contents, refused_by_file}
