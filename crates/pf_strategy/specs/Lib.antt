@@ -3,3 +3,4 @@ pub mod Strategies
 pub mod Laws
 pub mod Keys
 pub mod Priorities
+pub mod Places

@@ -4,10 +4,10 @@ use Rattle.std.specs.List.{remove}
 use Rattle.std.proofs.lemmas.Option.{get_or_from_slice_get}
 use Rattle.rand_pcg.specs.Pcg.{pcg32}
 use Rattle.pf_strategy.specs.Keys.{keys_among}
-use Rattle.pf_strategy.specs.Priorities.{all_given, highest_from, state_of}
+use Rattle.pf_strategy.specs.Priorities.{all_given, all_held, highest_from}
 use Rattle.pf_strategy.proofs.Places.{Gave, all_gone, count_of_keys, higher, long, no_higher, one_given, same_list}
-use Rattle.pf_strategy.proofs.priorities.Priorities.choose.Goals as goal
-use Rattle.pf_strategy.proofs.priorities.Priorities.choose.Goals.{then-priority-highest, else-priority-highest}
+use Rattle.pf_strategy.proofs.priorities.Priorities.choose_among.Goals as goal
+use Rattle.pf_strategy.proofs.priorities.Priorities.choose_among.Goals.{then-priority-highest, else-priority-highest}
 
 pub loop-at-preserved : goal.loop-at-preserved
 loop-at-preserved c =
@@ -69,8 +69,7 @@ returns-clause-choice c =
       c.loop-at-test.false,
       count_of_keys c.args.pids.now c.args.channels.now,
     ) in
-    let left : remove (take at hs) best ≡ c.remove.new.self.items =
-    ap (λ n. remove (take n hs) best) end ∙ ap (λ xs. remove xs best) (sym c.truncate.ensures.items)
-    ∙ sym c.remove.ensures.items in
-    all_gone pcg32 keys g hs at (state_of c.args.self.now) best c.loop-at.highest few i.given i.highest
+    let left : remove (take at hs) best ≡ remove c.truncate.new.self.items best =
+    ap (λ n. remove (take n hs) best) end ∙ ap (λ xs. remove xs best) (sym c.truncate.ensures.items) in
+    all_gone pcg32 keys g hs at (all_held c.args.self.now) best c.loop-at.highest few i.given i.highest
     ∙ ap (λ xs. (best, record { generator = g; held = xs })) left

@@ -4,7 +4,7 @@ use Rattle.rand_pcg.specs.Pcg.{pcg32}
 use Rattle.pf_strategy.specs.Keys.{keys_among}
 use Rattle.pf_strategy.specs.Priorities.{all_given, highest_from}
 use Rattle.pf_strategy.proofs.Places.{following}
-use Rattle.pf_strategy.proofs.priorities.Priorities.choose.Given as goal
+use Rattle.pf_strategy.proofs.priorities.Priorities.choose_among.Given as goal
 
 -- those of the keys that were gone through are before the index with their priorities, the highest of them is known,
 -- and those of the keys that are left give the same
