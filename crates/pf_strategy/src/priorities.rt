@@ -65,6 +65,7 @@ fn key_at(pids: &[u32], channels: &[(u32, u32)], at: usize) -> u64
 
 /// Whether those that are held up to and with an index have the first of the keys of processes and channels, and the
 /// next has a higher one.
+#[inline(never)]
 fn keeps_place(
     holders: &[HeldPriority],
     pids: &[u32],
@@ -170,7 +171,7 @@ impl Priorities {
     }
 
     /// The choice among these where all that are held are valid.
-    #[inline(always)]
+    #[inline(never)]
     fn choose_among(&mut self, pids: &[u32], channels: &[(u32, u32)]) -> Result<usize, NoMemory>
         requires { 0 < length pids.now + length channels.now }
         ensures choice { IfOk result (λ i.
@@ -195,6 +196,7 @@ impl Priorities {
 
     /// The next choice among these processes and then these channels, as an index from 0 on: the first of those with
     /// the highest priority. The allocation for their priorities may fail.
+    #[inline(always)]
     pub fn choose(&mut self, pids: &[u32], channels: &[(u32, u32)]) -> Result<usize, NoMemory>
         requires { 0 < length pids.now + length channels.now }
         ensures choice { IfOk result (λ i.
