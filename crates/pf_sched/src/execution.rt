@@ -161,6 +161,7 @@ impl Execution {
             → IsComplete T.Reported job.now w self.new trace.new) }
     {
         let mut shown = Label::Waits;
+        self.system.set_quiet(!trace.reads());
         if !self.advance(alloc, job.limit(), job.limit(), &mut shown, trace)? {
             unreachable!();
         }

@@ -24,6 +24,9 @@ pub(crate) trait Trace {
     /// It received these events, in their order, and knows of them what it has to for a run of this job.
     ghost Reported: { Self → model.Job → List model.Event → Type 0 };
 
+    /// Whether it reads what is sent, taken and delivered.
+    fn reads(&self) -> bool;
+
     /// Receives one event more: of `count` actors that might go number `choice` went, and showed this. It may take the
     /// label.
     fn notify(
@@ -40,6 +43,10 @@ pub(crate) trait Trace {
 /// The events themselves.
 impl Trace for Vec<Event> {
     ghost Reported = { ListsEvents };
+
+    fn reads(&self) -> bool {
+        true
+    }
 
     fn notify(
         &mut self,
@@ -81,6 +88,10 @@ impl<'a> SeenEvents<'a> {
 
 impl Trace for SeenEvents<'_> {
     ghost Reported = { λ s. Shows (property_of s.property.now) s.evidence };
+
+    fn reads(&self) -> bool {
+        matches!(self.property, Property::Never(_))
+    }
 
     fn notify(
         &mut self,
@@ -159,6 +170,10 @@ impl<'a> Writer<'a> {
 
 impl Trace for Writer<'_> {
     ghost Reported = { WritesEvents };
+
+    fn reads(&self) -> bool {
+        true
+    }
 
     fn notify(
         &mut self,

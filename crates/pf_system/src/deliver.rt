@@ -92,15 +92,22 @@ impl Processes {
         requires { IsShaped to self.old }
         ensures { OnOk result (ShowsAtLiving from to (signal_of signal) self.old shown.new self.new) }
     {
-        if let Signal::Message(message) = &signal {
-            let message = copy(message)?;
-            self.index(to, message)?;
-            *shown = Label::Delivers(signal, Suffix::TookEffect);
-            return Ok(());
+        match signal {
+            Signal::Message(message) => {
+                if self.shared.quiet {
+                    *shown = Label::Waits;
+                    return self.index(to, message);
+                }
+                self.index(to, copy(&message)?)?;
+                *shown = Label::Delivers(Signal::Message(message), Suffix::TookEffect);
+                Ok(())
+            }
+            signal => {
+                let suffix = self.take(alloc, from, to, &signal)?;
+                *shown = Label::Delivers(signal, suffix);
+                Ok(())
+            }
         }
-        let suffix = self.take(alloc, from, to, &signal)?;
-        *shown = Label::Delivers(signal, suffix);
-        Ok(())
     }
 
     /// What a signal other than a message does at a receiver that lives.

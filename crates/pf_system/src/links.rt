@@ -44,10 +44,14 @@ impl Shared {
         };
         let signal = Signal::Message(copy(&message)?);
         self.channels.send(alloc, pid, to, signal)?;
-        *shown = Label::Sends {
-            to,
-            message: copy(&message)?,
-        };
+        if self.quiet {
+            *shown = Label::Waits;
+        } else {
+            *shown = Label::Sends {
+                to,
+                message: copy(&message)?,
+            };
+        }
         Ok(Ok(message))
     }
 

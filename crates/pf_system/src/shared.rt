@@ -25,6 +25,8 @@ use std::alloc::Global;
 pub(crate) struct Shared {
     pub(crate) ties: Ties,
     pub(crate) channels: Channels,
+    /// Whether nobody reads what is sent, taken and delivered.
+    pub(crate) quiet: bool,
 }
 
 /// The answer to an action that raises this reason, which it shows.

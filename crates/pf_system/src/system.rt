@@ -97,6 +97,7 @@ impl System {
             shared: Shared {
                 ties: Ties::new(alloc),
                 channels: Channels::new(alloc),
+                quiet: false,
             },
             ready: spare.take_ready(alloc),
             spare,
@@ -241,6 +242,13 @@ impl System {
                 Ok(1)
             }
         }
+    }
+
+    /// Makes no labels of what is sent, taken and delivered from now on, or makes them.
+    pub fn set_quiet(&mut self, quiet: bool)
+        ensures { self.new ≡ self.old }
+    {
+        self.processes.shared.quiet = quiet;
     }
 
     /// Takes what runs before left, in place of what it had.

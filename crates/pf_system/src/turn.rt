@@ -69,7 +69,11 @@ impl Processes {
             }
             Move::Action(act) => self.act(alloc, pid, act, shown),
             Move::Take(message) => {
-                *shown = Label::Takes(message);
+                if self.shared.quiet {
+                    *shown = Label::Waits;
+                } else {
+                    *shown = Label::Takes(message);
+                }
                 Ok(())
             }
             Move::Wait => {
