@@ -129,10 +129,12 @@ setelement(Index, Tuple, Value, Env, Mode) ->
 -spec operation(atom(), arity(), [plain_text:expression()], mode()) -> plain_text:body().
 operation('++', 2, [A, B], plain) -> [{op, '++', A, B}];
 operation(Function, Arity, Arguments, Mode) ->
+    Floats = plain_float:needs(Function, Arguments),
     Itself = not lists:member(Function, ['and', 'or', 'xor', 'not', size, byte_size]) andalso plain_guard:pure(Function, Arguments),
     Direct = lists:member({Function, Arity}, direct()),
     Checked = Mode =/= plain andalso lists:member({Function, Arity}, may_fail()),
     case {Checked, Direct, Itself} of
+        _ when Floats -> [plain_call:function(pf_float, Function, Arity, Arguments, Mode)];
         {true, false, _} -> [plain_call:checked(Function, Arguments)];
         {true, true, _} when Mode =:= checked -> [plain_call:checked(Function, Arguments)];
         {_, true, _} -> [plain_body:returned(plain_trace:action(Function, Arguments), Mode)];

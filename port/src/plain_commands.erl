@@ -235,6 +235,7 @@ term(Text) ->
 -spec of_erlang(term()) -> term().
 of_erlang({'#bin', Bytes}) -> list_to_binary(Bytes);
 of_erlang({'#map', Pairs}) -> maps:from_list(of_erlang(Pairs));
+of_erlang({'#float', Key}) -> plain_float:value(Key);
 of_erlang({'#pid', Number}) -> list_to_pid("<0." ++ integer_to_list(Number) ++ ".0>");
 of_erlang({'#ref', Number}) -> list_to_ref("#Ref<0.0.0." ++ integer_to_list(Number) ++ ">");
 of_erlang(Tuple) when is_tuple(Tuple) -> list_to_tuple(of_erlang(tuple_to_list(Tuple)));

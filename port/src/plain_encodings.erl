@@ -21,8 +21,8 @@ note(Module, _, _) ->
 %% @doc A note on times.
 -spec times() -> ok.
 times() ->
-    plain_refusal:note_once(clock, "time is virtual: it passes where nobody else can go, in the order of the deadlines; "
-                                   "a run that fails where it passes earlier is left out of a hunt, and --patience early counts it").
+    plain_refusal:note_once(clock, "time is virtual: it passes only where nobody else can go, in the order of the deadlines; "
+                                   "--patience early has it pass at any moment").
 
 -spec sentence(module()) -> {atom(), string()} | none.
 sentence(ets) -> {ets, "a table is kept by a process, and each call is a message and its answer; a table outlives its owner until that process gets the message"};

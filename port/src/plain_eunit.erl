@@ -199,9 +199,9 @@ rounds(From, End, Ready, Done) ->
 one(From, To, {#{text := Text} = All, Asked, Roots}, Root) ->
     Translation = All#{roots := [Root]},
     case plain_farm:with_file(Text, fun(File) -> plain_hunt:least(From, To, File, Asked, Translation) end) of
-        {none, Early} ->
+        {none, Crossed} ->
             {#{name := Name}, Root} = lists:keyfind(Root, 2, Roots),
-            plain_hunt:left_out([Name, ": "], Early),
+            plain_hunt:left_out([Name, ": "], Crossed),
             {holds, To - From};
         {found, Seed, Report, Verdict} ->
             Lines = plain_answer:lines(Report, Asked, Translation),

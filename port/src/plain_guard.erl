@@ -1,6 +1,6 @@
 %% @doc Guards, and the operators and tests that stand for themselves in guards and bodies.
 -module(plain_guard).
--export([guard/2, pure/2]).
+-export([guard/2, pure/2, tagged/2]).
 
 -type environment() :: plain_tree:environment().
 
@@ -73,17 +73,23 @@ test(_, _) -> throw(complex).
 
 %% @doc A call of erlang that the profile has as it is, or as a few of its own operators.
 -spec pure(atom(), [plain_text:expression()]) -> plain_text:expression() | no.
-pure(Operator, [A, B]) when Operator =:= '+'; Operator =:= '-'; Operator =:= '*'; Operator =:= 'div'; Operator =:= 'rem' -> {op, Operator, A, B};
-pure(Operator, [A, B]) when Operator =:= '<'; Operator =:= '>'; Operator =:= '=<'; Operator =:= '>=';
-                            Operator =:= '=='; Operator =:= '/='; Operator =:= '=:='; Operator =:= '=/=' -> {op, Operator, A, B};
-pure('-', [A]) -> {neg, A};
+pure(Operator, [A, B]) when Operator =:= 'div'; Operator =:= 'rem'; Operator =:= '=:='; Operator =:= '=/=' -> {op, Operator, A, B};
+pure(Operator, [_, _] = Both) when Operator =:= '+'; Operator =:= '-'; Operator =:= '*'; Operator =:= '<'; Operator =:= '>'; Operator =:= '=<';
+                                   Operator =:= '>='; Operator =:= '=='; Operator =:= '/=' -> plain_float:operator(Operator, Both);
+pure('-', [{tuple, [{atom, '#float'}, {int, Key}]}]) -> {tuple, [{atom, '#float'}, {int, -Key}]};
+pure('-', [A]) -> case plain_float:needs('-', [A]) of true -> no; false -> {neg, A} end;
 pure('and', [A, B]) -> {op, 'andalso', A, B};
 pure('or', [A, B]) -> {op, 'orelse', A, B};
 pure('xor', [A, B]) -> {op, '/=', A, B};
 pure('not', [A]) -> {op, '==', A, {atom, false}};
 pure(is_boolean, [A]) -> {op, 'orelse', {op, '==', A, {atom, true}}, {op, '==', A, {atom, false}}};
-pure(is_number, [A]) -> {call, is_integer, [A]};
-pure(Function, [_]) when Function =:= is_float; Function =:= is_port -> {atom, false};
+pure(is_number, [A]) ->
+    case plain_float:are_made() of
+        true -> {op, 'orelse', {call, is_integer, [A]}, tagged(A, '#float')};
+        false -> {call, is_integer, [A]}
+    end;
+pure(is_float, [A]) -> case plain_float:are_made() of true -> tagged(A, '#float'); false -> {atom, false} end;
+pure(is_port, [_]) -> {atom, false};
 pure(Function, [A]) when Function =:= is_binary; Function =:= is_bitstring -> tagged(A, '#bin');
 pure(is_map, [A]) -> tagged(A, '#map');
 pure(is_function, [A]) -> tagged(A, '#fun');
@@ -117,6 +123,6 @@ untagged(A) ->
         lib -> {call, is_tuple, [A]};
         _ ->
             First = {call, element, [{int, 1}, A]},
-            Other = lists:foldr(fun(Tag, Rest) -> both({op, '/=', First, {atom, Tag}}, Rest) end, {op, '/=', First, {atom, '#fun'}}, ['#map', '#bin']),
+            Other = lists:foldr(fun(Tag, Rest) -> both({op, '/=', First, {atom, Tag}}, Rest) end, {op, '/=', First, {atom, '#fun'}}, ['#map', '#bin'] ++ ['#float' || plain_float:are_made()]),
             both({call, is_tuple, [A]}, {op, 'orelse', {op, '==', A, {tuple, []}}, Other})
     end.

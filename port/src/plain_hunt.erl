@@ -1,6 +1,5 @@
 %% @doc Hunts by a property that is judged here. The farm hunts by its own, which fail in all the runs that this one may fail in, by the
-%% strategy that it is given; each run that it finds is judged, and where it holds, or fails by a time that passes early, the hunt goes on after
-%% its seed.
+%% strategy that it is given; each run that it finds is judged, and where it holds the hunt goes on after its seed.
 -module(plain_hunt).
 -export([hunt/2, mixed/2, judge/2, least/5, within/1, search/4, left_out/2, seeds/1, time/1, complained/1]).
 
@@ -9,8 +8,8 @@
 -define(DEFAULT, "0..1000").
 -type asked() :: plain_words:asked().
 -type translation() :: plain_translation:translation().
-%% Seeds that are left out, each with the reason: a time passes early, or signals crossed as one node doesn't show it.
--type left_out() :: [{early | crossed, non_neg_integer()}].
+%% Seeds that are left out: signals crossed as one node doesn't show it.
+-type left_out() :: [non_neg_integer()].
 %% A run that fails: its seed, and what the farm said of it; or none, and the seeds that are left out.
 -type found() :: {found, non_neg_integer(), binary(), plain_verdict:verdict()} | {none, left_out()} | {answer, {binary(), 0..255} | missing}.
 
@@ -105,26 +104,25 @@ time(Text) ->
         nomatch -> no
     end.
 
-%% @doc Says how many seeds are left out, and why.
+%% @doc Says how many seeds are left out.
 -spec left_out(iodata(), left_out()) -> ok.
+left_out(_, []) -> ok;
 left_out(Hunted, Seeds) ->
-    Reasons = [{early, "by a time that passes while others may go, and are left out; --patience early counts such"},
-               {crossed, "by signals in an order that one node doesn't show, and are left out"}],
-    [plain_command:complain(["pulsefarm-erl: ", Hunted, io_lib:format("~w of these seeds fail ~s~n", [length(Own), Said])])
-     || {Reason, Said} <- Reasons, Own <- [[Seed || {Why, Seed} <- Seeds, Why =:= Reason]], Own =/= []],
+    plain_command:complain(["pulsefarm-erl: ", Hunted, io_lib:format("~w of these seeds fail by signals in an order that one node doesn't show, and are left out~n",
+                                                                     [length(Seeds)])]),
     ok.
 
 %% Blocks of seeds until the time is over, or all are.
 -spec blocks({non_neg_integer(), left_out()}, non_neg_integer(), pos_integer(), integer() | never, file:filename(), asked(), translation()) -> searched().
-blocks({First, Early}, From, Last, End, File, Asked, Translation) ->
+blocks({First, Crossed}, From, Last, End, File, Asked, Translation) ->
     Over = From > First andalso is_integer(End) andalso erlang:monotonic_time(millisecond) >= End,
     case From >= Last orelse Over of
-        true -> {{none, Early}, From - First, case From < Last of true -> stopped; false -> whole end};
+        true -> {{none, Crossed}, From - First, case From < Last of true -> stopped; false -> whole end};
         false ->
             Next = min(From + ?BLOCK, Last),
             plain_progress:seeds(From - First, case End of never -> Last - First; _ -> time end),
             case least(From, Next, File, Asked, Translation) of
-                {none, More} -> blocks({First, Early ++ More}, Next, Last, End, File, Asked, Translation);
+                {none, More} -> blocks({First, Crossed ++ More}, Next, Last, End, File, Asked, Translation);
                 Found -> {Found, Next - First, whole}
             end
     end.
@@ -143,14 +141,14 @@ least(From, To, File, #{words := Words} = Asked, Translation) ->
                         {none, _} -> Found;
                         Earlier -> Earlier
                     end;
-                {none, Early} -> with(Early, crashing(From, To, File, Crashes, Translation));
+                {none, Crossed} -> with(Crossed, crashing(From, To, File, Crashes, Translation));
                 Other -> Other
             end
     end.
 
 %% With more seeds that are left out.
 -spec with(left_out(), found()) -> found().
-with(Early, {none, More}) -> {none, lists:usort(Early ++ More)};
+with(Crossed, {none, More}) -> {none, lists:usort(Crossed ++ More)};
 with(_, Other) -> Other.
 
 -spec crashing(non_neg_integer(), pos_integer(), file:filename(), asked(), translation()) -> found().
@@ -163,7 +161,7 @@ judged(_, From, To, _, _, _) when From >= To -> {none, []};
 judged(Property, From, To, File, Asked, Translation) ->
     case one(Property, From, To, File, Asked, Translation) of
         {found, Seed, _, holds} -> judged(Property, Seed + 1, To, File, Asked, Translation);
-        {found, Seed, _, Verdict} when Verdict =:= early; Verdict =:= crossed -> with([{Verdict, Seed}], judged(Property, Seed + 1, To, File, Asked, Translation));
+        {found, Seed, _, crossed} -> with([Seed], judged(Property, Seed + 1, To, File, Asked, Translation));
         Other -> Other
     end.
 
@@ -172,7 +170,7 @@ judged(Property, From, To, File, Asked, Translation) ->
 one(Property, From, To, File, #{words := Words} = Asked, Translation) ->
     Given = plain_words:without(["--seeds", "--for", "--shrink", "--test", "--junit", "--all-roots", "--fail-fast"], Words),
     Seeds = lists:flatten(io_lib:format("~w..~w", [From, To])),
-    case plain_farm:call(plain_words:base("hunt", File, Asked, Translation, Property) ++ ["--seeds", Seeds | Given]) of
+    case plain_farm:call(plain_words:base("hunt", File, Asked, Translation, Property) ++ plain_words:last(Words, Translation) ++ ["--seeds", Seeds | Given]) of
         {_, 0} -> {none, []};
         {<<"seed ", Rest/binary>> = Text, 1} ->
             {Seed, _} = string:to_integer(Rest),
@@ -184,8 +182,8 @@ one(Property, From, To, File, #{words := Words} = Asked, Translation) ->
 verdict(Text, Asked, Translation) -> plain_verdict:of_run(plain_verdict:asked(Asked), plain_answer:report(Text), Asked, Translation).
 
 -spec reported(searched(), file:filename(), asked(), translation()) -> 0..255.
-reported({{none, Early}, Number, How}, _, Asked, _) ->
-    left_out("", Early),
+reported({{none, Crossed}, Number, How}, _, Asked, _) ->
+    left_out("", Crossed),
     Lines = [io_lib:format("stopped behind ~w seeds", [Number]) || How =:= stopped] ++ [io_lib:format("no failure in ~w seeds", [Number])],
     plain_json:put([{Line, plain_json:of_line(iolist_to_binary(Line))} || Line <- Lines], Asked),
     0;
@@ -203,24 +201,24 @@ reported({{found, Seed, Text, Verdict}, _, _}, File, #{words := Words} = Asked, 
 judge(#{command := run, words := Words} = Asked, #{text := Text} = Translation) ->
     plain_farm:with_file(Text, fun(File) ->
         Base = plain_words:base("run", File, Asked, Translation, "returns"),
-        case plain_farm:call(Base ++ plain_words:with_choice(run, plain_words:without(["--explain"], Words))) of
+        case plain_farm:call(Base ++ plain_words:last(Words, Translation) ++ plain_words:with_choice(run, plain_words:without(["--explain"], Words))) of
             {Report, Status} when Status < 2 ->
                 plain_standing:left("", plain_answer:report(Report), Asked),
                 Judged = answered(Report, verdict(Report, Asked, Translation), Asked, Translation),
-                passes_early(Report, Asked),
+                strange(Report, Asked),
                 plain_standing:explain(Report, Asked, Translation),
                 Judged;
             Answer -> plain_command:reported(Answer, Asked, Translation)
         end
     end).
 
-%% Says of one run that a hunt leaves it out where it fails.
--spec passes_early(binary(), asked()) -> ok.
-passes_early(Report, Asked) ->
+%% Says of one run what no hunt finds: a time that passes while others may go, or signals that one node doesn't show so.
+-spec strange(binary(), asked()) -> ok.
+strange(Report, Asked) ->
     #{events := Events} = plain_answer:report(Report),
-    Early = [io_lib:format("a time of ~w ms passes while others may go", [Time]) || {_, Time} <- lists:sublist(plain_verdict:early(Events, Asked), 1)],
-    Crossed = ["signals come in an order that one node doesn't show" || maps:get(one_node, Asked, false), plain_one_node:crossed(Events)],
-    [plain_command:complain(["pulsefarm-erl: here ", Said, "; a hunt leaves such a run out where it fails\n"]) || Said <- Early ++ Crossed],
+    Said = ["a time passes while others may go" || plain_time:early(Events)]
+        ++ ["signals come in an order that one node doesn't show" || maps:get(one_node, Asked, false), plain_one_node:crossed(Events)],
+    [plain_command:complain(["pulsefarm-erl: here ", What, "; no hunt finds such a run\n"]) || What <- Said],
     ok.
 
 %% An answer whose last line is the verdict.
@@ -228,7 +226,7 @@ passes_early(Report, Asked) ->
 answered(Text, Verdict, Asked, Translation) ->
     {Line, Status} = case Verdict of
         holds -> {<<"property holds">>, 0};
-        Failing when Failing =:= fails; Failing =:= early; Failing =:= crossed -> {<<"property fails">>, 1};
+        Failing when Failing =:= fails; Failing =:= crossed -> {<<"property fails">>, 1};
         refused -> {<<"no verdict">>, 2}
     end,
     Reported = re:replace(Text, <<"^(property (holds|fails)|no verdict)$">>, Line, [multiline, {return, binary}]),

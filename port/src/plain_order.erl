@@ -165,15 +165,17 @@ ordered(Numbered, Effects) ->
     go_on(Queues, 0, Before, #{}, []).
 
 %% For each event those that have to come before: the one before at its process, the one before of those that go by names or start
-%% processes, what sent the signal that is delivered, and what started its process.
+%% processes, what sent the signal that is delivered, and what started its process. A time passes after all that is before it.
 -spec dependencies([pos_integer()], numbered(), effects()) -> #{pos_integer() => [pos_integer()]}.
 dependencies(Numbers, Numbered, Effects) ->
+    Tickers = plain_time:tickers(maps:values(Numbered)),
     {Before, _} = lists:foldl(fun(Number, {Known, State}) ->
         #{Number := #{subject := Subject} = Event} = Numbered,
         #{Number := #{sends := Sends, spawns := Spawned}} = Effects,
-        #{last := Last, shared := Shared, signals := Signals} = State,
+        #{last := Last, shared := Shared, signals := Signals, passed := Passed} = State,
         At = case Subject of {turn, P} -> P; {delivery, _, B} -> B end,
         Together = is_shared(Event),
+        Passes = plain_time:passes(Event, Tickers),
         {Sent, Left} = case Subject of
             {delivery, From, To} ->
                 case maps:get({From, To}, Signals, []) of
@@ -182,11 +184,12 @@ dependencies(Numbers, Numbered, Effects) ->
                 end;
             _ -> {[], Signals}
         end,
-        Needs = [N || N <- [maps:get(At, Last, none)] ++ [Shared || Together] ++ Sent, N =/= none],
+        Needs = [N || N <- [maps:get(At, Last, none), Passed] ++ [Shared || Together] ++ Sent, N =/= none] ++ lists:append([maps:values(Last) || Passes]),
         More = lists:foldl(fun(Channel, S) -> S#{Channel => maps:get(Channel, S, []) ++ [Number]} end, Left, Sends),
         Lasts = case Spawned of none -> Last#{At => Number}; _ -> Last#{At => Number, Spawned => Number} end,
-        {Known#{Number => Needs}, #{last => Lasts, shared => case Together of true -> Number; false -> Shared end, signals => More}}
-    end, {#{}, #{last => #{}, shared => none, signals => #{}}}, Numbers),
+        {Known#{Number => Needs}, #{last => Lasts, shared => case Together of true -> Number; false -> Shared end, signals => More,
+                                    passed => case Passes of true -> Number; false -> Passed end}}
+    end, {#{}, #{last => #{}, shared => none, signals => #{}, passed => none}}, Numbers),
     Before.
 
 %% Whether an event reads or writes what all processes share: names, and the numbers of pids and references.

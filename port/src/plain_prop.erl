@@ -86,13 +86,13 @@ judged(Test, Root, #{text := Text} = Translation, {Module, _, _, #{words := Word
     Seeds = plain_words:value("--seeds", Words, ?SEEDS),
     One = Translation#{roots := [Root]},
     Answer = plain_farm:with_file(Text, fun(File) ->
-        plain_farm:call(plain_words:base("hunt", File, Asked, One, "returns") ++ ["--all", "--seeds", Seeds | Given])
+        plain_farm:call(plain_words:base("hunt", File, Asked, One, "returns") ++ plain_words:last(Words, One) ++ ["--all", "--seeds", Seeds | Given])
     end),
     case Answer of
         missing -> {refused, "the program pulsefarm is not on the path"};
         {Said, Status} when Status >= 2 -> {refused, string:trim(Said)};
         {Lines, _} -> outcomes([outcome(Line) || Line <- binary:split(Lines, <<"\n">>, [global, trim]),
-                binary:match(Line, <<" seeds, least ">>) =/= nomatch], Test, One, {Module, Asked})
+                binary:match(Line, <<" seeds, least ">>) =/= nomatch], Test, Module)
     end.
 
 -spec outcome(binary()) -> {non_neg_integer(), binary()}.
@@ -101,36 +101,14 @@ outcome(Line) ->
             all_but_first, binary}, dotall]),
     {binary_to_integer(Least), Outcome}.
 
--spec outcomes([{non_neg_integer(), binary()}], commands(), plain_translation:translation(), {module(), asked()}) ->
-        judged().
-outcomes([{Least, Outcome} | Rest], Test, One, {Module, Asked} = Place) ->
+-spec outcomes([{non_neg_integer(), binary()}], commands(), module()) -> judged().
+outcomes([{Least, Outcome} | Rest], Test, Module) ->
     case plain_commands:explained(Outcome, Test, Module) of
-        true -> outcomes(Rest, Test, One, Place);
+        true -> outcomes(Rest, Test, Module);
         {refused, Sentence} -> {refused, Sentence};
-        {false, Why} ->
-            case early(Least, One, Asked) of
-                true -> outcomes(Rest, Test, One, Place);
-                false -> {fails, {Test, Least, Why, Outcome}}
-            end
+        {false, Why} -> {fails, {Test, Least, Why, Outcome}}
     end;
-outcomes([], _, _, _) -> holds.
-
-%% Whether a time passes early in the run of a seed.
--spec early(non_neg_integer(), plain_translation:translation(), asked()) -> boolean().
-early(Seed, #{text := Text} = One, #{words := Words} = Asked) ->
-    Given = [Word || Name <- ["--strategy", "--weights", "--edition"], Value <- [plain_words:value(Name, Words, none)],
-            Value =/= none, Word <- [Name, Value]],
-    Strategy = ["--strategy" || not lists:member("--strategy", Given)] ++ ["pos" || not lists:member("--strategy",
-            Given)],
-    Answer = plain_farm:with_file(Text, fun(File) ->
-        plain_farm:call(plain_words:base("run", File, Asked, One, "returns") ++ ["--seed", integer_to_list(Seed)] ++
-                Given ++ Strategy)
-    end),
-    case Answer of
-        {Report, Status} when Status < 2 -> plain_verdict:early(maps:get(events, plain_answer:report(Report)),
-                Asked) =/= [];
-        _ -> false
-    end.
+outcomes([], _, _) -> holds.
 
 -spec reported(judged(), pos_integer(), tuple()) -> 0..2.
 reported(holds, Number, {_, _, _, #{words := Words}}) ->

@@ -44,9 +44,8 @@ place(File, Line) -> io_lib:format("~ts:~w", [filename:basename(File), Line]).
 
 %% @doc Why a function of another module is refused, and what to do.
 -spec why(module(), atom()) -> string().
-why(erlang, '/') -> "gives a float, and the profile has none; divide with div, or count in smaller units";
-why(erlang, F) when F =:= float; F =:= round; F =:= trunc; F =:= ceil; F =:= floor; F =:= float_to_list; F =:= list_to_float ->
-    "is for floats, and the profile has none; count in integers";
+why(erlang, F) when F =:= float_to_list; F =:= list_to_float; F =:= float_to_binary; F =:= binary_to_float ->
+    "is for texts of floats, which aren't translated; count in integers";
 why(erlang, is_process_alive) -> "can't be asked in the profile; set a monitor, whose 'DOWN' tells that a process has ended";
 why(erlang, F) when F =:= process_info; F =:= processes; F =:= process_display; F =:= suspend_process; F =:= resume_process;
                     F =:= statistics; F =:= system_info; F =:= system_flag; F =:= memory; F =:= trace; F =:= registered ->
@@ -70,7 +69,7 @@ why(Module, _) when Module =:= code; Module =:= erl_eval; Module =:= erl_scan; M
 why(Module, _) when Module =:= io_lib; Module =:= unicode; Module =:= binary; Module =:= re; Module =:= base64 ->
     "makes or reads text or binaries, which is not translated; keep terms, or put a module of that name among the files";
 why(eunit, _) -> "runs tests of EUnit; pulsefarm-erl eunit FOLDER hunts each of them";
-why(math, _) -> "is for floats, and the profile has none; count in integers";
+why(math, _) -> "is for floats, and only their sums, products and order are translated; count in integers";
 why(ets, _) -> "is not among the functions of ets that the library has (port/ENCODINGS.md); take insert, lookup, delete, match_object, select";
 why(sys, _) -> "looks into a server from outside, which is not translated; add a call to the server that answers it";
 why(Module, _) when Module =:= global; Module =:= rpc; Module =:= erpc; Module =:= net_adm; Module =:= net_kernel ->

@@ -8,7 +8,7 @@
 -type translation() :: plain_translation:translation().
 %% A failing run: its schedule, its report as text, and how it fails.
 -type run() :: #{schedule := [non_neg_integer()], text := binary(), failure := failure(), size := {non_neg_integer(), non_neg_integer()}}.
-%% The kind of the outcome, with whether a time passes early, and the reason of the first crash, and its place, which is asked for where all
+%% The kind of the outcome, with whether a time passes while others may go, and the reason of the first crash, and its place, which is asked for where all
 %% else is the same.
 -type failure() :: {kind(), binary() | none, fun(() -> binary())}.
 -type kind() :: {binary(), boolean()}.
@@ -95,7 +95,7 @@ run(Schedule, {File, #{words := Words} = Asked, Translation}) ->
                 {false, [], 0} -> holds
             end,
             case Verdict of
-                Failing when Failing =:= fails; Failing =:= early ->
+                fails ->
                     Reported = re:replace(Report, <<"^property (holds|fails)$">>, <<"property fails">>, [multiline, {return, binary}]),
                     {fails, #{schedule => plain_report:choices(Events), text => Reported, failure => failure(Read, Asked, Translation),
                               size => {plain_order:switches(Events), length(Events)}}};
@@ -108,7 +108,7 @@ run(Schedule, {File, #{words := Words} = Asked, Translation}) ->
 -spec failure(plain_report:report(), asked(), translation()) -> failure().
 failure(#{events := Events, rest := Rest}, Asked, Translation) ->
     [Word | _] = binary:split(plain_verdict:outcome(Rest), <<" ">>),
-    Kind = {Word, plain_verdict:early(Events, Asked) =/= []},
+    Kind = {Word, plain_time:early(Events)},
     Crashes = [End || {_, _, Reason, own} = End <- plain_answer:ends(Events), not plain_answer:orderly(Reason)],
     case Crashes of
         [{Number, P, Reason, own} | _] ->

@@ -19,6 +19,7 @@
   | atoms | atom_places           % the atoms of the module; where those of the sources stand
   | values | tags                 % the atoms that the sources make values of; those that stand first in tuples
   | monitors | named              % what the sources monitor; whether names are
+  | floats                        % whether the module makes floats
   | narrow                        % whether those alone that stand elsewhere too may name a function
   | known | made                  % the atoms that the passes before found to be made, and those that this pass finds
   | notes | refusals
@@ -30,14 +31,14 @@
 -export_type([key/0]).
 
 %% @doc Begins anew. What the pass before found stays in `Services' and `Known', and `Short' asks for short names.
--spec start(map(), #{services := map(), known := map() | all, short := boolean(), narrow := boolean(), named := boolean()}) -> ok.
-start(Options, #{services := Services, known := Known, short := Short, narrow := Narrow, named := Named}) ->
+-spec start(map(), #{services := map(), known := map() | all, short := boolean(), narrow := boolean(), named := boolean(), floats := boolean()}) -> ok.
+start(Options, #{services := Services, known := Known, short := Short, narrow := Narrow, named := Named, floats := Floats}) ->
     Maps = [modules, wanted, trees, lifted, lifted_names, funs, calls, remote_calls, exports, prelude, short_names, atoms, atom_places, values, tags, made, monitors, names, shapes, marks],
     Lists = [users, roots, defines, queue, functions, notes, refusals],
     [put(Key, #{}) || Key <- Maps],
     [put(Key, []) || Key <- Lists],
     put(defines, ['NAMED_MONITORS' || Named]),
-    [put(Key, Value) || {Key, Value} <- [{options, Options}, {services, Services}, {known, Known}, {short, Short}, {narrow, Narrow}, {named, Named}, {last_name, 0}, {main, none}, {counter, 0}, {function, none}, {origin, none},
+    [put(Key, Value) || {Key, Value} <- [{options, Options}, {services, Services}, {known, Known}, {short, Short}, {narrow, Narrow}, {named, Named}, {floats, Floats}, {last_name, 0}, {main, none}, {counter, 0}, {function, none}, {origin, none},
                                          {clock, false}, {file, ""}, {module, none}, {kind, user}, {base, none}, {line, 0}, {mode, plain}]],
     ok.
 

@@ -10,12 +10,13 @@
 -type options() :: #{includes := [file:filename()], defines := [atom() | {atom(), term()}], library_defines := [atom() | {atom(), term()}],
                      root := atom() | none | {all, [atom()]}, never := non_neg_integer() | infinity, lax := boolean(), calls := [{module(), atom()}], traced := boolean(),
                      arguments := boolean(), cuts := plain_cut:cuts()}.
-%% What a pass begins with: the services that are used, the atoms that are made, and whether names are short, whether tags name no functions, and whether names are monitored.
--type plan() :: #{services := map(), known := map() | all, short := boolean(), narrow := boolean(), named := boolean()}.
+%% What a pass begins with: the services that are used, the atoms that are made, and whether names are short, whether tags name no functions, whether names are monitored, and whether floats are made.
+-type plan() :: #{services := map(), known := map() | all, short := boolean(), narrow := boolean(), named := boolean(), floats := boolean()}.
 -type refusal() :: {file:filename(), non_neg_integer(), string()}.
 %% A place of the sources: what kind of module, file, line, and the function there, or a fun in it.
 -type place() :: {plain_modules:kind(), file:filename(), non_neg_integer(), {module(), atom(), arity()} | {'fun', {module(), atom(), arity()}}}.
--type translation() :: #{text := binary(), map := [plain_map:row()], notes := [string()], roots := [atom()], marks := #{pos_integer() => place()},
+%% A module with a clock has a ticker that goes last, unless its times pass whatever others do.
+-type translation() :: #{text := binary(), clock := boolean(), map := [plain_map:row()], notes := [string()], roots := [atom()], marks := #{pos_integer() => place()},
                          names := #{atom() => place()}, main := module(), atoms := #{atom() => [place()]}, exports := #{module() => [{atom(), arity()}]}}.
 -export_type([options/0, translation/0, refusal/0, place/0]).
 
@@ -61,15 +62,16 @@ attempt(Files, Options) ->
     end.
 
 -spec first_plan() -> plan().
-first_plan() -> #{services => #{}, known => plain_prune:given(), short => false, narrow => false, named => false}.
+first_plan() -> #{services => #{}, known => plain_prune:given(), short => false, narrow => false, named => false, floats => false}.
 
 %% Passes go on until the services that are used are those that are started, nothing more is found to be made, and the text is short enough.
 -spec pass([file:filename()], options(), plan()) -> {ok, translation()} | {refused, [refusal()]}.
-pass(Files, Options, #{known := Known, short := Short, narrow := Narrow, named := Named} = Plan) ->
+pass(Files, Options, #{known := Known, short := Short, narrow := Narrow, named := Named, floats := Floats} = Plan) ->
     plain_state:start(Options, Plan),
     Roots = begin_with(Files, Options),
     plain_reach:work(),
-    case {Plan#{services := plain_services:used(), known := plain_prune:after_pass(Known), named := Named orelse names_monitored()}, lists:usort(plain_state:get(refusals))} of
+    case {Plan#{services := plain_services:used(), known := plain_prune:after_pass(Known), named := Named orelse names_monitored(),
+                floats := Floats orelse maps:is_key('#float', plain_state:get(made))}, lists:usort(plain_state:get(refusals))} of
         {Plan, []} ->
             #{text := Text} = Translation = written(Roots),
             case byte_size(Text) of
@@ -136,7 +138,7 @@ written(Roots) ->
     Exports = [[plain_text:atom(Name), "/", integer_to_list(Arity)] || {Name, Arity} <- plain_start:exports()],
     Head = ["-module(", plain_text:atom(Main), ").\n-export([", lists:join(",", Exports), "]).\n"],
     {Texts, Rows} = plain_map:number(lists:reverse(plain_state:get(functions)) ++ Extra, 3),
-    #{text => iolist_to_binary([Head, Texts]), map => Rows, notes => [Text || {_, Text} <- lists:reverse(plain_state:get(notes))], roots => Roots,
+    #{text => iolist_to_binary([Head, Texts]), clock => plain_services:ticks(), map => Rows, notes => [Text || {_, Text} <- lists:reverse(plain_state:get(notes))], roots => Roots,
       marks => maps:from_list([{Number, Place} || {Place, Number} <- maps:to_list(plain_state:get(marks))]),
       names => names(), main => Main, atoms => plain_state:get(atom_places), exports => maps:from_list([{Module, plain_modules:exported(Module, user)} || Module <- plain_state:get(users)])}.
 

@@ -114,13 +114,30 @@ literal(Tuple, Line) when is_tuple(Tuple), tuple_size(Tuple) > 0, is_atom(elemen
     {tuple, [tag(Tag, Line) | [literal(X, Line) || X <- Elements]]};
 literal(Tuple, Line) when is_tuple(Tuple) -> {tuple, [literal(X, Line) || X <- tuple_to_list(Tuple)]};
 literal(Binary, Line) when is_binary(Binary) -> {tuple, [{atom, '#bin'}, literal(binary_to_list(Binary), Line)]};
-literal(Map, Line) when is_map(Map) -> {tuple, [{atom, '#map'}, literal(lists:sort(maps:to_list(Map)), Line)]};
+literal(Map, Line) when is_map(Map) ->
+    Pairs = lists:sort([{encoded(Key), Pair} || {Key, _} = Pair <- maps:to_list(Map)]),
+    {tuple, [{atom, '#map'}, literal([Pair || {_, Pair} <- Pairs], Line)]};
 literal(Fun, Line) when is_function(Fun) ->
     [Module, Name, Arity] = [element(2, erlang:fun_info(Fun, Item)) || Item <- [module, name, arity]],
     plain_state:put(line, Line),
     remote_fun(Module, Name, Arity);
-literal(Float, Line) when is_float(Float) -> refused(Line, "the float ~w: the profile has no floats; count in integers", [Float]);
+literal(Float, Line) when is_float(Float) ->
+    case plain_state:get(kind) of
+        user ->
+            plain_state:set_in(made, '#float', true),
+            {tuple, [{atom, '#float'}, {int, plain_float:key(Float)}]};
+        _ -> refused(Line, "the float ~w in the library; count in integers", [Float])
+    end;
 literal(Term, Line) -> refused(Line, "the profile has no value ~p; take a tuple or a list", [Term]).
+
+%% A term as the profile has it, by which keys are ordered.
+-spec encoded(term()) -> term().
+encoded(Float) when is_float(Float) -> {'#float', plain_float:key(Float)};
+encoded(Binary) when is_binary(Binary) -> {'#bin', binary_to_list(Binary)};
+encoded(Map) when is_map(Map) -> {'#map', lists:sort([{encoded(Key), encoded(Value)} || {Key, Value} <- maps:to_list(Map)])};
+encoded(Tuple) when is_tuple(Tuple) -> list_to_tuple(encoded(tuple_to_list(Tuple)));
+encoded([Head | Tail]) -> [encoded(Head) | encoded(Tail)];
+encoded(Term) -> Term.
 
 %% A literal that is refused: the translation goes on behind it, so that what else is refused is told too. In the library it ends the function.
 -spec refused(plain_tree:line(), io:format(), [term()]) -> plain_text:expression().
@@ -145,11 +162,13 @@ tag(Tag, Line) ->
     end,
     Written.
 
-%% The tags of maps, binaries and funs stand in no program, so that no tuple of one can be taken for them.
+%% The tags of maps, binaries, floats and funs stand in no program, so that no tuple of one can be taken for them.
 -spec atom(atom(), plain_tree:line()) -> plain_text:expression().
-atom(Atom, Line) when Atom =:= '#map'; Atom =:= '#bin'; Atom =:= '#fun' ->
+atom(Atom, Line) when Atom =:= '#map'; Atom =:= '#bin'; Atom =:= '#fun'; Atom =:= '#float' ->
     case plain_state:get(kind) of
-        lib -> {atom, Atom};
+        lib ->
+            Atom =:= '#float' andalso plain_state:set_in(made, Atom, true),
+            {atom, Atom};
         _ -> refused(Line, "the atom ~p marks an encoding; rename it", [Atom])
     end;
 atom(Atom, Line) ->

@@ -3,13 +3,12 @@
 %% `sound' holds where the root returns and no process crashes. `supervised' holds where no process crashes, whatever becomes of the root. A
 %% crash is an end by an error, or by a reason other than normal, shutdown, {shutdown, _}, or killed by a supervisor. Where a process
 %% came to what the translator lacks, there is no verdict: the run is refused. With `--leaks' a run fails too whose root returns and leaves
-%% processes of the source that wait. Where a run fails in which a time passes early, that is no failure, unless `--patience' asks for it;
-%% and with `--one-node' where signals crossed as one node doesn't show it.
+%% processes of the source that wait. With `--one-node' a failure in which signals crossed as one node doesn't show it is none.
 -module(plain_verdict).
--export([own/1, asked/1, of_run/4, early/2, gaps/1, left/2, spawned/1, services/1, outcome/1]).
+-export([own/1, asked/1, of_run/4, gaps/1, left/2, spawned/1, services/1, outcome/1]).
 -export_type([verdict/0]).
 
--type verdict() :: holds | fails | early | crossed | refused.
+-type verdict() :: holds | fails | crossed | refused.
 
 %% @doc Whether a property is one that is judged here.
 -spec own(string()) -> boolean().
@@ -31,18 +30,12 @@ of_run(Property, #{events := Events, rest := Rest}, Asked, Translation) ->
         {[], false} -> case crashed(Events, Asked, Translation) of true -> failing(Events, Asked); false -> holds end
     end.
 
--spec failing([plain_report:event()], plain_words:asked()) -> fails | early | crossed.
+-spec failing([plain_report:event()], plain_words:asked()) -> fails | crossed.
 failing(Events, Asked) ->
-    case {early(Events, Asked), maps:get(one_node, Asked, false) andalso plain_one_node:crossed(Events)} of
-        {[_ | _], _} -> early;
-        {[], true} -> crossed;
-        {[], false} -> fails
+    case maps:get(one_node, Asked, false) andalso plain_one_node:crossed(Events) of
+        true -> crossed;
+        false -> fails
     end.
-
-%% @doc Where a time passes early, with its milliseconds; nowhere where that was asked for.
--spec early([plain_report:event()], plain_words:asked()) -> [{pos_integer(), pos_integer()}].
-early(Events, #{options := #{library_defines := Own}}) ->
-    case lists:keymember('PATIENCE', 1, Own) of true -> []; false -> plain_time:early(Events) end.
 
 %% @doc The processes that wait where the root has returned, but for the services of the translation. Nobody else may go then.
 -spec left([plain_report:event()], [binary()]) -> [non_neg_integer()].

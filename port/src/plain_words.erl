@@ -205,12 +205,17 @@ of_farm(File, #{command := check, words := Words}, _) -> ["check", File | Words]
 of_farm(File, #{command := Command, words := Words} = Asked, Translation) ->
     Property = plain_verdict:asked(Asked),
     Judged = case plain_verdict:own(Property) of true -> "returns"; false -> Property end,
-    base(atom_to_list(Command), File, Asked, Translation, Judged) ++ with_choice(Command, without(["--explain"], Words)).
+    base(atom_to_list(Command), File, Asked, Translation, Judged) ++ [Word || Command =/= shrink, Word <- last(Words, Translation)]
+        ++ with_choice(Command, without(["--explain"], Words)).
 
 %% @doc The words that all runs have.
 -spec base(string(), file:filename(), asked(), plain_translation:translation(), string()) -> [string()].
 base(Command, File, Asked, #{roots := [Root | _]}, Property) ->
     [Command, File, "--root", atom_to_list(Root), "--limit", limit(Asked), "--property", Property].
+
+%% @doc The words by which time is virtual where a seed chooses.
+-spec last([string()], plain_translation:translation()) -> [string()].
+last(Words, #{clock := Clock}) -> plain_time:last(Clock andalso not lists:member("--schedule", Words)).
 
 %% @doc The limit of steps.
 -spec limit(asked()) -> string().
@@ -272,8 +277,8 @@ help() ->
     "  --property supervised     the same, whatever becomes of the root; the other properties are those of pulsefarm\n"
     "  --patience N        how many turns of the run's clock a time has, whatever others do: N below 10 ms, 2N below 100,\n"
     "                      3N below 1000, 4N else; early has each pass at any moment. mixed, of hunt, goes over the first half\n"
-    "                      of the seeds without it and over the second by early. Without it time is virtual: it passes where\n"
-    "                      nobody else can go, in the order of the deadlines, and a run that fails otherwise is left out of a hunt\n"
+    "                      of the seeds without it and over the second by early. Without it time is virtual: it passes only\n"
+    "                      where nobody else can go, in the order of the deadlines\n"
     "  --never MS          takes away the timeouts of literal times from MS milliseconds on, where a receive has clauses\n"
     "  -D CALL_TIMEOUTS    lets the 5,000 ms of gen_server:call/2 pass, which else they never do\n"
     "  --verbose           reports all events and processes, those of the library, its services and the clock too\n"

@@ -80,6 +80,7 @@ several(Text, Close, Kind, Before) ->
 written({tuple, [{atom, <<"#map">>}, {list, Pairs}]}, Names) ->
     ["#{", lists:join(",", [[written(Key, Names), " => ", written(Value, Names)] || {tuple, [Key, Value]} <- Pairs]), "}"];
 written({tuple, [{atom, <<"#bin">>}, {list, Bytes}]}, _) -> binary([binary_to_integer(B) || {other, B} <- Bytes]);
+written({tuple, [{atom, <<"#float">>}, {other, Key}]}, _) -> io_lib:format("~p", [plain_float:value(binary_to_integer(Key))]);
 written({tuple, [{atom, <<"#fun">>}, {other, Arity}, {atom, Name} | _]}, Names) -> a_fun(binary_to_atom(Name), Arity, Names);
 written({tuple, Elements}, Names) -> ["{", lists:join(",", [written(E, Names) || E <- Elements]), "}"];
 written({list, Elements}, Names) ->

@@ -215,7 +215,7 @@ refused() ->
         has(Name, Expression, Answer)
     end,
     File = checks:folder("../examples/bank.erl"),
-    Expect("a construct", ["check", checks:folder("refused/refused_float.erl")], [], "^refused_float\\.erl:3: the float 1\\.5: "),
+    Expect("a construct", ["check", checks:folder("refused/refused_float.erl")], [], "^refused_float\\.erl:3: erlang:float_to_list/1 is for texts "),
     Expect("no pulsefarm", ["run", File], [{"PULSEFARM", ""}, {"PATH", os:getenv("NO_FARM_PATH", "/usr/bin:/bin")}], "^pulsefarm-erl: the program pulsefarm "),
     Expect("a word", ["walk", File], [], "^pulsefarm-erl: no command walk"),
     Expect("no file", ["hunt"], [], "^pulsefarm-erl: no file"),

@@ -21,7 +21,7 @@ program(File, Defines) ->
 
 -spec repeated(file:filename(), plain_translation:options(), file:filename(), non_neg_integer()) -> boolean().
 repeated(File, Options, Out, Seed) ->
-    {Text, _} = plain_farm:call(["run", Out, "--root", "main", "--limit", "100000", "--seed", integer_to_list(Seed)]),
+    {Text, _} = plain_farm:call(["run", Out, "--root", "main", "--limit", "100000", "--seed", integer_to_list(Seed) | checks:last(Out)]),
     #{events := Events} = plain_report:read(binary:split(Text, <<"\n">>, [global, trim])),
     case plain_replay:places([File], Options, "main", Events) of
         {ok, #{events := Marks}, _} -> length(Marks) =:= length(Events);

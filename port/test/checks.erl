@@ -1,7 +1,7 @@
 %% @doc The checks of this part that take more than a unit test: they run the translator in this node and call pulsefarm.
 %% Each check counts what passed and failed, and tells each failure on a line.
 -module(checks).
--export([main/0, main/1, pass/1, expect/3, expect/2, folder/1, room/1, translate/2, translate/1, hunt/4, run/3, value_on_erlang/2, value_on_erlang/3, load/2, normal/1, bare/1, command/1, command/2]).
+-export([main/0, main/1, pass/1, expect/3, expect/2, folder/1, room/1, translate/2, translate/1, hunt/4, run/3, value_on_erlang/2, value_on_erlang/3, load/2, normal/1, last/1, bare/1, command/1, command/2]).
 
 -spec main() -> no_return().
 main() -> main([check_units, check_language, check_refused, check_notes, check_random, check_calls, check_facts, check_otp, check_programs, check_places, check_command, check_options, check_eunit, check_prop, check_ct, check_rebar,
@@ -77,7 +77,7 @@ translate(Files, Options) ->
 -spec hunt(file:filename(), string(), string(), string()) -> [{holds | fails, pos_integer(), string()}].
 hunt(File, Root, Property, Seeds) ->
     {Text, _} = plain_farm:call(["hunt", File, "--root", Root, "--limit", "100000", "--property", Property, "--seeds", Seeds, "--strategy", "uniform",
-                               "--workers", "1", "--all"]),
+                               "--workers", "1", "--all" | last(File)]),
     [outcome(binary_to_list(Line)) || Line <- binary:split(Text, <<"\n">>, [global, trim])].
 
 -spec outcome(string()) -> {holds | fails, pos_integer(), string()}.
@@ -89,12 +89,18 @@ outcome(Line) ->
 %% @doc The outcome of a run by a seed, as its line.
 -spec run(file:filename(), string(), non_neg_integer()) -> {string(), non_neg_integer()}.
 run(File, Root, Seed) ->
-    {Text, Status} = plain_farm:call(["run", File, "--root", Root, "--limit", "100000", "--seed", integer_to_list(Seed)]),
+    {Text, Status} = plain_farm:call(["run", File, "--root", Root, "--limit", "100000", "--seed", integer_to_list(Seed) | last(File)]),
     Lines = binary:split(Text, <<"\n">>, [global, trim]),
     case lists:reverse(Lines) of
         [_, <<"steps ", Steps/binary>>, Outcome | _] -> {binary_to_list(Outcome), binary_to_integer(Steps)};
         _ -> {lists:concat(["status ", Status, " ", binary_to_list(Text)]), 0}
     end.
+
+%% @doc The words by which a seed chooses the ticker of a module last, where it has one.
+-spec last(file:filename()) -> [string()].
+last(File) ->
+    {ok, Text} = file:read_file(File),
+    plain_time:last(binary:match(Text, <<"port@ticker">>) =/= nomatch).
 
 %% @doc Compiles and loads a module.
 -spec load(file:filename(), [term()]) -> module().
@@ -119,7 +125,8 @@ value_on_erlang(File, Root, Options) ->
 
 %% @doc A value of Erlang as the profile has it.
 -spec normal(term()) -> term().
-normal(Map) when is_map(Map) -> {'#map', [{normal(Key), normal(Value)} || {Key, Value} <- lists:sort(maps:to_list(Map))]};
+normal(Map) when is_map(Map) -> {'#map', lists:sort([{normal(Key), normal(Value)} || {Key, Value} <- maps:to_list(Map)])};
+normal(Float) when is_float(Float) -> {'#float', plain_float:key(Float)};
 normal(Binary) when is_binary(Binary) -> {'#bin', binary_to_list(Binary)};
 normal({Reason, [{M, F, _, Info} | _]}) when is_atom(M), is_atom(F), is_list(Info) -> {normal(Reason), []};
 normal(Tuple) when is_tuple(Tuple) -> list_to_tuple([normal(X) || X <- tuple_to_list(Tuple)]);

@@ -1,5 +1,6 @@
 -- What calls and a worker's work are answered with.
-use Rattle.std.specs.Prelude.{◌≡◌, ℕ, Bool, true, false, Option, Some, None, Result, Ok, Err, if◌then◌else◌}
+use Rattle.std.specs.Prelude.{◌≡◌, ℕ, Bool, true, false, List, [], ◌∷◌, Option, Some, None, Result, Ok, Err}
+use Rattle.std.specs.Prelude.{if◌then◌else◌}
 use Rattle.std.specs.declared.alloc.Global.{Global}
 use Rattle.std.specs.declared.sync.Arc.{Arc}
 use Rattle.pf_errors.specs.declared.memory.NoMemory.{NoMemory}
@@ -16,6 +17,7 @@ use Rattle.pf_book.specs.declared.claimed.Claimed.{Claimed}
 use Rattle.pf_book.specs.declared.reply.Reply.{Reply}
 use Rattle.pf_book.specs.Profile.{ForRight}
 use Rattle.pf_book.specs.Queued.{job_at}
+use Rattle.pf_book.specs.Queues.{from_first_queued}
 use Rattle.pf_book.specs.Trials.{IsStrayJob}
 use Rattle.pf_book.specs.View.{mark_of, view_of_reply}
 
@@ -57,8 +59,8 @@ DeskHandsBack d t false d' = (is_running (held_at d.trials t) ≡ false) × (d' 
 abbrev pub work_answer : Bool → Answer
 work_answer b = if b then work_done else not_now
 
--- SimulatesCall w q c r w': a project's call is answered so, as the step of all desks says, and leads to the next desks;
--- memory runs out only where the project's log has room for the call, and leaves the desks as they were
+-- SimulatesCall w q c r w': a project's call is answered so, as the step of all desks says, and leads to the next
+-- desks; memory runs out only where the project's log has room for the call, and leaves the desks as they were
 abbrev pub SimulatesCall : Desks → ℕ → Call → Result Reply NoMemory → Desks → Type 0
 SimulatesCall w q c (Ok r) w' = ForRight (λ p. ◌≡◌ {A = Desks × Answer} (step p w (client q c))
     (w', replied (view_of_reply r)))
@@ -79,6 +81,13 @@ abbrev pub SimulatesClaim : Desks → Result (Option Claimed) NoMemory → Desks
 SimulatesClaim w (Ok (Some c)) w' = ClaimsAt w c.project c.ticket (Ok (Some c.job)) w'
 SimulatesClaim w (Ok None) w' = ((q t : ℕ) → is_queued (held_at (desk_at q w).trials t) ≡ false) × (w' ≡ w)
 SimulatesClaim w (Err e) w' = ((q : ℕ) × (t : ℕ) × (is_queued (held_at (desk_at q w).trials t) ≡ true)) × (w' ≡ w)
+
+-- ClaimsFirst w es r es': of these trials that wait, oldest first, the first that is queued is claimed, and those after
+-- it wait still; or none waits, since none is queued; where memory runs out, the first that is queued waits still
+abbrev pub ClaimsFirst : Desks → List (ℕ × ℕ) → Result (Option Claimed) NoMemory → List (ℕ × ℕ) → Type 0
+ClaimsFirst w es (Ok (Some c)) es' = from_first_queued w es ≡ (c.project, c.ticket) ∷ es'
+ClaimsFirst w es (Ok None) es' = (from_first_queued w es ≡ []) × (es' ≡ [])
+ClaimsFirst w es (Err e) es' = from_first_queued w es ≡ es'
 
 -- SimulatesFile w q t f b w': the result of a project's ticket is filed under its mark, or the trial isn't running or
 -- is of another job

@@ -34,6 +34,12 @@ pub record FollowsQueue (q : ℕ) (k : TrialQueue) (d : Desk) (k' : TrialQueue) 
   pub new : (t : ℕ) → is_queued (held_at d'.trials t) ≡ true
       → (is_queued (held_at d.trials t) ≡ true) ⊎ IsQueuedIn q t k'.waiting.items
 
+-- the trials that wait from the first on that is queued; those before it were claimed by their tickets, or dropped
+abbrev pub from_first_queued : Desks → List (ℕ × ℕ) → List (ℕ × ℕ)
+from_first_queued w [] = []
+from_first_queued w (e ∷ es) =
+    if is_queued (held_at (desk_at e.0 w).trials e.1) then e ∷ es else from_first_queued w es
+
 -- nothing waits, or what is at the front is queued
 abbrev pub FrontIsQueued : List (ℕ × ℕ) → Desks → Type 0
 FrontIsQueued [] w = Unit {0}

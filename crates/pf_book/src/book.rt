@@ -10,7 +10,8 @@ ghost use Rattle.pf_desks.specs.Desk.{held_at};
 ghost use Rattle.pf_desks.specs.History.{IsLegalDesk};
 ghost use Rattle.pf_desks.specs.Jobs.{KeepsAllTickets};
 ghost use Rattle.pf_desks.specs.Desks.{desk_at};
-ghost use Rattle.pf_book.specs.Answers.{SimulatesCall, SimulatesClaim, ClaimsAt, SimulatesFile, SimulatesHandBack};
+ghost use Rattle.pf_book.specs.Answers.{SimulatesCall, SimulatesClaim, ClaimsAt, ClaimsFirst, SimulatesFile};
+ghost use Rattle.pf_book.specs.Answers.{SimulatesHandBack};
 ghost use Rattle.pf_book.specs.Profile.{ForRight};
 ghost use Rattle.pf_book.specs.Queued.{job_at};
 ghost use Rattle.pf_book.specs.Queues.{FrontIsQueued, QueuesAll};
@@ -218,9 +219,9 @@ impl Book {
         Ok(reply)
     }
 
-    /// Claims some trial that is queued, which is running then; none only if no trial of any desk is queued. A claim
-    /// makes the room that the file or the hand-back needs. After running out of memory nothing has changed and nothing
-    /// is noted.
+    /// Claims the first trial of the queue that is queued still, which is running then; none only if no trial of any
+    /// desk is queued. A claim makes the room that the file or the hand-back needs. After running out of memory nothing
+    /// has changed and nothing is noted.
     pub fn claim(&mut self) -> Result<Option<Claimed>, NoMemory>
         ensures { SimulatesClaim self.old result self.new }
     {
@@ -349,6 +350,7 @@ fn claim_first(
 ) -> Result<Option<Claimed>, NoMemory>
     requires { QueuesAll queue.old desks.old.entries }
     ensures claim { SimulatesClaim desks.old.entries result desks.new.entries }
+    ensures first { ClaimsFirst desks.old.entries queue.old.waiting.items result queue.new.waiting.items }
     ensures queue { QueuesAll queue.new desks.new.entries }
 {
     while let Some((project, ticket)) = queue.waiting.pop_front() {

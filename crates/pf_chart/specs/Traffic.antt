@@ -100,8 +100,8 @@ abbrev pub Reaches : Option ℕ → (alone : Arrow) → (old new : List Arrow) �
 Reaches None a xs ys = ys ≡ xs ++ a ∷ []
 Reaches (Some i) a xs ys = IsEnded i a.reach xs ys
 
--- a signal of a way is delivered: the oldest that waits goes, and its arrow comes to this end; where none waits there
--- is an arrow for the delivery alone
+-- a signal of a way is delivered: the oldest that waits goes, and its arrow has this end; where none waits there is an
+-- arrow for the delivery alone
 abbrev pub IsDelivered : Way → (alone : Arrow) → (old new : Traffic) → Type 0
 IsDelivered w a s t =
     (o : Option ℕ) × (waiting_signals s.on_way w ≡ option_to_list o ++ waiting_signals t.on_way w)

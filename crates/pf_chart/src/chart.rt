@@ -68,7 +68,7 @@ fn put_words<'a>(
     ])
 }
 
-/// Puts the sheet, and bands behind the rows.
+/// Puts the sheet, and the bands on which the rows are.
 fn put_ground(svg: &mut ChartSvg, sheet: Sheet) -> Result<(), NoMemory>
     ensures { OnOk result (DrawsInChart [] svg.old svg.new) }
 {

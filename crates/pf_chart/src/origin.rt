@@ -1,4 +1,4 @@
-//! In whose call a process began, as far as it is known.
+//! In whose call a process began, where that is known.
 
 ghost use Rattle.std.specs.Prelude.{◌≡◌};
 ghost use Rattle.pf_chart.specs.Chart.{name_of_start, origin_labels};

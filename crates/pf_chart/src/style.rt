@@ -1,6 +1,6 @@
 //! How the parts of a chart look: all of its style sheet, and the ends of arrows.
 
-/// Colours tell kinds apart, and so do dashes and shapes.
+/// Kinds differ by colours, and by dashes and shapes.
 pub(crate) const STYLE: &str = "<style>\n\
 text{font-family:Helvetica,Arial,sans-serif;font-size:11px;fill:#111;paint-order:stroke;stroke:#fff;stroke-width:3px;stroke-linejoin:round}\n\
 .sheet{fill:#fff}\n\

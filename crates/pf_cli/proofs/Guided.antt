@@ -4,6 +4,7 @@ use Rattle.clap.specs.Words.{Text, Row, first_of}
 use Rattle.clap.specs.declared.error.kind.ErrorKind.TheVariants as kind
 use Rattle.std.specs.Prelude.{Bool, codes, ℕ}
 use Rattle.pf_model.specs.Meaning.{Choices}
+use Rattle.pf_strategy.specs.declared.strategy.SeedChoice.{SeedChoice}
 use Rattle.pf_cli.specs.Args.{RunArgs, bounds_in, chart_asked, choices_in, choices_named, guided_in, property_named}
 use Rattle.pf_cli.specs.Args.{root_named, run_asked, run_fault, run_args_of, values_fault}
 
@@ -53,5 +54,5 @@ none_guided text rows cs e h =
     let root = root_named (first_of (codes "root") rows) in
     let property = property_named (first_of (codes "property") rows) in
     ap (λ (q : Option Choices). run_asked root (bounds_in rows) q (guided_in q rows) property) e
-    ∙ ap (λ (p : Option (Option ℕ)). run_asked root (bounds_in rows) (Some cs) p property) h
+    ∙ ap (λ (p : Option (Option SeedChoice)). run_asked root (bounds_in rows) (Some cs) p property) h
     ∙ none_asked root (bounds_in rows) cs property

@@ -15,12 +15,15 @@ use Rattle.pf_text.specs.Numbers.{number_of_digits, long_number_of, schedule_of}
 use Rattle.pf_cli.specs.Seeds.{seeds_named}
 use Rattle.pf_cli.specs.Span.{time_named}
 use Rattle.pf_cli.specs.Form.{format_named}
+use Rattle.pf_cli.specs.Pids.{pid_named}
 use Rattle.pf_cli.specs.Reach.{HuntScope, clashes, more_named, names_given, reach_asked, roots_named}
 use Rattle.pf_request.specs.Request as requests
 use Rattle.pf_request.specs.Request.{Request, RequestKind}
 use Rattle.pf_request.specs.View.{view_of_request}
+use Rattle.pf_strategy.specs.declared.strategy.Sampling.{Sampling}
+use Rattle.pf_strategy.specs.declared.strategy.Sampling.TheVariants.{Uniform, Priorities}
+use Rattle.pf_strategy.specs.declared.strategy.SeedChoice.{SeedChoice}
 use Rattle.pf_strategy.specs.declared.strategy.Strategy.{Strategy}
-use Rattle.pf_strategy.specs.declared.strategy.Strategy.TheVariants.{Uniform, Priorities}
 use Rattle.pf_cli.specs.declared.args.Edition.{Edition}
 use Rattle.pf_cli.specs.declared.args.Edition.TheVariants.{First, Second}
 use Rattle.pf_cli.specs.declared.args.Format.{Format}
@@ -84,11 +87,11 @@ bounded_app source wanted name =
     with_rule (with_rule (rooted_app source wanted name) (wanted_rule wanted (codes "limit")))
     (option_rule (codes "edition"))
 
--- a command of one run: after these [--seed N] [--weights R:D] [--strategy S]
+-- a command of one run: after these [--seed N] [--weights R:D] [--strategy S] [--last PID]
 abbrev pub weighted_app : (wanted : Bool) → Text → App
 weighted_app wanted name =
-    with_rule (with_rule (with_rule (bounded_app file_rule wanted name) (option_rule (codes "seed")))
-    (option_rule (codes "weights"))) (option_rule (codes "strategy"))
+    with_rule (with_rule (with_rule (with_rule (bounded_app file_rule wanted name) (option_rule (codes "seed")))
+    (option_rule (codes "weights"))) (option_rule (codes "strategy"))) (option_rule (codes "last"))
 
 -- and then [--schedule L] [--property P]
 abbrev pub one_run_app : (wanted : Bool) → Text → App
@@ -116,11 +119,11 @@ judged_app = with_rule (bounded_app sources_rule false (codes "hunt")) (option_r
 abbrev pub seeded_app : App
 seeded_app = with_rule (with_rule judged_app (option_rule (codes "seeds"))) (option_rule (codes "for"))
 
--- and how: after these [--weights R:D] [--strategy S] [--workers N]
+-- and how: after these [--weights R:D] [--strategy S] [--last PID] [--workers N]
 abbrev pub working_app : App
 working_app =
-    with_rule (with_rule (with_rule seeded_app (option_rule (codes "weights"))) (option_rule (codes "strategy")))
-    (option_rule (codes "workers"))
+    with_rule (with_rule (with_rule (with_rule seeded_app (option_rule (codes "weights")))
+    (option_rule (codes "strategy"))) (option_rule (codes "last"))) (option_rule (codes "workers"))
 
 -- and what is reported: [--all] [--shrink N]
 abbrev pub reporting_app : App
@@ -191,11 +194,11 @@ pulsefarm = with_subcommand one_file_app farm_app.top
 -- ---- what is asked for
 
 -- a run, a chart or a shrinking is asked for: a request of the module that a file holds, in an edition; and the seed by
--- whose priorities the run goes in place of the request's choices, where that is asked for
+-- which the run goes, and how, in place of the request's choices, where that is asked for
 pub record RunArgs : Type 0 where
   pub request : Request
   pub edition : ℕ
-  pub priorities : Option ℕ
+  pub by_seed : Option SeedChoice
 
 -- a chart is asked for: of a run, compact or not, and which page of it
 pub record ChartArgs : Type 0 where
@@ -228,10 +231,10 @@ pub record FarmArgs : Type 0 where
 abbrev pub request_by : (root property : Text) → RequestKind → (limit : ℕ) → Request
 request_by root property kind limit = record { root = root; property = property; kind = kind; limit = limit }
 
--- a request and an edition, by the limit and the edition that are named; and the seed of priorities, if any
-abbrev pub args_by : (root property : Text) → RequestKind → (bounds : ℕ × ℕ) → (priorities : Option ℕ) → RunArgs
-args_by root property kind bounds priorities =
-    record { request = request_by root property kind bounds.0; edition = bounds.1; priorities = priorities }
+-- a request and an edition, by the limit and the edition that are named; and the seed by which it goes, if any
+abbrev pub args_by : (root property : Text) → RequestKind → (bounds : ℕ × ℕ) → Option SeedChoice → RunArgs
+args_by root property kind bounds by_seed =
+    record { request = request_by root property kind bounds.0; edition = bounds.1; by_seed = by_seed }
 
 -- the value of an option as a number
 abbrev pub option_number : Text → List Row → Option ℕ
@@ -323,35 +326,48 @@ choices_named text None None (Some word) = option_map schedule (schedule_numbers
 choices_named text _ _ _ = None
 
 -- a strategy is `pos`, by priorities, or `uniform`
-abbrev pub strategy_of : Text → Option Strategy
-strategy_of word =
+abbrev pub sampling_of : Text → Option Sampling
+sampling_of word =
     if bytes_eq word (codes "pos") then Some Priorities
     else (if bytes_eq word (codes "uniform") then Some Uniform else None)
 
 -- where none is named it is this one
-abbrev pub strategy_named : Strategy → Option Text → Option Strategy
-strategy_named strategy None = Some strategy
-strategy_named strategy (Some word) = strategy_of word
+abbrev pub sampling_named : Sampling → Option Text → Option Sampling
+sampling_named sampling None = Some sampling
+sampling_named sampling (Some word) = sampling_of word
 
--- the seed by whose priorities a run goes, if any; a seed with weights has none, nor has a schedule
-abbrev pub guided_by : Option Strategy → Choices → Option (Option ℕ)
-guided_by (Some Uniform) cs = Some None
-guided_by (Some Priorities) (seed n) = Some (Some n)
-guided_by _ _ = None
+-- the process that goes last, where one is named
+abbrev pub last_in : List Row → Option (Option ℕ)
+last_in rows = pid_named (first_of (codes "last") rows)
 
-abbrev pub guided : Option Strategy → Option Choices → Option (Option ℕ)
-guided strategy None = None
-guided strategy (Some cs) = guided_by strategy cs
+abbrev pub strategy_by : Sampling → (last : Option ℕ) → Strategy
+strategy_by sampling last = record { sampling = sampling; last = last }
+
+abbrev pub seed_choice : (seed : ℕ) → Sampling → (last : Option ℕ) → SeedChoice
+seed_choice n sampling last = record { seed = n; strategy = strategy_by sampling last }
+
+-- the seed by which a run goes in place of its choices, if any: by priorities, or where a process goes last. A seed
+-- with weights has no priorities, and a schedule goes by none
+abbrev pub guided_by : Option Sampling → (last : Option ℕ) → Choices → Option (Option SeedChoice)
+guided_by (Some Uniform) None cs = Some None
+guided_by (Some Uniform) (Some p) (seed n) = Some (Some (seed_choice n Uniform (Some p)))
+guided_by (Some Uniform) (Some p) (weighted_seed n run deliver) = Some (Some (seed_choice n Uniform (Some p)))
+guided_by (Some Priorities) last (seed n) = Some (Some (seed_choice n Priorities last))
+guided_by _ _ _ = None
+
+abbrev pub guided : Option Sampling → Option (Option ℕ) → Option Choices → Option (Option SeedChoice)
+guided sampling (Some last) (Some cs) = guided_by sampling last cs
+guided sampling _ _ = None
 
 -- the property that a word names; `returns` where there is none
 abbrev pub property_named : Option Text → Text
 property_named None = codes "returns"
 property_named (Some word) = word
 
-abbrev pub run_asked : (root : Text) → (bounds : Option (ℕ × ℕ)) → Option Choices → (priorities : Option (Option ℕ))
+abbrev pub run_asked : (root : Text) → (bounds : Option (ℕ × ℕ)) → Option Choices → Option (Option SeedChoice)
     → (property : Text) → Option RunArgs
-run_asked root (Some bounds) (Some choices) (Some priorities) property =
-    Some (args_by root property (requests.run choices) bounds priorities)
+run_asked root (Some bounds) (Some choices) (Some by_seed) property =
+    Some (args_by root property (requests.run choices) bounds by_seed)
 run_asked root _ _ _ property = None
 
 abbrev pub choices_in : (text : Option Text) → List Row → Option Choices
@@ -359,8 +375,8 @@ choices_in text rows =
     choices_named text (first_of (codes "seed") rows) (first_of (codes "weights") rows)
     (first_of (codes "schedule") rows)
 
-abbrev pub guided_in : Option Choices → List Row → Option (Option ℕ)
-guided_in choices rows = guided (strategy_named Uniform (first_of (codes "strategy") rows)) choices
+abbrev pub guided_in : Option Choices → List Row → Option (Option SeedChoice)
+guided_in choices rows = guided (sampling_named Uniform (first_of (codes "strategy") rows)) (last_in rows) choices
 
 abbrev pub run_args_of : (text : Option Text) → List Row → Option RunArgs
 run_args_of text rows =
@@ -422,13 +438,17 @@ sought_in rows = sought_named (is_given (first_of (codes "all") rows)) (first_of
 
 -- without a word for it a hunt goes by priorities, or by the weights where there are any; with weights no other
 -- strategy goes
-abbrev pub unless_guided : Option Strategy → Option Strategy
+abbrev pub unless_guided : Option Sampling → Option Sampling
 unless_guided (Some Uniform) = Some Uniform
 unless_guided _ = None
 
-abbrev pub hunt_strategy : (weights : Option (ℕ × ℕ)) → Option Text → Option Strategy
-hunt_strategy None word = strategy_named Priorities word
-hunt_strategy (Some weights) word = unless_guided (strategy_named Uniform word)
+abbrev pub hunt_sampling : (weights : Option (ℕ × ℕ)) → Option Text → Option Sampling
+hunt_sampling None word = sampling_named Priorities word
+hunt_sampling (Some weights) word = unless_guided (sampling_named Uniform word)
+
+abbrev pub hunt_strategy : (last : Option (Option ℕ)) → Option Sampling → Option Strategy
+hunt_strategy (Some last) (Some sampling) = Some (strategy_by sampling last)
+hunt_strategy _ _ = None
 
 abbrev pub hunt_by : HuntScope → (root property : Text) → Choices → Strategy → (bounds seeds : ℕ × ℕ)
     → (time workers : Option ℕ) → HuntGoal → HuntArgs
@@ -469,7 +489,8 @@ workers_in rows = workers_named (first_of (codes "workers") rows)
 
 -- with the weights that are named
 abbrev pub strategy_in : List Row → Option Strategy
-strategy_in rows = option_and_then (λ weights. hunt_strategy weights (first_of (codes "strategy") rows))
+strategy_in rows =
+    option_and_then (λ weights. hunt_strategy (last_in rows) (hunt_sampling weights (first_of (codes "strategy") rows)))
     (weights_in rows)
 
 -- the names of the sources
@@ -614,7 +635,7 @@ weights_by w = (w.run, w.deliver)
 
 abbrev pub view_of_run_args : run_code.RunArgs → RunArgs
 view_of_run_args a =
-    record { request = view_of_request a.request; edition = edition_number a.edition; priorities = a.priorities }
+    record { request = view_of_request a.request; edition = edition_number a.edition; by_seed = a.by_seed }
 
 abbrev pub view_of_chart_args : chart_code.ChartArgs → ChartArgs
 view_of_chart_args a = record { run = view_of_run_args a.run; compact = a.compact; page = a.page }

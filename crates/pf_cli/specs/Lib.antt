@@ -4,3 +4,4 @@ pub mod Reach
 pub mod Seeds
 pub mod Span
 pub mod Faults
+pub mod Pids

@@ -6,7 +6,7 @@ ghost use Rattle.pf_request.specs.Request.{choices_in, may_weigh};
 ghost use Rattle.pf_request.specs.View.{view_of_kind};
 
 use pf_request::{Request, RunChoices};
-use pf_strategy::Strategy;
+use pf_strategy::{SeedChoice, Strategy};
 
 /// Which limits runs have.
 #[derive(Drop, Clone, Copy)]
@@ -76,8 +76,8 @@ pub struct RunArgs<'a> {
     pub request: Request,
     /// The edition of each run.
     pub edition: Edition,
-    /// The seed by whose priorities the run goes in place of the request's choices, where that is asked for.
-    pub priorities: Option<u64>,
+    /// The seed by which the run goes, and how, in place of the request's choices, where that is asked for.
+    pub by_seed: Option<SeedChoice>,
     ghost weighs: { may_weigh (choices_in (view_of_kind request.kind)) ≡ true },
 }
 

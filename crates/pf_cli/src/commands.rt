@@ -50,6 +50,9 @@ const RUN_STRATEGY: &str =
 const HUNT_STRATEGY: &str =
     "How a seed chooses: by priorities, `pos`, which finds deep races, or `uniform` [default: pos; with weights uniform]";
 
+const LAST_HELP: &str =
+    "Process that is chosen, with its signals to itself, only where nobody else may go, as 3 or <3>";
+
 const RUN_USAGE: &str =
     "pulsefarm run [OPTIONS] --root <F> --limit <N> <--seed <N>|--schedule <L>> [FILE]";
 
@@ -166,6 +169,13 @@ fn strategy<'a>(alloc: Global, help: &'a str) -> Arg<'a>
     option(alloc, "strategy", "S", help)
 }
 
+fn last<'a>(alloc: Global) -> Arg<'a>
+    ensures rule { rule_of result ≡ option_rule (codes "last") }
+    ensures local { result.global ≡ false }
+{
+    option(alloc, "last", "PID", LAST_HELP)
+}
+
 fn schedule<'a>(alloc: Global) -> Arg<'a>
     ensures rule { rule_of result ≡ option_rule (codes "schedule") }
     ensures local { result.global ≡ false }
@@ -250,7 +260,8 @@ fn weighted<'a>(
         .override_usage(usage)
         .arg(seed(alloc))?
         .arg(weights(alloc))?
-        .arg(strategy(alloc, RUN_STRATEGY))?;
+        .arg(strategy(alloc, RUN_STRATEGY))?
+        .arg(last(alloc))?;
     Ok(weighted)
 }
 
@@ -330,6 +341,7 @@ fn working<'a>(alloc: Global, about: &'a str) -> Result<Command<'a>, AllocError>
     let working = seeded(alloc, about)?
         .arg(weights(alloc))?
         .arg(strategy(alloc, HUNT_STRATEGY))?
+        .arg(last(alloc))?
         .arg(option(alloc, "workers", "N", workers))?;
     Ok(working)
 }

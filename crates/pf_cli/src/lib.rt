@@ -12,6 +12,7 @@ mod reading;
 mod refusals;
 mod seeds;
 mod span;
+mod strategy;
 mod values;
 
 pub use args::{

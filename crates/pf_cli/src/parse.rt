@@ -21,9 +21,10 @@ use crate::reach::{clash, reach_of};
 use crate::refusals::{Valued, mistake, refuse_both};
 use crate::seeds::seeds;
 use crate::span::time;
+use crate::strategy::{guided, strategy};
 use crate::values::{
-    RUNS, bounds, choices, given_schedule, guided, is_given, named_file, named_property,
-    named_root, named_schedule, number, page, sought, strategy, value, weights, workers,
+    RUNS, bounds, choices, given_schedule, is_given, named_file, named_property, named_root,
+    named_schedule, number, page, sought, value, weights, workers,
 };
 use clap::error::ErrorKind;
 use clap::{ArgMatches, Error};
@@ -97,8 +98,8 @@ fn run_args<'a>(
         Ok(choices) => choices,
         Err(e) => return Err(e),
     };
-    let priorities = match guided(alloc, valued, rows, &choices) {
-        Ok(priorities) => priorities,
+    let by_seed = match guided(alloc, valued, rows, &choices) {
+        Ok(by_seed) => by_seed,
         Err(e) => return Err(e),
     };
     let (limit, edition) = match bounds(alloc, valued, rows) {
@@ -112,7 +113,7 @@ fn run_args<'a>(
             file: named_file(rows),
             request,
             edition,
-            priorities,
+            by_seed,
         }),
         Err(e) => Err(e),
     }
@@ -267,7 +268,7 @@ fn shrink_args<'a>(
             file: named_file(rows),
             request,
             edition,
-            priorities: None,
+            by_seed: None,
         }),
         Err(e) => Err(e),
     }

@@ -8,10 +8,10 @@ ghost use Rattle.pf_text.specs.Numbers.{long_number_of, number_of_digits, schedu
 ghost use Rattle.pf_request.specs.Request.{may_weigh};
 ghost use Rattle.pf_request.specs.View.{view_of_choices};
 ghost use Rattle.pf_cli.specs.Args.{as_edition, as_workers, bounds_in, choices_in, edition_named, edition_number};
-ghost use Rattle.pf_cli.specs.Args.{file_at, file_named, guided_by, guided_in, hunt_strategy, in_place, is_given};
+ghost use Rattle.pf_cli.specs.Args.{file_at, file_named, in_place, is_given};
 ghost use Rattle.pf_cli.specs.Args.{limit_named, option_number, schedule_numbers, page_named, property_named};
-ghost use Rattle.pf_cli.specs.Args.{root_named, run_fault, schedule_in, seeded_by, sought_in, strategy_named};
-ghost use Rattle.pf_cli.specs.Args.{strategy_of, weight_of_word, weights_by, weights_in, weights_of, workers_in};
+ghost use Rattle.pf_cli.specs.Args.{root_named, run_fault, schedule_in, seeded_by, sought_in, weight_of_word};
+ghost use Rattle.pf_cli.specs.Args.{weights_by, weights_in, weights_of, workers_in};
 
 use crate::args::{Edition, HuntGoal, WeightArgs};
 use crate::refusals::{Valued, mistake, refuse, refuse_number, refuse_value};
@@ -19,7 +19,6 @@ use clap::error::ErrorKind;
 use clap::{ArgMatches, Error};
 use pf_errors::NoMemory;
 use pf_request::RunChoices;
-use pf_strategy::Strategy;
 use pf_text::{long_number_of, number_of, schedule_of};
 use std::alloc::{AllocError, Global};
 use std::sync::Arc;
@@ -67,9 +66,6 @@ pub(crate) const RUNS: &str = "a number of runs from 1 to 1000, without leading 
 
 /// What weights have to be.
 const WEIGHTS: &str = "two numbers R:D from 1 to 9, R of a process and D of a channel";
-
-/// What a strategy has to be.
-const STRATEGIES: &str = "`pos` or `uniform`; `pos` beside a seed without weights alone";
 
 /// What an edition has to be.
 const EDITIONS: &str = "1 or 2";
@@ -339,106 +335,6 @@ pub(crate) fn choices(
             let text = "one of '--seed <N>' and '--schedule <L>' is wanted";
             Err(refuse(alloc, valued, ErrorKind::MissingRequiredArgument, text))
         }
-    }
-}
-
-/// The strategy that a word names.
-fn strategy_of(word: &str) -> Option<Strategy>
-    ensures { result ≡ strategy_of word.now }
-{
-    if word == "pos" {
-        Some(Strategy::Priorities)
-    } else if word == "uniform" {
-        Some(Strategy::Uniform)
-    } else {
-        None
-    }
-}
-
-/// The strategy that is named, or else this one.
-fn strategy_named(strategy: Strategy, word: Option<&str>) -> Option<Strategy>
-    ensures { result ≡ strategy_named strategy (option_map (λ s. s.now) word.entry) }
-{
-    match word {
-        Some(word) => strategy_of(word),
-        None => Some(strategy),
-    }
-}
-
-/// The seed of priorities by a strategy and choices, if any.
-fn guided_by(strategy: Option<Strategy>, choices: &RunChoices) -> Option<Option<u64>>
-    ensures { result ≡ guided_by strategy (view_of_choices choices.now) }
-{
-    match (strategy, choices) {
-        (Some(Strategy::Uniform), _) => Some(None),
-        (Some(Strategy::Priorities), RunChoices::Seed(seed)) => Some(Some(*seed)),
-        _ => None,
-    }
-}
-
-/// The seed by whose priorities a run with these choices goes, if any.
-pub(crate) fn guided(
-    alloc: Global,
-    valued: Valued,
-    rows: &ArgMatches,
-    choices: &RunChoices,
-) -> Result<Option<u64>, Error>
-    ensures ok { IfOk result (λ p.
-        guided_in (Some (view_of_choices choices.now)) (rows_of (found_of rows.now)) ≡ Some p) }
-    ensures err { IfErr result (λ e. (kind_of e ≡ ErrorKind.OutOfMemory)
-        ⊎ ((kind_of e ≡ ErrorKind.InvalidValue)
-        × (guided_in (Some (view_of_choices choices.now)) (rows_of (found_of rows.now)) ≡ None))) }
-{
-    let word = value(rows, "strategy");
-    match guided_by(strategy_named(Strategy::Uniform, word), choices) {
-        Some(priorities) => Ok(priorities),
-        None => Err(refuse_value(
-            alloc,
-            valued,
-            "strategy <S>",
-            word.unwrap_or(""),
-            STRATEGIES,
-        )),
-    }
-}
-
-/// The strategy of a hunt with these weights, if any are named.
-fn hunt_strategy(weights: Option<WeightArgs>, word: Option<&str>) -> Option<Strategy>
-    ensures { result ≡ hunt_strategy (option_map weights_by weights) (option_map (λ s. s.now) word.entry) }
-{
-    if weights.is_none() {
-        return strategy_named(Strategy::Priorities, word);
-    }
-    match strategy_named(Strategy::Uniform, word) {
-        Some(Strategy::Uniform) => Some(Strategy::Uniform),
-        _ => None,
-    }
-}
-
-/// The strategy of a hunt.
-pub(crate) fn strategy(
-    alloc: Global,
-    rows: &ArgMatches,
-    weights: Option<WeightArgs>,
-) -> Result<Strategy, Error>
-    ensures ok { IfOk result (λ s.
-        hunt_strategy (option_map weights_by weights) (first_of (codes "strategy") (rows_of (found_of rows.now)))
-        ≡ Some s) }
-    ensures err { IfErr result (λ e. (kind_of e ≡ ErrorKind.OutOfMemory)
-        ⊎ ((kind_of e ≡ ErrorKind.InvalidValue)
-        × (hunt_strategy (option_map weights_by weights) (first_of (codes "strategy") (rows_of (found_of rows.now)))
-        ≡ None))) }
-{
-    let word = value(rows, "strategy");
-    match hunt_strategy(weights, word) {
-        Some(strategy) => Ok(strategy),
-        None => Err(refuse_value(
-            alloc,
-            Valued::Hunt,
-            "strategy <S>",
-            word.unwrap_or(""),
-            STRATEGIES,
-        )),
     }
 }
 

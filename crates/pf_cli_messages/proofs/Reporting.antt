@@ -15,7 +15,9 @@ use Rattle.pf_request.specs.Job.{Job, job_from, job_of, root_in, with_property, 
 use Rattle.pf_check.specs.Module.{ReadModule}
 use Rattle.pf_request.specs.Request.{Request, choices_in, is_within, may_weigh}
 use Rattle.pf_sched.specs.Choosing.{MeansFor, choosing_of}
-use Rattle.pf_strategy.proofs.Meant.{replay_of_priorities}
+use Rattle.pf_sched.proofs.Seeded.{means_by_seed}
+use Rattle.pf_strategy.proofs.Meant.{replay_of_seeds}
+use Rattle.pf_strategy.specs.declared.strategy.SeedChoice.{SeedChoice}
 use Rattle.pf_cli_messages.specs.Explained.{AreStatusLines, IsKnownRunOf, ReportsProcesses, ReportsRun}
 use Rattle.pf_process_status.specs.Known.{RunLeadsTo, module_of_run}
 use Rattle.pf_process_status.specs.Lines.{IsLine, Puts}
@@ -79,13 +81,14 @@ module _ (j : meaning.Job) (r : Report) (k : KnownRun) (h : IsKnownRunOf j r k) 
     },
   )
 
-  -- and so do those of what it means by priorities
-  pub leads_to : (by : Option ℕ) → MeansFor (choosing_of by j) j r → (d : Configuration) × RunLeadsTo k d
+  -- and so do those of what it means by a seed
+  pub leads_to : (by : Option SeedChoice) → MeansFor (choosing_of by j) j r → (d : Configuration) × RunLeadsTo k d
   leads_to None m = leads j.choices m
-  leads_to (Some seed) m = leads (schedule (map (λ e. e.choice) r.events)) (replay_of_priorities j seed r m)
+  leads_to (Some g) m = leads (schedule (map (λ e. e.choice) r.events))
+      (replay_of_seeds g.strategy j g.seed r (means_by_seed g j r m))
 
 -- what is said of a known run's processes is said of the job's
-pub reports_of : (j : meaning.Job) (r : Report) (by : Option ℕ) (source text : List ℕ) (k : KnownRun)
+pub reports_of : (j : meaning.Job) (r : Report) (by : Option SeedChoice) (source text : List ℕ) (k : KnownRun)
     → ReportsRun k source text → MeansFor (choosing_of by j) j r → IsKnownRunOf j r k
     → ReportsProcesses j by source text
 reports_of j r by source text k reports means is_run =

@@ -13,6 +13,7 @@ use Rattle.pf_request.specs.Job.{Job}
 use Rattle.pf_check.specs.Module.{ReadModule}
 use Rattle.pf_sched.specs.Asked.{Asks}
 use Rattle.pf_sched.specs.Choosing.{MeansFor, choosing_of}
+use Rattle.pf_strategy.specs.declared.strategy.SeedChoice.{SeedChoice}
 use Rattle.pf_process_status.specs.Fates.{AreStandings}
 use Rattle.pf_process_status.specs.Known.{RunLeadsTo, module_of_run, events_of}
 use Rattle.pf_process_status.specs.Lines.{IsLine}
@@ -45,9 +46,9 @@ pub record ReportsRun (k : KnownRun) (source text : List ℕ) : Type 0 where
   pub lines : AreStatusLines k places standings text
 
 -- the same of the run that a job means
-pub record ReportsProcesses (j : meaning.Job) (priorities : Option ℕ) (source text : List ℕ) : Type 0 where
+pub record ReportsProcesses (j : meaning.Job) (by_seed : Option SeedChoice) (source text : List ℕ) : Type 0 where
   pub report : Report
-  pub means : MeansFor (choosing_of priorities j) j report
+  pub means : MeansFor (choosing_of by_seed j) j report
   pub run : KnownRun
   pub is_run : IsKnownRunOf j report run
   pub last : Configuration
@@ -66,7 +67,7 @@ pub data ExplainsRun (a : RunArgs) (bytes : List ℕ) : List ℕ → Type 0 wher
   shrinks : (m : ReadModule) (j : Job) → IsModuleOf bytes m → AsksOf a m (Ok j) → (j.asked.runs ≡ zero → ⊥)
       → ExplainsRun a bytes []
   reported : (m : ReadModule) (j : Job) (text : List ℕ) → IsModuleOf bytes m → AsksOf a m (Ok j) → j.asked.runs ≡ zero
-      → ReportsProcesses j.asked a.priorities bytes text → ExplainsRun a bytes text
+      → ReportsProcesses j.asked a.by_seed bytes text → ExplainsRun a bytes text
 
 -- what is asked for of a source is one run of this job; or there is none, and nothing is said
 abbrev pub FindsRun : RunArgs → List ℕ → Option Job → Type 0

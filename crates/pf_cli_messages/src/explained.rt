@@ -42,10 +42,10 @@ fn job_of(alloc: Global, args: &RunArgs, source: &ReadSource) -> Result<Option<J
 /// The report of the run that is asked for.
 fn report_by(alloc: Global, args: &RunArgs, job: &Job) -> Result<Report, NoMemory>
     requires { job.now.asked.runs ≡ zero }
-    ensures { IfOk result (λ r. MeansFor (choosing_of args.now.priorities job.now.asked) job.now.asked
+    ensures { IfOk result (λ r. MeansFor (choosing_of args.now.by_seed job.now.asked) job.now.asked
         (view_of_report r)) }
 {
-    report_of_run(alloc, job, args.priorities, &mut Scratch::new(alloc))
+    report_of_run(alloc, job, args.by_seed, &mut Scratch::new(alloc))
 }
 
 /// The lines of processes, each with a line end.
@@ -79,7 +79,7 @@ fn explain_known(alloc: Global, run: &KnownRun, source: &[u8]) -> Result<Vec<u8>
 fn explain_job(alloc: Global, args: &RunArgs, job: &Job, source: &[u8]) -> Result<Vec<u8>, NoMemory>
     requires runs { job.now.asked.runs ≡ zero }
     requires asked { (m : ReadModule) × IsModuleOf source.now m × AsksOf (view_of_run_args args.now) m (Ok job.now) }
-    ensures { IfOk result (λ text. ReportsProcesses job.now.asked args.now.priorities source.now text.items) }
+    ensures { IfOk result (λ text. ReportsProcesses job.now.asked args.now.by_seed source.now text.items) }
 {
     let module = job.module();
     let Some(root) = module.root(args.request.root.as_slice()) else {

@@ -114,7 +114,7 @@ pub data CountsBy (asks : ReadModule → Result Job Code → Type 0) (old : ℕ)
 
 -- a request by its own choices
 abbrev pub run_args : Request → Edition → RunArgs
-run_args r e = record { request = view_of_request r; edition = edition_number e; priorities = None }
+run_args r e = record { request = view_of_request r; edition = edition_number e; by_seed = None }
 
 -- the answer is these words on a line of their own, with the status of what is refused
 abbrev pub Refuses : Output → List ℕ → Type 0

@@ -15,8 +15,9 @@ use Rattle.pf_check.specs.Module.{ReadModule}
 use Rattle.pf_request.specs.Request.{shrink}
 use Rattle.pf_request.specs.Job.{Job}
 use Rattle.pf_sched.specs.Asked.{Asks}
+use Rattle.pf_strategy.specs.declared.strategy.Sampling.{Sampling}
+use Rattle.pf_strategy.specs.declared.strategy.Sampling.TheVariants.{Uniform, Priorities}
 use Rattle.pf_strategy.specs.declared.strategy.Strategy.{Strategy}
-use Rattle.pf_strategy.specs.declared.strategy.Strategy.TheVariants.{Uniform, Priorities}
 use Rattle.pf_hunt.specs.Hunts.{FirstFailing, SearchedTo, Tallies}
 use Rattle.pf_hunt.specs.Notices.{Notice, SearchNotices, TallyNotices}
 use Rattle.pf_hunt.specs.Rows.{OutcomeRow}
@@ -39,7 +40,7 @@ abbrev pub shrinking_of : HuntArgs → (numbers : List ℕ) → (runs : ℕ) →
 shrinking_of h numbers runs = record {
   request = record h.request { kind = shrink numbers runs };
   edition = h.edition;
-  priorities = None;
+  by_seed = None;
 }
 
 -- if a schedule is to be shrunk, the shrinking of the empty one isn't refused
@@ -78,9 +79,12 @@ abbrev pub none_text : (seeds : ℕ) → List ℕ
 none_text seeds = codes "no failure in " ++ decimal seeds ++ codes " seeds\n"
 
 -- priorities are named, on a line of their own
+abbrev pub sampling_text : Sampling → List ℕ
+sampling_text Priorities = codes "strategy pos\n"
+sampling_text Uniform = []
+
 abbrev pub strategy_text : Strategy → List ℕ
-strategy_text Priorities = codes "strategy pos\n"
-strategy_text Uniform = []
+strategy_text w = sampling_text w.sampling
 
 -- a seed, its strategy and the choices of its run, each on a line
 abbrev pub seed_text : (seed : ℕ) → Strategy → (choices : List ℕ) → List ℕ

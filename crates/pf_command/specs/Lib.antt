@@ -1,7 +1,7 @@
 pub mod Answers
 pub mod Hunts
 pub mod Charts
-pub mod Guided
+pub mod AskedRuns
 pub mod Checks
 pub mod Streams
 pub mod Waiting

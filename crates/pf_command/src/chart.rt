@@ -7,7 +7,7 @@ ghost use Rattle.pf_sched.specs.Views.{result_of};
 ghost use Rattle.pf_check.specs.Reading.{IsModuleOf};
 ghost use Rattle.pf_cli.specs.Args.{view_of_chart_args};
 ghost use Rattle.pf_command.specs.Charts.{AreNamesIn, DrawsJob, DrawsMeaning, DrawsRun, IsOfRun, IsRootOf};
-ghost use Rattle.pf_command.specs.Guided.{DrawnAnswers, RunsAs, manner_of};
+ghost use Rattle.pf_command.specs.AskedRuns.{DrawnAnswers, RunsAs, manner_of};
 ghost use Rattle.pf_request.specs.Job as request;
 
 use crate::answer::{Output, refused_at, refused_by_code, run_status};
@@ -21,6 +21,7 @@ use pf_process_status::{KnownRun, names};
 use pf_sched::{
     Finished, Job, JobResult, Scratch, Silent, report_by_schedule, report_of_run, run_to_end,
 };
+use pf_strategy::SeedChoice;
 use std::alloc::Global;
 use std::sync::Arc;
 
@@ -71,20 +72,20 @@ fn draw_run(
     Ok(Output { text, status })
 }
 
-/// The chart of the run of a job, by its own choices or by the priorities of a seed, which is made with its events.
+/// The chart of the run of a job, by its own choices or by a seed, which is made with its events.
 fn draw_one_run(
     alloc: Global,
     root: &[u8],
     manner: Manner,
     job: &Job,
-    priorities: Option<u64>,
+    by_seed: Option<SeedChoice>,
 ) -> Result<Output, NoMemory>
-    requires runs { IsNone priorities → job.now.asked.runs ≡ zero }
+    requires runs { IsNone by_seed → job.now.asked.runs ≡ zero }
     requires root { IsRootOf job.now root.now }
-    ensures { IfOk result (λ a. (k : request.Job) × RunsAs priorities job.now k
+    ensures { IfOk result (λ a. (k : request.Job) × RunsAs by_seed job.now k
         × DrawsJob root.now manner k a.text.items a.status) }
 {
-    let run = report_of_run(alloc, job, priorities, &mut Scratch::new(alloc))?;
+    let run = report_of_run(alloc, job, by_seed, &mut Scratch::new(alloc))?;
     draw_run(alloc, job, root, manner, &run)
 }
 
@@ -152,22 +153,22 @@ fn draw_shrinking(alloc: Global, root: &[u8], manner: Manner, job: Job) -> Resul
     draw_finished(alloc, root, manner, &finished)
 }
 
-/// The chart of a job, or of its run by the priorities of a seed.
+/// The chart of a job, or of its run by a seed.
 fn draw_job(
     alloc: Global,
     root: &[u8],
     manner: Manner,
     job: Job,
-    priorities: Option<u64>,
+    by_seed: Option<SeedChoice>,
 ) -> Result<Output, NoMemory>
     requires { IsRootOf job root.now }
-    ensures { IfOk result (λ a. (k : request.Job) × RunsAs priorities job k
+    ensures { IfOk result (λ a. (k : request.Job) × RunsAs by_seed job k
         × DrawsJob root.now manner k a.text.items a.status) }
 {
-    if priorities.is_none() && job.runs() > 0 {
+    if by_seed.is_none() && job.runs() > 0 {
         draw_shrinking(alloc, root, manner, job)
     } else {
-        draw_one_run(alloc, root, manner, &job, priorities)
+        draw_one_run(alloc, root, manner, &job, by_seed)
     }
 }
 
@@ -189,7 +190,7 @@ fn draw_module(alloc: Global, args: &ChartArgs, module: ReadModule) -> Result<Ou
     let run = &args.run;
     let root = run.request.root.as_slice();
     match Job::new(alloc, module, &run.request, run.edition.number()) {
-        Ok(job) => draw_job(alloc, root, manner_of(args), job, run.priorities),
+        Ok(job) => draw_job(alloc, root, manner_of(args), job, run.by_seed),
         Err(OrNoMemory::Fault(refusal)) => refused_by_code(alloc, refusal.code()),
         Err(OrNoMemory::NoMemory) => Err(NoMemory),
     }
@@ -213,7 +214,7 @@ pub struct Chart<'a> {
 
 impl Answering for Chart<'_> {
     ghost use Rattle.pf_cli.specs.Args.{view_of_chart_args};
-    ghost use Rattle.pf_command.specs.Guided.{DrawnAnswers};
+    ghost use Rattle.pf_command.specs.AskedRuns.{DrawnAnswers};
 
     ghost answers = { λ c. DrawnAnswers (view_of_chart_args c.args.now) };
 

@@ -29,7 +29,7 @@ use pf_errors::{NoMemory, OrNoMemory};
 use pf_hunt::FailingSeed;
 use pf_model::report::{Event, Report};
 use pf_sched::{Job, Observer};
-use pf_strategy::Strategy;
+use pf_strategy::{Sampling, Strategy};
 use pf_streams::{Counted, StreamFault};
 use pf_trace::print_report;
 use std::alloc::Global;
@@ -117,9 +117,9 @@ fn add_choices<W: Write, M: Ledger>(
 fn strategy_line(strategy: Strategy) -> &'static [u8]
     ensures { result.now ≡ strategy_text strategy }
 {
-    match strategy {
-        Strategy::Priorities => b"strategy pos\n",
-        Strategy::Uniform => b"",
+    match strategy.sampling {
+        Sampling::Priorities => b"strategy pos\n",
+        Sampling::Uniform => b"",
     }
 }
 

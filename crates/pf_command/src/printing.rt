@@ -6,7 +6,7 @@ ghost use Rattle.pf_errors.specs.Codes.{code_text, refusal_text};
 ghost use Rattle.pf_cli.specs.Args.{view_of_run_args};
 ghost use Rattle.pf_command.specs.Answers.{Counts, IsNoMemory, ReportsJob};
 ghost use Rattle.pf_check.specs.Reading.{IsModuleOf};
-ghost use Rattle.pf_command.specs.Guided.{RunAnswers, RunCounts, RunsAs};
+ghost use Rattle.pf_command.specs.AskedRuns.{RunAnswers, RunCounts, RunsAs};
 ghost use Rattle.pf_request.specs.Job as request;
 ghost use Rattle.pf_command.specs.Streams.{IsAnsweredSo, IsAnswer, IsRefusedText, PrintsAnswer, Sends, Serves};
 ghost use Rattle.pf_command.specs.Streams.{TakesBytes, WentOut, streams};
@@ -18,6 +18,7 @@ use pf_check::{ReadModule, ReadSource};
 use pf_cli::RunArgs;
 use pf_errors::{Code, OrNoMemory, SourceRefusal};
 use pf_sched::{Job, Scratch, Silent, print_run};
+use pf_strategy::SeedChoice;
 use pf_streams::{Counted, StreamFault};
 use std::alloc::Global;
 use std::io::{Read, Write};
@@ -73,24 +74,24 @@ pub(crate) fn print_answer<W: Write, M: Ledger>(
     Ok(answer.status)
 }
 
-/// Prints the report of the run of a job, by its own choices or by the priorities of a seed, as the run goes, and
+/// Prints the report of the run of a job, by its own choices or by a seed, as the run goes, and
 /// counts how many processes still wait though its root returned.
 fn print_one_run<W: Write, M: Ledger>(
     alloc: Global,
     job: &Job,
-    priorities: Option<u64>,
+    by_seed: Option<SeedChoice>,
     writer: &mut Counted<W, M>,
     waiting: &mut u32,
 ) -> Result<u8, StreamFault>
-    requires { IsNone priorities → job.now.asked.runs ≡ zero }
-    ensures reported { (k : request.Job) × RunsAs priorities job.now k
+    requires { IsNone by_seed → job.now.asked.runs ≡ zero }
+    ensures reported { (k : request.Job) × RunsAs by_seed job.now k
         × PrintsAnswer (ReportsJob k) (W.contents writer.old.inner) (W.contents writer.new.inner)
         writer.old.failures.total writer.new.failures.total result }
-    ensures waits { (k : request.Job) × RunsAs priorities job.now k
+    ensures waits { (k : request.Job) × RunsAs by_seed job.now k
         × IfOk result (WentOut (Counts k waiting.old waiting.new)
         (W.contents writer.old.inner) (W.contents writer.new.inner)) }
 {
-    match print_run(alloc, job, priorities, &mut Scratch::new(alloc), writer) {
+    match print_run(alloc, job, by_seed, &mut Scratch::new(alloc), writer) {
         Ok(printed) => {
             *waiting = printed.waiting;
             Ok(run_status(printed.verdict))
@@ -100,27 +101,27 @@ fn print_one_run<W: Write, M: Ledger>(
     }
 }
 
-/// Prints what is reported of a job, or of its run by the priorities of a seed. Of one run it counts how many processes
+/// Prints what is reported of a job, or of its run by a seed. Of one run it counts how many processes
 /// still wait though its root returned.
 fn print_job<W: Write, M: Ledger>(
     alloc: Global,
     job: Job,
-    priorities: Option<u64>,
+    by_seed: Option<SeedChoice>,
     writer: &mut Counted<W, M>,
     waiting: &mut u32,
 ) -> Result<u8, OrNoMemory<StreamFault>>
-    ensures reported { (k : request.Job) × RunsAs priorities job k
+    ensures reported { (k : request.Job) × RunsAs by_seed job k
         × Sends (ReportsJob k) (W.contents writer.old.inner) (W.contents writer.new.inner)
         writer.old.failures.total writer.new.failures.total result }
-    ensures waits { (k : request.Job) × RunsAs priorities job k
+    ensures waits { (k : request.Job) × RunsAs by_seed job k
         × IfOk result (WentOut (Counts k waiting.old waiting.new)
         (W.contents writer.old.inner) (W.contents writer.new.inner)) }
 {
-    if priorities.is_none() && job.runs() > 0 {
+    if by_seed.is_none() && job.runs() > 0 {
         let answer = answer_job(alloc, job, &mut Silent)?;
         Ok(print_answer(&answer, writer)?)
     } else {
-        Ok(print_one_run(alloc, &job, priorities, writer, waiting)?)
+        Ok(print_one_run(alloc, &job, by_seed, writer, waiting)?)
     }
 }
 
@@ -141,7 +142,7 @@ fn print_module<W: Write, M: Ledger>(
         (W.contents writer.old.inner) (W.contents writer.new.inner)) }
 {
     match Job::new(alloc, module, &args.request, args.edition.number()) {
-        Ok(job) => print_job(alloc, job, args.priorities, writer, waiting),
+        Ok(job) => print_job(alloc, job, args.by_seed, writer, waiting),
         Err(OrNoMemory::NoMemory) => Err(OrNoMemory::NoMemory),
         Err(OrNoMemory::Fault(refusal)) => print_code(alloc, refusal.code(), writer),
     }

@@ -14,7 +14,7 @@ use crate::answer::FAILED;
 use pf_errors::NoMemory;
 use pf_hunt::{HashedOutcome, OutcomeRow};
 use pf_model::report::Report;
-use pf_strategy::Strategy;
+use pf_strategy::{Sampling, Strategy};
 use pf_terms::AtomTable;
 use pf_text::{put, put_number};
 use pf_trace::put_outcome;
@@ -51,9 +51,9 @@ pub(crate) fn put_none(out: &mut Vec<u8>, seeds: u64) -> Result<(), NoMemory>
 pub(crate) fn put_strategy(out: &mut Vec<u8>, strategy: Strategy) -> Result<(), NoMemory>
     ensures { OnOk result (out.new.items ≡ out.old.items ++ strategy_text strategy) }
 {
-    match strategy {
-        Strategy::Priorities => put(out, b"strategy pos\n"),
-        Strategy::Uniform => Ok(()),
+    match strategy.sampling {
+        Sampling::Priorities => put(out, b"strategy pos\n"),
+        Sampling::Uniform => Ok(()),
     }
 }
 

@@ -1,4 +1,5 @@
--- The state under the lock, open claims and clients' seats may go to another thread: a lemma for each type, from those of its parts.
+-- The state under the lock, open claims and clients' seats may go to another thread: a lemma for each type, from those
+-- of its parts.
 use denote.RattleType.{RattleType}
 use denote.Param.Send.{IsSend, recorded_send, sendable}
 use Rattle.std.proofs.Crossing as heap

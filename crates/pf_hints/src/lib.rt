@@ -8,9 +8,9 @@ mod advice;
 mod around;
 mod bytes;
 mod cure;
+mod fixing;
 mod forms;
 mod guards;
-mod mending;
 mod modules;
 mod pieces;
 mod place;
@@ -19,7 +19,7 @@ mod undefined;
 mod words;
 
 pub use advice::advise;
-pub use mending::{form_ends, mend};
+pub use fixing::{fix, form_ends};
 
 mod alone;
 mod reporting;

@@ -7,7 +7,7 @@ ghost use Rattle.pf_hints.specs.Fixed.{IsFixed};
 ghost use Rattle.pf_hints.specs.Faults.{IsFault, IsOfFault, ReportsRefusal};
 
 use crate::alone::{first_refusal, is_syntax, refusal_of_form};
-use crate::{advise, form_ends, mend};
+use crate::{advise, fix, form_ends};
 use pf_diagnostics::Advice;
 use pf_errors::{NoMemory, SourceRefusal};
 use std::alloc::Global;
@@ -91,7 +91,7 @@ fn next_fault(
     let Some(fault) = fault else {
         return Ok(None);
     };
-    let is_fixed = mend(alloc, fixed, fault)?;
+    let is_fixed = fix(alloc, fixed, fault)?;
     if !is_fixed {
         return Ok(None);
     }

@@ -1,17 +1,14 @@
 //! The run of a job by a seed.
 
 ghost use Rattle.std.specs.Prelude.{◌≡◌, All, IfOk};
-ghost use Rattle.pf_model.specs.Meaning.{Means};
 ghost use Rattle.pf_model.specs.Reports.{view_of_report};
-ghost use Rattle.pf_request.specs.Job.{asked_by_seed};
 ghost use Rattle.pf_strategy.specs.Strategies.{MeansBySeed};
-ghost use Rattle.pf_strategy.specs.declared.strategy.Strategy.TheVariants.{Uniform};
 ghost use Rattle.pf_hunt.specs.Judging.{JudgesBySeed};
 
 use pf_errors::NoMemory;
 use pf_model::report::Report;
 use pf_sched::{Job, Judged, Scratch, judged_run, report_of_run};
-use pf_strategy::Strategy;
+use pf_strategy::{SeedChoice, Strategy};
 use std::alloc::Global;
 
 /// What is the same for all seeds of a hunt: the job in whose place their runs go, of whose own choices the weights
@@ -44,30 +41,6 @@ impl Hunt {
     }
 }
 
-/// The report of the run by a seed in place of the job's own choices and by their weights.
-fn run_by_words(
-    alloc: Global,
-    job: &Job,
-    scratch: &mut Scratch,
-    seed: u64,
-) -> Result<Report, NoMemory>
-    ensures { IfOk result (λ r. Means (asked_by_seed job.now.asked seed) (view_of_report r)) }
-{
-    report_of_run(alloc, &job.by_seed(seed)?, None, scratch)
-}
-
-/// What that report says but for its events.
-fn judged_by_words(
-    alloc: Global,
-    job: &Job,
-    scratch: &mut Scratch,
-    seed: u64,
-) -> Result<Judged, NoMemory>
-    ensures { IfOk result (λ v. JudgesBySeed Uniform job.now.asked seed v) }
-{
-    judged_run(alloc, &job.by_seed(seed)?, None, scratch)
-}
-
 /// The report that the job of a hunt means by a seed, in place of the job's own choices. What is in the scratch makes
 /// no difference.
 pub fn run_by_seed(
@@ -78,10 +51,13 @@ pub fn run_by_seed(
 ) -> Result<Report, NoMemory>
     ensures { IfOk result (λ r. MeansBySeed hunt.now.strategy hunt.now.job.asked seed (view_of_report r)) }
 {
-    match hunt.strategy {
-        Strategy::Uniform => run_by_words(alloc, &hunt.job, scratch, seed),
-        Strategy::Priorities => report_of_run(alloc, &hunt.job, Some(seed), scratch),
-    }
+    let strategy = hunt.strategy;
+    report_of_run(
+        alloc,
+        &hunt.job,
+        Some(SeedChoice { seed, strategy }),
+        scratch,
+    )
 }
 
 /// The outcome and the verdict of that report, and how many processes still wait though its root returned. No event is
@@ -96,8 +72,6 @@ pub(crate) fn judged_by_seed(
     ensures { IfOk result (λ v. JudgesBySeed hunt.now.strategy hunt.now.job.asked seed v) }
 {
     let job = hunt.job_of(worker);
-    match hunt.strategy {
-        Strategy::Uniform => judged_by_words(alloc, job, scratch, seed),
-        Strategy::Priorities => judged_run(alloc, job, Some(seed), scratch),
-    }
+    let strategy = hunt.strategy;
+    judged_run(alloc, job, Some(SeedChoice { seed, strategy }), scratch)
 }

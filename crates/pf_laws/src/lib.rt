@@ -1,6 +1,6 @@
 //! Laws of the whole: what is true of each module that is read, and which bytes its texts have; and that the limits of
-//! sources, values, runs and commands are the numbers that users are given. Functions with empty bodies, whose contracts
-//! are the laws.
+//! sources, values, runs and commands are the numbers that users are given. Functions with empty bodies, whose
+//! contracts are the laws.
 #![tactic(auto)]
 
 mod commands;

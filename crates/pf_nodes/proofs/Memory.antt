@@ -4,7 +4,8 @@
 --     node_ref_had, node_ref_made, loose_had, loose_made    a reference and a loose box by value
 --     node_seen, node_out, node_back, node_in    of the nodes that are lent, or owned: the one at a reference, taken
 --                          out, put back, and added
---     fresh, knows         a node that is owned beside others is at none of their references, and such a fact is learned
+--     fresh, knows         a node that is owned beside others is at none of their references, and such a fact is
+--                          learned
 use mathlib.Core.Path.{◌≡◌, refl, sym, subst}
 use Prim.Native.Nat.{ℕ}
 use native.Mathlib.Omega.{arith}

@@ -13,13 +13,25 @@ use Rattle.pf_positions.specs.declared.spot.Spot.{Spot}
 use Rattle.pf_positions.specs.declared.written.WrittenSign.{WrittenSign}
 use Rattle.pf_positions.specs.declared.places.Position.{Position}
 use Rattle.pf_positions.specs.Signs.{sign_number}
-use Rattle.pf_positions.specs.Placed.{AreAmong, AreAmongBelow, IsPlaceAt, spots_with_sign, has_number, line_after}
+use Rattle.pf_positions.specs.Placed.{AreAmong, AreAmongBelow, spots_with_sign, has_number, line_after}
 use Rattle.pf_positions.specs.Placed.{spot_node, place_in, reported_lines}
+
+-- a place is that of the spot of this index, which is the last sign of this node but for those of a number from an
+-- index on
+pub record IsPlaceSoFar (number : ℕ) (spots : List Spot) (ws : List WrittenSign) (index i n : ℕ)
+    (p : Position) : Type 0 where
+  pub spot : Spot
+  pub is_there : slice_get spots i ≡ Some spot
+  pub node : spot_node spot ≡ Some n
+  pub last : (j : ℕ) (s : Spot) → i < j → slice_get spots j ≡ Some s → spot_node s ≡ Some n → s.sign ≡ spot.sign
+      → (index ≤ j) × (has_number number s.sign ≡ true)
+  pub place : p ≡ record { function = spot.function; line = line_after spots ws (take i spots) spot.sign }
 
 -- the places of the signs below a number, and of the spots before an index that have the sign of this number
 pub record SoFar (number : ℕ) (spots : List Spot) (ws : List WrittenSign) (index : ℕ)
     (places : List (Option Position)) : Type 0 where
-  pub each : (n : ℕ) (p : Position) → place_in places n ≡ Some p → (i : ℕ) × IsPlaceAt spots ws i n p
+  pub each : (n : ℕ) (p : Position) → place_in places n ≡ Some p
+      → (i : ℕ) × IsPlaceSoFar number spots ws index i n p
   pub below : (i n : ℕ) (s : Spot) → slice_get spots i ≡ Some s → sign_number s.sign < number → spot_node s ≡ Some n
       → IsSome (place_in places n)
   pub here : (i n : ℕ) (s : Spot) → i < index → slice_get spots i ≡ Some s → sign_number s.sign ≡ number
@@ -74,13 +86,39 @@ all_signs number spots ws places le a = record {
 pub begun : (number : ℕ) (spots : List Spot) (ws : List WrittenSign) (places : List (Option Position))
     → AreAmongBelow number spots ws places
     → SoFar number spots ws 0 places
-begun number spots ws places a = record { each = a.each; below = a.all; here = λ i n s lt h e k. absurd (omega arith) }
+begun number spots ws places a = record {
+  each = λ n p h. let x = a.each n p h in
+      let at = x.1 in (
+        x.0,
+        record {
+          spot = at.spot;
+          is_there = at.is_there;
+          node = at.node;
+          last = λ j s lt h k e. absurd (at.last j s lt h k e);
+          place = at.place;
+        },
+      );
+  below = a.all;
+  here = λ i n s lt h e k. absurd (omega arith);
+}
 
 pub ended : (number : ℕ) (spots : List Spot) (ws : List WrittenSign) (index : ℕ) (places : List (Option Position))
     → length spots ≤ index
     → SoFar number spots ws index places → AreAmongBelow (number + 1) spots ws places
 ended number spots ws index places le a = record {
-  each = a.each;
+  each = λ n p h. let x = a.each n p h in
+      let at = x.1 in (
+        x.0,
+        record {
+          spot = at.spot;
+          is_there = at.is_there;
+          node = at.node;
+          last = λ j s lt h k e. (let later = at.last j s lt h k e in
+              let within = slice_get_within spots j s h in
+              absurd (omega (arith, later.0, within)));
+          place = at.place;
+        },
+      );
   all = λ i n s h lt k. elim (cases_lt (sign_number s.sign) number) [
     | inl below ↦ a.below i n s h below k
     | inr above ↦ (let within = slice_get_within spots i s h in a.here i n s (omega arith) h (omega arith) k)
@@ -89,13 +127,31 @@ ended number spots ws index places le a = record {
 
 -- ---- one spot
 
+-- a place stays that of the last sign so far, where the next spot isn't one of this number and of this node
+one_further : (number : ℕ) (spots : List Spot) (ws : List WrittenSign) (index i n : ℕ) (p : Position) (s : Spot)
+    → slice_get spots index ≡ Some s → (spot_node s ≡ Some n → has_number number s.sign ≡ true → ⊥)
+    → IsPlaceSoFar number spots ws index i n p → IsPlaceSoFar number spots ws (index + 1) i n p
+one_further number spots ws index i n p s at isnt a = record {
+  spot = a.spot;
+  is_there = a.is_there;
+  node = a.node;
+  last = λ j u lt h k e. (let later = a.last j u lt h k e in elim (cases_lt index j) [
+    | inl following ↦ (omega arith, later.1)
+    | inr before ↦ (let same : j ≡ index = omega (arith, later.0) in
+        let is : u ≡ s = same_Some u s (sym h ∙ ap (slice_get spots) same ∙ at) in
+        absurd (isnt (ap spot_node (sym is) ∙ k) (ap (λ (x : Spot). has_number number x.sign) (sym is) ∙ later.1)))
+  ]);
+  place = a.place;
+}
+
 -- it has another sign
 pub other_sign : (number : ℕ) (spots : List Spot) (ws : List WrittenSign) (index : ℕ)
     (places : List (Option Position)) (s : Spot)
     → slice_get spots index ≡ Some s → has_number number s.sign ≡ false → SoFar number spots ws index places
     → SoFar number spots ws (index + 1) places
 other_sign number spots ws index places s at other a = record {
-  each = a.each;
+  each = λ n p h. let x = a.each n p h in
+      (x.0, one_further number spots ws index x.0 n p s at (λ k e. absurd (cc (e, other))) x.1);
   below = a.below;
   here = λ i n u lt h e k. elim (cases_lt i index) [
     | inl before ↦ a.here i n u before h e k
@@ -112,7 +168,8 @@ pub no_node : (number : ℕ) (spots : List Spot) (ws : List WrittenSign) (index 
     → slice_get spots index ≡ Some s → spot_node s ≡ None → SoFar number spots ws index places
     → SoFar number spots ws (index + 1) places
 no_node number spots ws index places s at none a = record {
-  each = a.each;
+  each = λ n p h. let x = a.each n p h in
+      (x.0, one_further number spots ws index x.0 n p s at (λ k e. none-some n (sym none ∙ k)) x.1);
   below = a.below;
   here = λ i n u lt h e k. elim (cases_lt i index) [
     | inl before ↦ a.here i n u before h e k
@@ -137,16 +194,28 @@ some_kept before after node place put n some = kept (n == node) (place_in before
 
 pub put_here : (number : ℕ) (spots : List Spot) (ws : List WrittenSign) (index : ℕ)
     (before after : List (Option Position)) (s : Spot) (node : ℕ) (place : Position)
-    → slice_get spots index ≡ Some s → spot_node s ≡ Some node
+    → slice_get spots index ≡ Some s → has_number number s.sign ≡ true → spot_node s ≡ Some node
     → place ≡ record { function = s.function; line = line_after spots ws (take index spots) s.sign }
     → IsPut before after node place → SoFar number spots ws index before → SoFar number spots ws (index + 1) after
-put_here number spots ws index before after s node place at is_node is_place put a = record {
+put_here number spots ws index before after s node place at has is_node is_place put a = record {
   each = λ n p h. elim (cases_eq n node) [
     | inl same ↦ (let here : place_in after n ≡ Some place = put n ∙ grind (arith, nat_tests, same) in
-        let is : p ≡ place = same_Some p place (sym h ∙ here) in
-        (index, record { spot = s; is_there = at; node = is_node ∙ ap Some (sym same); place = is ∙ is_place }))
+        let is : p ≡ place = same_Some p place (sym h ∙ here) in (
+          index,
+          record {
+            spot = s;
+            is_there = at;
+            node = is_node ∙ ap Some (sym same);
+            last = λ j u lt h k e. (omega arith, ap (has_number number) e ∙ has);
+            place = is ∙ is_place;
+          },
+        ))
     | inr other ↦ (let there : place_in after n ≡ place_in before n = put n ∙ grind (arith, nat_tests, other) in
-        a.each n p (sym there ∙ h))
+        let x = a.each n p (sym there ∙ h) in (
+          x.0,
+          one_further number spots ws index x.0 n p s at
+              (λ k e. other (same_Some n node (sym k ∙ is_node))) x.1,
+        ))
   ];
   below = λ i n u h lt k. some_kept before after node place put n (a.below i n u h lt k);
   here = λ i n u lt h e k. elim (cases_lt i index) [

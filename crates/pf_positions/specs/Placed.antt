@@ -1,6 +1,6 @@
 -- The places of nodes.
-use Rattle.std.specs.Prelude.{◌≡◌, ℕ, ◌<◌, Bool, ◌==◌, if◌then◌else◌, List, [], Option, Some, None, IsSome, length}
-use Rattle.std.specs.Prelude.{take, map, filter, count_by, option_map, slice_get, slice_index_or}
+use Rattle.std.specs.Prelude.{◌≡◌, ◌≢◌, ℕ, ◌<◌, Bool, ◌==◌, if◌then◌else◌, List, [], Option, Some, None, IsSome}
+use Rattle.std.specs.Prelude.{length, take, map, filter, count_by, option_map, slice_get, slice_index_or}
 use Rattle.pf_syntax.specs.Module.{Checked}
 use Rattle.pf_positions.specs.Signs.{sign_number}
 use Rattle.pf_positions.specs.Spots.{spots_of}
@@ -37,18 +37,24 @@ line_after spots ws before s = slice_get (reported_lines (sign_number s) spots w
 abbrev pub spot_node : Spot → Option ℕ
 spot_node s = option_map (λ n. n.0) s.node
 
--- a place is that of the spot of this index, which is the sign of this node
+-- each spot of this node after this index has another sign
+abbrev pub IsLast : List Spot → (i n : ℕ) → Sign → Type 0
+IsLast spots i n sign = (j : ℕ) (s : Spot) → i < j → slice_get spots j ≡ Some s → spot_node s ≡ Some n
+    → s.sign ≢ sign
+
+-- a place is that of the spot of this index, which is the last sign of this node
 pub record IsPlaceAt (spots : List Spot) (ws : List WrittenSign) (i n : ℕ) (p : Position) : Type 0 where
   pub spot : Spot
   pub is_there : slice_get spots i ≡ Some spot
   pub node : spot_node spot ≡ Some n
+  pub last : IsLast spots i n spot.sign
   pub place : p ≡ record { function = spot.function; line = line_after spots ws (take i spots) spot.sign }
 
 -- the place of a node, if there is one
 abbrev pub place_in : List (Option Position) → ℕ → Option Position
 place_in places n = slice_index_or places n None
 
--- a node has its place if it has a spot, and the place is that of one of its spots
+-- a node has its place if it has a spot, and the place is that of the last of its signs
 pub record AreAmong (spots : List Spot) (ws : List WrittenSign) (places : List (Option Position)) : Type 0 where
   pub each : (n : ℕ) (p : Position) → place_in places n ≡ Some p → (i : ℕ) × IsPlaceAt spots ws i n p
   pub all : (i n : ℕ) (s : Spot) → slice_get spots i ≡ Some s → spot_node s ≡ Some n → IsSome (place_in places n)

@@ -1,6 +1,6 @@
 //! The places of the nodes of a module.
 
-ghost use Rattle.std.specs.Prelude.{◌≡◌, ◌+◌, ◌==◌, [], ℕ, IfOk, OnOk, Some, if◌then◌else◌, slice_get, unwrap_or};
+ghost use Rattle.std.specs.Prelude.{◌≡◌, ◌+◌, ◌==◌, ℕ, IfOk, OnOk, Some, if◌then◌else◌, slice_get, unwrap_or};
 ghost use Rattle.pf_syntax.specs.Module.{tree_at};
 ghost use Rattle.pf_positions.specs.Innermost.{IsInnermostAt};
 ghost use Rattle.pf_positions.specs.Placed.{AreAmongBelow, ArePlaces, spots_with_sign, has_number, sign_lines};

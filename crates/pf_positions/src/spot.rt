@@ -1,6 +1,6 @@
 //! The spots of a module: the signs of its nodes, in the order of the text.
 
-ghost use Rattle.std.specs.Prelude.{◌≡◌, [], ◌∷◌, IfOk, OnOk, None, map, option_map};
+ghost use Rattle.std.specs.Prelude.{[], ◌∷◌, OnOk, option_map};
 ghost use Rattle.pf_syntax.specs.Module.{tree_at};
 ghost use Rattle.pf_positions.specs.Added.{AreAdded};
 

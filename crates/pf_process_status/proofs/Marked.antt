@@ -9,8 +9,8 @@ use Rattle.pf_model.specs.Runs.{Goes, stays, more, next_choice, next_state, Pass
 use Rattle.pf_model.specs.Runs.{enabled}
 use Rattle.pf_model.specs.declared.report.Actor.{Actor}
 
--- Marked m choose d t s n c ts k i e j u: a run by a chooser from c and its state s, with n steps left, by ts in k steps
--- to d and its state t; after i transitions, in j steps, it was at e, and the chooser in state u
+-- Marked m choose d t s n c ts k i e j u: a run by a chooser from c and its state s, with n steps left, by ts in k
+-- steps to d and its state t; after i transitions, in j steps, it was at e, and the chooser in state u
 pub data Marked {S : Type 0} (m : Module) (choose : Chooser S) (d : Configuration) (t : S) : S → ℕ → Configuration
     → List Transition → ℕ → ℕ → Configuration → ℕ → S → Type 0 where
   here : (s : S) (n : ℕ) (c : Configuration) (ts : List Transition) (k : ℕ) → Goes m choose s n c ts d k t

@@ -112,7 +112,7 @@ fn asks_point(event: &Event) -> bool {
     raised_in(event).is_some() || failed_in(event).is_some()
 }
 
-/// How many events have to be made again to come to the last of which the point is asked for.
+/// How many events have to be made again: up to and with the last of which the point is asked for.
 fn events_to_make(events: &[Event]) -> usize {
     let mut count = 0;
     for event in 0..events.len() {
@@ -217,7 +217,7 @@ impl Notes {
         self.note(event, raising, failing, point)
     }
 
-    /// Makes the events of a run again as far as that has to be, and notes who failed in them.
+    /// Makes those events of a run again that have to be, and notes who failed in them.
     fn make_all(
         &mut self,
         alloc: Global,

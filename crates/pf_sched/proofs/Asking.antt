@@ -133,34 +133,8 @@ is_profile (weighted_seed n process channel) e =
 
 -- ---- by a seed
 
-weighs_reseeded : (cs : Choices) (s : ℕ) → may_weigh cs ≡ true → may_weigh (reseeded cs s) ≡ true
+-- the weights of a seed's choices may be given as those of the job's own may
+pub weighs_reseeded : (cs : Choices) (s : ℕ) → may_weigh cs ≡ true → may_weigh (reseeded cs s) ≡ true
 weighs_reseeded (seed n) s e = refl
 weighs_reseeded (schedule ns) s e = refl
 weighs_reseeded (weighted_seed n process channel) s e = e
-
-none_given : (cs : Choices) (s : ℕ) → count_of (reseeded cs s) ≡ zero
-none_given (seed n) s = refl
-none_given (schedule ns) s = refl
-none_given (weighted_seed n process channel) s = refl
-
--- the run by a seed of a valid job is valid
-pub valid_by_seed : (j : Job) (m : ReadModule) (q : Property) (cs : Choices) (s : ℕ) → m ≡ module_of_job j
-    → cs ≡ reseeded j.asked.choices s → IsValid j
-    → IsValid (job_from m j.asked.edition j.asked.root q
-    (record { root = []; property = []; kind = run cs; limit = j.asked.limit }))
-valid_by_seed j m q cs s e c valid =
-    let range = and_parts (nat_le 1 j.asked.limit)
-    (nat_le j.asked.limit 100000 && nat_le (count_of j.asked.choices) 100000) valid.limit in
-    let most = (and_parts (nat_le j.asked.limit 100000) (nat_le (count_of j.asked.choices) 100000) range.1).0 in
-    let none : count_of cs ≡ zero = ap count_of c ∙ none_given j.asked.choices s in
-    record {
-      read = subst (λ n. IsReadAs n.source n) (sym e) valid.read;
-      name = valid.name;
-      root = ap (λ n. root_in n valid.name) e ∙ valid.root;
-      limit = ap (λ n. is_in_range j.asked.limit n) none
-          ∙ ap₂ (λ low high. low && (high && nat_le 0 100000)) range.0 most;
-      runs = omega arith;
-      shrinks = inl refl;
-      weighs = ap may_weigh c ∙ weighs_reseeded j.asked.choices s valid.weighs;
-      edition = valid.edition;
-    }

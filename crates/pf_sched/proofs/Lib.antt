@@ -16,3 +16,5 @@ pub mod Shrunk
 pub mod Printed
 mod SystemCrossing
 pub mod Crossing
+pub mod Lasting
+pub mod Seeded

@@ -14,12 +14,14 @@ use Rattle.pf_model.specs.Reports.{view_of_event as code_event_of}
 use Rattle.pf_model.specs.Properties.{Outcome}
 use Rattle.pf_model.proofs.Meanings.{one_meaning, one_report}
 use Rattle.pf_request.specs.Job.{Job}
-use Rattle.pf_strategy.proofs.Meant.{some_report_by_priorities}
+use Rattle.pf_strategy.proofs.Meant.{some_report}
+use Rattle.pf_strategy.specs.declared.strategy.SeedChoice.{SeedChoice}
 use Rattle.pf_trace.specs.Written.{AreWrittenSoFar, GoesOut, StopsShort, all_reported, report_end_text, gone_from}
 use Rattle.pf_trace.specs.Written.{last_lines, lines_text, reported_so_far}
 use Rattle.pf_trace.specs.declared.pieces.Pieces.{Pieces}
 use Rattle.pf_trace.proofs.Fronts.{lines_of_both, stops_among, stops_at_end, whole_text}
 use Rattle.pf_sched.specs.Asked.{IsValid}
+use Rattle.pf_sched.proofs.Seeded.{means_for_seed}
 use Rattle.pf_sched.specs.Choosing.{Choosing, MeansFor, StateOf, chooser_of, choosing_of, first_of}
 use Rattle.pf_sched.specs.Closing.{ClosesRun}
 use Rattle.pf_sched.specs.Printing.{CutsShort, HasPrinted, HasStopped, IsPrinted, PrintsRun, atom_names_of}
@@ -89,22 +91,24 @@ printed_out j u es x p q w0 w w1 printed out =
           printed.out out.4);
     }
 
--- a job has a report by its own choices, and by the priorities of each seed
-some_meaning : (j : Job) → IsValid j → (priorities : Option ℕ)
-    → (r : Report) × MeansFor (choosing_of priorities j.asked) j.asked r
+-- a job has a report by its own choices, and by each seed
+some_meaning : (j : Job) → IsValid j → (by_seed : Option SeedChoice)
+    → (r : Report) × MeansFor (choosing_of by_seed j.asked) j.asked r
 some_meaning j valid None = let m = one_meaning j.asked (is_profile j.asked.choices valid.weighs) in (m.0, m.1)
-some_meaning j valid (Some seed) = some_report_by_priorities j.asked seed
+some_meaning j valid (Some g) =
+    let m = some_report g.strategy j.asked g.seed (is_profile j.asked.choices valid.weighs) in
+    (m.0, means_for_seed g j.asked m.0 m.1)
 
 -- nothing went out before the first event
-pub stopped_first : (j : Job) → IsValid j → (priorities : Option ℕ) (w : Option (List ℕ)) (n : ℕ)
-    → HasStopped NoMemory j (choosing_of priorities j.asked) w w n n
+pub stopped_first : (j : Job) → IsValid j → (by_seed : Option SeedChoice) (w : Option (List ℕ)) (n : ℕ)
+    → HasStopped NoMemory j (choosing_of by_seed j.asked) w w n n
 stopped_first j valid o w n = let m = some_meaning j valid o in (m.0, m.1, ([], m.0.events, refl, Appends-nil w, refl))
 
 -- each job has a report
 pub stopped : (e : OrNoMemory StreamFault) (j : Job) → IsValid j
-    → (priorities : Option ℕ) (w0 w1 : Option (List ℕ)) (n0 n1 : ℕ)
-    → CutsShort e j (choosing_of priorities j.asked) w0 w1 n0 n1
-    → HasStopped e j (choosing_of priorities j.asked) w0 w1 n0 n1
+    → (by_seed : Option SeedChoice) (w0 w1 : Option (List ℕ)) (n0 n1 : ℕ)
+    → CutsShort e j (choosing_of by_seed j.asked) w0 w1 n0 n1
+    → HasStopped e j (choosing_of by_seed j.asked) w0 w1 n0 n1
 stopped e j valid o w0 w1 n0 n1 cuts = let m = some_meaning j valid o in (m.0, m.1, cuts m.0 m.1)
 
 pub cut_kept : (e : OrNoMemory StreamFault) (j : Job) (u : Choosing) (w0 w1 : Option (List ℕ)) (n0 n n1 : ℕ) → n ≡ n0

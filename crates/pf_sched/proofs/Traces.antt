@@ -22,7 +22,7 @@ use Rattle.pf_system.specs.Steps.{IsNoteOf, SimulatesTransition}
 use Rattle.pf_system.specs.View.{SystemView}
 use Rattle.pf_system.specs.declared.enabled.Enabled.{Enabled}
 use Rattle.pf_system.proofs.Bodies.{map_more}
-use Rattle.pf_sched.specs.Choosing.{Choosing, chooser_of, choices, first_of, priorities}
+use Rattle.pf_sched.specs.Choosing.{Choosing, chooser_of, choices, first_of, last, priorities}
 use Rattle.pf_sched.specs.declared.chooser.ActorChooser.TheVariants as code
 use Rattle.pf_sched.specs.declared.chooser.ActorPriorities.{ActorPriorities}
 use Rattle.pf_sched.specs.declared.execution.Execution.{Execution}
@@ -169,6 +169,7 @@ chosen_by_choices c q q' k h (choices cs) i makes =
       },
     )
 chosen_by_choices c q q' k h (priorities seed) s is = absurd is
+chosen_by_choices c q q' k h (last p w) s is = absurd is
 
 -- and what priorities do
 pub chosen_by_priorities : (c : Configuration) (p p' : ActorPriorities) (k : ℕ)
@@ -180,3 +181,4 @@ chosen_by_priorities c p p' k h (priorities seed) s is = (
   ap (λ z. choose_by_priorities z (ready c) (heads c.channels)) is ∙ h,
   refl,
 )
+chosen_by_priorities c p p' k h (last a w) s is = absurd is

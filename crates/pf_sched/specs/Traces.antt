@@ -15,14 +15,17 @@ use Rattle.pf_model.specs.Meaning.{Event, profile_of, words_of}
 use Rattle.pf_model.specs.Module.{module_of}
 use Rattle.pf_model.specs.Runs.{Goes, Transition, enabled, ready, start}
 use Rattle.pf_request.specs.Job.{Job}
+use Rattle.pf_strategy.specs.Last.{keep_last}
 use Rattle.pf_strategy.specs.Priorities.{state_of}
 use Rattle.pf_system.specs.Steps.{SimulatesTransition}
 use Rattle.pf_system.specs.View.{SystemView}
 use Rattle.pf_sched.specs.declared.chooser.ActorChooser.{ActorChooser}
 use Rattle.pf_sched.specs.declared.chooser.ActorChooser.TheVariants as code
+use Rattle.pf_sched.specs.declared.last.Sampler.{Sampler}
+use Rattle.pf_sched.specs.declared.last.Sampler.TheVariants as sampler
 use Rattle.pf_sched.specs.declared.execution.Execution.{Execution}
 use Rattle.pf_sched.specs.declared.execution.Chosen.{Chosen}
-use Rattle.pf_sched.specs.Choosing.{Choosing, StateOf, chooser_of, choices, first_of, priorities}
+use Rattle.pf_sched.specs.Choosing.{Choosing, StateOf, chooser_of, choices, first_of, last, priorities}
 use Rattle.pf_sched.specs.Reported.{Hears, event}
 
 -- ---- by a chooser
@@ -60,12 +63,38 @@ pub record MakesFrom (cs : meaning.Choices) (i : ℕ) (q : Choices Lcg) : Type 0
 abbrev pub Makes : meaning.Choices → Choices Lcg → Type 0
 Makes cs q = MakesFrom cs zero q
 
+-- what chooses beside the last process is the chooser of this, in this state
+abbrev pub IsSampler : (w : Choosing) → StateOf w → Sampler → Type 0
+IsSampler (choices cs) i (sampler.Choices q) = MakesFrom cs i q
+IsSampler (choices cs) i (sampler.Priorities p) = ⊥
+IsSampler (priorities seed) s (sampler.Choices q) = ⊥
+IsSampler (priorities seed) s (sampler.Priorities p) = s ≡ state_of p
+IsSampler (last p w) s q = ⊥
+
+-- ChoosesAmong q pids channels k q': in whichever state of whichever chooser it was, k is the index that this chooses
+-- of these, and it is in the state after that
+abbrev pub ChoosesAmong : Sampler → (pids : List ℕ) → (channels : List (ℕ × ℕ)) → ℕ → Sampler → Type 0
+ChoosesAmong q pids channels k q' =
+    (w : Choosing) (s : StateOf w) → IsSampler w s q
+    → (t : StateOf w) × (chooser_of w s pids channels ≡ (k, t)) × IsSampler w t q'
+
+-- the same where a process goes last
+abbrev pub ChoosesLast : (pid : ℕ) → Sampler → (pids : List ℕ) → (channels : List (ℕ × ℕ)) → ℕ → Sampler → Type 0
+ChoosesLast p q pids channels k q' =
+    (w : Choosing) (s : StateOf w) → IsSampler w s q
+    → (t : StateOf w) × (keep_last p (chooser_of w) s pids channels ≡ (k, t)) × IsSampler w t q'
+
 -- what chooses in a run is the chooser of this, in this state
 abbrev pub IsIn : (w : Choosing) → StateOf w → ActorChooser → Type 0
 IsIn (choices cs) i (code.Choices q) = MakesFrom cs i q
 IsIn (choices cs) i (code.Priorities p) = ⊥
 IsIn (priorities seed) s (code.Choices q) = ⊥
 IsIn (priorities seed) s (code.Priorities p) = s ≡ state_of p.priorities
+IsIn (choices cs) i (code.Last l) = ⊥
+IsIn (priorities seed) s (code.Last l) = ⊥
+IsIn (last p w) s (code.Choices q) = ⊥
+IsIn (last p w) s (code.Priorities q) = ⊥
+IsIn (last p w) s (code.Last l) = (p ≡ l.others.last) × IsSampler w s l.by
 
 abbrev pub IsFirst : Choosing → ActorChooser → Type 0
 IsFirst w q = IsIn w (first_of w) q

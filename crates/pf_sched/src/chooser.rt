@@ -11,6 +11,7 @@ ghost use Rattle.pf_strategy.specs.Runs.{choose_by_priorities};
 ghost use Rattle.pf_system.specs.Steps.{IsNoteOf, noted_actors};
 ghost use Rattle.pf_sched.specs.Traces.{ChoosesFor};
 
+use crate::last::LastChooser;
 use pf_choice::Choices;
 use pf_errors::NoMemory;
 use pf_strategy::Priorities;
@@ -35,7 +36,9 @@ impl ActorPriorities {
         }
     }
 
-    /// Which of those who may go has the highest, from 0 on. The allocation for one more priority may fail.
+    /// Which of those who may go has the highest, from 0 on. The allocation for one more priority may fail. It is not
+    /// inlined: among the locals of a whole run its loops would keep their own in memory.
+    #[inline(never)]
     fn choose(&mut self, enabled: &Enabled<'_>) -> Result<usize, NoMemory>
         requires { 0 < length (noted_actors enabled.now) }
         ensures chooses { IfOk result (λ i. (c : Configuration) → IsNoteOf enabled.now c
@@ -66,6 +69,8 @@ pub(crate) enum ActorChooser {
     Choices(Choices),
     /// The priorities of those who may go.
     Priorities(ActorPriorities),
+    /// One of both, but for a process that goes last.
+    Last(LastChooser),
 }
 
 impl ActorChooser {
@@ -80,6 +85,7 @@ impl ActorChooser {
         match self {
             ActorChooser::Choices(choices) => Ok(next_choice(choices, enabled)),
             ActorChooser::Priorities(priorities) => priorities.choose(enabled),
+            ActorChooser::Last(last) => last.choose(enabled),
         }
     }
 }

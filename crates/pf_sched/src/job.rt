@@ -7,7 +7,7 @@ ghost use Rattle.pf_model.specs.Limits.{IsEdition};
 ghost use Rattle.pf_check.specs.Reading.{IsReadAs};
 ghost use Rattle.pf_property.specs.Texts.{ReadsProperty};
 ghost use Rattle.pf_property.specs.Views.{property_of};
-ghost use Rattle.pf_request.specs.Job.{by_seed, root_in};
+ghost use Rattle.pf_request.specs.Job.{root_in};
 ghost use Rattle.pf_request.specs.View.{view_of_request};
 ghost use Rattle.pf_sched.specs.Asked.{Asks, IsRefusal, IsValid, NoSuch};
 
@@ -106,21 +106,6 @@ impl Job {
             kind,
             limit: request.limit,
             edition,
-        })
-    }
-
-    /// The run by a seed in place of this job's own choices, by the weights that they have. Module and property are
-    /// shared.
-    pub fn by_seed(&self, seed: u64) -> Result<Job, NoMemory>
-        ensures { IfOk result (λ job. job ≡ by_seed self.now seed) }
-    {
-        Ok(Job {
-            module: self.module.share()?,
-            root: self.root,
-            property: self.property.share()?,
-            kind: RequestKind::Run(self.kind.reseeded(seed)),
-            limit: self.limit,
-            edition: self.edition,
         })
     }
 

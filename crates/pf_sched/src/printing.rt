@@ -22,6 +22,7 @@ use crate::whole::{Judged, first_execution, judge};
 use pf_errors::{NoMemory, OrNoMemory};
 use pf_model::report::{Event, Label};
 use pf_property::Property;
+use pf_strategy::SeedChoice;
 use pf_streams::{Counted, StreamFault};
 use pf_terms::AtomTable;
 use pf_trace::Pieces;
@@ -217,27 +218,27 @@ fn print_execution<W: Write, M: Ledger>(
     Ok(printed)
 }
 
-/// Prints the report of a job that is one run, by its own choices or by the priorities of a seed, as the run goes, and
+/// Prints the report of a job that is one run, by its own choices or by a seed in place of them, as the run goes, and
 /// gives its verdict and how many processes still wait though its root returned. Where a write fails, a beginning of
 /// the report went out; where memory runs out, the lines of its first events did. What is in the scratch makes no
 /// difference.
 pub fn print_run<W: Write, M: Ledger>(
     alloc: Global,
     job: &Job,
-    priorities: Option<u64>,
+    by_seed: Option<SeedChoice>,
     scratch: &mut Scratch,
     writer: &mut Counted<W, M>,
 ) -> Result<PrintedRun, OrNoMemory<StreamFault>>
-    requires { IsNone priorities → job.now.asked.runs ≡ zero }
-    ensures printed { IfOk result (λ p. HasPrinted job.now (choosing_of priorities job.now.asked) p
+    requires { IsNone by_seed → job.now.asked.runs ≡ zero }
+    ensures printed { IfOk result (λ p. HasPrinted job.now (choosing_of by_seed job.now.asked) p
         (W.contents writer.old.inner) (W.contents writer.new.inner)) }
     ensures kept { OnOk result (writer.new.failures.total ≡ writer.old.failures.total) }
-    ensures fault { IfErr result (λ e. HasStopped e job.now (choosing_of priorities job.now.asked)
+    ensures fault { IfErr result (λ e. HasStopped e job.now (choosing_of by_seed job.now.asked)
         (W.contents writer.old.inner) (W.contents writer.new.inner)
         writer.old.failures.total writer.new.failures.total) }
 {
     let limit = job.limit();
-    let mut execution = first_execution(alloc, job, priorities, scratch.take_spare(alloc))?;
+    let mut execution = first_execution(alloc, job, by_seed, scratch.take_spare(alloc))?;
     let printed = print_execution(alloc, job, limit, &mut execution, writer);
     scratch.put_spare(execution.system.into_spare());
     printed

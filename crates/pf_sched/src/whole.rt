@@ -13,16 +13,18 @@ ghost use Rattle.pf_sched.specs.Parts.{Executes};
 ghost use Rattle.pf_sched.specs.Traces.{IsFirst, Makes};
 
 use crate::choices::{of_schedule, open};
-use crate::chooser::{ActorChooser, ActorPriorities};
+use crate::chooser::ActorChooser;
 use crate::evidence::Evidence;
 use crate::execution::Execution;
 use crate::job::Job;
 use crate::scratch::Scratch;
+use crate::seeded::seeded_chooser;
 use crate::trace::SeenEvents;
 use pf_choice::Choices;
 use pf_errors::NoMemory;
 use pf_model::report::{Event, Outcome, Report};
 use pf_request::RequestKind;
+use pf_strategy::SeedChoice;
 use pf_system::{Spare, System};
 use std::alloc::Global;
 
@@ -46,17 +48,17 @@ fn own_choices(alloc: Global, job: &Job) -> Result<Choices, NoMemory>
     }
 }
 
-/// What chooses in the run of a job, before its first choice: the priorities of a seed, or else the job's own choices.
+/// What chooses in the run of a job, before its first choice: a seed by its strategy, or else the job's own choices.
 fn first_chooser(
     alloc: Global,
     job: &Job,
-    priorities: Option<u64>,
+    by_seed: Option<SeedChoice>,
 ) -> Result<ActorChooser, NoMemory>
-    requires { IsNone priorities → job.now.asked.runs ≡ zero }
-    ensures { IfOk result (λ q. IsFirst (choosing_of priorities job.now.asked) q) }
+    requires { IsNone by_seed → job.now.asked.runs ≡ zero }
+    ensures { IfOk result (λ q. IsFirst (choosing_of by_seed job.now.asked) q) }
 {
-    match priorities {
-        Some(seed) => Ok(ActorChooser::Priorities(ActorPriorities::seed(alloc, seed))),
+    match by_seed {
+        Some(by) => seeded_chooser(alloc, job, by),
         None => Ok(ActorChooser::Choices(own_choices(alloc, job)?)),
     }
 }
@@ -65,13 +67,13 @@ fn first_chooser(
 pub(crate) fn first_execution(
     alloc: Global,
     job: &Job,
-    priorities: Option<u64>,
+    by_seed: Option<SeedChoice>,
     spare: Spare,
 ) -> Result<Execution, NoMemory>
-    requires { IsNone priorities → job.now.asked.runs ≡ zero }
-    ensures { IfOk result (λ x. Executes job.now (choosing_of priorities job.now.asked) [] x) }
+    requires { IsNone by_seed → job.now.asked.runs ≡ zero }
+    ensures { IfOk result (λ x. Executes job.now (choosing_of by_seed job.now.asked) [] x) }
 {
-    let chooser = first_chooser(alloc, job, priorities)?;
+    let chooser = first_chooser(alloc, job, by_seed)?;
     Execution::new(alloc, job, chooser, spare)
 }
 
@@ -149,18 +151,18 @@ fn report_to_end(
     report
 }
 
-/// The report of a job that is one run, by its own choices or by the priorities of a seed in place of them. What is in
-/// the scratch makes no difference.
+/// The report of a job that is one run, by its own choices or by a seed in place of them. What is in the scratch makes
+/// no difference.
 pub fn report_of_run(
     alloc: Global,
     job: &Job,
-    priorities: Option<u64>,
+    by_seed: Option<SeedChoice>,
     scratch: &mut Scratch,
 ) -> Result<Report, NoMemory>
-    requires { IsNone priorities → job.now.asked.runs ≡ zero }
-    ensures { IfOk result (λ r. MeansFor (choosing_of priorities job.now.asked) job.now.asked (view_of_report r)) }
+    requires { IsNone by_seed → job.now.asked.runs ≡ zero }
+    ensures { IfOk result (λ r. MeansFor (choosing_of by_seed job.now.asked) job.now.asked (view_of_report r)) }
 {
-    let execution = first_execution(alloc, job, priorities, scratch.take_spare(alloc))?;
+    let execution = first_execution(alloc, job, by_seed, scratch.take_spare(alloc))?;
     report_to_end(alloc, job, execution, scratch)
 }
 
@@ -192,17 +194,17 @@ fn judge_execution(alloc: Global, job: &Job, execution: &mut Execution) -> Resul
 }
 
 /// What the report of a job that is one run says but for its events, of which none is kept: by the job's own choices or
-/// by the priorities of a seed in place of them. What is in the scratch makes no difference.
+/// by a seed in place of them. What is in the scratch makes no difference.
 pub fn judged_run(
     alloc: Global,
     job: &Job,
-    priorities: Option<u64>,
+    by_seed: Option<SeedChoice>,
     scratch: &mut Scratch,
 ) -> Result<Judged, NoMemory>
-    requires { IsNone priorities → job.now.asked.runs ≡ zero }
-    ensures { IfOk result (λ v. Judges (choosing_of priorities job.now.asked) job.now.asked v) }
+    requires { IsNone by_seed → job.now.asked.runs ≡ zero }
+    ensures { IfOk result (λ v. Judges (choosing_of by_seed job.now.asked) job.now.asked v) }
 {
-    let mut execution = first_execution(alloc, job, priorities, scratch.take_spare(alloc))?;
+    let mut execution = first_execution(alloc, job, by_seed, scratch.take_spare(alloc))?;
     let judged = judge_execution(alloc, job, &mut execution);
     scratch.put_spare(execution.system.into_spare());
     judged

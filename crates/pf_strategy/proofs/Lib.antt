@@ -1,2 +1,4 @@
 pub mod Meant
 pub mod Places
+pub mod Renewed
+pub mod Lasting

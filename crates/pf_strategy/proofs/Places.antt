@@ -18,7 +18,7 @@ is_below a b h = by (nat_lt a b) refl
     by true e = refl
     by false e = absurd (grind (arith, nat_tests))
 
-isnt_below : (a b : ℕ) → b ≤ a → nat_lt a b ≡ false
+pub isnt_below : (a b : ℕ) → b ≤ a → nat_lt a b ≡ false
 isnt_below a b h = by (nat_lt a b) refl
   where
     by : (e : Bool) → nat_lt a b ≡ e → e ≡ false

@@ -73,6 +73,10 @@ module _ {G : Type 0} (step : G → ℕ × G) where
 abbrev pub first : ℕ → PriorityState Lcg
 first seed = record { generator = pcg32_of_seed (pcg32_seed 16 seed); held = [] }
 
--- what the code's own priorities stand for
+-- what the code's own priorities stand for: the one who went last holds none
 abbrev pub state_of : Priorities → PriorityState Lcg
-state_of p = record { generator = p.generator; held = p.held.items }
+state_of p = record { generator = p.generator; held = remove p.held.items p.gone }
+
+-- the same where nobody's priority is spent
+abbrev pub all_held : Priorities → PriorityState Lcg
+all_held p = record { generator = p.generator; held = p.held.items }

@@ -4,7 +4,7 @@ use pf_check::{ReadModule, Source};
 use pf_hunt::{Hunt, HuntObserver, HuntRange, Leak, Pace, first_failing, other_jobs, tally_all};
 use pf_request::{Request, RequestKind, RunChoices, ShortBytes};
 use pf_sched::Job;
-use pf_strategy::Strategy;
+use pf_strategy::{Sampling, Strategy};
 use std::alloc::Global;
 use std::test::Fail;
 use std::thread::Threads;
@@ -46,7 +46,7 @@ fn hunt_in(
     alloc: Global,
     module: &ReadModule,
     request: &Request,
-    strategy: Strategy,
+    sampling: Sampling,
     leaks: bool,
 ) -> Result<Hunt, Fail> {
     let job = Job::new(alloc, module.share()?, request, 1)?;
@@ -54,7 +54,10 @@ fn hunt_in(
     Ok(Hunt {
         job,
         others,
-        strategy,
+        strategy: Strategy {
+            sampling,
+            last: None,
+        },
         leaks,
     })
 }
@@ -64,12 +67,12 @@ fn hunt_of(
     alloc: Global,
     source: &str,
     property: &str,
-    strategy: Strategy,
+    sampling: Sampling,
     leaks: bool,
 ) -> Result<Hunt, Fail> {
     let request = request_of(alloc, property)?;
     let module = module_of(alloc, source)?;
-    hunt_in(alloc, &module, &request, strategy, leaks)
+    hunt_in(alloc, &module, &request, sampling, leaks)
 }
 
 /// How many seeds a hunt reported at last; the leak that it reported, by its seed and its processes, and how often. It
@@ -124,17 +127,17 @@ fn failing<R: Threads + Sync>(
 
 /// Hunts by their source, their property and their strategy, and whether leaks are failures; and the verdict of the
 /// seed 0, which fails.
-const HUNTS: [(&str, &str, Strategy, bool, bool); 3] = [
-    (LOST_UPDATE, "true", Strategy::Uniform, false, false),
-    (TWO_WAIT, "nodeadlock", Strategy::Uniform, true, true),
-    (TWO_WAIT, "nodeadlock", Strategy::Priorities, true, true),
+const HUNTS: [(&str, &str, Sampling, bool, bool); 3] = [
+    (LOST_UPDATE, "true", Sampling::Uniform, false, false),
+    (TWO_WAIT, "nodeadlock", Sampling::Uniform, true, true),
+    (TWO_WAIT, "nodeadlock", Sampling::Priorities, true, true),
 ];
 
 #[test]
 fn three_workers_find_the_least_seed_that_fails(rt: HostRuntime) -> Result<(), Fail> {
     let alloc = rt.alloc();
-    for (source, property, strategy, leaks, verdict) in HUNTS {
-        let hunt = hunt_of(alloc, source, property, strategy, leaks)?;
+    for (source, property, sampling, leaks, verdict) in HUNTS {
+        let hunt = hunt_of(alloc, source, property, sampling, leaks)?;
         assert_eq!(rt;
             failing(&rt, alloc, &hunt)?,
             Some((0, Some(verdict))),
@@ -195,7 +198,7 @@ fn a_hunt_stops_where_it_is_asked_to_and_reports_its_leak_once(
     rt: HostRuntime,
 ) -> Result<(), Fail> {
     let alloc = rt.alloc();
-    let hunt = hunt_of(alloc, TWO_WAIT, "nodeadlock", Strategy::Uniform, false)?;
+    let hunt = hunt_of(alloc, TWO_WAIT, "nodeadlock", Sampling::Uniform, false)?;
     assert_eq!(rt; hunt.others.len(), 2);
     for (may_stop, end, seeds) in ENDS {
         let wanted = (end, seeds, (10, 2), 1);

@@ -7,6 +7,7 @@ use pf_sched::{
     Finished, Job, JobResult, Scratch, Silent, Slice, report_by_schedule, report_of_run, run_slice,
     run_to_end, start,
 };
+use pf_strategy::{Sampling, SeedChoice, Strategy};
 use pf_trace::{put_report, put_written};
 use std::alloc::Global;
 use std::sync::Arc;
@@ -116,6 +117,15 @@ fn choices_of(alloc: Global, report: &Report) -> Result<Vec<u32>, Fail> {
     Ok(choices)
 }
 
+/// The seed 7, by priorities.
+const BY_PRIORITIES: SeedChoice = SeedChoice {
+    seed: 7,
+    strategy: Strategy {
+        sampling: Sampling::Priorities,
+        last: None,
+    },
+};
+
 /// Whether the talk gives its text by a schedule in place of a seed, and its property holds by priorities, whose
 /// choices as a schedule give their text again.
 fn goes_by_schedules(alloc: Global) -> Result<bool, Fail> {
@@ -126,7 +136,7 @@ fn goes_by_schedules(alloc: Global) -> Result<bool, Fail> {
         RequestKind::Run(RunChoices::Seed(7)),
     )?;
     let given = text_by(alloc, &job, CHOICES.as_slice())?;
-    let guided = report_of_run(alloc, &job, Some(7), &mut Scratch::new(alloc))?;
+    let guided = report_of_run(alloc, &job, Some(BY_PRIORITIES), &mut Scratch::new(alloc))?;
     let text = text_of(alloc, &job, &guided)?;
     let again = text_by(alloc, &job, choices_of(alloc, &guided)?.as_slice())?;
     Ok(

@@ -71,17 +71,20 @@ const ARROWS: ChartScene = ChartScene {
         "<g class=\"event spawn\" data-event=\"2\"",
         "<g class=\"arrow spawn\" data-event=\"2\"><path d=\"M180 103L580 103\"/></g>",
         "<g class=\"event send\" data-event=\"3\" transform=\"translate(180 129)\"><title>send &lt;2&gt; 7</title>",
-        "<g class=\"arrow message\" data-event=\"3\" data-delivery=\"4\"><title>message from &lt;0&gt; to &lt;2&gt;</title>\
+        "<g class=\"arrow message\" data-event=\"3\" data-delivery=\"4\">\
+<title>message from &lt;0&gt; to &lt;2&gt;</title>\
 <path d=\"M180 129L580 155\"/></g>",
         "<g class=\"event receive\" data-event=\"5\"",
         "<g class=\"arrow message dropped\" data-event=\"6\" data-delivery=\"7\">",
         "data-event=\"7\" transform=\"translate(580 233)\"><title>deliver message dropped</title><path d=\"M-6 -6l12 12M-6 6l12 -12\"/>",
         "<text class=\"choice\" x=\"6\" y=\"263\">*2/3</text><text class=\"number chosen\" x=\"70\" y=\"263\">8</text>\n",
         "<g class=\"event send chosen\" data-event=\"8\"",
-        "<g class=\"arrow message lost\" data-event=\"8\"><title>message from &lt;2&gt; to &lt;1&gt;, never delivered</title>\
+        "<g class=\"arrow message lost\" data-event=\"8\">\
+<title>message from &lt;2&gt; to &lt;1&gt;, never delivered</title>\
 <path d=\"M580 259L480 279\"/></g>",
         "<path d=\"M380 285L358 305\"/></g>",
-        "<g class=\"arrow message lost\" data-event=\"10\"><title>message from &lt;0&gt; to &lt;2&gt;, never delivered</title>\
+        "<g class=\"arrow message lost\" data-event=\"10\">\
+<title>message from &lt;0&gt; to &lt;2&gt;, never delivered</title>\
 <path d=\"M180 311L280 331\"/></g>",
     ],
     others: &["*0/", "data-event=\"11\""],
@@ -177,7 +180,8 @@ const COMPACT: ChartScene = ChartScene {
     names: &[],
     pieces: &[
         "<g class=\"event receive\" data-event=\"6\" transform=\"translate(580 155)\">",
-        "<g class=\"arrow message chosen\" data-event=\"3\" data-receive=\"6\"><title>message from &lt;0&gt; to &lt;2&gt;, delivered by a choice above 0</title>\
+        "<g class=\"arrow message chosen\" data-event=\"3\" data-receive=\"6\">\
+<title>message from &lt;0&gt; to &lt;2&gt;, delivered by a choice above 0</title>\
 <path d=\"M180 129L580 155\"/></g>",
         "<g class=\"arrow message lost\" data-event=\"7\"><title>message from &lt;2&gt; to &lt;1&gt;, never received</title>",
         "<g class=\"arrow link\" data-event=\"9\" data-delivery=\"10\">",

@@ -3,7 +3,7 @@
 use crate::readings::{WantedReading, come_to};
 use pf_cli::{Args, CliCommand, Edition, Format, HuntArgs, HuntGoal, Roots, RunArgs};
 use pf_request::{Request, RequestKind, RunChoices};
-use pf_strategy::Strategy;
+use pf_strategy::{Sampling, Strategy};
 
 /// Words of each command.
 const WORDS: [&[&str]; 7] = [
@@ -39,9 +39,7 @@ fn is_of_defaults(request: &Request) -> bool {
 
 /// Whether it is a run, or a shrinking, of the first edition by its own choices.
 fn is_plain_run(run: &RunArgs) -> bool {
-    is_of_defaults(&run.request)
-        && matches!(run.edition, Edition::First)
-        && run.priorities.is_none()
+    is_of_defaults(&run.request) && matches!(run.edition, Edition::First) && run.by_seed.is_none()
 }
 
 fn is_plain_hunt(hunt: &HuntArgs) -> bool {
@@ -52,7 +50,11 @@ fn is_plain_hunt(hunt: &HuntArgs) -> bool {
         && (hunt.first, hunt.end) == (0, 10_000)
         && hunt.time.is_none()
         && hunt.workers.is_none()
-        && hunt.strategy == Strategy::Priorities
+        && hunt.strategy
+            == (Strategy {
+                sampling: Sampling::Priorities,
+                last: None,
+            })
         && !hunt.fail_fast
         && !hunt.leaks
         && matches!(hunt.roots, Roots::Main)

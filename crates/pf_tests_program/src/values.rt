@@ -3,7 +3,7 @@
 use crate::readings::{WantedReading, come_to};
 use pf_cli::{Args, ChartArgs, CliCommand, FarmArgs, Format, HuntArgs, HuntGoal, Roots, RunArgs};
 use pf_request::{Request, RequestKind, RunChoices};
-use pf_strategy::Strategy;
+use pf_strategy::{Sampling, SeedChoice, Strategy};
 
 /// Words of each command; a file is called as its command.
 const WORDS: [&[&str]; 7] = [
@@ -16,6 +16,7 @@ const WORDS: [&[&str]; 7] = [
         "--edition=2",
         "--seed=7",
         "--weights=3:1",
+        "--last=0",
         "--property=never:{a, _}",
         "--format=json",
         "--explain",
@@ -29,6 +30,8 @@ const WORDS: [&[&str]; 7] = [
         "--edition=2",
         "--seed=18446744073709551615",
         "--strategy=pos",
+        "--last",
+        "<31>",
         "--property",
         "never:{a, _}",
         "--compact",
@@ -59,6 +62,7 @@ const WORDS: [&[&str]; 7] = [
         "--seeds=3..=9",
         "--for=5m",
         "--weights=2:5",
+        "--last=<4294967295>",
         "--workers=64",
         "--fail-fast",
         "--leaks",
@@ -85,11 +89,25 @@ fn is_request(request: &Request) -> bool {
         && request.limit == 0
 }
 
+fn strategy(sampling: Sampling, last: u32) -> Strategy {
+    Strategy {
+        sampling,
+        last: Some(last),
+    }
+}
+
+fn by_seed(seed: u64, sampling: Sampling, last: u32) -> SeedChoice {
+    SeedChoice {
+        seed,
+        strategy: strategy(sampling, last),
+    }
+}
+
 fn is_run(run: &RunArgs) -> bool {
     run.file == Some("run")
         && is_request(&run.request)
         && run.edition.number() == 2
-        && run.priorities.is_none()
+        && run.by_seed == Some(by_seed(7, Sampling::Uniform, 0))
         && matches!(
             run.request.kind,
             RequestKind::Run(RunChoices::Weighted {
@@ -104,7 +122,7 @@ fn is_chart(chart: &ChartArgs) -> bool {
     chart.run.file == Some("chart")
         && is_request(&chart.run.request)
         && chart.run.edition.number() == 2
-        && chart.run.priorities == Some(u64::MAX)
+        && chart.run.by_seed == Some(by_seed(u64::MAX, Sampling::Priorities, 31))
         && matches!(
             chart.run.request.kind,
             RequestKind::Run(RunChoices::Seed(u64::MAX))
@@ -137,7 +155,7 @@ fn is_hunt(hunt: &HuntArgs) -> bool {
         && (hunt.first, hunt.end) == (3, 10)
         && hunt.time == Some(300)
         && hunt.workers == Some(64)
-        && hunt.strategy == Strategy::Uniform
+        && hunt.strategy == strategy(Sampling::Uniform, u32::MAX)
         && hunt.fail_fast
         && hunt.leaks
         && matches!(hunt.roots, Roots::Named)

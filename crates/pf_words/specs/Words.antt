@@ -16,7 +16,7 @@ use Rattle.pf_cli.specs.declared.args.Format.TheVariants.{Json}
 use Rattle.pf_cli.specs.declared.args.Format.TheVariants as format
 use Rattle.pf_command.specs.Answers.{AnswersRun}
 use Rattle.pf_command.specs.Checks.{Checks}
-use Rattle.pf_command.specs.Guided.{DrawnAnswers, RunAnswers}
+use Rattle.pf_command.specs.AskedRuns.{DrawnAnswers, RunAnswers}
 use Rattle.pf_command.specs.Hunts.{HuntAnswers}
 use Rattle.pf_command.specs.Streams.{Answering, NoneFailed, Serves, Streams}
 use Rattle.pf_command.specs.declared.serving.TheConstants as command

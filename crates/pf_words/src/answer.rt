@@ -2,7 +2,7 @@
 
 ghost use Rattle.std.specs.Prelude.{◌≡◌, false, true};
 ghost use Rattle.pf_cli.specs.Args.{view_of_args, view_of_hunt_args, view_of_run_args};
-ghost use Rattle.pf_command.specs.Guided.{RunAnswers};
+ghost use Rattle.pf_command.specs.AskedRuns.{RunAnswers};
 ghost use Rattle.pf_command.specs.Hunts.{HuntAnswers};
 ghost use Rattle.pf_command.specs.Streams.{Sends, Serves, streams};
 ghost use Rattle.pf_command.specs.declared.serving.TheConstants as command;

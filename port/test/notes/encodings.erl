@@ -27,7 +27,7 @@ main() ->
 %% note: 16: a binary is a list of its bytes here, with a tag; each byte is a node of the 4,096 that a value may have
 %% note: 6: a table is kept by a process, and each call is a message and its answer; a table outlives its owner until that process gets the message
 %% note: 7: a map is a list of pairs here, in the order of its keys; code that depends on the order of a map of over 32 keys, which Erlang leaves open, may go otherwise
-%% note: 8: time is virtual: it passes where nobody else can go, in the order of the deadlines; a run that fails where it passes earlier is left out of a hunt, and --patience early counts it
+%% note: 8: time is virtual: it passes only where nobody else can go, in the order of the deadlines; --patience early has it pass at any moment
 %% note: 9: shared cells are kept by a process; each operation is one piece, at one place between call and answer
 %% note: 10: a number by chance is a race of two messages, so it is a choice of the schedule and no even chance
 %% note: 11: dict and sets are kept in the order of their keys, and not in that of a hash

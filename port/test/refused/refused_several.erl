@@ -1,10 +1,10 @@
 -module(refused_several).
 -export([main/0]).
 main() ->
-    X = 1.5,
+    X = math:sqrt(2),
     f(),
     halt(X).
-f() -> 2.5.
-%% refused: 4: the float 1.5: the profile has no floats; count in integers
+f() -> math:pi().
+%% refused: 4: math:sqrt/1 is for floats, and only their sums, products and order are translated; count in integers
 %% refused: 6: erlang:halt/1 ends the node, which the profile can't; let the process end by exit/1
-%% refused: 7: the float 2.5: the profile has no floats; count in integers
+%% refused: 7: math:pi/0 is for floats, and only their sums, products and order are translated; count in integers

@@ -14,18 +14,6 @@ WHOLE = (".rt", ".antt", ".md")
 COMMENTS = (".sh", ".py")
 # (reports name the lines of modules of Erlang)
 FIXED = ("port/", "examples/")
-# (with a line that is wider still, which goes with the next change of the file: a comment makes its proof due)
-LEFT = {
-    "crates/pf_book/specs/Answers.antt",
-    "crates/pf_farm_state/proofs/Crossing.antt",
-    "crates/pf_laws/src/lib.rt",
-    "crates/pf_model/src/laws.rt",
-    "crates/pf_nodes/proofs/Memory.antt",
-    "crates/pf_process_status/proofs/Marked.antt",
-    "crates/pf_sched/src/shrinking.rt",
-    "crates/pf_stepper/proofs/Values.antt",
-    "crates/pf_tests_low/src/scenes.rt",
-}
 QUOTED = re.compile(r'"(?:[^"\\]|\\.)*"')
 COMMENT = re.compile(r"\s*(?:#|%|\"\"\")")
 
@@ -37,7 +25,7 @@ def files(top):
 
 
 def is_judged(top, path):
-    if path.startswith(FIXED) or path in LEFT or not path.endswith(WHOLE + COMMENTS):
+    if path.startswith(FIXED) or not path.endswith(WHOLE + COMMENTS):
         return False
     return os.path.isfile(os.path.join(top, path))
 

@@ -26,7 +26,7 @@ returns c =
     ∙ ap (λ n. root_of n m.code.atoms m.code.functions) c.as_slice.ensures ∙ from.root in
     if_ok c.explain_known.result
     (λ text reports.
-    reports_of j.asked r c.args.args.now.priorities c.args.source.now text.items _ reports c.in_ok-report.ensures
+    reports_of j.asked r c.args.args.now.by_seed c.args.source.now text.items _ reports c.in_ok-report.ensures
     (record {
       code = c.module-module.ensures;
       root = same_Some c.in-Some.root.0 j.asked.root root;

@@ -11,5 +11,5 @@ returns-in-Some c =
     let found = subst (FindsRun a c.args.source.now) c.in-Some.is c.in_ok-job.ensures in
     if_ok c.explain_job.result
     (λ text reports. reported found.1.0 j text.items found.1.1 found.1.2 found.0
-    (subst (λ b. ReportsProcesses j.asked a.priorities b text.items) c.bytes.ensures reports))
+    (subst (λ b. ReportsProcesses j.asked a.by_seed b text.items) c.bytes.ensures reports))
     c.explain_job.ensures

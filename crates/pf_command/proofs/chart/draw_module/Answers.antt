@@ -11,7 +11,7 @@ use Rattle.pf_cli.specs.Args.{view_of_chart_args}
 use Rattle.pf_command.specs.Answers.{Refuses}
 use Rattle.pf_check.specs.Reading.{IsModuleOf}
 use Rattle.pf_command.specs.Charts.{DrawsJob, IsRootOf}
-use Rattle.pf_command.specs.Guided.{AsksOfRun, DrawnAnswers, RunsAs, asked, manner_of, refused}
+use Rattle.pf_command.specs.AskedRuns.{AsksOfRun, DrawnAnswers, RunsAs, asked, manner_of, refused}
 use Rattle.pf_command.proofs.Asking.{asks_in}
 use Rattle.pf_command.proofs.Rows.{row_reported, row_job_refused}
 use Rattle.pf_command.proofs.chart.draw_module.Goals as goal
@@ -36,7 +36,7 @@ returns-in-Ok c =
     let asks : Asks m a.edition a.request (Ok job) = asks_in m c.number.result a.edition a.request
     (Ok job) c.number.ensures.number c.in-Ok.ensures in
     IfOk-weaker c.draw_job.result
-    (λ o. (k : Job) × RunsAs a.priorities job k
+    (λ o. (k : Job) × RunsAs a.by_seed job k
     × DrawsJob c.as_slice-root.result.now c.manner_of.result k o.text.items o.status)
     (λ o. (bytes : List ℕ) → IsModuleOf bytes m → DrawnAnswers drawn bytes o.text.items o.status)
     (λ o k bytes is. row_reported (AsksOfRun a) (DrawsJob a.request.root (manner_of drawn)) m bytes k.0 o is

@@ -2,13 +2,13 @@ use Rattle.std.proofs.lemmas.Result.{IfOk-weaker}
 use Rattle.pf_model.specs.Reports.{view_of_report}
 use Rattle.pf_request.specs.Job.{Job}
 use Rattle.pf_command.specs.Charts.{DrawsJob, DrawsRun}
-use Rattle.pf_command.specs.Guided.{RunsAs}
-use Rattle.pf_command.proofs.ByPriorities.{drawn_as, of_run}
+use Rattle.pf_command.specs.AskedRuns.{RunsAs}
+use Rattle.pf_command.proofs.BySeed.{drawn_as, of_run}
 use Rattle.pf_command.proofs.chart.draw_one_run.Goals as goal
 
 pub draw_run-requires-clause-run : goal.draw_run-requires-clause-run
 draw_run-requires-clause-run c =
-    of_run c.args.priorities c.args.job.now.asked (view_of_report c.in_ok-run.run') c.in_ok-run.ensures
+    of_run c.args.by_seed c.args.job.now.asked (view_of_report c.in_ok-run.run') c.in_ok-run.ensures
 
 pub returns : goal.returns
 returns c =
@@ -16,6 +16,6 @@ returns c =
     let root = c.args.root.now in
     let run = view_of_report c.in_ok-run.run' in
     IfOk-weaker c.draw_run.result (DrawsRun j.asked root c.args.manner run)
-    (λ a. (k : Job) × RunsAs c.args.priorities j k × DrawsJob root c.args.manner k a.text.items a.status)
-    (λ a drawn. drawn_as c.args.priorities j root c.args.manner run a c.requires.runs c.in_ok-run.ensures drawn)
+    (λ a. (k : Job) × RunsAs c.args.by_seed j k × DrawsJob root c.args.manner k a.text.items a.status)
+    (λ a drawn. drawn_as c.args.by_seed j root c.args.manner run a c.requires.runs c.in_ok-run.ensures drawn)
     c.draw_run.ensures

@@ -3,7 +3,7 @@ use Rattle.pf_errors.specs.Codes.{refusal_text}
 use Rattle.pf_cli.specs.Args.{view_of_chart_args}
 use Rattle.pf_command.specs.Answers.{Refuses}
 use Rattle.pf_command.specs.Charts.{DrawsJob}
-use Rattle.pf_command.specs.Guided.{AsksOfRun, DrawnAnswers, manner_of}
+use Rattle.pf_command.specs.AskedRuns.{AsksOfRun, DrawnAnswers, manner_of}
 use Rattle.pf_command.proofs.Rows.{row_refused}
 use Rattle.pf_command.proofs.chart.draw_source.Goals as goal
 

@@ -4,7 +4,7 @@ use Rattle.pf_sched.specs.Asked.{Asks}
 use Rattle.pf_sched.specs.Views.{code_of}
 use Rattle.pf_cli.specs.Args.{view_of_run_args}
 use Rattle.pf_command.specs.Answers.{Counts, ReportsJob, counted, job_refused, refused_before, reported}
-use Rattle.pf_command.specs.Guided.{RunAnswers, RunCounts, asked, refused}
+use Rattle.pf_command.specs.AskedRuns.{RunAnswers, RunCounts, asked, refused}
 use Rattle.pf_command.specs.Streams.{IsRefusedText}
 use Rattle.pf_command.proofs.Asking.{asks_in}
 use Rattle.pf_command.proofs.Counting.{went_more, went_refused}

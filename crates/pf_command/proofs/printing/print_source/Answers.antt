@@ -1,7 +1,7 @@
 use Rattle.pf_errors.specs.Codes.{refusal_text}
 use Rattle.pf_cli.specs.Args.{view_of_run_args}
 use Rattle.pf_command.specs.Answers.{refused_before, source_refused}
-use Rattle.pf_command.specs.Guided.{RunAnswers, RunCounts}
+use Rattle.pf_command.specs.AskedRuns.{RunAnswers, RunCounts}
 use Rattle.pf_command.specs.Streams.{IsRefusedText}
 use Rattle.pf_command.proofs.Counting.{went_refused}
 use Rattle.pf_command.proofs.Streaming.{sends_more}

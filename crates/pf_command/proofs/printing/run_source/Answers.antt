@@ -1,6 +1,6 @@
 use Rattle.std.proofs.Common.{refl, subst}
 use Rattle.pf_cli.specs.Args.{view_of_run_args}
-use Rattle.pf_command.specs.Guided.{RunAnswers, RunCounts}
+use Rattle.pf_command.specs.AskedRuns.{RunAnswers, RunCounts}
 use Rattle.pf_command.specs.Streams.{WentOut}
 use Rattle.std.specs.Prelude.{IfOk}
 use Rattle.pf_command.proofs.Counting.{answered_so}

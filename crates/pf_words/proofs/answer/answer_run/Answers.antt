@@ -1,5 +1,5 @@
 use Rattle.pf_cli.specs.Args.{view_of_run_args}
-use Rattle.pf_command.specs.Guided.{RunAnswers}
+use Rattle.pf_command.specs.AskedRuns.{RunAnswers}
 use Rattle.pf_command.proofs.Streaming.{sent_on}
 use Rattle.pf_words.proofs.answer.answer_run.Goals as goal
 

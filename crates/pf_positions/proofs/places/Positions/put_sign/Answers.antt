@@ -33,7 +33,7 @@ loop-spot-preserved c =
                 w.deref.ensures.value c.in_ok-lines.ensures invariant.rank_is w.line_of-line.ensures in
                 let place : Position = record { function = s.function; line = w.line_of-line.result } in
                 let put = put_here number spots ws i c.loop-spot.self w'.put.new.self s w'.in-Some.node.0 place is_there
-                (ap (option_map (λ (n : NodeId). n.0)) w'.in-Some.is)
+                has (ap (option_map (λ (n : NodeId). n.0)) w'.in-Some.is)
                 (ap (λ (l : Option ℕ). record { function = s.function; line = l }) line)
                 w'.in_ok-put.ensures invariant.so_far in
                 record {

@@ -6,8 +6,9 @@ use Rattle.pf_model.specs.Runs.{ready}
 use Rattle.pf_strategy.specs.Priorities.{state_of}
 use Rattle.pf_strategy.specs.Runs.{choose_by_priorities}
 use Rattle.pf_system.specs.Steps.{IsNoteOf}
-use Rattle.pf_sched.specs.Traces.{ChoosesFor}
+use Rattle.pf_sched.specs.Traces.{ChoosesFor, ChoosesLast}
 use Rattle.pf_sched.specs.declared.chooser.ActorChooser.TheVariants as code
+use Rattle.pf_sched.proofs.Lasting.{chosen_by_last}
 use Rattle.pf_sched.proofs.Traces.{chosen_by_choices, chosen_by_priorities}
 use Rattle.pf_sched.proofs.chooser.ActorChooser.choose.Goals as goal
 
@@ -29,4 +30,18 @@ returns-in-Priorities-clause-chooses c =
     (λ i chosen d note.
     subst (λ q. ChoosesFor q d i (code.Priorities p')) (sym c.in-Priorities.is)
     (chosen_by_priorities d p p' i (chosen d note)))
+    c.choose.ensures.chooses
+
+pub returns-in-Last-clause-chooses : goal.returns-in-Last-clause-chooses
+returns-in-Last-clause-chooses c =
+    let l = c.in-Last.last in
+    let l' = c.choose.new.self in
+    IfOk-weaker c.choose.result
+    (λ i. (d : Configuration) → IsNoteOf c.args.enabled.now d
+    → ChoosesLast l.others.last l.by (ready d) (heads d.channels) i l'.by)
+    (λ i. (d : Configuration) → IsNoteOf c.args.enabled.now d
+    → ChoosesFor c.args.self.now d i (code.Last l'))
+    (λ i chosen d note.
+    subst (λ q. ChoosesFor q d i (code.Last l')) (sym c.in-Last.is)
+    (chosen_by_last d l l' i c.choose.ensures.last (chosen d note)))
     c.choose.ensures.chooses

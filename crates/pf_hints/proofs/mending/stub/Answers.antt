@@ -1,5 +1,0 @@
-use Rattle.pf_hints.proofs.Fillers.{fixed_again}
-use Rattle.pf_hints.proofs.mending.stub.Goals as goal
-
-pub returns : goal.returns
-returns c = fixed_again _ _ _ c.blank.ensures c.put_head.ensures

@@ -1,0 +1,4 @@
+pub mod View
+pub mod Flow
+pub mod Run
+pub mod Reached
