@@ -228,12 +228,12 @@ standing(Number, P, Reason, Events, {ok, #{events := Marks}, #{marks := Places, 
     case Placed of
         [{N, _, Place} | _] when N =:= Number; N =:= Raised -> {["at ", plain_words_back:place(Place), ": "], plain_json:place(Place)};
         [{_, _, Place} | _] -> {["behind ", plain_words_back:place(Place), ": "], plain_json:place(Place) ++ [{behind, true}]};
-        [] -> {["in ", role(P, Reported), stands(Reason, Atoms), ": "], [{runs, role(P, Reported)}]}
+        [] -> {["in ", role(P, Reported), placed(Reason, Atoms), ": "], [{runs, role(P, Reported)}]}
     end.
 
-%% Where the first word of a reason stands in the sources, which a callback returned.
--spec stands(binary(), #{atom() => [plain_translation:place()]}) -> iodata().
-stands(Reason, Atoms) ->
+%% Where the first word of a reason is in the sources, which a callback returned.
+-spec placed(binary(), #{atom() => [plain_translation:place()]}) -> iodata().
+placed(Reason, Atoms) ->
     Words = case re:run(Reason, <<"[a-z][A-Za-z0-9_@]*">>, [global, {capture, first, binary}]) of
         {match, Found} -> [binary_to_atom(Word) || [Word] <- Found];
         nomatch -> []

@@ -13,7 +13,7 @@ left(Seed, #{events := Events, rest := Rest}, _) ->
         Left -> plain_command:complain(["pulsefarm-erl: ", integer_to_list(length(Left)), " processes still wait although the root returned", Seed, "\n"])
     end.
 
-%% @doc Says how each process stands, where that was asked for.
+%% @doc Says the status of each process, where that was asked for.
 -spec explain(binary(), asked(), plain_translation:translation()) -> ok.
 explain(Text, #{command := run, words := Words} = Asked, Translation) ->
     case lists:member("--explain", Words) of
@@ -22,13 +22,13 @@ explain(Text, #{command := run, words := Words} = Asked, Translation) ->
     end;
 explain(_, _, _) -> ok.
 
-%% @doc A line for each process, by its number: what it runs, and how it stands. The services stand there only where all is reported.
+%% @doc A line for each process, by its number: what it runs, and its status. The services are there only where all is reported.
 -spec lines(binary(), asked(), plain_translation:translation()) -> [iodata()].
 lines(Text, Asked, #{names := Names} = Translation) ->
     #{events := Events} = plain_answer:report(Text),
     Reported = plain_answer:replayed(Asked, Translation, Events),
     Hidden = case maps:get(verbose, Asked, false) of true -> []; false -> plain_verdict:services(Events) end,
-    [[io_lib:format("<~w> ~ts", [P, role(P, Reported)]), stands(P, Events, Reported, Names)] || P <- [0 | plain_verdict:spawned(Events)] -- Hidden, of_source(P, Reported, Asked)].
+    [[io_lib:format("<~w> ~ts", [P, role(P, Reported)]), status_of(P, Events, Reported, Names)] || P <- [0 | plain_verdict:spawned(Events)] -- Hidden, of_source(P, Reported, Asked)].
 
 %% Whether a process is told: the helpers of services aren't.
 -spec of_source(non_neg_integer(), plain_answer:reported(), asked()) -> boolean().
@@ -42,8 +42,8 @@ role(P, Reported) ->
         Role -> [Role, " "]
     end.
 
--spec stands(non_neg_integer(), [plain_report:event()], plain_answer:reported(), map()) -> iodata().
-stands(P, Events, Reported, Names) ->
+-spec status_of(non_neg_integer(), [plain_report:event()], plain_answer:reported(), map()) -> iodata().
+status_of(P, Events, Reported, Names) ->
     Own = [Label || #{subject := {turn, Q}, label := Label} <- Events, Q =:= P],
     case {[{Number, Reason, How} || {Number, Q, Reason, How} <- plain_answer:ends(Events), Q =:= P], Own} of
         {[{_, _, {by, A}} | _], _} -> io_lib:format("was ended by an exit signal of <~w>", [A]);

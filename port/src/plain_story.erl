@@ -47,7 +47,7 @@ is_service(Role) -> lists:prefix("the service", lists:flatten(io_lib:format("~ts
 
 -spec line(pos_integer(), plain_report:event(), place(), [non_neg_integer()], map()) -> [plain_json:line()].
 line(Number, #{subject := {turn, P}, label := Label} = Event, Place, Services, Names) ->
-    case lists:member(P, Services) orelse not is_told(Label, the_place(Place), Services) of
+    case lists:member(P, Services) orelse not is_shown(Label, the_place(Place), Services) of
         true -> [];
         false ->
             Said = plain_words_back:line(said(Label), Names),
@@ -73,8 +73,8 @@ place({Kind, File, Line, _} = Place) when Kind =:= user; Kind =:= called -> plai
 place(_) -> [].
 
 %% Whether an event is one of the story: what the source does itself, and of the library what goes between processes of the source.
--spec is_told(binary(), plain_translation:place() | none, [non_neg_integer()]) -> boolean().
-is_told(Label, Place, Services) ->
+-spec is_shown(binary(), plain_translation:place() | none, [non_neg_integer()]) -> boolean().
+is_shown(Label, Place, Services) ->
     case {binary:split(Label, <<" ">>, [global]), Place} of
         {[<<"wait">> | _], _} -> false;
         {[<<"cut">> | _], _} -> false;

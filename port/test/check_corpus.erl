@@ -59,7 +59,7 @@ held(Name, File, Names, Folder) ->
             differs
     end.
 
-%% What is wanted of all seeds, by the value or the end on Erlang.
+%% What each seed has to give, by the value or the end on Erlang.
 -spec wanted(term()) -> {holds | fails, 2000, string()}.
 wanted({ended, Reason}) -> {fails, 2000, lists:flatten(io_lib:format("ended ~w", [Reason]))};
 wanted(Value) -> {holds, 2000, lists:flatten(io_lib:format("finished ~w", [Value]))}.

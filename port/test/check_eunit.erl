@@ -9,21 +9,21 @@ check() ->
     File = checks:room("junit.xml"),
     {Answer, Status} = checks:command(["eunit", Folder, "--seeds", "0..40", "--junit", File]),
     checks:expect("status of eunit", 1, Status),
-    [told(Name, Seeds, Answer) || {Name, Seeds} <-
+    [has_line(Name, Seeds, Answer) || {Name, Seeds} <-
         [{"bill_test", holds}, {"lines_test_\\[1\\] two", holds}, {"lines_test_\\[2\\] none", holds}, {"door_test", holds}, {"shop_test_\\[1\\] a price", holds},
          {"shop_test_\\[2\\] one buys", holds}, {"each_test_\\[1\\]", holds},
          {"shop_test_\\[3\\] two buy the last", "crash <0> at shop_tests\\.erl:23 shop_tests:shop_test_/0: error \\{assertMatch,"},
          {"each_test_\\[2\\] notes", "crash <0> at shop_tests\\.erl:29 shop_tests:each_test_/0: error \\{assertEqual,.*\\{expected,\\[\\{closed,1\\}\\]\\},\\{value,\\[\\]\\}"}]],
-    told("9 tests", "2 fail, 0 refused", Answer),
+    has_line("9 tests", "2 fail, 0 refused", Answer),
     {ok, Junit} = file:read_file(File),
     checks:expect("nine cases", 9, length(binary:matches(Junit, <<"<testcase ">>))),
     checks:expect("two failures", 2, length(binary:matches(Junit, <<"<failure ">>))),
     {Timed, 0} = checks:command(["eunit", Folder, "--test", "bill", "--for", "1s"]),
-    told("shop_tests:bill_test", "no failure in [0-9]+ seeds", Timed),
+    has_line("shop_tests:bill_test", "no failure in [0-9]+ seeds", Timed),
     alone(),
     several(),
     {None, 2} = checks:command(["eunit", checks:folder("commands")]),
-    told("pulsefarm-erl", ".*there is no src/NAME.app.src", None),
+    has_line("pulsefarm-erl", ".*there is no src/NAME.app.src", None),
     ok.
 
 %% Tests of one generator, of which some are refused: the others are hunted.
@@ -33,7 +33,7 @@ alone() ->
     [checks:expect(["a test alone: ", Line], match, re:run(Answer, ["^alone_tests:set_test_", Line], [multiline, {capture, none}])) || Line <-
         ["\\[1\\] answers: no failure in 40 seeds$", "\\[2\\] lives: no failure in 40 seeds$",
          "\\[3\\.1\\]: no failure in 40 seeds$", "\\[3\\.2\\] is watched: refused: alone_tests\\.erl:12: erlang:process_info\\(_, monitors\\) is not translated.*$"]],
-    told("4 tests", "0 fail, 1 refused", Answer),
+    has_line("4 tests", "0 fail, 1 refused", Answer),
     ok.
 
 %% A project of two applications and one that they depend on, of which a file that nothing names couldn't be read.
@@ -44,12 +44,12 @@ several() ->
         ["desk_tests:desk_test_\\[1\\] one: no failure in 40 seeds$",
          "desk_tests:desk_test_\\[2\\] two: seed [0-9]+ fails: crash <0> at desk_tests\\.erl:7 .*\\{expected,\\[3300,3600\\]\\},\\{value,\\[3300,3300\\]\\}",
          "ledger_tests:price_test: no failure in 40 seeds$"]],
-    told("3 tests", "1 fails, 0 refused", Answer),
+    has_line("3 tests", "1 fails, 0 refused", Answer),
     ok.
 
 %% A line of the answer.
--spec told(string(), holds | string(), string()) -> boolean().
-told(Name, holds, Answer) -> told(Name, "no failure in 40 seeds$", Answer);
-told(Name, "crash " ++ _ = Crash, Answer) -> told(Name, "seed [0-9]+ fails: (" ++ Crash ++ ")", Answer);
-told(Name, Rest, Answer) ->
+-spec has_line(string(), holds | string(), string()) -> boolean().
+has_line(Name, holds, Answer) -> has_line(Name, "no failure in 40 seeds$", Answer);
+has_line(Name, "crash " ++ _ = Crash, Answer) -> has_line(Name, "seed [0-9]+ fails: (" ++ Crash ++ ")", Answer);
+has_line(Name, Rest, Answer) ->
     checks:expect([Name, ": ", Rest], match, re:run(Answer, ["^(shop_tests:)?", Name, ": ", Rest], [multiline, {capture, none}])).

@@ -45,6 +45,6 @@ by_generators(true, [Model, Stock]) ->
 prints(Name, Words, Status, Lines) ->
     {Answer, Seen} = checks:command(Words),
     checks:expect(["status of ", Name], Status, Seen),
-    [checks:expect([Name, " tells ", Line, " in ", Answer], match, re:run(Answer, Line, [multiline, {capture,
+    [checks:expect([Name, " prints ", Line, " in ", Answer], match, re:run(Answer, Line, [multiline, {capture,
             none}])) || Line <- Lines],
     ok.

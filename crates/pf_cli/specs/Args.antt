@@ -350,7 +350,7 @@ abbrev pub seed_choice : (seed : ℕ) → Sampling → (last : Option ℕ) → S
 seed_choice n sampling last = record { seed = n; strategy = strategy_by sampling last }
 
 -- the seed by which a run goes in place of its choices, if any: by priorities, or where a process goes last. A seed
--- with weights has no priorities, and a schedule goes by none
+-- with weights has no priorities, and a schedule has none
 abbrev pub guided_by : Option Sampling → (last : Option ℕ) → Choices → Option (Option SeedChoice)
 guided_by (Some Uniform) None cs = Some None
 guided_by (Some Uniform) (Some p) (seed n) = Some (Some (seed_choice n Uniform (Some p)))

@@ -42,7 +42,7 @@ use Rattle.pf_compile.proofs.Plans.{constant_is}
 
 -- ---- places
 
--- where an instruction is put
+-- where an instruction is
 pub put_there : (old mid new : Code) (i : Instruction) (next pc : ℕ) → IsPlace old next → Extends old mid
     → Put mid new i next pc → IsPlace new pc
 put_there old mid new i next pc place e h =
@@ -287,13 +287,13 @@ one_worth (Some v) f = refl
 
 -- ---- `andalso` and `orelse`
 
-told : (b : Bool) (v : Value) (x : Option Bool) (y : Option Value) (go : Value → Move) (o : Move)
+chosen_by_truth : (b : Bool) (v : Value) (x : Option Bool) (y : Option Value) (go : Value → Move) (o : Move)
     → chosen (unless_decided b v x y) go o ≡ by_truth b x (go v) (chosen y go o) o
-told b v None y go o = refl
-told true v (Some true) y go o = refl
-told true v (Some false) y go o = refl
-told false v (Some true) y go o = refl
-told false v (Some false) y go o = refl
+chosen_by_truth b v None y go o = refl
+chosen_by_truth true v (Some true) y go o = refl
+chosen_by_truth true v (Some false) y go o = refl
+chosen_by_truth false v (Some true) y go o = refl
+chosen_by_truth false v (Some false) y go o = refl
 
 pub decides : (s : Scope) (b : Bool) (t u : Tree) (to : Exits) (old one two new : Code) (other truth pc : ℕ)
     → AreBelow to.free (slots_in s) → Made old one other (Worths s u to other)
@@ -320,7 +320,8 @@ decides s b t u to old one two new other truth pc below h k l = record {
       (o r))
       (l.meant own outer later e first o first_below d
       (sound_same m own outer later truth _ (λ r. first (reg r to.free) r)
-      (λ r. told b (reg r to.free) (truth_of (reg r to.free)) (worth_at s u own r) (λ v. go v r) (o r)) left) f);
+      (λ r. chosen_by_truth b (reg r to.free) (truth_of (reg r to.free)) (worth_at s u own r) (λ v. go v r) (o r))
+      left) f);
 }
 
 truths : (b : Bool) (v : Value) (left right o : Move) → (x y : Bool) → same v true_atom ≡ x → same v false_atom ≡ y

@@ -154,12 +154,12 @@ impl Maker {
         match parts {
             [] => Ok(exits.next),
             [part, rest @ ..] => {
-                let behind = Exits {
+                let later = Exits {
                     free: register_after(exits.free, 1)?,
                     next: exits.next,
                     otherwise: exits.otherwise,
                 };
-                let next = self.all_worth(scope, rest, behind)?;
+                let next = self.all_worth(scope, rest, later)?;
                 let first = Exits {
                     free: exits.free,
                     next,

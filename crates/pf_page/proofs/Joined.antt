@@ -1,4 +1,4 @@
--- Texts that are put in turn.
+-- Texts one after the other.
 use Rattle.std.proofs.Common.{◌≡◌, ◌<◌, ◌+◌, ℕ, List, [], ◌∷◌, ◌++◌, ◌∙◌, sym, ap, append_assoc, append-nil}
 use Rattle.std.proofs.Common.{get_or, length, take}
 use Rattle.std.specs.Prelude.{flat_map}

@@ -158,7 +158,7 @@ fn text_of_page(alloc: Global, page: &Page) -> Result<Vec<u8>, NoMemory>
     Ok(text)
 }
 
-/// Puts a page after what was there: all that it needs is in it. If memory runs out, nothing is put.
+/// Adds a page to what was there: all that it needs is in it. If memory runs out, nothing is added.
 pub fn put_page(alloc: Global, out: &mut Vec<u8>, page: &Page) -> Result<(), NoMemory>
     ensures put { OnOk result (out.new.items ≡ out.old.items ++ page_text page.now) }
     ensures err { OnErr result (out.new.items ≡ out.old.items) }

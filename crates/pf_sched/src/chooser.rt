@@ -37,7 +37,7 @@ impl ActorPriorities {
     }
 
     /// Which of those who may go has the highest, from 0 on. The allocation for one more priority may fail. It is not
-    /// inlined: among the locals of a whole run its loops would keep their own in memory.
+    /// inlined, so that the loop of a run by choices has none of its code.
     #[inline(never)]
     fn choose(&mut self, enabled: &Enabled<'_>) -> Result<usize, NoMemory>
         requires { 0 < length (noted_actors enabled.now) }

@@ -95,7 +95,7 @@ abbrev pub reading_from : (unread : Option (List ℕ)) → (failed_reads : ℕ) 
 reading_from unread failed s = record s { unread = unread; failed_reads = failed }
 
 -- it is answered from a file, which has some bytes, no more is read of it than may be, and nothing of the standard
--- input. A file that can't be opened is none that is answered: nothing goes out then
+-- input. A file that can't be opened is none that is answered: nothing is written then
 abbrev pub FromFile : CommandWork → (old new : Streams) → ℕ → Type 0
 FromFile w old new given =
     (new.unread ≡ old.unread) × (new.failed_reads ≡ old.failed_reads)

@@ -183,8 +183,8 @@ where
     }
 }
 
-/// What words ask for, the first of which names the program. Nothing goes out for it, and of the standard input only
-/// the schedule is read, where they say so.
+/// What words ask for, the first of which names the program. Nothing is written for it, and of the standard input
+/// only the schedule is read, where they say so.
 pub(crate) fn request_of<'a, R, I: Read, L: Ledger>(
     rt: &R,
     words: &'a [&'a str],

@@ -51,7 +51,7 @@ fn farm_of<'a>(asked: CliCommand<'a>) -> Result<FarmArgs<'a>, CliCommand<'a>>
     }
 }
 
-/// Does what is asked for, with a JSON object in place of each line that goes out; its status.
+/// Does what is asked for, with a JSON object in place of each line that is written; its status.
 fn work_in_json<R, I: Read, W: Write, L: Ledger, M: Ledger>(
     rt: &R,
     asked: &CliCommand,
