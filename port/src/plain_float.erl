@@ -21,7 +21,7 @@ value(Key) ->
     <<Float/float>> = <<Sign:1, (abs(Key)):63>>,
     Float.
 
-%% @doc Whether the module makes floats, and where the translation stands may see them. Maps hold what is the same (=:=), in the order of
+%% @doc Whether the module makes floats, and what is translated now may see them. Maps hold what is the same (=:=), in the order of
 %% the profile, and services count integers.
 -spec are_made() -> boolean().
 are_made() -> plain_state:get(floats) andalso not is_native(plain_state:get(module)).
