@@ -85,6 +85,8 @@ lay_erlang() {
   install -D -m 644 "$top/port/pulsefarm-erl.1" "$1/share/man/man1/pulsefarm-erl.1"
   gzip -9n "$1/share/man/man1/pulsefarm-erl.1"
   install -D -m 644 "$top/port/pulsefarm-erl.bash" "$1/share/bash-completion/completions/pulsefarm-erl"
+  install -D -m 644 "$top/port/pulsefarm-erl.zsh" "$1/share/zsh/vendor-completions/_pulsefarm-erl"
+  install -D -m 644 "$top/port/pulsefarm-erl.fish" "$1/share/fish/vendor_completions.d/pulsefarm-erl.fish"
   rm -rf "$room/port"
 }
 

@@ -1,6 +1,6 @@
 # Completions of pulsefarm for bash: `. docs/pulsefarm.bash`, or a copy in the folder that bash-completion reads.
 
-_pulsefarm_commands='run hunt shrink chart check steps farm'
+_pulsefarm_commands='run hunt explore shrink chart check steps farm'
 _pulsefarm_properties='returns true nocrash nodeadlock withinlimit never:'
 
 # The options of the command $1.
@@ -11,6 +11,7 @@ _pulsefarm_options() {
     hunt)
       echo '--root --limit --edition --property --seeds --for --weights --strategy --last --workers --all --shrink --all-roots --fail-fast --leaks --format --help'
       ;;
+    explore) echo '--root --limit --edition --property --last --budget --for --deviations --shrink --format --help' ;;
     shrink) echo '--root --limit --edition --schedule --property --runs --format --help' ;;
     check) echo '--explain --format --help' ;;
     steps) echo '--help' ;;
@@ -52,6 +53,7 @@ _pulsefarm() {
     --format) mapfile -t COMPREPLY < <(compgen -W 'text json' -- "$word") ;;
     --edition) mapfile -t COMPREPLY < <(compgen -W '1 2' -- "$word") ;;
     --limit | --seed | --seeds | --for | --weights | --last | --workers | --shrink | --runs | --page) ;;
+    --budget | --deviations) ;;
     *)
       if [ "${word:0:1}" = - ]; then
         mapfile -t COMPREPLY < <(compgen -W "$(_pulsefarm_options "$command")" -- "$word")

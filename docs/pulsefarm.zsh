@@ -23,7 +23,7 @@ _pulsefarm_properties() {
 
 _pulsefarm() {
   local -a commands job weights strategy last schedule format
-  commands=(run hunt shrink chart check steps farm)
+  commands=(run hunt explore shrink chart check steps farm)
   job=(
     '--root[function that runs first]:function:_pulsefarm_roots'
     '--limit[most steps of a run]:steps: '
@@ -49,18 +49,22 @@ _pulsefarm() {
   ((CURRENT--))
   local -a own
   case $command in
-    run) own=($job '--seed[seed]:seed: ' $weights $strategy $last $schedule $format '--explain[say how each process stands at the end]') ;;
+    run) own=($job '--seed[seed]:seed: ' $weights $strategy $last $schedule $format '--explain[report the status of each process at the end]') ;;
     chart)
       own=($job '--seed[seed]:seed: ' $weights $strategy $last $schedule '--compact[join send and receive]' '--page[page of 500 rows]:page: ')
       ;;
     hunt)
-      own=($job '--seeds[seeds A..B]:seeds: ' '--for[time after which it stops]:time: ' $weights $strategy $last '--workers[threads]:threads: ' '--all[tell each outcome]'
-        '--shrink[shrink within N runs]:runs: ' '--all-roots[hunt every root]' '--fail-fast[end behind the first root that fails]'
+      own=($job '--seeds[seeds A..B]:seeds: ' '--for[time after which it stops]:time: ' $weights $strategy $last '--workers[threads]:threads: ' '--all[report each outcome]'
+        '--shrink[shrink within N runs]:runs: ' '--all-roots[hunt every root]' '--fail-fast[end after the first root that fails]'
         '--leaks[waiting processes fail too]' $format)
       ;;
+    explore)
+      own=($job $last '--budget[most runs]:runs: ' '--for[time after which it stops]:time: ' '--deviations[most deviations of a run]:deviations: '
+        '--shrink[shrink within N runs]:runs: ' $format)
+      ;;
     shrink) own=($job $schedule '--runs[most runs]:runs: ' $format) ;;
-    check) own=('--explain[tell how to mend a refusal]' $format) ;;
-    farm) own=('--workers[threads]:threads: ' '--summary[tell what each worker did]') ;;
+    check) own=('--explain[say how to fix a refusal]' $format) ;;
+    farm) own=('--workers[threads]:threads: ' '--summary[report what each worker did]') ;;
   esac
   _arguments $own '(-h --help)'{-h,--help}'[print help]' '*:file:_files'
 }

@@ -8,11 +8,12 @@ _pulsefarm_erl_words() {
     check) echo "$all --explain --format" ;;
     run) echo "$all --property --limit --seed --schedule --strategy --weights --edition --verbose --explain --one-node --format" ;;
     hunt) echo "$all --property --limit --seeds --for --strategy --weights --edition --workers --shrink --all --leaks --all-roots --fail-fast --one-node --verbose --format" ;;
+    explore) echo "$all --property --limit --budget --for --deviations --edition --verbose --format" ;;
     shrink) echo "$all --property --limit --schedule --runs --edition --verbose --format" ;;
-    chart) echo "$all --property --limit --seed --schedule --strategy --weights --edition --page --compact" ;;
+    chart) echo "$all --property --limit --seed --schedule --strategy --weights --edition --page --compact --verbose" ;;
     eunit) echo "$all --property --limit --seeds --for --strategy --weights --edition --workers --test --one-node --junit" ;;
     prop) echo "$all --limit --seeds --tests --seed --strategy --weights --edition --workers --shrink" ;;
-    *) echo 'translate check run hunt shrink chart eunit prop --help --version' ;;
+    *) echo 'translate check run hunt explore shrink chart eunit prop --help --version' ;;
   esac
 }
 

@@ -5,7 +5,7 @@ import json
 import re
 import sys
 
-STOPPED = re.compile(r"stopped behind (\d+) seeds")
+STOPPED = re.compile(r"stopped after (\d+) seeds")
 NONE = re.compile(r"no failure in (\d+) seeds")
 ROW = re.compile(r"(holds|fails) (\d+) seeds, least (\d+): (.*)")
 

@@ -43,4 +43,4 @@ main() ->
     {ok, 6} = R,
     {closed, 0} = gen_server:call(B, state),
     R.
-%% told: crash <[0-9]+> at breaker\.erl:32 breaker:handle_info/2: error stale_timer
+%% reported: crash <[0-9]+> at breaker\.erl:32 breaker:handle_info/2: error stale_timer

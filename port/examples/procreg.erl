@@ -55,4 +55,4 @@ main() ->
         [ok, {error, taken}] -> one;
         [ok, ok] -> error(both_registered)
     end.
-%% told: crash <0> at procreg\.erl:56 procreg:main/0: error both_registered
+%% reported: crash <0> at procreg\.erl:56 procreg:main/0: error both_registered

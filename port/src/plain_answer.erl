@@ -1,7 +1,7 @@
 %% @doc Answers of pulsefarm in the words of the source: each event with its place, each process with the function that it runs, and
 %% each crash with file, line and function.
 -module(plain_answer).
--export([lines/3, text/1, why/1, report/1, ends/1, orderly/1, replayed/3, role/2, where/5, reason/2, event_place/2, last_places/2, starts_report/1]).
+-export([lines/3, story/3, text/1, why/1, report/1, ends/1, orderly/1, replayed/3, role/2, where/5, reason/2, event_place/2, last_places/2, starts_report/1]).
 -export_type([reported/0]).
 
 -type asked() :: plain_words:asked().
@@ -61,6 +61,13 @@ events(Events, {ok, #{events := Known}, #{marks := Places}} = Reported, Names, V
         true -> [event(Event, Place, Names) || {Event, Place} <- lists:zip(Events, Marks)];
         false -> plain_story:tell(Events, Marks, {Reported, Names})
     end.
+
+%% @doc The events of a story by their numbers, each in its words; or that its places can't be shown.
+-spec story([plain_report:event()], reported(), translation()) -> [{pos_integer(), binary()}] | unknown.
+story(_, unknown, _) -> unknown;
+story(Events, Reported, #{names := Names}) ->
+    [{Number, unicode:characters_to_binary(Label)} || {_, Object} <- events(Events, Reported, Names, false),
+                                                     {event, Number} <- [lists:keyfind(event, 1, Object)], {label, Label} <- [lists:keyfind(label, 1, Object)]].
 
 %% What is received after a wait is received where the process waited.
 -spec waited([plain_report:event()], [plain_translation:place() | none], #{non_neg_integer() => plain_translation:place() | none}) ->
@@ -179,13 +186,27 @@ crash({_, P, Reason, {by, A}}, _, _, Names) ->
 crash({Number, P, Reason, own}, Events, Reported, Names) ->
     {Where, Keys} = standing(Number, P, Reason, Events, Reported),
     {Class, Said} = reason(Reason, Names),
-    case {[Lacked || {N, _, Lacked} <- plain_verdict:gaps(Events), N =:= Number], orderly(Reason)} of
-        {[Lacked], _} -> {io_lib:format("refused <~w> ~ts~ts ~s", [P, Where, Lacked, cure(Lacked, Reported)]), [{refused, pid(P)} | Keys] ++ [{lacks, Lacked}, {cure, cure(Lacked, Reported)}]};
-        {[], true} -> {io_lib:format("ended <~w> ~ts~s ~ts", [P, Where, Class, Said]), [{ended, pid(P)} | Keys] ++ [{class, Class}, {reason, Said}]};
-        {[], false} ->
+    Lacks = [Lacked || {N, _, Lacked} <- plain_verdict:gaps(Events), N =:= Number],
+    case {Lacks, orderly(Reason), with(Number, P, Reason, Where, Events)} of
+        {[Lacked], _, _} -> {io_lib:format("refused <~w> ~ts~ts ~s", [P, Where, Lacked, cure(Lacked, Reported)]), [{refused, pid(P)} | Keys] ++ [{lacks, Lacked}, {cure, cure(Lacked, Reported)}]};
+        {[], true, _} -> {io_lib:format("ended <~w> ~ts~s ~ts", [P, Where, Class, Said]), [{ended, pid(P)} | Keys] ++ [{class, Class}, {reason, Said}]};
+        {[], false, {yes, A}} ->
+            {io_lib:format("ended <~w> as <~w> did: ~s ~ts", [P, A, Class, Said]), [{ended, pid(P)}, {as, pid(A)}, {class, Class}, {reason, Said}]};
+        {[], false, no} ->
             Given = arguments(Number, Reported, Names),
             {[io_lib:format("crash <~w> ~ts~s ~ts", [P, Where, Class, Said]), [[" for (", A, ")"] || A <- Given]],
              [{crash, pid(P)} | Keys] ++ [{class, Class}, {reason, Said}] ++ [{arguments, A} || A <- Given]}
+    end.
+
+%% Who ended before by the same reason, as this process knew: a server ends as its parent does. An end at a line of the source is its own.
+-spec with(pos_integer(), non_neg_integer(), binary(), iodata(), [plain_report:event()]) -> {yes, non_neg_integer()} | no.
+with(_, _, _, ["at " | _], _) -> no;
+with(Number, P, Reason, _, Events) ->
+    Known = [A || #{subject := {turn, Q}, label := <<"receive {'EXIT',<", Rest/binary>>} <- lists:sublist(Events, Number), Q =:= P,
+                  [Pid, Of] <- [binary:split(Rest, <<">,">>)], Of =:= <<Reason/binary, "}">>, A <- [binary_to_integer(Pid)]],
+    case Known of
+        [] -> no;
+        _ -> {yes, lists:last(Known)}
     end.
 
 %% The arguments for which a function had no clause, where the run tells them.
@@ -227,7 +248,7 @@ standing(Number, P, Reason, Events, {ok, #{events := Marks}, #{marks := Places, 
     Raised = case lists:reverse(Own) of [_, {N1, <<"raise ", _/binary>>, _} | _] -> N1; _ -> Number end,
     case Placed of
         [{N, _, Place} | _] when N =:= Number; N =:= Raised -> {["at ", plain_words_back:place(Place), ": "], plain_json:place(Place)};
-        [{_, _, Place} | _] -> {["behind ", plain_words_back:place(Place), ": "], plain_json:place(Place) ++ [{behind, true}]};
+        [{_, _, Place} | _] -> {["after ", plain_words_back:place(Place), ": "], plain_json:place(Place) ++ [{'after', true}]};
         [] -> {["in ", role(P, Reported), placed(Reason, Atoms), ": "], [{runs, role(P, Reported)}]}
     end.
 
@@ -239,7 +260,7 @@ placed(Reason, Atoms) ->
         nomatch -> []
     end,
     case [{Word, lists:last(Places)} || Word <- Words, {ok, Places} <- [maps:find(Word, Atoms)]] of
-        [{Word, Place} | _] -> io_lib:format(", ~w stands at ~ts", [Word, plain_words_back:place(Place)]);
+        [{Word, Place} | _] -> io_lib:format(", ~w is at ~ts", [Word, plain_words_back:place(Place)]);
         [] -> ""
     end.
 

@@ -41,8 +41,11 @@ call(make_fun, 3, [Module, Function, {lit, Arity, _}], Env, Mode) ->
     Line = plain_state:get(line),
     Variables = [{v, {'A', plain_state:fresh()}} || _ <- lists:seq(1, Arity)],
     plain_body:body({fn, plain_state:fresh(), Variables, {call, Module, Function, Variables, Line}, Line}, Env, Mode);
-call(process_flag, 2, [{lit, trap_exit, _}, _] = Arguments, Env, Mode) ->
-    [plain_body:returned(plain_trace:action(process_flag, plain_value:values(Arguments, Env)), Mode)];
+call(process_flag, 2, [{lit, trap_exit, _}, Flag] = Arguments, Env, Mode) ->
+    case plain_services:tied() of
+        true -> [plain_call:function(pf_ties, trap, 1, [plain_value:value(Flag, Env)], Mode)];
+        false -> [plain_body:returned(plain_trace:action(process_flag, plain_value:values(Arguments, Env)), Mode)]
+    end;
 call(register, 2, Arguments, Env, Mode) -> registered(plain_value:values(Arguments, Env), Mode);
 call(function_exported, 3, [Module, {lit, Function, _}, {lit, Arity, _}], Env, Mode) ->
     Known = [{{atom, Name}, [], [{atom, true}]} || Name <- plain_reach:exporting(Function, Arity)],
@@ -52,8 +55,17 @@ call(monitor, 2, [{lit, process, _}, Object] = Arguments, Env, Mode) ->
     is_tuple(Object) andalso element(1, Object) =:= lit
         andalso plain_refusal:note_once(monitor, "a monitor of a name is whereis and then a monitor of the pid: the name may pass to another between"),
     operation(monitor, 2, plain_value:values(Arguments, Env), Mode);
-call(demonitor, 2, [_, {lit, Options, _}] = Arguments, Env, Mode) when Options =:= []; Options =:= [flush] ->
-    [plain_body:returned(plain_trace:action(demonitor, plain_value:values(Arguments, Env)), Mode)];
+call(demonitor, 2, [Reference, {lit, Options, _}] = Arguments, Env, Mode) when Options =:= []; Options =:= [flush] ->
+    case plain_services:tied() of
+        true when Options =:= [] -> call(demonitor, 1, [Reference], Env, Mode);
+        true -> [plain_call:function(pf_ties, demonitor, 2, plain_value:values(Arguments, Env), Mode)];
+        false -> [plain_body:returned(plain_trace:action(demonitor, plain_value:values(Arguments, Env)), Mode)]
+    end;
+call(Function, 1, [Argument], Env, Mode) when Function =:= link; Function =:= unlink; Function =:= demonitor ->
+    case plain_services:tied() of
+        true -> [plain_call:function(pf_ties, Function, 1, [plain_value:value(Argument, Env)], Mode)];
+        false -> operation(Function, 1, [plain_value:value(Argument, Env)], Mode)
+    end;
 call(setelement, 3, [{lit, Index, _}, {v, _} = Tuple, Value], Env, Mode) when is_integer(Index) -> setelement(Index, Tuple, Value, Env, Mode);
 call(Function, Arity, Arguments, Env, Mode) ->
     note(Function),
@@ -159,8 +171,9 @@ library(Function, Arity, Arguments, Mode) ->
         _ -> [plain_call:function(erlang, Function, Arity, Arguments, Mode)]
     end.
 
-%% Refuses arguments that a function of the library is seen to lack.
+%% Refuses arguments that a function of the library is seen to lack. What a process is asked in a list is asked one by one.
 -spec lacks(atom(), arity(), [tree()]) -> ok.
+lacks(process_info, 2, [P, {lit, [_ | _] = Items, Line}]) -> lists:foreach(fun(Item) -> lacks(process_info, 2, [P, {lit, Item, Line}]) end, Items);
 lacks(Function, Arity, Arguments) ->
     case plain_modules:find(erlang, Function, Arity) of
         {lib, Core, _} -> plain_lacks:refuse(erlang, Function, Core, Arguments);
@@ -178,6 +191,10 @@ note(process_flag) -> plain_refusal:note_once(flags, "of the flags of a process 
 note(Function) when Function =:= nodes; Function =:= is_alive -> plain_refusal:note_once(nodes, "there is one node; nothing tells of others");
 note(Function) when Function =:= garbage_collect; Function =:= yield; Function =:= display ->
     plain_refusal:note_once(machine, "garbage_collect, yield and display do nothing");
+note(Function) when Function =:= universaltime; Function =:= localtime; Function =:= date; Function =:= time; Function =:= now ->
+    plain_refusal:note_once(day, "a run begins with the year 1970, and its place has the time of UTC"),
+    plain_encodings:times();
+note(process_info) -> plain_refusal:note_once(info, "process_info of another process is answered where nobody else can go, and then who lives waits");
 note(is_process_alive) -> plain_refusal:note_once(alive, "is_process_alive of another process is answered where nobody else can go");
 note(group_leader) -> plain_refusal:note_once(leader, "the group leader is one process for all, which drops output");
 note(_) -> ok.

@@ -39,11 +39,51 @@ an_atom(_, _) -> no.
 known(erlang, Function, Arguments, Env, Mode) -> plain_builtin:call(Function, Arguments, Env, Mode);
 known(prim, raw, [{lit, Function, _} | Arguments], Env, Mode) ->
     [plain_body:returned(plain_trace:action(Function, plain_value:values(Arguments, Env)), Mode)];
-known(Module, Function, Arguments, Env, Mode) ->
+known(prim, arm, [Time, Reference], Env, Mode) -> [plain_body:returned(plain_receive:armed(plain_value:values([Time, Reference], Env)), Mode)];
+known(prim, flush, [Time, Reference], Env, Mode) -> [plain_body:returned({call, 'flush@', plain_value:values([Time, Reference], Env)}, Mode)];
+known(prim, named, [Fun], Env, Mode) ->
+    [plain_body:returned({call, plain_reach:dispatcher(fun_name, plain), [plain_value:value(Fun, Env)]}, Mode)];
+known(code, ensure_loaded, [Module], Env, Mode) -> loaded(Module, lists:member(code, plain_state:get(users)), Env, Mode);
+known(math, Function, Arguments, Env, Mode) ->
+    Numbers = [X || {lit, X, _} <- Arguments, is_number(X)],
+    Known = plain_state:get(kind) =:= user andalso not lists:member(math, plain_state:get(users))
+        andalso length(Numbers) =:= length(Arguments) andalso erlang:function_exported(math, Function, length(Arguments)),
+    case Known andalso computed(Function, Numbers) of
+        false -> of_module(math, Function, Arguments, Env, Mode);
+        {ok, Float} -> [plain_body:returned(plain_value:literal(Float, plain_state:get(line)), Mode)];
+        {error, Reason} -> [plain_body:failure(error, {atom, Reason}, Mode)]
+    end;
+known(Module, Function, Arguments, Env, Mode) -> of_module(Module, Function, Arguments, Env, Mode).
+
+%% What Erlang makes of numbers that stand in the source.
+-spec computed(atom(), [number()]) -> {ok, float()} | {error, atom()}.
+computed(Function, Numbers) ->
+    try {ok, erlang:apply(math, Function, Numbers)}
+    catch error:Reason -> {error, Reason}
+    end.
+
+%% The code that is there is that of the files and of the library: any other module is refused where a run alone knows its name.
+-spec loaded(tree(), boolean(), environment(), mode()) -> plain_text:body().
+loaded(Module, true, Env, Mode) -> of_module(code, ensure_loaded, [Module], Env, Mode);
+loaded(Module, false, Env, Mode) ->
+    There = fun(Name) -> {tuple, [{atom, module}, {atom, Name}]} end,
+    case an_atom(Module, Env) of
+        {ok, Name} ->
+            Known = Name =:= erlang orelse lists:member(Name, plain_state:get(users)) orelse plain_modules:in_library(Name),
+            [plain_body:returned(case Known of true -> There(Name); false -> {tuple, [{atom, error}, {atom, nofile}]} end, Mode)];
+        no ->
+            Clauses = [{{atom, Name}, [], [There(Name)]} || Name <- plain_state:get(users)] ++ [{{var, "_"}, [], [gap(code, ensure_loaded, 1)]}],
+            [plain_body:returned({'case', plain_value:value(Module, Env), Clauses}, Mode)]
+    end.
+
+-spec of_module(module(), atom(), [tree()], environment(), mode()) -> plain_text:body().
+of_module(Module, Function, Arguments, Env, Mode) ->
     Arity = length(Arguments),
     plain_encodings:note(Module, Function, Arity),
     case {plain_modules:hidden(Module, Function, Arity), plain_modules:find(Module, Function, Arity)} of
-        {true, _} -> [plain_body:failure(error, {atom, undef}, Mode)];
+        {true, _} ->
+            plain_refusal:note("~w:~w/~w isn't exported, so this call raises undef", [Module, Function, Arity]),
+            [plain_body:failure(error, {atom, undef}, Mode)];
         {false, none} -> unknown(Module, Function, Arity, Mode);
         {false, {lib, Core, _}} ->
             plain_lacks:refuse(Module, Function, Core, Arguments),
@@ -99,7 +139,9 @@ placed(Call, _) ->
 -spec checked(atom(), [plain_text:expression()]) -> plain_text:expression().
 checked(Operation, Arguments) ->
     plain_reach:use({checked, Operation, length(Arguments)}),
-    {call, list_to_atom("c@" ++ atom_to_list(Operation)), [plain_trace:here() || plain_trace:traced()] ++ Arguments}.
+    Acts = lists:member(Operation, ['!', unregister, link, unlink]),
+    Place = [plain_trace:here() || plain_trace:traced()] ++ [plain_trace:mark() || Acts, plain_trace:traced()],
+    {call, list_to_atom("c@" ++ atom_to_list(Operation)), Place ++ Arguments}.
 
 %% @doc A function that the translator doesn't have: refused in a source, a note in the library.
 -spec unknown(module(), atom(), arity(), mode()) -> plain_text:body().

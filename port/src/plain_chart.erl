@@ -1,14 +1,50 @@
 %% @doc Charts in the words of the source: the function that each process runs in its head, the place of each event in its title, and
 %% terms as the source has them.
 -module(plain_chart).
--export([tell/3, escaped/1]).
+-export([tell/4, escaped/1]).
 
 -define(LONGEST_HEAD, 34).
 
-%% @doc A chart of pulsefarm, told anew. The report is that of the same run.
--spec tell(binary(), plain_answer:reported(), plain_translation:translation()) -> iodata().
-tell(Chart, Reported, #{names := Names}) ->
-    [[line(Line, Reported, Names), "\n"] || Line <- binary:split(Chart, <<"\n">>, [global, trim])].
+-define(LONGEST_LABEL, 34).
+
+%% @doc A chart of pulsefarm, written anew. The report is that of the same run. Without --verbose it has the rows of a story: services have
+%% neither rows nor columns.
+-spec tell(binary(), {[plain_report:event()], plain_answer:reported()}, plain_translation:translation(), boolean()) -> iodata().
+tell(Chart, {Events, Reported}, #{names := Names} = Translation, Verbose) ->
+    Lines = [iolist_to_binary(line(Line, Reported, Names)) || Line <- binary:split(Chart, <<"\n">>, [global, trim])],
+    Shown = case Verbose of true -> unknown; false -> plain_answer:story(Events, Reported, Translation) end,
+    [[Line, "\n"] || Line <- story(Lines, Events, Reported, Shown)].
+
+%% The rows of a story, each with its words.
+-spec story([binary()], [plain_report:event()], plain_answer:reported(), [{pos_integer(), binary()}] | unknown) -> [binary()].
+story(Lines, _, _, unknown) -> Lines;
+story(Lines, Events, Reported, Shown) ->
+    Services = [P || P <- lists:usort([P || #{subject := {turn, P}} <- Events]), is_service(plain_answer:role(P, Reported))],
+    Hidden = plain_chart_rows:hidden(Events, maps:from_list([{Number, true} || {Number, _} <- Shown]), {Services, Lines}),
+    Told = maps:from_list(Shown),
+    plain_chart_rows:without([said(Line, Told) || Line <- Lines], Hidden, Services).
+
+-spec is_service(iodata() | unknown) -> boolean().
+is_service(unknown) -> false;
+is_service(Role) -> lists:prefix("the service", lists:flatten(io_lib:format("~ts", [Role]))).
+
+%% An event in the words of the story.
+-spec said(binary(), #{pos_integer() => binary()}) -> binary().
+said(<<"<g class=\"event", _/binary>> = Line, Told) ->
+    case maps:get(attribute(Line, <<"data-event">>), Told, none) of
+        none -> Line;
+        Said ->
+            Text = quoted(escaped(cut(Said, ?LONGEST_LABEL))),
+            iolist_to_binary(re:replace(Line, <<"(<text x=[^>]*>)[^<]*</text>">>, ["\\1", Text, "</text>"]))
+    end;
+said(Line, _) -> Line.
+
+-spec cut(binary(), pos_integer()) -> binary().
+cut(Text, Longest) ->
+    case string:length(Text) > Longest of
+        true -> unicode:characters_to_binary([string:slice(Text, 0, Longest - 3), "..."]);
+        false -> Text
+    end.
 
 -spec line(binary(), plain_answer:reported(), map()) -> iodata().
 line(<<"<g class=\"process", _/binary>> = Line, Reported, _) ->
@@ -18,7 +54,7 @@ line(<<"<g class=\"process", _/binary>> = Line, Reported, _) ->
         Role ->
             Text = escaped(iolist_to_binary(Role)),
             Titled = re:replace(Line, <<"<title>([^<]*)</title>">>, ["<title>\\1, ", quoted(Text), "</title>"]),
-            re:replace(Titled, <<"(<text class=\"of\"[^>]*>)[^<]*</text>">>, ["\\1", quoted(escaped(shortened(iolist_to_binary(Role)))), "</text>"])
+            re:replace(Titled, <<"(<text class=\"of\"[^>]*>)[^<]*</text>">>, ["\\1", quoted(escaped(cut(iolist_to_binary(Role), ?LONGEST_HEAD))), "</text>"], [global])
     end;
 line(<<"<g class=\"event", _/binary>> = Line, Reported, Names) ->
     Turned = texts(Line, Names),
@@ -58,6 +94,3 @@ escaped(Text) ->
 -spec quoted(binary()) -> iodata().
 quoted(Text) -> re:replace(Text, <<"[\\\\&]">>, <<"\\\\&">>, [global]).
 
--spec shortened(binary()) -> binary().
-shortened(Text) when byte_size(Text) =< ?LONGEST_HEAD -> Text;
-shortened(Text) -> <<(binary:part(Text, 0, ?LONGEST_HEAD - 3))/binary, "...">>.

@@ -43,7 +43,12 @@ translated(#{command := translate, out := Out}, #{text := Text, map := Map}) ->
 translated(#{files := [File | _], command := Command}, #{roots := [_, _ | _] = Roots}) when Command =/= check ->
     complain(["pulsefarm-erl: ", File, " exports ", lists:join(", ", [atom_to_list(Root) || Root <- Roots]), "; name the one to begin with by --root\n"]),
     2;
+translated(#{command := check} = Asked, Translation) ->
+    Status = of_farm(Asked, Translation),
+    Status =:= 0 andalso complain(["pulsefarm-erl: ", plain_size:fits(Translation, plain_translation:most_bytes()), "\n"]),
+    Status;
 translated(#{command := shrink} = Asked, Translation) -> plain_shrink:shrink(Asked, Translation);
+translated(#{command := explore} = Asked, Translation) -> plain_explore:explore(Asked, Translation);
 translated(#{command := Command} = Asked, Translation) ->
     case {Command, plain_verdict:own(plain_verdict:asked(Asked))} of
         {hunt, true} -> plain_hunt:hunt(Asked, Translation);
@@ -78,15 +83,16 @@ failed(File, Reason) ->
     complain(["pulsefarm-erl: ", File, ": ", file:format_error(Reason), "\n"]),
     2.
 
-%% The same run as that of a chart, with its places.
--spec run_of_chart(plain_words:asked(), plain_translation:translation()) -> plain_answer:reported().
-run_of_chart(Asked, #{text := Text} = Translation) ->
-    Words = fun(File) -> plain_words:of_farm(File, Asked#{command := run}, Translation) end,
+%% The same run as that of a chart: its events, with their places.
+-spec run_of_chart(plain_words:asked(), plain_translation:translation()) -> {[plain_report:event()], plain_answer:reported()}.
+run_of_chart(#{words := Given} = Asked, #{text := Text} = Translation) ->
+    Own = plain_words:without(["--compact", "--page"], Given),
+    Words = fun(File) -> plain_words:of_farm(File, Asked#{command := run, words := Own}, Translation) end,
     case plain_farm:with_file(Text, fun(File) -> plain_farm:call(Words(File)) end) of
         {Answer, Status} when Status < 2 ->
             #{events := Events} = plain_report:read(binary:split(Answer, <<"\n">>, [global, trim])),
-            plain_answer:replayed(Asked, Translation, Events);
-        _ -> unknown
+            {Events, plain_answer:replayed(Asked, Translation, Events)};
+        _ -> {[], unknown}
     end.
 
 %% @doc Tells what pulsefarm answered; its status.
@@ -98,7 +104,7 @@ reported({Text, Status}, #{command := Command} = Asked, _) when Command =:= chec
     plain_json:put([{Line, plain_json:of_line(Line)} || Line <- binary:split(Text, <<"\n">>, [global, trim])], Asked),
     Status;
 reported({Text, Status}, #{command := chart} = Asked, Translation) ->
-    plain_out:put(plain_chart:tell(Text, run_of_chart(Asked, Translation), Translation)),
+    plain_out:put(plain_chart:tell(Text, run_of_chart(Asked, Translation), Translation, maps:get(verbose, Asked, false))),
     Status;
 reported({Text, Status}, Asked, Translation) ->
     #{events := Events} = plain_answer:report(Text),

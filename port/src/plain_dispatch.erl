@@ -11,6 +11,7 @@ texts() ->
 -spec label({term(), plain_reach:mode()}) -> string().
 label({What, _}) when is_integer(What) -> lists:concat(["a call of a fun of ", What, " arguments"]);
 label({apply_fun, _}) -> "apply/2";
+label({fun_name, _}) -> "the names of funs";
 label({apply_function, _}) -> "apply/3".
 
 -spec remote_label({module() | any, atom() | any, arity(), plain_reach:mode()}) -> string().
@@ -24,7 +25,11 @@ variables(Letter, Number) -> [Letter ++ integer_to_list(I) || I <- lists:seq(1, 
 -spec comma([iodata()]) -> iodata().
 comma(Parts) -> lists:join(",", Parts).
 
--spec of_funs({arity() | apply_fun | apply_function, plain_reach:mode()}) -> iodata().
+-spec of_funs({arity() | apply_fun | apply_function | fun_name, plain_reach:mode()}) -> iodata().
+of_funs({fun_name, _}) ->
+    [[["'named@'(F) when element(3,F)=:=", plain_text:atom(case Key of {_, _, _} -> plain_reach:tag(Key); _ -> Key end), "->",
+       plain_text:expression(plain_value:literal(Name, 0)), ";\n"] || {Key, Name} <- plain_value:fun_names()],
+     "'named@'(_)->'$fun'.\n"];
 of_funs({apply_fun, Mode}) ->
     Name = plain_text:atom(plain_reach:in_mode('applyf@', Mode)),
     Clause = fun(Arity) ->
@@ -47,14 +52,17 @@ of_funs({Arity, Mode}) ->
 
 -spec of_fun(atom() | {module(), atom(), arity()}, iodata(), [string()], plain_reach:mode()) -> iodata().
 of_fun({Module, Function, Arity} = Key, Name, Arguments, Mode) ->
-    Target = target(Module, Function, Arity, plain_reach:fun_mode(Key, Mode)),
-    [Name, "(", comma([["{'#fun',_,", plain_text:atom(plain_reach:tag(Key)), "}"] | Arguments]), ")->", called(Key, [Target, "(", comma(Arguments), ")"], Mode), ";\n"];
+    Own = plain_reach:fun_mode(Key, Mode),
+    Call = [target(Module, Function, Arity, Own), "(", comma(line(Module, Function, Arity, Own) ++ Arguments), ")"],
+    [Name, "(", comma([["{'#fun',_,", plain_text:atom(plain_reach:tag(Key)), "}"] | Arguments]), ")->", called(Key, Call, Mode), ";\n"];
 of_fun(Key, Name, Arguments, Mode) ->
-    {ok, #{free := Free}} = plain_state:find_in(lifted, Key),
+    {ok, #{free := Free, where := #{kind := Kind}}} = plain_state:find_in(lifted, Key),
     Kept = variables("F", length(Free)),
-    Target = plain_text:atom(plain_reach:in_mode(Key, plain_reach:fun_mode(Key, Mode))),
+    Own = plain_reach:fun_mode(Key, Mode),
+    Target = plain_text:atom(plain_reach:in_mode(Key, Own)),
+    Unplaced = ["'@0'" || _ <- plain_trace:line(Kind, Own)],
     [Name, "(", comma([["{'#fun',_,", plain_text:atom(Key), [[",", X] || X <- Kept], "}"] | Arguments]), ")->",
-     called(Key, [Target, "(", comma(Kept ++ Arguments), ")"], Mode), ";\n"].
+     called(Key, [Target, "(", comma(Unplaced ++ Kept ++ Arguments), ")"], Mode), ";\n"].
 
 %% What a dispatcher answers where a fun stays plain in the traced form.
 -spec called(atom() | {module(), atom(), arity()}, iodata(), plain_reach:mode()) -> iodata().

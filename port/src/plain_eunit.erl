@@ -230,7 +230,7 @@ reported(Results, #{words := Words}) ->
     Failing = [Result || {_, {fails, _, _, _}} = Result <- Results],
     Refused = [Result || {_, {refused, _}} = Result <- Results],
     [plain_out:put(["\n", Report]) || {_, {fails, _, _, Report}} <- Failing, plain_words:value("--test", Words, none) =/= none],
-    plain_out:put(io_lib:format("~w tests: ~w ~s, ~w refused~n", [length(Results), length(Failing), case Failing of [_] -> "fails"; _ -> "fail" end, length(Refused)])),
+    plain_out:put(io_lib:format("~w ~s: ~w ~s, ~w refused~n", [length(Results), case Results of [_] -> "test"; _ -> "tests" end, length(Failing), case Failing of [_] -> "fails"; _ -> "fail" end, length(Refused)])),
     Written = case plain_words:value("--junit", Words, none) of
         none -> ok;
         File -> file:write_file(File, junit(Results))

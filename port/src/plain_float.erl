@@ -28,6 +28,7 @@ are_made() -> plain_state:get(floats) andalso not is_native(plain_state:get(modu
 
 -spec is_native(module()) -> boolean().
 is_native(maps) -> true;
+is_native(pf_match) -> false; % it evaluates what the source wrote
 is_native(Module) -> lists:prefix("pf_", atom_to_list(Module)).
 
 %% @doc An operator of the profile, or a few of them, that is the operator of Erlang on these; or none is.
@@ -42,7 +43,7 @@ operator(Operator, [A, B] = Both) ->
 -spec needs(atom(), [expression()]) -> boolean().
 needs('/', [_, _]) -> false;
 needs(Operator, [_, _] = Both) -> lists:member(Operator, operators()) andalso operator(Operator, Both) =:= no;
-needs('-', [A]) -> are_made() andalso literal(A) =:= unknown;
+needs('-', [A]) -> are_made() andalso case literal(A) of {number, Number} -> is_float(Number); Kind -> Kind =:= unknown end;
 needs(_, _) -> false.
 
 -spec operators() -> [atom()].

@@ -16,7 +16,7 @@
 %% The seeds of a hunt, the last left out, and when it stops.
 -type within() :: {non_neg_integer(), pos_integer(), integer() | never}.
 -type searched() :: {found(), non_neg_integer(), whole | stopped}.
--export_type([searched/0, within/0]).
+-export_type([searched/0, within/0, found/0]).
 
 %% @doc Hunts for the least seed whose run fails the property, and tells it.
 -spec hunt(asked(), translation()) -> 0..255.
@@ -160,10 +160,24 @@ crashing(From, To, File, Asked, Translation) -> judged("nocrash", From, To, File
 judged(_, From, To, _, _, _) when From >= To -> {none, []};
 judged(Property, From, To, File, Asked, Translation) ->
     case one(Property, From, To, File, Asked, Translation) of
-        {found, Seed, _, holds} -> judged(Property, Seed + 1, To, File, Asked, Translation);
+        {found, Seed, _, holds} -> plain_waves:first(Seed + 1, To, fun(A, B) -> in_turn(Property, A, B, File, alone(Asked), Translation) end);
         {found, Seed, _, crossed} -> with([Seed], judged(Property, Seed + 1, To, File, Asked, Translation));
         Other -> Other
     end.
+
+%% The same, by one hunt after the other.
+-spec in_turn(string(), non_neg_integer(), pos_integer(), file:filename(), asked(), translation()) -> found().
+in_turn(_, From, To, _, _, _) when From >= To -> {none, []};
+in_turn(Property, From, To, File, Asked, Translation) ->
+    case one(Property, From, To, File, Asked, Translation) of
+        {found, Seed, _, holds} -> in_turn(Property, Seed + 1, To, File, Asked, Translation);
+        {found, Seed, _, crossed} -> with([Seed], in_turn(Property, Seed + 1, To, File, Asked, Translation));
+        Other -> Other
+    end.
+
+%% Ranges beside each other have a thread each.
+-spec alone(asked()) -> asked().
+alone(#{words := Words} = Asked) -> Asked#{words := ["--workers", "1" | plain_words:without(["--workers"], Words)]}.
 
 %% One hunt of the farm, and the verdict of what it finds.
 -spec one(string(), non_neg_integer(), pos_integer(), file:filename(), asked(), translation()) -> found().
@@ -184,7 +198,7 @@ verdict(Text, Asked, Translation) -> plain_verdict:of_run(plain_verdict:asked(As
 -spec reported(searched(), file:filename(), asked(), translation()) -> 0..255.
 reported({{none, Crossed}, Number, How}, _, Asked, _) ->
     left_out("", Crossed),
-    Lines = [io_lib:format("stopped behind ~w seeds", [Number]) || How =:= stopped] ++ [io_lib:format("no failure in ~w seeds", [Number])],
+    Lines = [io_lib:format("stopped after ~w seeds", [Number]) || How =:= stopped] ++ [io_lib:format("no failure in ~w seeds", [Number])],
     plain_json:put([{Line, plain_json:of_line(iolist_to_binary(Line))} || Line <- Lines], Asked),
     0;
 reported({{answer, Answer}, _, _}, _, Asked, Translation) -> plain_command:reported(Answer, Asked, Translation);

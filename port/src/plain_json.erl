@@ -20,7 +20,7 @@ put(Lines, _) -> plain_out:put([[Text, "\n"] || {Text, _} <- Lines]).
 -spec of_line(binary()) -> object().
 of_line(Line) ->
     Shapes = [{<<"^(no failure) in ([0-9]+) seeds$">>, fun([_, N]) -> [{failure, false}, {seeds, value(N)}] end},
-              {<<"^(stopped) behind ([0-9]+) seeds$">>, fun([_, N]) -> [{stopped, true}, {seeds, value(N)}] end},
+              {<<"^(stopped) after ([0-9]+) seeds$">>, fun([_, N]) -> [{stopped, true}, {seeds, value(N)}] end},
               {<<"^(holds|fails|refused|no verdict) ([0-9]+) seeds, least ([0-9]+): (.*)$">>,
                fun([Verdict, N, Least, Outcome]) -> [{property, Verdict}, {seeds, value(N)}, {least, value(Least)} | of_line(Outcome)] end},
               {<<"^([A-Z][0-9]+) at ([0-9]+)$">>, fun([Code, At]) -> [{refusal, Code}, {at, value(At)}] end},

@@ -63,7 +63,7 @@ fits({lit, _, _}, {fn, _, _, _, _}) -> false;
 fits({tup, Patterns}, {tup, Arguments}) ->
     length(Patterns) =:= length(Arguments) andalso lists:all(fun({P, A}) -> fits(P, A) end, lists:zip(Patterns, Arguments));
 fits({tup, Patterns}, {lit, Term, Line}) when is_tuple(Term) -> fits({tup, Patterns}, {tup, [{lit, X, Line} || X <- tuple_to_list(Term)]});
-fits({tup, _}, {lit, _, _}) -> false;
+fits({tup, _}, {lit, Term, _}) -> is_binary(Term) orelse is_map(Term) orelse is_float(Term); % these are tuples here
 fits({tup, _}, {cons, _, _}) -> false;
 fits({cons, Head, Tail}, {cons, H, T}) -> fits(Head, H) andalso fits(Tail, T);
 fits({cons, Head, Tail}, {lit, [H | T], Line}) -> fits(Head, {lit, H, Line}) andalso fits(Tail, {lit, T, Line});

@@ -1,6 +1,6 @@
 %% @doc Where a function stands: in a file that was given, in the library beside this program, or in OTP's own source.
 -module(plain_modules).
--export([give/1, find/3, exported/2, hidden/3, has/2, of_otp/1, file/1, library/0, in_library/1]).
+-export([give/1, compiled/1, find/3, exported/2, hidden/3, has/2, of_otp/1, file/1, library/0, in_library/1]).
 
 -type kind() :: user | lib | otp.
 -export_type([kind/0]).
@@ -14,7 +14,7 @@ give(File) ->
         {ok, _} -> throw({refuse, File, 1, io_lib:format("the module ~w is given twice; name each file once", [Name])});
         error -> ok
     end,
-    plain_state:put(defines, lists:usort(plain_source:wants(Source) ++ plain_state:get(defines))),
+    plain_state:put(defines, plain_source:joined(plain_source:wants(Source) ++ plain_state:get(defines))),
     keep(Name, user, File, Source),
     Name.
 
@@ -28,6 +28,12 @@ read_once(File, Defines) ->
             Source;
         Source -> Source
     end.
+
+%% @doc The functions of a file that was given, as its compiled form has them.
+-spec compiled(file:filename()) -> [atom()].
+compiled(File) ->
+    #{forms := Forms} = get({?MODULE, File}),
+    plain_source:compiled_names(Forms).
 
 -spec keep(module(), kind(), file:filename(), plain_source:source()) -> ok.
 keep(Name, Kind, File, Source) ->
@@ -89,7 +95,7 @@ in_library(Module) -> lists:member(Module, from_otp()) orelse filelib:is_regular
 %% The modules of OTP whose own source is translated where it is called.
 -spec from_otp() -> [module()].
 from_otp() ->
-    [lists, queue, orddict, ordsets, proplists, gb_trees, gb_sets, dict, sets, string, array, digraph, sofs, calendar].
+    [lists, queue, orddict, ordsets, proplists, gb_trees, gb_sets, dict, sets, string, array, digraph, sofs, calendar, filename].
 
 %% @doc The folder of the library.
 -spec library() -> file:filename().

@@ -26,12 +26,16 @@ marked({Function, Arity}) ->
     Name = atom_to_list(Function),
     [Name, "@m(", lists:join(",", ["P" | ["A" ++ integer_to_list(I) || I <- lists:seq(1, Arity)]]), ")->whereis(P),", Name, "(", Arguments, ").\n"].
 
-%% An action within the prelude.
+%% An action within the prelude, which has no place.
 -spec action(string(), [string()]) -> iodata().
-action(Function, Arguments) ->
+action(Function, Arguments) -> action(Function, Arguments, "'@0'").
+
+%% An action with the mark of its place.
+-spec action(string(), [string()], string()) -> iodata().
+action(Function, Arguments, Mark) ->
     case {plain_trace:traced(), Function} of
-        {true, "!"} -> ["send@m('@0',", lists:join(",", Arguments), ")"];
-        {true, _} -> [Function, "@m(", lists:join(",", ["'@0'" | Arguments]), ")"];
+        {true, "!"} -> ["send@m(", lists:join(",", [Mark | Arguments]), ")"];
+        {true, _} -> [Function, "@m(", lists:join(",", [Mark | Arguments]), ")"];
         {false, "!"} -> lists:join("!", Arguments);
         {false, _} -> [Function, "(", lists:join(",", Arguments), ")"]
     end.
@@ -40,8 +44,12 @@ action(Function, Arguments) ->
 waiting() -> case plain_trace:traced() of true -> "whereis('@0'),"; false -> "" end.
 
 %% A clause of an operation: its heads with the place, and its error.
--spec clause(string(), string(), iodata()) -> iodata().
+-spec clause(string(), iodata(), iodata()) -> iodata().
 clause(Name, Arguments, Rest) -> [Name, "(", case plain_trace:traced() of true -> "S,"; false -> "" end, Arguments, ")", Rest].
+
+%% The same of an operation that acts: it has the mark of its place too.
+-spec acting(string(), string(), iodata()) -> iodata().
+acting(Name, Arguments, Rest) -> clause(Name, [case plain_trace:traced() of true -> "L,"; false -> "" end, Arguments], Rest).
 
 -spec refused(string()) -> iodata().
 refused(Reason) -> ["{x,error,", Reason, case plain_trace:traced() of true -> ",S}"; false -> "}" end].
@@ -63,14 +71,14 @@ text({checked, length, 1}) -> two("c@length", "L", " when is_list(L)->{v,length(
 text({checked, element, 2}) -> two("c@element", "I,T", " when I>=1,I=<tuple_size(T)->{v,element(I,T)};\n", "_,_");
 text({checked, tuple_size, 1}) -> two("c@tuple_size", "T", " when is_tuple(T)->{v,tuple_size(T)};\n", "_");
 text({checked, '!', 2}) ->
-    [clause("'c@!'", "P,M", [" when is_pid(P)->{v,", action("!", ["P", "M"]), "};\n"]),
-     clause("'c@!'", "N,M", [" when is_atom(N)->case ", action("whereis", ["N"]), " of undefined->", refused("badarg"), ";P->{v,", action("!", ["P", "M"]), "} end;\n"]),
-     clause("'c@!'", "_,_", ["->", refused("badarg"), ".\n"])];
+    [acting("'c@!'", "P,M", [" when is_pid(P)->{v,", action("!", ["P", "M"], "L"), "};\n"]),
+     acting("'c@!'", "N,M", [" when is_atom(N)->case ", action("whereis", ["N"], "L"), " of undefined->", refused("badarg"), ";P->{v,", action("!", ["P", "M"], "L"), "} end;\n"]),
+     acting("'c@!'", "_,_", ["->", refused("badarg"), ".\n"])];
 text({checked, unregister, 1}) ->
-    clause("c@unregister", "N", ["->case ", action("whereis", ["N"]), " of undefined->", refused("badarg"), ";_->{v,", action("unregister", ["N"]), "} end.\n"]);
+    acting("c@unregister", "N", ["->case ", action("whereis", ["N"], "L"), " of undefined->", refused("badarg"), ";_->{v,", action("unregister", ["N"], "L"), "} end.\n"]);
 text({checked, Function, 1}) when Function =:= link; Function =:= unlink ->
     Name = atom_to_list(Function),
-    two("c@" ++ Name, "P", [" when is_pid(P)->{v,", action(Name, ["P"]), "};\n"], "_");
+    [acting("c@" ++ Name, "P", [" when is_pid(P)->{v,", action(Name, ["P"], "L"), "};\n"]), acting("c@" ++ Name, "_", ["->", refused("badarg"), ".\n"])];
 text({atoms, Table, Mode}) -> atoms(Table, Mode);
 text({gap, Mode}) -> gap(Mode);
 text({ended, Kind}) -> [plain_text:atom(plain_reach:short_name({ended, Kind})), "(V)->exit({{", plain_text:atom(Kind), ",V},[]}).\n"];
@@ -86,6 +94,7 @@ text(flush) ->
 text(arm) ->
     ["arm@(infinity,_)->ok;\narm@(0,R)->", action("!", ["self()", "{'after',R}"]), ";\narm@(T,R) when is_integer(T),T>0->", action("!", ["'port@clock'", "{arm,self(),R,T}"]),
      ";\narm@(_,_)->", action("exit", ["{timeout_value,[]}"]), ".\n"];
+text(in_time) -> "time@(infinity,_)->true;\ntime@(T,R) when is_integer(T),T>=0->arm@(T,R),true;\ntime@(_,_)->false.\n";
 text(at) -> "at@(S,{x,C,R,[]})->{x,C,R,S};\nat@(_,V)->V.\n";
 text(enter) -> "enter@({v,V})->V;\nenter@({x,C,R,[P|S]})->whereis(P),raise@(C,R,[P|S]);\nenter@({x,C,R,S})->whereis('@0'),raise@(C,R,S).\n"
                "raise@(exit,R,_)->exit(R);\nraise@(throw,R,S)->exit({{nocatch,R},S});\nraise@(_,R,S)->exit({R,S}).\n".

@@ -98,12 +98,13 @@ export(Name, Arity) -> plain_state:set_in(exports, {Name, Arity}, true).
 use(Part) -> plain_state:set_in(prelude, Part, true).
 
 %% @doc The dispatcher of funs with so many arguments, or for arguments in a list.
--spec dispatcher(arity() | apply_fun | apply_function, mode()) -> atom().
+-spec dispatcher(arity() | apply_fun | apply_function | fun_name, mode()) -> atom().
 dispatcher(What, Mode) ->
     plain_state:set_in(calls, {What, Mode}, true),
     Name = case What of
         apply_fun -> 'applyf@';
         apply_function -> 'applym@';
+        fun_name -> 'named@';
         Arity -> list_to_atom("call@" ++ integer_to_list(Arity))
     end,
     in_mode(Name, Mode).
@@ -166,7 +167,10 @@ target(Module, Function, Arity, Mode) ->
     end.
 
 %% @doc What one dispatcher of funs reaches.
--spec spread({arity() | apply_fun | apply_function, mode()}) -> ok.
+-spec spread({arity() | apply_fun | apply_function | fun_name, mode()}) -> ok.
+spread({fun_name, _}) ->
+    [plain_value:literal(Name, 0) || Name <- ['$fun' | [Name || {_, Name} <- plain_value:fun_names()]]],
+    ok;
 spread({apply_function, Mode}) ->
     [need(target(Module, Function, Arity, Mode)) || {Module, Function, Arity} <- exported_functions()],
     ok;
@@ -250,7 +254,7 @@ exporting(Function, Arity) ->
 
 %% @doc The functions by whose use a service is seen to be used.
 -spec client(atom()) -> [atom()].
-client(pf_clock) -> [now_ms, send, unsend, quiet];
+client(pf_clock) -> [now_ms, send, unsend, read, quiet];
 client(pf_names) -> [register, register_global, name_of];
 client(rand) -> [flip];
 client(_) -> [ask].

@@ -44,8 +44,6 @@ place(File, Line) -> io_lib:format("~ts:~w", [filename:basename(File), Line]).
 
 %% @doc Why a function of another module is refused, and what to do.
 -spec why(module(), atom()) -> string().
-why(erlang, F) when F =:= float_to_list; F =:= list_to_float; F =:= float_to_binary; F =:= binary_to_float ->
-    "is for texts of floats, which aren't translated; count in integers";
 why(erlang, F) when F =:= process_info; F =:= processes; F =:= process_display; F =:= suspend_process; F =:= resume_process;
                     F =:= statistics; F =:= system_info; F =:= system_flag; F =:= memory; F =:= trace; F =:= registered ->
     "looks into the machine, which the profile can't; keep what you ask for in a process of your own";
@@ -53,12 +51,8 @@ why(erlang, F) when F =:= halt -> "ends the node, which the profile can't; let t
 why(erlang, F) when F =:= open_port; F =:= port_command; F =:= port_close; F =:= port_connect ->
     "speaks with the world outside, which the profile can't; put a process of your own in its place";
 why(erlang, F) when F =:= monitor; F =:= alias; F =:= unalias -> "with an alias or other options is not translated; take a plain monitor(process, P)";
-why(erlang, F) when F =:= binary_to_term; F =:= term_to_binary ->
-    "works on binaries in a way that is not translated; keep the term, or a list of bytes";
 why(erlang, F) when F =:= phash2; F =:= phash; F =:= md5; F =:= crc32; F =:= adler32 -> "is a hash, and the profile has none; take the term itself as key";
 why(erlang, F) when F =:= pid_to_list; F =:= list_to_pid; F =:= ref_to_list; F =:= port_to_list -> "prints what has no fixed name; pass the term itself";
-why(erlang, F) when F =:= localtime; F =:= universaltime; F =:= date; F =:= time; F =:= now ->
-    "asks for the time of day; take erlang:monotonic_time/1, which the clock of a run answers";
 why(Module, _) when Module =:= file; Module =:= gen_tcp; Module =:= gen_udp; Module =:= ssl; Module =:= inet; Module =:= os; Module =:= httpc;
                     Module =:= filelib; Module =:= dets; Module =:= disk_log; Module =:= mnesia; Module =:= crypto; Module =:= init;
                     Module =:= prim_file; Module =:= ssh; Module =:= file_sorter; Module =:= ram_file ->
@@ -68,7 +62,8 @@ why(Module, _) when Module =:= code; Module =:= erl_eval; Module =:= erl_scan; M
 why(Module, _) when Module =:= io_lib; Module =:= unicode; Module =:= binary; Module =:= re; Module =:= base64 ->
     "makes or reads text or binaries, which is not translated; keep terms, or put a module of that name among the files";
 why(eunit, _) -> "runs tests of EUnit; pulsefarm-erl eunit FOLDER hunts each of them";
-why(math, _) -> "is for floats, and only their sums, products and order are translated; count in integers";
+why(math, _) -> "is what a machine's library makes of a number; name a module of that name, or count in integers";
+why(qlc, _) -> "makes queries at run time; take match_object or select of ets";
 why(ets, _) -> "is not among the functions of ets that the library has (port/ENCODINGS.md); take insert, lookup, delete, match_object, select";
 why(sys, _) -> "looks into a server from outside, which is not translated; add a call to the server that answers it";
 why(Module, _) when Module =:= global; Module =:= rpc; Module =:= erpc; Module =:= net_adm; Module =:= net_kernel ->

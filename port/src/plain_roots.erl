@@ -105,7 +105,7 @@ one(Name, {ok, Asked, #{text := Text} = Translation}, Within, File) ->
     {Found, Number, How} = plain_farm:with_file(Text, fun(Program) -> plain_hunt:search(Within, Program, Asked, Translation) end),
     [plain_hunt:left_out(io_lib:format("~p: ", [Name]), Early) || {none, Early} <- [Found]],
     case {Found, How} of
-        {{none, _}, stopped} -> {holds, line(Name, File, io_lib:format(": stopped behind ~w seeds, no failure", [Number]), [{stopped, true}, {failure, false}, {seeds, Number}])};
+        {{none, _}, stopped} -> {holds, line(Name, File, io_lib:format(": stopped after ~w seeds, no failure", [Number]), [{stopped, true}, {failure, false}, {seeds, Number}])};
         {{none, _}, whole} -> {holds, line(Name, File, io_lib:format(": no failure in ~w seeds", [Number]), [{failure, false}, {seeds, Number}])};
         {{found, Seed, Report, Verdict}, _} -> failing(Name, File, Seed, Verdict, plain_answer:why(plain_answer:lines(Report, Asked, Translation)));
         {{answer, missing}, _} -> {refused, line(Name, File, ": refused: the program pulsefarm is not on the path", [{refused, "the program pulsefarm is not on the path"}])};

@@ -1,10 +1,10 @@
 %% @doc Services: processes that do what Erlang does by tables which all processes share. Only those that are used are started.
 -module(plain_services).
--export([all/0, any/0, used/0, begun/0, ticks/0]).
+-export([all/0, any/0, used/0, begun/0, ticks/0, tied/0]).
 
 %% @doc All services, in the order in which they start. The clock comes first: its ticker is the first process that a root starts, and goes last.
 -spec all() -> [atom()].
-all() -> [pf_clock, pf_names, ets, pf_dictionary, rand, pf_cells, pf_leader].
+all() -> [pf_clock, pf_names, ets, pf_dictionary, rand, pf_cells, pf_leader, pf_ties].
 
 %% @doc Whether the pass before found one to be used.
 -spec any() -> boolean().
@@ -20,6 +20,10 @@ used() ->
     Called = [{Module, Function} || {function, Module, Function, _, _} <- plain_state:keys(wanted)],
     Clients = [Service || {Service, Function} <- Called, lists:member(Service, all()), lists:member(Function, plain_reach:client(Service))],
     maps:from_list([{Service, true} || Service <- Clients ++ [pf_clock || plain_state:get(clock)]]).
+
+%% @doc Whether links and monitors are asked for, so that what is done to them is kept.
+-spec tied() -> boolean().
+tied() -> maps:is_key(pf_ties, plain_state:get(services)).
 
 %% @doc Whether a root starts the clock with its ticker.
 -spec ticks() -> boolean().

@@ -1,6 +1,6 @@
 %% @doc Reading: a file through epp and Erlang's compiler, up to Core Erlang; and what a source is seen to use.
 -module(plain_source).
--export([read/2, read_library/2, wants/1]).
+-export([joined/1, compiled_names/1, read/2, read_library/2, wants/1]).
 -export_type([source/0]).
 
 -type source() :: #{name := module(), functions := #{{atom(), arity()} => cerl:cerl()}, exports := [{atom(), arity()}],
@@ -88,6 +88,13 @@ core(File, Forms) ->
         _ -> throw({refuse, File, 1, "the compiler makes no Core Erlang of it"})
     end.
 
+%% @doc The names of all functions that the compiler makes of a source, those of its funs among them.
+-spec compiled_names([term()]) -> [atom()].
+compiled_names(Forms) ->
+    {ok, _, Binary, _} = compiled(Forms, [binary, return, nowarn_deprecated_function]),
+    {ok, {_, [{locals, Locals}]}} = beam_lib:chunks(Binary, [locals]),
+    [Name || {Name, _} <- Locals].
+
 %% The specification of compile:forms/2 speaks of binaries alone; with to_core0 it gives Core Erlang.
 -spec compiled([term()], [term()]) -> term().
 compiled(Forms, Options) -> apply(list_to_existing_atom("compile"), forms, [Forms, Options]).
@@ -102,7 +109,19 @@ line(_) -> 0.
 wants(#{forms := Forms, exports := Exports}) ->
     Catches = throws(Forms) orelse lists:member({terminate, 2}, Exports) orelse lists:member({terminate, 3}, Exports)
         orelse mentions(supervisor, Forms),
-    ['SERVER_TIMEOUTS' || answers_with_time(Forms)] ++ ['CATCHES' || Catches] ++ ['STATEM' || mentions(gen_statem, Forms)].
+    Ancestors = lists:any(fun(Atom) -> mentions(Atom, Forms) end, ['$ancestors', '$initial_call', initial_call, translate_initial_call, dictionary])
+        orelse asks_all(Forms),
+    ['SERVER_TIMEOUTS' || answers_with_time(Forms)] ++ ['START_TIMES' || starts_in_time(Forms)] ++ ['STOP_TIMES' || stops_in_time(Forms)] ++ ['MATCH_MAPS' || has_maps(Forms)] ++ ['ANCESTORS' || Ancestors] ++ ['CATCHES' || Catches] ++
+        ['TIMED_CALLS' || calls_in_time(Forms)] ++ ['GIVES_UP' || catches(Forms)] ++ ['STATEM' || mentions(gen_statem, Forms)].
+
+%% @doc The macros that all sources want: an answer may come after its call timed out where one has calls within a time
+%% and one catches. With CALL_TIMEOUTS each call has a time.
+-spec joined([atom()]) -> [atom()].
+joined(Wanted) ->
+    #{library_defines := Own} = plain_state:get(options),
+    Timed = lists:member('TIMED_CALLS', Wanted) orelse lists:member('CALL_TIMEOUTS', Own),
+    Late = Timed andalso lists:member('GIVES_UP', Wanted),
+    lists:usort(['LATE_ANSWERS' || Late] ++ Wanted).
 
 -spec mentions(atom(), term()) -> boolean().
 mentions(Atom, {atom, _, Atom}) -> true;
@@ -110,6 +129,64 @@ mentions(Atom, {attribute, _, _, Atom}) -> true;
 mentions(Atom, Form) when is_tuple(Form) -> mentions(Atom, tuple_to_list(Form));
 mentions(Atom, [Head | Tail]) -> mentions(Atom, Head) orelse mentions(Atom, Tail);
 mentions(_, _) -> false.
+
+%% Whether a process asks for its whole dictionary.
+-spec asks_all(term()) -> boolean().
+asks_all({call, _, {atom, _, get}, []}) -> true;
+asks_all({call, _, {remote, _, {atom, _, erlang}, {atom, _, get}}, []}) -> true;
+asks_all(Form) when is_tuple(Form) -> asks_all(tuple_to_list(Form));
+asks_all([Head | Tail]) -> asks_all(Head) orelse asks_all(Tail);
+asks_all(_) -> false.
+
+%% Whether a list has {timeout, Time} as the options of a start may have it.
+-spec starts_in_time(term()) -> boolean().
+starts_in_time({cons, _, {tuple, _, [{atom, _, timeout}, Time]}, Rest}) -> may_be_time(Time) orelse starts_in_time(Rest);
+starts_in_time(Form) when is_tuple(Form) -> starts_in_time(tuple_to_list(Form));
+starts_in_time([Head | Tail]) -> starts_in_time(Head) orelse starts_in_time(Tail);
+starts_in_time(_) -> false.
+
+-spec has_maps(term()) -> boolean().
+has_maps({map, _, _}) -> true;
+has_maps(Form) when is_tuple(Form) -> has_maps(tuple_to_list(Form));
+has_maps([Head | Tail]) -> has_maps(Head) orelse has_maps(Tail);
+has_maps(_) -> false.
+
+%% Whether a server is stopped within a time.
+-spec stops_in_time(term()) -> boolean().
+stops_in_time({call, _, {remote, _, {atom, _, Module}, {atom, _, stop}}, [_, _, Time]})
+  when Module =:= gen_server; Module =:= gen_statem; Module =:= gen_event; Module =:= gen; Module =:= proc_lib ->
+    may_be_time(Time);
+stops_in_time(Form) when is_tuple(Form) -> stops_in_time(tuple_to_list(Form));
+stops_in_time([Head | Tail]) -> stops_in_time(Head) orelse stops_in_time(Tail);
+stops_in_time(_) -> false.
+
+%% Whether a server may be called within a time: by a function of a behaviour, or by one that a run alone knows.
+-spec calls_in_time(term()) -> boolean().
+calls_in_time({call, _, {remote, _, Module, Function}, Arguments}) ->
+    (in_time(Module, Function, length(Arguments)) andalso may_be_time(lists:last(Arguments))) orelse calls_in_time(Arguments);
+calls_in_time({call, _, {atom, _, apply}, [Module, Function, _]}) -> in_time(Module, Function, any);
+calls_in_time({'fun', _, {function, Module, Function, {integer, _, Arity}}}) -> in_time(Module, Function, Arity);
+calls_in_time(Form) when is_tuple(Form) -> calls_in_time(tuple_to_list(Form));
+calls_in_time([Head | Tail]) -> calls_in_time(Head) orelse calls_in_time(Tail);
+calls_in_time(_) -> false.
+
+-spec in_time(term(), term(), arity() | any) -> boolean().
+in_time(Module, Function, Arity) ->
+    Fits = fun({atom, _, Atom}, Name) -> Atom =:= Name; (_, _) -> true end,
+    lists:any(fun({M, F, A}) -> Fits(Module, M) andalso Fits(Function, F) andalso (Arity =:= any orelse Arity =:= A) end, timed()).
+
+-spec timed() -> [{module(), atom(), arity()}].
+timed() ->
+    [{gen_server, call, 3}, {gen_statem, call, 3}, {gen_event, call, 4}, {gen, call, 4}, {erlang, apply, 3}]
+        ++ [{Module, stop, 3} || Module <- [gen_server, gen_statem, gen_event, gen, proc_lib]]
+        ++ [{sys, get_state, 2}, {sys, suspend, 2}, {sys, resume, 2}, {sys, replace_state, 3}, {sys, terminate, 3}].
+
+-spec catches(term()) -> boolean().
+catches({'try', _, _, _, [_ | _], _}) -> true;
+catches({'catch', _, _}) -> true;
+catches(Form) when is_tuple(Form) -> catches(tuple_to_list(Form));
+catches([Head | Tail]) -> catches(Head) orelse catches(Tail);
+catches(_) -> false.
 
 -spec throws(term()) -> boolean().
 throws({call, _, {atom, _, throw}, [_]}) -> true;

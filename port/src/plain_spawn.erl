@@ -7,9 +7,13 @@
 -type tree() :: plain_tree:tree().
 
 -spec process(atom(), [tree()], environment(), mode()) -> plain_text:body().
+process(spawn_opt, [Node | Arguments], Env, Mode) when length(Arguments) =:= 2; length(Arguments) =:= 4 -> on_node(spawn_opt, Node, Arguments, Env, Mode);
 process(spawn_opt, Arguments, Env, Mode) ->
-    {Function, Options} = {lists:droplast(Arguments), lists:last(Arguments)},
-    process(by_options(Options), Function, Env, Mode);
+    case by_options(lists:last(Arguments)) of
+        library when length(Arguments) =:= 2; length(Arguments) =:= 4 -> plain_call:known(proc_lib, spawn_opt, Arguments, Env, Mode);
+        library -> process(spawn, lists:droplast(Arguments), Env, Mode);
+        Kind -> process(Kind, lists:droplast(Arguments), Env, Mode)
+    end;
 process(Kind, [{fn, Identity, [], Body, Line}], Env, Mode) ->
     Name = plain_value:lifted_name({fn, Identity}),
     Free = plain_value:lift(Name, [], Body, Line, Env, Body),
@@ -37,7 +41,14 @@ process(Kind, [Module, Function, Arguments], Env, Mode) ->
             All = lists:foldr(fun(X, Tail) -> {cons, plain_value:value(X, Env), Tail} end, nil, [Module, Function, Arguments]),
             [started(Kind, Name, All, Mode)]
     end;
-process(Kind, Arguments, _, _) -> plain_refusal:refuse("~w/~w names a node, and the profile has one; spawn on the own node", [Kind, length(Arguments)]).
+process(Kind, [Node | Arguments], Env, Mode) when length(Arguments) =:= 1; length(Arguments) =:= 3 -> on_node(Kind, Node, Arguments, Env, Mode);
+process(Kind, Arguments, _, _) -> plain_refusal:refuse("~w/~w has no translation; start the process otherwise", [Kind, length(Arguments)]).
+
+%% There is one node: who names another one is refused where a run reaches it.
+-spec on_node(atom(), tree(), [tree()], environment(), mode()) -> plain_text:body().
+on_node(Kind, Node, Arguments, Env, Mode) ->
+    Own = {{atom, nonode@nohost}, [], process(Kind, Arguments, Env, Mode)},
+    [{'case', plain_value:value(Node, Env), [Own, {{var, "_"}, [], [plain_call:gap(erlang, Kind, length(Arguments) + 1)]}]}].
 
 %% A process of a function by its name. What is no function of the text is called by a fun, which then says so.
 -spec named(atom(), {module(), atom(), arity()}, tree(), [tree()], environment(), mode()) -> plain_text:body().
@@ -54,14 +65,23 @@ named(Kind, {Module, Function, Arity}, Arguments, Trees, Env, Mode) ->
 
 -spec started(atom(), atom(), plain_text:expression(), mode()) -> plain_text:expression().
 started(Kind, Name, Arguments, Mode) ->
-    plain_body:returned(plain_trace:action(Kind, [{atom, plain_state:get(main)}, {atom, Name}, Arguments]), Mode).
+    Started = plain_trace:action(Kind, [{atom, plain_state:get(main)}, {atom, Name}, Arguments]),
+    Tied = plain_services:tied() andalso not lists:member(plain_state:get(module), plain_services:all()),
+    plain_body:returned(case Kind of
+        spawn_link when Tied -> plain_call:function(pf_ties, spawned, 1, [Started], plain);
+        spawn_monitor when Tied -> plain_call:function(pf_ties, watched, 1, [Started], plain);
+        _ -> Started
+    end, Mode).
 
--spec by_options(tree()) -> spawn | spawn_link | spawn_monitor.
-by_options({lit, Options, _}) ->
+%% What a list of options means; where it isn't seen, or has both a link and a monitor, the library looks at it.
+-spec by_options(tree()) -> spawn | spawn_link | spawn_monitor | library.
+by_options({lit, Options, _}) when is_list(Options) ->
+    Odd = [Option || Option <- Options, not lists:member(Option, [link, monitor]), not lists:member(Option, [{priority, P} || P <- [low, normal, high]])],
     case {lists:member(link, Options), lists:member(monitor, Options)} of
+        _ when Odd =/= [] -> library;
         {true, false} -> spawn_link;
         {false, false} -> spawn;
         {false, true} -> spawn_monitor;
-        {true, true} -> plain_refusal:refuse("spawn_opt with link and monitor; link, and set the monitor by a call of its own", [])
+        {true, true} -> library
     end;
-by_options(_) -> plain_refusal:refuse("spawn_opt with options that aren't seen; write the list of options out", []).
+by_options(_) -> library.

@@ -13,6 +13,7 @@
   | functions                     % what was written, last first
   | trees                         % the tree of each function that was read
   | lifted | lifted_names         % funs that became functions: their bodies, their names
+  | fun_names                     % the names that the compiler gives to funs
   | funs                          % all funs that are made, with their number of arguments
   | calls | remote_calls          % dispatchers for funs, and for modules that are known at run time
   | exports | prelude
@@ -20,6 +21,7 @@
   | values | tags                 % the atoms that the sources make values of; those that stand first in tuples
   | monitors | named              % what the sources monitor; whether names are
   | floats                        % whether the module makes floats
+  | asked                         % whether mailboxes are asked for
   | narrow                        % whether those alone that stand elsewhere too may name a function
   | known | made                  % the atoms that the passes before found to be made, and those that this pass finds
   | notes | refusals
@@ -31,14 +33,14 @@
 -export_type([key/0]).
 
 %% @doc Begins anew. What the pass before found stays in `Services' and `Known', and `Short' asks for short names.
--spec start(map(), #{services := map(), known := map() | all, short := boolean(), narrow := boolean(), named := boolean(), floats := boolean()}) -> ok.
-start(Options, #{services := Services, known := Known, short := Short, narrow := Narrow, named := Named, floats := Floats}) ->
-    Maps = [modules, wanted, trees, lifted, lifted_names, funs, calls, remote_calls, exports, prelude, short_names, atoms, atom_places, values, tags, made, monitors, names, shapes, marks],
+-spec start(map(), #{services := map(), known := map() | all, short := boolean(), narrow := boolean(), named := boolean(), floats := boolean(), asked := boolean()}) -> ok.
+start(Options, #{services := Services, known := Known, short := Short, narrow := Narrow, named := Named, floats := Floats, asked := Asked}) ->
+    Maps = [modules, wanted, trees, lifted, lifted_names, fun_names, funs, calls, remote_calls, exports, prelude, short_names, atoms, atom_places, values, tags, made, monitors, names, shapes, marks],
     Lists = [users, roots, defines, queue, functions, notes, refusals],
     [put(Key, #{}) || Key <- Maps],
     [put(Key, []) || Key <- Lists],
-    put(defines, ['NAMED_MONITORS' || Named]),
-    [put(Key, Value) || {Key, Value} <- [{options, Options}, {services, Services}, {known, Known}, {short, Short}, {narrow, Narrow}, {named, Named}, {floats, Floats}, {last_name, 0}, {main, none}, {counter, 0}, {function, none}, {origin, none},
+    put(defines, ['NAMED_MONITORS' || Named] ++ ['TIES' || maps:is_key(pf_ties, Services)]),
+    [put(Key, Value) || {Key, Value} <- [{options, Options}, {services, Services}, {known, Known}, {short, Short}, {narrow, Narrow}, {named, Named}, {floats, Floats}, {asked, Asked}, {last_name, 0}, {main, none}, {counter, 0}, {function, none}, {origin, none},
                                          {clock, false}, {file, ""}, {module, none}, {kind, user}, {base, none}, {line, 0}, {mode, plain}]],
     ok.
 

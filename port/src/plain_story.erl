@@ -8,7 +8,8 @@
 
 %% @doc The lines of a story, each with the number of its event.
 -spec tell([plain_report:event()], [plain_translation:place() | none], {plain_answer:reported(), #{atom() => plain_translation:place()}}) -> [plain_json:line()].
-tell(Events, Places, {Reported, Names}) ->
+tell(Reports, Places, {Reported, Names}) ->
+    Events = [with_tag(Event) || Event <- Reports],
     Pids = lists:usort([P || #{subject := {turn, P}} <- Events]),
     Services = [P || P <- Pids, is_service(plain_answer:role(P, Reported))],
     {Lines, _} = lists:mapfoldl(fun({Number, Event, Place}, Asking) ->
@@ -16,8 +17,39 @@ tell(Events, Places, {Reported, Names}) ->
             #{subject := {turn, P}, label := <<"receive ", _/binary>>} when is_map_key(P, Asking) -> {[], maps:remove(P, Asking)};
             _ -> {line(Number, Event, taken(Event, Place, Reported), Services, Names), asking(Event, Services, Asking)}
         end
-    end, #{}, lists:zip3(lists:seq(1, length(Events)), Events, Places)),
+    end, #{}, without_looks([Told || {Report, {_, _, Place} = Told} <- lists:zip(Reports, lists:zip3(lists:seq(1, length(Events)), Events, Places)),
+                                     not is_dropped(Report, Place)], #{})),
     lists:append(Lines).
+
+%% The tag of a call that may time out is its reference.
+-spec with_tag(plain_report:event()) -> plain_report:event().
+with_tag(#{label := Label} = Event) ->
+    Event#{label := re:replace(Label, <<"{port@late,(#Ref<[0-9]+>)}">>, <<"\\1">>, [global, {return, binary}])}.
+
+%% Whether an answer came too late: it is received for a call of the source, or is dropped.
+-spec is_dropped(plain_report:event(), plain_translation:place() | none) -> boolean().
+is_dropped(_, {called, _, _, _}) -> false;
+is_dropped(#{label := <<"receive {{port@late,", _/binary>>}, _) -> true;
+is_dropped(_, _) -> false.
+
+%% Who is asked for its mailbox takes all out and sends it to itself again. It begins by a reference to itself, whose
+%% second receipt is the end.
+-spec without_looks([Told], #{non_neg_integer() => {binary(), 1 | 2}}) -> [Told].
+without_looks([{_, #{subject := {turn, P}, label := Label}, Place} = Told | Rest], Looks) ->
+    Own = ["^send <", integer_to_list(P), "> (#Ref<[0-9]+>)$"],
+    case {Looks, re:run(Label, Own, [{capture, [1], binary}])} of
+        {#{P := {R, 1}}, _} when Label =:= <<"receive ", R/binary>> -> without_looks(Rest, Looks#{P := {R, 2}});
+        {#{P := {R, 2}}, _} when Label =:= <<"receive ", R/binary>> -> without_looks(Rest, maps:remove(P, Looks));
+        {#{P := _}, _} -> without_looks(Rest, Looks);
+        {_, {match, [R]}} when not (is_tuple(Place) andalso element(1, Place) =:= user) -> without_looks(Rest, Looks#{P => {R, 1}});
+        _ ->
+            case re:run(Label, "^(send <[0-9]+>|receive) {port@(look|seen),") of
+                nomatch -> [Told | without_looks(Rest, Looks)];
+                _ -> without_looks(Rest, Looks)
+            end
+    end;
+without_looks([Told | Rest], Looks) -> [Told | without_looks(Rest, Looks)];
+without_looks([], _) -> [].
 
 %% Where a server takes a message: at the clause of its callback. Where the message fits several, its line isn't shown.
 -spec taken(plain_report:event(), plain_translation:place() | none, plain_answer:reported()) -> place().
@@ -87,6 +119,8 @@ is_shown(Label, Place, Services) ->
         {[<<"receive">> | _], {user, _, _, _}} -> re:run(Label, <<"^receive {'after',">>) =:= nomatch;
         {[<<"receive">> | _], _} -> re:run(Label, <<"^receive ({#Ref<[0-9]+>,(ok,|error})|{'after',|{'DOWN',|{ack,)">>) =:= nomatch;
         {_, {user, _, _, _}} -> true;
+        {[Word, Pid | _], {called, _, _, _}} when Word =:= <<"spawn">>; Word =:= <<"spawn_link">>; Word =:= <<"spawn_monitor">> ->
+            not lists:member(pid(Pid), Services);
         {_, _} -> false
     end.
 
@@ -104,15 +138,43 @@ asked() -> <<"^send <[0-9]+> {ask,<[0-9]+>,#Ref<[0-9]+>,{([a-z_]+),(.*)}}$">>.
 %% A label in the words of who wrote the source.
 -spec said(binary()) -> binary().
 said(Label) ->
-    lists:foldl(fun({From, To}, Before) -> re:replace(Before, From, To, [{return, binary}]) end, Label,
-                [{asked(), <<"ets:\\1(\\2)">>},
-                 {<<"^send (<[0-9]+>) {'\\$gen_call',{<[0-9]+>,#Ref<[0-9]+>},(.*)}$">>, <<"calls \\1: \\2">>},
-                 {<<"^send (<[0-9]+>) {'\\$gen_cast',(.*)}$">>, <<"casts to \\1: \\2">>},
-                 {<<"^send (<[0-9]+>) {#Ref<[0-9]+>,(.*)}$">>, <<"replies to \\1: \\2">>},
-                 {<<"^send (<[0-9]+>) {ack,<[0-9]+>,(.*)}$">>, <<"is started, and tells \\1: \\2">>},
-                 {<<"^receive {'\\$gen_call',{(<[0-9]+>),#Ref<[0-9]+>},(.*)}$">>, <<"takes the call of \\1: \\2">>},
-                 {<<"^receive {'\\$gen_cast',(.*)}$">>, <<"takes the cast: \\1">>},
-                 {<<"^receive {#Ref<[0-9]+>,(.*)}$">>, <<"gets the reply: \\1">>}]).
+    lists:foldl(fun({From, To}, Before) -> re:replace(Before, From, To, [{return, binary}]) end, Label, asks() ++ servers() ++ actions()).
+
+-spec asks() -> [{binary(), binary()}].
+asks() -> [{asked(), <<"ets:\\1(\\2)">>}].
+
+%% What goes between servers, their clients and who starts them.
+-spec servers() -> [{binary(), binary()}].
+servers() ->
+    [{<<"^send (<[0-9]+>) {'\\$gen_call',{<[0-9]+>,#Ref<[0-9]+>},(.*)}$">>, <<"calls \\1: \\2">>},
+     {<<"^send (<[0-9]+>) {'\\$gen_cast',(.*)}$">>, <<"casts to \\1: \\2">>},
+     {<<"^send (<[0-9]+>) {system,{<[0-9]+>,#Ref<[0-9]+>},{terminate,(.*)}}$">>, <<"stops \\1: \\2">>},
+     {<<"^send (<[0-9]+>) {system,{<[0-9]+>,#Ref<[0-9]+>},(.*)}$">>, <<"asks \\1 by sys: \\2">>},
+     {<<"^send (<[0-9]+>) {#Ref<[0-9]+>,(.*)}$">>, <<"replies to \\1: \\2">>},
+     {<<"^send (<[0-9]+>) {ack,<[0-9]+>,(.*)}$">>, <<"answers \\1, which starts it: \\2">>},
+     {<<"^receive {'\\$gen_call',{(<[0-9]+>),#Ref<[0-9]+>},(.*)}$">>, <<"takes the call of \\1: \\2">>},
+     {<<"^receive {'\\$gen_cast',(.*)}$">>, <<"takes the cast: \\1">>},
+     {<<"^receive {system,{(<[0-9]+>),#Ref<[0-9]+>},{terminate,(.*)}}$">>, <<"is stopped by \\1: \\2">>},
+     {<<"^receive {system,{(<[0-9]+>),#Ref<[0-9]+>},(.*)}$">>, <<"is asked by sys of \\1: \\2">>},
+     {<<"^receive {#Ref<[0-9]+>,(.*)}$">>, <<"gets the reply: \\1">>}].
+
+%% The actions of a process.
+-spec actions() -> [{binary(), binary()}].
+actions() ->
+    [{<<"^send (<[0-9]+>) (.*)$">>, <<"sends \\1: \\2">>},
+     {<<"^exit (<[0-9]+>) (.*)$">>, <<"sends \\1 an exit signal: \\2">>},
+     {<<"^receive (.*)$">>, <<"receives \\1">>},
+     {<<"^spawn (<[0-9]+>)$">>, <<"spawns \\1">>},
+     {<<"^spawn_link (<[0-9]+>)$">>, <<"spawns \\1, linked">>},
+     {<<"^spawn_monitor (<[0-9]+>) (#Ref<[0-9]+>)$">>, <<"spawns \\1, monitored by \\2">>},
+     {<<"^monitor (#Ref<[0-9]+>) (<[0-9]+>)$">>, <<"monitors \\2 by \\1">>},
+     {<<"^link (<[0-9]+>)$">>, <<"links to \\1">>},
+     {<<"^unlink (<[0-9]+>)$">>, <<"unlinks from \\1">>},
+     {<<"^register (.*) (<[0-9]+>)$">>, <<"registers \\2 as \\1">>},
+     {<<"^unregister (.*)$">>, <<"unregisters \\1">>},
+     {<<"^process_flag (true|false)$">>, <<"sets trap_exit to \\1">>},
+     {<<"^raise (.*)$">>, <<"raises \\1">>},
+     {<<"^end (.*)$">>, <<"ends: \\1">>}].
 
 %% The place in the source, with its text.
 -spec placed(place()) -> iodata().

@@ -43,7 +43,7 @@ mark() ->
 
 %% @doc The parameter of a function of this kind in this mode that has the mark of a call, where it has one.
 -spec line(plain_modules:kind(), plain_reach:mode()) -> [plain_text:expression()].
-line(Kind, traced) when Kind =/= user -> [{var, "Line@"}];
+line(Kind, Mode) when Kind =/= user, Mode =/= plain -> [{var, "Line@"} || traced()];
 line(_, _) -> [].
 
 %% @doc The argument for this parameter.

@@ -1,6 +1,6 @@
 %% @doc One translation: files of plain Erlang in, a module of the profile and its map out.
 -module(plain_translation).
--export([translate/2, roots/2, defaults/0]).
+-export([translate/2, roots/2, defaults/0, most_bytes/0]).
 
 -define(MOST_BYTES, 65536).
 %% Above this the names inside are short.
@@ -10,8 +10,9 @@
 -type options() :: #{includes := [file:filename()], defines := [atom() | {atom(), term()}], library_defines := [atom() | {atom(), term()}],
                      root := atom() | none | {all, [atom()]}, never := non_neg_integer() | infinity, lax := boolean(), calls := [{module(), atom()}], traced := boolean(),
                      arguments := boolean(), cuts := plain_cut:cuts()}.
-%% What a pass begins with: the services that are used, the atoms that are made, and whether names are short, whether tags name no functions, whether names are monitored, and whether floats are made.
--type plan() :: #{services := map(), known := map() | all, short := boolean(), narrow := boolean(), named := boolean(), floats := boolean()}.
+%% What a pass begins with: the services that are used, the atoms that are made, and whether names are short, whether tags name no functions, whether names are monitored, whether floats are made,
+%% and whether mailboxes are asked for.
+-type plan() :: #{services := map(), known := map() | all, short := boolean(), narrow := boolean(), named := boolean(), floats := boolean(), asked := boolean()}.
 -type refusal() :: {file:filename(), non_neg_integer(), string()}.
 %% A place of the sources: what kind of module, file, line, and the function there, or a fun in it.
 -type place() :: {plain_modules:kind(), file:filename(), non_neg_integer(), {module(), atom(), arity()} | {'fun', {module(), atom(), arity()}}}.
@@ -25,6 +26,10 @@
 defaults() ->
     #{includes => [], defines => [], library_defines => [], root => none, never => infinity, lax => false, calls => [], traced => false, arguments => false,
       cuts => #{}}.
+
+%% @doc How many bytes a translation may have.
+-spec most_bytes() -> pos_integer().
+most_bytes() -> ?MOST_BYTES.
 
 %% @doc Translates in a process of its own, since what a translation knows belongs to its process.
 -spec translate([file:filename()], options()) -> {ok, translation()} | {refused, [refusal()]}.
@@ -62,16 +67,17 @@ attempt(Files, Options) ->
     end.
 
 -spec first_plan() -> plan().
-first_plan() -> #{services => #{}, known => plain_prune:given(), short => false, narrow => false, named => false, floats => false}.
+first_plan() -> #{services => #{}, known => plain_prune:given(), short => false, narrow => false, named => false, floats => false, asked => false}.
 
 %% Passes go on until the services that are used are those that are started, nothing more is found to be made, and the text is short enough.
 -spec pass([file:filename()], options(), plan()) -> {ok, translation()} | {refused, [refusal()]}.
-pass(Files, Options, #{known := Known, short := Short, narrow := Narrow, named := Named, floats := Floats} = Plan) ->
+pass(Files, Options, #{known := Known, short := Short, narrow := Narrow, named := Named, floats := Floats, asked := Asked} = Plan) ->
     plain_state:start(Options, Plan),
     Roots = begin_with(Files, Options),
     plain_reach:work(),
     case {Plan#{services := plain_services:used(), known := plain_prune:after_pass(Known), named := Named orelse names_monitored(),
-                floats := Floats orelse maps:is_key('#float', plain_state:get(made))}, lists:usort(plain_state:get(refusals))} of
+                floats := Floats orelse maps:is_key('#float', plain_state:get(made)),
+                asked := Asked orelse mailboxes_asked()}, lists:usort(plain_state:get(refusals))} of
         {Plan, []} ->
             #{text := Text} = Translation = written(Roots),
             case byte_size(Text) of
@@ -88,6 +94,9 @@ pass(Files, Options, #{known := Known, short := Short, narrow := Narrow, named :
 names_monitored() ->
     Monitors = plain_state:get(monitors),
     maps:is_key(name, Monitors) orelse (maps:is_key(maybe_name, Monitors) andalso maps:is_key(looks, Monitors)).
+
+-spec mailboxes_asked() -> boolean().
+mailboxes_asked() -> [] =/= [asked || {function, pf_mailbox, of_process, 1, _} <- plain_state:keys(wanted)].
 
 -spec measured([file:filename()], translation()) -> {ok, translation()} | {refused, [refusal()]}.
 measured(Files, #{text := Text} = Translation) ->

@@ -64,7 +64,12 @@ tree('case', Core, Names, Line) ->
     {'case', trees(Subjects, Names), [clause(C, Names) || C <- cerl:case_clauses(Core)], Line};
 tree('fun', Core, Names, Line) ->
     {Variables, Inside} = bind(cerl:fun_vars(Core), Names),
-    {fn, plain_state:fresh(), Variables, tree(cerl:fun_body(Core), Inside), Line};
+    Identity = plain_state:fresh(),
+    case lists:keyfind(id, 1, cerl:get_ann(Core)) of
+        {id, {_, _, Name}} -> plain_state:set_in(fun_names, Identity, Name);
+        false -> ok
+    end,
+    {fn, Identity, Variables, tree(cerl:fun_body(Core), Inside), Line};
 tree(letrec, Core, Names, Line) -> letrec(cerl:letrec_defs(Core), cerl:letrec_body(Core), Names, Line);
 tree(apply, Core, Names, Line) -> {apply, tree(cerl:apply_op(Core), Names), trees(cerl:apply_args(Core), Names), Line};
 tree(call, Core, Names, Line) -> call(Core, Names, Line);
@@ -260,10 +265,21 @@ functions(Definitions, Body, Names) ->
     end, Names, Definitions),
     Define = fun({Name, Function}) ->
         {lref, Identity} = maps:get(cerl:var_name(Name), Inside),
-        {fn, _, Variables, FunctionBody, Line} = tree(Function, Inside),
+        {fn, Inner, Variables, FunctionBody, Line} = tree(Function, Inside),
+        case plain_state:find_in(fun_names, Inner) of
+            {ok, Compiled} -> plain_state:set_in(fun_names, Identity, {lifted, by_itself(Compiled, cerl:var_name(Name))});
+            error -> ok
+        end,
         {Identity, Variables, FunctionBody, Line}
     end,
     {letrec, [Define(D) || D <- Definitions], tree(Body, Inside)}.
+
+%% How the name of a fun begins that has a name for itself: as `-f/1-fun-0-', with that name in the place of `fun'; the
+%% compiler numbers it later.
+-spec by_itself(atom(), {atom(), arity()}) -> string().
+by_itself(Compiled, {Name, Arity}) ->
+    [Outer, _] = string:split(atom_to_list(Compiled), "fun-", trailing),
+    lists:concat([Outer, Name, "/", Arity, "-"]).
 
 %% A receive is a loop over the mailbox in Core; here it is one construct again.
 -spec receive_(cerl:cerl(), names(), plain_tree:line()) -> plain_tree:tree().

@@ -1,6 +1,6 @@
 %% @doc Simple values in the text: literals, variables, tuples, lists, and funs, which are tuples with the name of a function.
 -module(plain_value).
--export([value/2, values/2, literal/2, pattern/2, remote_fun/3, external_fun/3, wrapper/2, lift/6, lifted_name/1]).
+-export([value/2, values/2, literal/2, pattern/2, remote_fun/3, fun_names/0, external_fun/3, wrapper/2, lift/6, lifted_name/1]).
 
 -type environment() :: plain_tree:environment().
 
@@ -74,6 +74,40 @@ lifted_name(Identity) ->
             end,
             plain_state:set_in(lifted_names, Identity, Name),
             Name
+    end.
+
+%% @doc The funs without arguments that the sources make, and what each is by the names of the compiler.
+-spec fun_names() -> [{atom() | {module(), atom(), arity()}, {module(), atom(), arity()}}].
+fun_names() ->
+    Compiled = maps:from_list([{Name, case Key of {fn, Identity} -> Identity; _ -> Key end}
+                               || {Key, Name} <- maps:to_list(plain_state:get(lifted_names))]),
+    lists:append([named(Key, Compiled) || {Key, 0} <- lists:sort(maps:to_list(plain_state:get(funs)))]).
+
+-spec named(atom() | {module(), atom(), arity()}, map()) -> [{atom() | {module(), atom(), arity()}, {module(), atom(), arity()}}].
+named({_, _, _} = Key, _) -> [{Key, Key}];
+named(Key, Compiled) ->
+    {ok, #{where := #{kind := Kind, module := Module, file := File}}} = plain_state:find_in(lifted, Key),
+    case maps:find(Key, Compiled) of
+        {ok, {_, _, _} = Named} -> [{Key, Named}];
+        {ok, Identity} when Kind =:= user ->
+            case plain_state:find_in(fun_names, Identity) of
+                {ok, {lifted, _} = Begun} -> [{Key, {Module, Name, 0}} || Name <- by_itself(Identity, Begun, File)];
+                {ok, Name} -> [{Key, {Module, Name, 0}}];
+                error -> []
+            end;
+        _ -> []
+    end.
+
+%% The name of a fun that calls itself: among those that begin so, in the order of the source.
+-spec by_itself(term(), {lifted, string()}, file:filename()) -> [atom()].
+by_itself(Identity, {lifted, Begun} = Same, File) ->
+    Identities = lists:sort([Other || {Other, Name} <- maps:to_list(plain_state:get(fun_names)), Name =:= Same]),
+    Names = [Name || Name <- plain_modules:compiled(File), lists:prefix(Begun, atom_to_list(Name))],
+    Number = fun(Name) -> list_to_integer(lists:droplast(lists:nthtail(length(Begun), atom_to_list(Name)))) end,
+    Sorted = [Name || {_, Name} <- lists:sort([{Number(Name), Name} || Name <- Names])],
+    case length(Identities) =:= length(Sorted) of
+        true -> [Name || {Other, Name} <- lists:zip(Identities, Sorted), Other =:= Identity];
+        false -> []
     end.
 
 %% @doc Keeps the body of a fun for later; its free variables in a fixed order.

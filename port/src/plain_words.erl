@@ -4,25 +4,25 @@
 
 -define(FLAGS, ["--all", "--explain", "--compact", "--leaks", "--all-roots", "--fail-fast"]).
 
--type asked() :: #{command := translate | check | run | hunt | shrink | chart | eunit | prop, files := [file:filename()], out := file:filename() | none,
+-type asked() :: #{command := translate | check | run | hunt | explore | shrink | chart | eunit | prop, files := [file:filename()], out := file:filename() | none,
                    options := plain_translation:options(), words := [string()], property := string() | none, limit := string() | none,
                    verbose => boolean(), format => text | json, mixed => true, one_node => true}.
 -export_type([asked/0]).
 
 %% @doc What is asked for.
 -spec read([string()]) -> {ok, asked()} | {help, iodata()} | {refused, iodata()}.
-read([]) -> {refused, "no command; pulsefarm-erl --help tells the commands"};
+read([]) -> {refused, "no command; pulsefarm-erl --help lists the commands"};
 read([Word | _]) when Word =:= "--help"; Word =:= "-h"; Word =:= "help" -> {help, help()};
 read(["--version" | _]) ->
     _ = application:load(pulsefarm_erl),
     {ok, Version} = application:get_key(pulsefarm_erl, vsn),
     {help, ["pulsefarm-erl ", Version, "\n"]};
 read([Word | Rest]) ->
-    case lists:member(Word, ["translate", "check", "run", "hunt", "shrink", "chart", "eunit", "prop"]) of
+    case lists:member(Word, ["translate", "check", "run", "hunt", "explore", "shrink", "chart", "eunit", "prop"]) of
         true ->
             Asked = #{command => list_to_atom(Word), files => [], out => none, options => plain_translation:defaults(), words => [], property => none, limit => none},
             complete(words(Rest, Asked));
-        false -> {refused, ["no command ", Word, "; the commands are translate, check, run, hunt, shrink, chart, eunit and prop"]}
+        false -> {refused, ["no command ", Word, "; the commands are translate, check, run, hunt, explore, shrink, chart, eunit and prop"]}
     end.
 
 -spec complete({ok, asked()} | {help, iodata()} | {refused, iodata()}) -> {ok, asked()} | {help, iodata()} | {refused, iodata()}.
@@ -55,6 +55,7 @@ of_command(run) -> ["--property", "--limit", "--seed", "--schedule", "--strategy
 of_command(hunt) ->
     ["--property", "--limit", "--seeds", "--for", "--strategy", "--weights", "--edition", "--workers", "--shrink", "--all", "--leaks", "--all-roots", "--fail-fast", "--format",
      "--one-node"];
+of_command(explore) -> ["--property", "--limit", "--budget", "--for", "--deviations", "--edition", "--format"];
 of_command(eunit) -> ["--property", "--limit", "--seeds", "--for", "--strategy", "--weights", "--edition", "--workers", "--test", "--junit", "--one-node"];
 of_command(prop) -> ["--limit", "--seeds", "--tests", "--seed", "--strategy", "--weights", "--edition", "--workers", "--shrink"];
 of_command(shrink) -> ["--property", "--limit", "--schedule", "--runs", "--edition", "--format"];
@@ -68,7 +69,7 @@ other("--fail-fast") -> "; it is of hunt with --all-roots";
 other("--compact") -> "; it is of chart";
 other("--one-node") -> "; it is of hunt, run and eunit";
 other("--explain") -> "; it is of run and check";
-other("--format") -> "; it is of hunt, run, shrink and check; eunit has --junit";
+other("--format") -> "; it is of hunt, explore, run, shrink and check; eunit has --junit";
 other(_) -> "".
 
 %% Words that don't go together.
@@ -106,7 +107,7 @@ together(#{command := eunit, property := Property}) when Property =/= none, Prop
 together(#{command := eunit, words := Words}) ->
     case {plain_hunt:seeds(value("--seeds", Words, "1")), plain_hunt:time(value("--for", Words, none))} of
         {no, _} -> {no, "--seeds wants A..B, A below B"};
-        {_, no} -> {no, "--for wants a number with s, m or h behind it"};
+        {_, no} -> {no, "--for wants a number with s, m or h after it"};
         _ -> yes
     end;
 together(_) -> yes.
@@ -248,11 +249,13 @@ without(_, []) -> [].
 
 -spec help() -> iodata().
 help() ->
-    "Plain Erlang for pulsefarm: modules are translated into its profile by Erlang's own compiler, and its answers are told in\n"
-    "the words of the source. This part is tested and not proved; port/ENCODINGS.md tells what each encoding adds and loses.\n"
+    "Plain Erlang for pulsefarm: modules are translated into its profile by Erlang's own compiler, and its answers are reported in\n"
+    "the words of the source. This part is tested and not proved; port/ENCODINGS.md says what each encoding adds and loses.\n"
     "\n"
     "  pulsefarm-erl hunt FILE.. [WORDS]       hunts for a run that fails: each process with the function that it runs, and\n"
     "                                          a crash with file, line and function\n"
+    "  pulsefarm-erl explore FILE.. [WORDS]    goes through all schedules, by rising deviations from the first choice: --budget N runs,\n"
+    "                                          --for T, --deviations K; in virtual time those by which the clock goes last\n"
     "  pulsefarm-erl run FILE.. [WORDS]        one run, by --seed S or --schedule L (0,1,2 or @FILE)\n"
     "  pulsefarm-erl shrink FILE.. [WORDS]     makes a failing schedule smaller\n"
     "  pulsefarm-erl chart FILE.. [WORDS]      draws a run as a message sequence chart (SVG)\n"
@@ -263,7 +266,8 @@ help() ->
     "  pulsefarm-erl prop FILE.. [WORDS]       tests parallel commands of the state machine (PropEr, QuickCheck) in the first file:\n"
     "                                          each outcome has to be that of some order of the commands; --tests N (100), --seed S\n"
     "                                          for the commands, --seeds (0..200) of each; setup/0 and cleanup/1 go around each run\n"
-    "  pulsefarm-erl check FILE..              says ok, or all that is refused\n"
+    "  pulsefarm-erl check FILE..              says ok, and how much of its 65,536 bytes the translation takes, or all that is\n"
+    "                                          refused\n"
     "  pulsefarm-erl translate FILE.. [-o OUT] writes the module, and OUT.map with the lines that its functions come from\n"
     "\n"
     "The first file has the root: a function without arguments, main where there is one.\n"
@@ -282,7 +286,7 @@ help() ->
     "  --never MS          takes away the timeouts of literal times from MS milliseconds on, where a receive has clauses\n"
     "  -D CALL_TIMEOUTS    lets the 5,000 ms of gen_server:call/2 pass, which else they never do\n"
     "  --verbose           reports all events and processes, those of the library, its services and the clock too\n"
-    "  --format json       of hunt, run, shrink and check: an object on each line (docs/FROM_ERLANG.md); text is what goes out else\n"
+    "  --format json       of hunt, explore, run, shrink and check: an object on each line (docs/FROM_ERLANG.md); else text\n"
     "  --one-node          of hunt, run and eunit: signals come in the order of their causes, as on one node; a run that fails\n"
     "                      otherwise is left out of a hunt\n"
     "  --leaks             of hunt: a run fails too whose root returns and leaves processes that wait\n"
@@ -291,8 +295,8 @@ help() ->
     "                      main, race, and what ends with _race or _test in each of its files; with --all-roots all\n"
     "  --explain           of run: how each process stands at the end, on standard error\n"
     "  --calls M:F         says that a value names this function, where a text of over 24,576 bytes left it out\n"
-    "  --lax               takes calls that aren't known; who comes to one ends with {refused,Module,Function,Arity}\n"
+    "  --lax               takes calls that aren't known; who calls one ends with {refused,Module,Function,Arity}\n"
     "\n"
-    "What can't be translated is refused with file, line and a cure; a note tells what an encoding adds or loses. The program\n"
+    "What can't be translated is refused with file, line and a cure; a note says what an encoding adds or loses. The program\n"
     "pulsefarm is looked for on the path, or is what PULSEFARM names.\n"
     "The status is that of pulsefarm: 0, 1 where the property fails, 2 where something is refused.\n".

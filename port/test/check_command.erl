@@ -4,7 +4,7 @@
 
 -spec check() -> ok.
 check() ->
-    [told(File) || File <- lists:sort(filelib:wildcard(checks:folder("../examples/*.erl")))],
+    [reported(File) || File <- lists:sort(filelib:wildcard(checks:folder("../examples/*.erl")))],
     group(),
     replayed(),
     shrunk(),
@@ -13,6 +13,8 @@ check() ->
     several_files(),
     by_default(),
     gaps(),
+    looks(),
+    late(),
     hidden(),
     waits(),
     refused(),
@@ -22,13 +24,14 @@ check() ->
     one_node(),
     unread(),
     progress(),
+    completed(),
     ok.
 
 %% One command finds the race of a program and tells it by a line that the file names.
--spec told(file:filename()) -> boolean().
-told(File) ->
+-spec reported(file:filename()) -> boolean().
+reported(File) ->
     {ok, Text} = file:read_file(File),
-    {match, [Line]} = re:run(Text, "^%% told: (.*)$", [multiline, {capture, [1], list}]),
+    {match, [Line]} = re:run(Text, "^%% reported: (.*)$", [multiline, {capture, [1], list}]),
     Property = case re:run(Text, "^%% property: (.*)$", [multiline, {capture, [1], list}]) of
         {match, [Named]} -> ["--property", Named];
         nomatch -> []
@@ -36,24 +39,15 @@ told(File) ->
     Patience = case re:run(Text, "^%% patience: early$", [multiline]) of nomatch -> []; _ -> ["--patience", "early"] end,
     {Answer, Status} = checks:command(["hunt", File, "--shrink", "30"] ++ Property ++ Patience),
     checks:expect(["status of ", File], 1, Status),
-    has(File, "^" ++ Line ++ "$", Answer).
-
--spec has(iodata(), string(), string()) -> boolean().
-has(Name, Expression, Answer) ->
-    case re:run(Answer, Expression, [multiline]) of
-        nomatch ->
-            io:format("  ~ts~n", [lists:nthtail(max(0, length(Answer) - 400), Answer)]),
-            checks:expect([Name, " tells ", Expression], false);
-        _ -> checks:expect(Name, true)
-    end.
+    checks:has(File, "^" ++ Line ++ "$", Answer).
 
 -spec group() -> boolean().
 group() ->
     Driver = checks:folder("otp/pg_members.erl"),
     [Group] = filelib:wildcard(filename:join(code:lib_dir(), "kernel-*/src/pg.erl")),
     {Answer, 1} = checks:command(["hunt", Driver, Group, "--root", "race"]),
-    has("pg", "^crash <0> at pg_members\\.erl:7 pg_members:'-race/0-fun-0-'/0|^crash <0> at pg_members\\.erl:7 ", Answer),
-    has("pg's server", "^<[0-9]+> gen_server pg$", Answer).
+    checks:has("pg", "^crash <0> at pg_members\\.erl:7 pg_members:'-race/0-fun-0-'/0|^crash <0> at pg_members\\.erl:7 ", Answer),
+    checks:has("pg's server", "^<[0-9]+> gen_server pg$", Answer).
 
 %% What a hunt found is run, shrunk and drawn again from its answer.
 -spec replayed() -> boolean().
@@ -63,31 +57,39 @@ replayed() ->
     Room = checks:room("found"),
     ok = file:write_file(Room, Found),
     {Story, 1} = checks:command(["run", File, "--schedule", "@" ++ Room]),
-    has("a story", "^[0-9]+ <[0-9]+> calls <[0-9]+>: \\{set,alice,(5|10)\\}  % bank\\.erl:15 bank:deposit/2: gen_server:call\\(\\?MODULE, \\{set, Who, B \\+ N\\}\\)\\.$", Story),
-    has("where a call is taken", "^[0-9]+ <[0-9]+> takes the call of <[0-9]+>: \\{balance,alice\\}  % bank\\.erl:19 bank:handle_call/3: handle_call\\(\\{balance, Who\\}", Story),
-    has("a reply", "^[0-9]+ <[0-9]+> gets the reply: ok  % bank\\.erl:15 bank:deposit/2: gen_server:call", Story),
-    has("its last line", "^[0-9]+ <0> end \\{\\{lost_update,[0-9]+\\},\\[\\]\\}  % bank\\.erl:38 bank:main/0: B =:= 15 orelse error\\(\\{lost_update, B\\}\\),$", Story),
+    checks:has("a story", "^[0-9]+ <[0-9]+> calls <[0-9]+>: \\{set,alice,(5|10)\\}  % bank\\.erl:15 bank:deposit/2: gen_server:call\\(\\?MODULE, \\{set, Who, B \\+ N\\}\\)\\.$", Story),
+    checks:has("where a call is taken", "^[0-9]+ <[0-9]+> takes the call of <[0-9]+>: \\{balance,alice\\}  % bank\\.erl:19 bank:handle_call/3: handle_call\\(\\{balance, Who\\}", Story),
+    checks:has("a reply", "^[0-9]+ <[0-9]+> gets the reply: ok  % bank\\.erl:15 bank:deposit/2: gen_server:call", Story),
+    checks:has("who starts a server", "^[0-9]+ <0> spawns <[0-9]+>, linked  % bank\\.erl:8 bank:start_link/0: start_link\\(\\) -> gen_server:start_link", Story),
+    checks:has("its start", "^[0-9]+ <[0-9]+> answers <0>, which starts it: \\{ok,<[0-9]+>\\}$", Story),
+    checks:has("a client", "^[0-9]+ <0> spawns <[0-9]+>, monitored by #Ref<[0-9]+>  % bank\\.erl:34 ", Story),
+    checks:has("its stop", "^[0-9]+ <0> stops <[0-9]+>: normal  % bank\\.erl:37 bank:main/0: ok = gen_server:stop\\(Pid\\),$", Story),
+    checks:has("its last line", "^[0-9]+ <0> ends: \\{\\{lost_update,[0-9]+\\},\\[\\]\\}  % bank\\.erl:38 bank:main/0: B =:= 15 orelse error\\(\\{lost_update, B\\}\\),$", Story),
     checks:expect("no service in a story", nomatch, re:run(Story, "service|deliver|#Ref<[0-9]+>,<|port@")),
     {Run, Status} = checks:command(["run", File, "--verbose", "--schedule", "@" ++ Room]),
     checks:expect("a run of what was found", 1, Status),
-    has("its crash", "^crash <0> at bank\\.erl:38 ", Run),
-    has("a place of an event", "^[0-9]+/[0-9]+ <[0-9]+> spawn_monitor <[0-9]+> #Ref<[0-9]+>  % bank\\.erl:34 bank:main/0$", Run),
-    has("a place of the source", "^[0-9]+/[0-9]+ <0> end \\{\\{lost_update,[0-9]+\\},\\[\\]\\}  % bank\\.erl:38 bank:main/0$", Run),
+    checks:has("its crash", "^crash <0> at bank\\.erl:38 ", Run),
+    checks:has("a place of an event", "^[0-9]+/[0-9]+ <[0-9]+> spawn_monitor <[0-9]+> #Ref<[0-9]+>  % bank\\.erl:34 bank:main/0$", Run),
+    checks:has("a place of the source", "^[0-9]+/[0-9]+ <0> end \\{\\{lost_update,[0-9]+\\},\\[\\]\\}  % bank\\.erl:38 bank:main/0$", Run),
     {Shrunk, 1} = checks:command(["shrink", File, "--schedule", "@" ++ Room, "--runs", "20"]),
-    has("a shrinking", "^crash <0> at bank\\.erl:38 ", Shrunk),
+    checks:has("a shrinking", "^crash <0> at bank\\.erl:38 ", Shrunk),
     {Fixed, Holds} = checks:command(["hunt", File, "-D", "FIXED"]),
     checks:expect("the fixed bank", 0, Holds),
-    has("the fixed bank", "^no failure in 1000 seeds$", Fixed),
+    checks:has("the fixed bank", "^no failure in 1000 seeds$", Fixed),
     {All, _} = checks:command(["hunt", checks:folder("../examples/cache.erl"), "--all", "--seeds", "0..50"]),
-    has("outcomes", "^fails [0-9]+ seeds, least [0-9]+: ended \\{loaded_twice,\\[\\]\\}$", All).
+    checks:has("outcomes", "^fails [0-9]+ seeds, least [0-9]+: ended \\{loaded_twice,\\[\\]\\}$", All).
 
 %% A shrinking keeps the failure, and has no more events and no more switches of process than the run that it began from.
 -spec shrunk() -> boolean().
 shrunk() ->
     Cache = checks:folder("../examples/cache.erl"),
     [kept(["hunt", Cache, "--verbose" | Property]) || Property <- [[], ["--property", "nocrash"], ["--property", "returns"]]],
+    [kept(["hunt", checks:folder("corpus/own_" ++ Own ++ ".erl"), "--root", "race", "--verbose" | Property])
+     || Own <- ["cache", "quota", "turnstile", "pool", "mailer"], Property <- [[], ["--property", "supervised"]]],
+    {Ended, 1} = checks:command(["hunt", checks:folder("corpus/own_quota.erl"), "--root", "race"]),
+    checks:has("a supervisor that ends as its parent does", "^ended <[0-9]+> as <0> did: error badarg$", Ended),
     {Refused, 2} = checks:command(["shrink", Cache, "-D", "FIXED", "--schedule", "0,1,0"]),
-    has("a schedule that doesn't fail", "^S1$", Refused).
+    checks:has("a schedule that doesn't fail", "^S1$", Refused).
 
 -spec kept([string()]) -> boolean().
 kept(Words) ->
@@ -111,8 +113,27 @@ charted() ->
     {Chart, _} = checks:command(["chart", checks:folder("../examples/bank.erl"), "--seed", "0", "--strategy", "pos"]),
     Svg = lists:nthtail(string:str(Chart, "<svg") - 1, Chart),
     checks:expect("a chart is markup", true, is_markup(Svg)),
-    has("a head", ">gen_server bank</text>", Chart),
-    has("a place in a title", "<title>end [^<]*, bank\\.erl:38 bank:main/0</title>", Chart).
+    checks:has("a head", ">gen_server bank</text>", Chart),
+    checks:has("a place in a title", "<title>end [^<]*, bank\\.erl:38 bank:main/0</title>", Chart),
+    checks:has("an event in the words of the story", ">ends: \\{\\{lost_update,", Chart),
+    checks:expect("heads are functions of the source, and no service has one", nomatch, re:run(Chart, "class=\"of\"[^>]*>(the service|[a-z]+/[0-9])")),
+    checks:expect("nothing of services", nomatch, re:run(Svg, "port@|>register &lt;(clock|names|ticker)")),
+    {Whole, _} = checks:command(["chart", checks:folder("../examples/bank.erl"), "--seed", "0", "--strategy", "pos", "--verbose"]),
+    checks:has("with --verbose all", ">the service names</text>", Whole),
+    checks:expect("and more rows", length(string:split(Whole, "data-event", all)) > length(string:split(Chart, "data-event", all)) + 40),
+    rows_close_up(Chart),
+    {Compact, _} = checks:command(["chart", checks:folder("../examples/bank.erl"), "--seed", "0", "--strategy", "pos", "--compact"]),
+    checks:has("a compact chart too", "class=\"of\"[^>]*>gen_server bank</text>", Compact),
+    checks:expect("and no service in it", nomatch, re:run(Compact, "port@|the service|register &lt;")),
+    rows_close_up(Compact).
+
+%% The rows that are there follow each other, but for the heads between.
+-spec rows_close_up(string()) -> boolean().
+rows_close_up(Chart) ->
+    {match, Found} = re:run(Chart, "transform=\"translate\\([0-9]+ ([0-9]+)\\)\"", [global, {capture, [1], list}]),
+    Rows = lists:usort([list_to_integer(Y) || [Y] <- Found]),
+    Apart = [B - A || {A, B} <- lists:zip(lists:droplast(Rows), tl(Rows))],
+    checks:expect(io_lib:format("rows are 26 apart: ~w", [Apart]), lists:all(fun(D) -> D =:= 26 orelse D =:= 78 end, Apart)).
 
 -spec is_markup(string()) -> boolean().
 is_markup(Text) ->
@@ -127,46 +148,46 @@ supervised() ->
     {_, Counted} = Hunt("nocrash", []),
     checks:expect("nocrash counts a shutdown", 1, Counted),
     {Held, 0} = Hunt("supervised", []),
-    has("supervised doesn't", "^no failure in 250 seeds$", Held),
+    checks:has("supervised doesn't", "^no failure in 250 seeds$", Held),
     {Broken, 1} = Hunt("supervised", ["-D", "BROKEN"]),
-    has("an error in a child", "^crash <[0-9]+> at supervised\\.erl:13 supervised:child/0: error broken$", Broken),
+    checks:has("an error in a child", "^crash <[0-9]+> at supervised\\.erl:13 supervised:child/0: error broken$", Broken),
     {_, Killed} = Hunt("supervised", ["-D", "KILLED"]),
     checks:expect("killed by somebody else", 1, Killed),
     {Shrunk, 1} = Hunt("supervised", ["-D", "BROKEN", "--shrink", "50"]),
-    has("shrunk", "error broken$", Shrunk),
+    checks:has("shrunk", "error broken$", Shrunk),
     {Run, 0} = checks:command(["run", File, "--property", "supervised", "--seed", "3"]),
-    has("a run judged", "^property holds$", Run).
+    checks:has("a run judged", "^property holds$", Run).
 
 -spec several_files() -> boolean().
 several_files() ->
     Files = [checks:folder("commands/registry.erl"), checks:folder("commands/registry_server.erl")],
     {Answer, 1} = checks:command(["hunt" | Files]),
-    has("a crash in one of two files", "^crash <0> at registry\\.erl:10 registry:main/0: error \\{badmatch,\\[yours,yours\\]\\}$", Answer),
+    checks:has("a crash in one of two files", "^crash <0> at registry\\.erl:10 registry:main/0: error \\{badmatch,\\[yours,yours\\]\\}$", Answer),
     {Other, 0} = checks:command(["run" | Files] ++ ["--root", "other"]),
-    has("another root", "^finished fine$", Other),
+    checks:has("another root", "^finished fine$", Other),
     Out = checks:room("registry.out.erl"),
     {_, 0} = checks:command(["translate" | Files] ++ ["-o", Out]),
     {ok, Map} = file:read_file(Out ++ ".map"),
-    has("the map", "^[0-9]+ registry_server\\.erl:[0-9]+ registry_server@take/1$", binary_to_list(Map)),
+    checks:has("the map", "^[0-9]+ registry_server\\.erl:[0-9]+ registry_server@take/1$", binary_to_list(Map)),
     {Checked, 0} = checks:command(["check" | Files]),
-    has("check", "^ok$", Checked).
+    checks:has("check", "^ok$", Checked).
 
 %% Without a word a hunt finds a hang and a crash beside the root, and passes a clean stop.
 -spec by_default() -> boolean().
 by_default() ->
     File = checks:folder("commands/stops.erl"),
     {Clean, 0} = checks:command(["hunt", File, "--seeds", "0..60"]),
-    has("a clean stop", "^no failure in 60 seeds$", Clean),
+    checks:has("a clean stop", "^no failure in 60 seeds$", Clean),
     {Hang, 1} = checks:command(["hunt", File, "-D", "HANGS", "--seeds", "0..60"]),
-    has("a hang", "^waits <0> at stops\\.erl:17 stops:last/0$", Hang),
+    checks:has("a hang", "^waits <0> at stops\\.erl:17 stops:last/0$", Hang),
     {Crash, 1} = checks:command(["hunt", File, "-D", "CRASHES", "--seeds", "0..60"]),
-    has("a crash beside the root", "^crash <[0-9]+> at stops\\.erl:20 stops:last/0: error badarg$", Crash),
+    checks:has("a crash beside the root", "^crash <[0-9]+> at stops\\.erl:20 stops:last/0: error badarg$", Crash),
     {Run, 0} = checks:command(["run", File, "--seed", "3"]),
-    has("a run that holds", "^property holds$", Run),
+    checks:has("a run that holds", "^property holds$", Run),
     {Uniform, 1} = checks:command(["hunt", File, "-D", "HANGS", "--strategy", "uniform", "--seeds", "3..=9", "--workers", "2"]),
-    has("by another strategy", "^seed 3\nschedule ", Uniform),
+    checks:has("by another strategy", "^seed 3\nschedule ", Uniform),
     {Timed, 0} = checks:command(["hunt", File, "--for", "1s"]),
-    has("for a time", "^stopped behind [0-9]+ seeds\nno failure in [0-9]+ seeds$", Timed).
+    checks:has("for a time", "^stopped after [0-9]+ seeds\nno failure in [0-9]+ seeds$", Timed).
 
 %% Who comes to what the translator lacks is refused, whatever catches errors there, and never told as a failure of the program.
 -spec gaps() -> boolean().
@@ -175,28 +196,76 @@ gaps() ->
     Refused = fun(Name, Words, Line) ->
         {Answer, Status} = checks:command(Words),
         checks:expect(["status of ", Name], 2, Status),
-        has(Name, Line, Answer)
+        checks:has(Name, Line, Answer)
     end,
     Refused("a gap in a hunt", ["hunt", File], "^no verdict$"),
-    Refused("what is lacking", ["hunt", File], "^refused <0> behind gap\\.erl:8 gap:main/0: ets:info/2 is not translated, or not with these arguments$"),
+    Refused("what is lacking", ["hunt", File], "^refused <0> at gap\\.erl:8 gap:main/0: ets:info/2 is not translated, or not with these arguments$"),
     Refused("a gap in a run", ["run", File], "^ended \\{refused,ets,info,2\\}\nsteps [0-9]+\nno verdict$"),
     Refused("a gap by another property", ["hunt", File, "--property", "returns"], "^no verdict$"),
     Refused("a gap among outcomes", ["hunt", File, "--all", "--seeds", "0..5"], "^refused 5 seeds, least 0: ended \\{refused,ets,info,2\\}$"),
-    Refused("a module that isn't there", ["run", File, "--root", "other"], "^refused <0> .*: file:read_file/1 is not translated").
+    Refused("a module that isn't there", ["run", File, "--root", "other"], "^refused <0> after gap\\.erl:12 gap:other/0: file:read_file/1 is not translated"),
+    Refused("a number of a machine's library", ["run", File, "--root", "measure"], "^refused <0> .*: math:exp/1 is not translated"),
+    Refused("a link that two change", ["run", File, "--root", "tied"], "^refused <0> .*: erlang:process_info/2 is not translated"),
+    Refused("an answer to another request", ["run", File, "--root", "between"], "^refused <0> .*: gen:receive_response/3 is not translated").
+
+%% Each word of each command is among the completions of each shell.
+-spec completed() -> ok.
+completed() ->
+    Text = fun(Shell) -> {ok, Read} = file:read_file(checks:folder("../pulsefarm-erl." ++ Shell)), Read end,
+    {match, Lines} = re:run(Text("bash"), "^    ([a-z]+)\\) echo \"\\$all (.*)\"", [multiline, global, {capture, [1, 2], list}]),
+    checks:expect("nine commands", 9, length(Lines)),
+    Of = fun(Line, Words) -> [Word || Word <- Words, string:find(Line, Word) =:= nomatch] end,
+    [begin
+         {match, [Zsh]} = re:run(Text("zsh"), ["^    ", Command, "\\) own=\\((.*)\\)"], [multiline, {capture, [1], list}]),
+         checks:expect([Command, " in zsh"], [], Of(Zsh, string:lexemes(Words, " "))),
+         {match, Fish} = re:run(Text("fish"), ["subcommand_from ", Command, "\" (.*)$"], [multiline, global, {capture, [1], list}]),
+         checks:expect([Command, " in fish"], [], Of(lists:append(Fish), ["-l " ++ lists:nthtail(2, Word) || "--" ++ _ = Word <- string:lexemes(Words, " ")])),
+         checks:expect([Command, " takes them"], [], [Word || Word <- string:lexemes(Words, " "), lacks_word(Command, Word)])
+     end || [Command, Words] <- Lines],
+    ok.
+
+%% Whether a command says that it lacks a word.
+-spec lacks_word(string(), string()) -> boolean().
+lacks_word(Command, Word) ->
+    Given = case lists:member(Word, ["--all", "--leaks", "--all-roots", "--fail-fast", "--one-node", "--verbose", "--explain", "--compact"]) of true -> [Word]; false -> [Word, "1"] end,
+    case plain_words:read([Command, "some.erl" | Given]) of
+        {refused, Sentence} -> re:run(Sentence, "has no word|isn't known") =/= nomatch;
+        _ -> false
+    end.
+
+%% What a process does to answer for its mailbox isn't part of a story.
+-spec looks() -> boolean().
+looks() ->
+    {Story, 0} = checks:command(["run", checks:folder("commands/looks.erl"), "--seed", "5"]),
+    checks:has("a story of who is asked", "^[0-9]+ <[0-9]+> receives go  % looks\\.erl:7 ", Story),
+    checks:has("what it was", "^finished \\[\\{message_queue_len,2\\},\\{messages,\\[one,two\\]\\}\\]$", Story),
+    {Slept, 0} = checks:command(["run", checks:folder("commands/looks.erl"), "--root", "sleeps", "--never", "1000"]),
+    checks:has("with --never", "^finished \\{message_queue_len,0\\}$", Slept),
+    checks:expect("nothing of looks", nomatch, re:run(Story, "port@|flush|receives (one|two)|sends <[0-9]+>: #Ref")).
+
+%% A call within a try has its line, and the answer that comes after it timed out is dropped and isn't reported.
+-spec late() -> boolean().
+late() ->
+    {Story, 0} = checks:command(["run", checks:folder("commands/late.erl"), "--seed", "5"]),
+    checks:has("a call within a try", "^[0-9]+ <0> calls <[0-9]+>: slow  % late\\.erl:13 late:main/0: R = try gen_server:call", Story),
+    checks:has("a call that is answered in time", "^[0-9]+ <0> gets the reply: quick  % late\\.erl:12 late:main/0: ", Story),
+    checks:has("the answer that is late", "^[0-9]+ <[0-9]+> replies to <0>: slow$", Story),
+    checks:has("nothing is got", "^finished \\{given_up,nothing\\}$", Story),
+    checks:expect("it isn't reported", nomatch, re:run(Story, "gets the reply: slow|receives|late>|port@")).
 
 -spec hidden() -> boolean().
 hidden() ->
     {Answer, 1} = checks:command(["run", checks:folder("commands/hidden.erl"), checks:folder("commands/hides.erl")]),
-    has("functions that aren't exported", "^finished inside$", Answer),
-    has("the one that is started", "^crash <1> at hidden\\.erl:9 hidden:main/0: error undef$", Answer).
+    checks:has("functions that aren't exported", "^finished inside$", Answer),
+    checks:has("the one that is started", "^crash <1> at hidden\\.erl:9 hidden:main/0: error undef$", Answer).
 
 %% A deadlock is told by the lines of the receives.
 -spec waits() -> boolean().
 waits() ->
     {Answer, 1} = checks:command(["hunt", checks:folder("commands/waiting.erl")]),
-    has("the root waits", "^waits <0> at waiting\\.erl:14 waiting:main/0$", Answer),
-    has("a fun waits", "^waits <[12]> at waiting\\.erl:8 waiting:main/0$", Answer),
-    has("a function waits", "^waits <[12]> at waiting\\.erl:21 waiting:second/0$", Answer).
+    checks:has("the root waits", "^waits <0> at waiting\\.erl:14 waiting:main/0$", Answer),
+    checks:has("a fun waits", "^waits <[12]> at waiting\\.erl:8 waiting:main/0$", Answer),
+    checks:has("a function waits", "^waits <[12]> at waiting\\.erl:21 waiting:second/0$", Answer).
 
 %% What is written before and behind an answer in the same file keeps its place.
 -spec into_a_file() -> boolean().
@@ -213,10 +282,10 @@ refused() ->
     Expect = fun(Name, Words, Environment, Expression) ->
         {Answer, Status} = checks:command(Words, Environment),
         checks:expect(["status of ", Name], 2, Status),
-        has(Name, Expression, Answer)
+        checks:has(Name, Expression, Answer)
     end,
     File = checks:folder("../examples/bank.erl"),
-    Expect("a construct", ["check", checks:folder("refused/refused_float.erl")], [], "^refused_float\\.erl:3: erlang:float_to_list/1 is for texts "),
+    Expect("a construct", ["check", checks:folder("refused/refused_hash.erl")], [], "^refused_hash\\.erl:3: erlang:phash2/1 is a hash, "),
     Expect("no pulsefarm", ["run", File], [{"PULSEFARM", ""}, {"PATH", os:getenv("NO_FARM_PATH", "/usr/bin:/bin")}], "^pulsefarm-erl: the program pulsefarm "),
     Expect("a word", ["walk", File], [], "^pulsefarm-erl: no command walk"),
     Expect("no file", ["hunt"], [], "^pulsefarm-erl: no file"),
@@ -233,9 +302,9 @@ refused() ->
     Expect("a strategy that there isn't", ["hunt", File, "--property", "supervised", "--strategy", "nonsense"], [], "."),
     Expect("words of pulsefarm", ["run", File, "--seed", "x"], [], "."),
     {Help, 0} = checks:command(["--help"]),
-    has("help", "tested and not proved", Help),
+    checks:has("help", "tested and not proved", Help),
     {Version, 0} = checks:command(["--version"]),
-    has("version", "^pulsefarm-erl [0-9.]+$", Version),
+    checks:has("version", "^pulsefarm-erl [0-9.]+$", Version),
     {Words, 0} = {os:cmd(lists:flatten(io_lib:format("bash -c '. ~ts; for c in translate check run hunt shrink chart eunit prop; do _pulsefarm_erl_words $c; done'",
                                                      [checks:folder("../pulsefarm-erl.bash")]))), 0},
     Unknown = [Word || Word <- lists:usort(string:lexemes(Words, " \n")), string:find(Help ++ " --seed --schedule --strategy --weights --edition --workers --all --for "
@@ -259,39 +328,41 @@ timed() ->
 -spec early() -> boolean().
 early() ->
     File = checks:folder("commands/seconds.erl"),
-    [answered(File, Root) || Root <- ["answered", "short"]],
+    [answered(File, Root) || Root <- ["answered", "short", "bank"]],
+    {ok, Long, _} = checks:translate([File], #{root => {all, [hour, second]}}),
+    checks:expect("an hour takes as many steps as a second", checks:run(Long, "hour", 1), checks:run(Long, "second", 1)),
     {Eager, 1} = checks:command(["hunt", File, "--root", "answered", "--seeds", "0..40", "--patience", "0"]),
-    has("with a patience it is one", "^crash <0> at seconds\\.erl:9 seconds:answered/0: exit too_late$", Eager),
+    checks:has("with a patience it is one", "^crash <0> at seconds\\.erl:9 seconds:answered/0: exit too_late$", Eager),
     {Mixed, 1} = checks:command(["hunt", File, "--root", "answered", "--seeds", "0..80", "--patience", "mixed"]),
-    has("by halves", "^no failure in 40 seeds$", Mixed),
-    has("by halves", "^pulsefarm-erl: the second half, by --patience early:$", Mixed),
-    has("by halves", "^crash <0> at seconds\\.erl:9 seconds:answered/0: exit too_late$", Mixed),
+    checks:has("by halves", "^no failure in 40 seeds$", Mixed),
+    checks:has("by halves", "^pulsefarm-erl: the second half, by --patience early:$", Mixed),
+    checks:has("by halves", "^crash <0> at seconds\\.erl:9 seconds:answered/0: exit too_late$", Mixed),
     {Lost, 1} = checks:command(["hunt", File, "--root", "lost", "--seeds", "0..40"]),
-    has("a time that passes where nobody else may go", "^crash <0> at seconds\\.erl:14 seconds:lost/0: exit too_late$", Lost),
+    checks:has("a time that passes where nobody else may go", "^crash <0> at seconds\\.erl:14 seconds:lost/0: exit too_late$", Lost),
     {Ordered, 0} = checks:command(["hunt", File, "--root", "ordered", "--seeds", "0..40"]),
-    has("times pass in the order of their deadlines", "^no failure in 40 seeds$", Ordered).
+    checks:has("times pass in the order of their deadlines", "^no failure in 40 seeds$", Ordered).
 
 %% What one node can't show is left out, and what it can is found.
 -spec one_node() -> boolean().
 one_node() ->
     Words = ["hunt", checks:folder("commands/one_node.erl"), "--seeds", "0..60"],
     {Crossed, 1} = checks:command(Words),
-    has("signals that cross", "^crash <0> at one_node\\.erl:9 one_node:main/0: error \\{badmatch,nothing\\}$", Crossed),
+    checks:has("signals that cross", "^crash <0> at one_node\\.erl:9 one_node:main/0: error \\{badmatch,nothing\\}$", Crossed),
     {One, 0} = checks:command(Words ++ ["--one-node"]),
-    has("one node", "^pulsefarm-erl: [0-9]+ of these seeds fail by signals in an order that one node doesn't show, and are left out$", One),
-    has("one node", "^no failure in 60 seeds$", One),
+    checks:has("one node", "^pulsefarm-erl: [0-9]+ of these seeds fail by signals in an order that one node doesn't show, and are left out$", One),
+    checks:has("one node", "^no failure in 60 seeds$", One),
     {Race, 1} = checks:command(Words ++ ["--one-node", "--root", "race"]),
-    has("a race on one node", "^crash <0> at one_node\\.erl:15 one_node:race/0: error \\{badmatch,nothing\\}$", Race).
+    checks:has("a race on one node", "^crash <0> at one_node\\.erl:15 one_node:race/0: error \\{badmatch,nothing\\}$", Race).
 
 -spec answered(file:filename(), string()) -> boolean().
 answered(File, Root) ->
     [begin
          {Answered, 0} = checks:command(["hunt", File, "--root", Root | Words]),
-         has([Root, ": no time passes"], "^no failure in 1000 seeds$", Answered),
+         checks:has([Root, ": no time passes"], "^no failure in 1000 seeds$", Answered),
          checks:expect([Root, ": and no seed is left out"], nomatch, string:find(Answered, "of these seeds"))
      end || Words <- [[], ["--strategy", "uniform"], ["--weights", "1:9"]]],
     {Early, 1} = checks:command(["run", File, "--root", Root, "--schedule", "none"]),
-    has([Root, ": a schedule that chooses the ticker early"], "^pulsefarm-erl: here a time passes while others may go; no hunt finds such a run$", Early).
+    checks:has([Root, ": a schedule that chooses the ticker early"], "^pulsefarm-erl: here a time passes while others may go; no hunt finds such a run$", Early).
 
 %% Where nobody reads its answer it ends as pulsefarm does, with 141, and where its output is full it says so.
 -spec unread() -> boolean().
@@ -318,6 +389,6 @@ on_a_terminal() ->
     Words = ["hunt ", checks:folder("../examples/bank.erl"), " -D FIXED --seeds 0..500"],
     Program = filename:join([os:getenv("CHECKS"), "..", "pulsefarm-erl"]),
     Shown = os:cmd(lists:flatten(io_lib:format("script -qec '~ts ~ts' /dev/null", [Program, Words]))),
-    has("on a terminal", "\r\e\\[K250 of 500 seeds\r\e\\[K", Shown),
-    has("and the answer", "no failure in 500 seeds", Shown),
+    checks:has("on a terminal", "\r\e\\[K250 of 500 seeds\r\e\\[K", Shown),
+    checks:has("and the answer", "no failure in 500 seeds", Shown),
     checks:expect("in a file there is none", nomatch, string:find(shell([Words, " 2>&1"]), "of 500 seeds")).

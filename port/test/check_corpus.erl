@@ -1,5 +1,6 @@
 %% @doc Modules with processes that others wrote, unchanged: of each the scenario of `corpus/modules.txt' has the
-%% value that it has on Erlang in each of 2,000 seeds. The drivers beside it have more, and a `race' that is found.
+%% value that it has on Erlang in each of 2,000 seeds, and no failure by default words. The drivers beside it have more,
+%% and a `race' that a hunt by default words finds within its 1,000 seeds.
 %% Debian's packages are fetched for it, and nothing of them is kept; what can't be fetched is left out, and reported.
 -module(check_corpus).
 -export([check/0]).
@@ -10,7 +11,8 @@
 check() ->
     Drivers = lists:sort(filelib:wildcard(checks:folder("corpus/*.erl"))),
     checks:expect("ten drivers", 10, length(Drivers)),
-    [one(Driver, fetched(hd(words(Driver, "package") ++ ["otp"]))) || Driver <- Drivers],
+    Races = lists:append([one(Driver, fetched(hd(words(Driver, "package") ++ ["otp"]))) || Driver <- Drivers]),
+    checks:expect("eight races at least are found", length([found || true <- Races]) >= 8 orelse lists:member(left, Races)),
     {ok, Text} = file:read_file(checks:folder("corpus/modules.txt")),
     [_ | Paragraphs] = string:split(string:trim(Text), "\n\n", all),
     Seen = [scenario(binary_to_list(Paragraph)) || Paragraph <- Paragraphs],
@@ -47,7 +49,9 @@ held(Name, File, Names, Folder) ->
     case {checks:translate([File | Modules], #{root => main}), sentence(Text)} of
         {{ok, Out, _}, none} ->
             Wanted = wanted(checks:normal(checks:value_on_erlang(File, main))),
-            case checks:expect(Name, [Wanted], checks:hunt(Out, "main", "returns", ?SEEDS)) of true -> holds; false -> differs end;
+            Same = checks:expect(Name, [Wanted], checks:hunt(Out, "main", "returns", ?SEEDS)),
+            Status = case {Wanted, words(File, "killed")} of {{holds, _, _}, []} -> 0; _ -> 1 end,
+            case by_default(Name, [File | Modules], Status) andalso Same of true -> holds; false -> differs end;
         {{ok, Out, _}, Sentence} ->
             checks:expect(Name, [{fails, 2000, Sentence}], checks:hunt(Out, "main", "returns", ?SEEDS)),
             refused;
@@ -58,6 +62,12 @@ held(Name, File, Names, Folder) ->
             checks:expect(Name, "a value, or a refusal", Else),
             differs
     end.
+
+%% A hunt by default words. What a scenario kills on purpose is reported as killed.
+-spec by_default(string(), [file:filename()], 0 | 1) -> boolean().
+by_default(Name, Files, Wanted) ->
+    {Answer, Status} = checks:command(["hunt" | Files] ++ ["--root", "main", "--seeds", ?SEEDS]),
+    checks:expect([Name, " by default words: ", lists:nthtail(max(0, length(Answer) - 300), Answer)], Wanted, Status).
 
 %% What each seed has to give, by the value or the end on Erlang.
 -spec wanted(term()) -> {holds | fails, 2000, string()}.
@@ -100,8 +110,11 @@ fetched(Package) ->
             end
     end.
 
--spec one(file:filename(), {ok, file:filename()} | otp | none) -> ok.
-one(Driver, none) -> io:format("  ~ts: its package can't be fetched, so it is left out~n", [filename:basename(Driver)]);
+%% Whether the race of a driver is found.
+-spec one(file:filename(), {ok, file:filename()} | otp | none) -> [boolean() | left].
+one(Driver, none) ->
+    io:format("  ~ts: its package can't be fetched, so it is left out~n", [filename:basename(Driver)]),
+    [left];
 one(Driver, Folder) ->
     Name = filename:basename(Driver),
     Modules = [found(Folder, Module) || Module <- words(Driver, "modules")],
@@ -112,9 +125,9 @@ one(Driver, Folder) ->
     io:format("  ~ts: ~w bytes~n", [Name, filelib:file_size(Out)]),
     checks:expect([Name, " has less than 40,000 bytes"], filelib:file_size(Out) < 40000),
     checks:expect([Name, " holds"], [{holds, 2000, Value}], checks:hunt(Out, "main", "returns", ?SEEDS)),
+    _ = by_default(Name, [Driver | Modules ++ Beside], 0),
     {ok, Roots} = plain_translation:roots([Driver], plain_translation:defaults()),
-    [race(Name, [Driver | Modules ++ Beside]) || lists:member(race, Roots)],
-    ok.
+    [race(Name, [Driver | Modules ++ Beside]) || lists:member(race, Roots)].
 
 -spec race(string(), [file:filename()]) -> boolean().
 race(Name, Files) ->

@@ -20,8 +20,10 @@ check() ->
     checks:expect("two failures", 2, length(binary:matches(Junit, <<"<failure ">>))),
     {Timed, 0} = checks:command(["eunit", Folder, "--test", "bill", "--for", "1s"]),
     has_line("shop_tests:bill_test", "no failure in [0-9]+ seeds", Timed),
+    has_line("1 test", "0 fail, 0 refused$", Timed),
     alone(),
     several(),
+    elements(),
     {None, 2} = checks:command(["eunit", checks:folder("commands")]),
     has_line("pulsefarm-erl", ".*there is no src/NAME.app.src", None),
     ok.
@@ -32,7 +34,7 @@ alone() ->
     {Answer, 2} = checks:command(["eunit", checks:folder("alone"), "--seeds", "0..40"]),
     [checks:expect(["a test alone: ", Line], match, re:run(Answer, ["^alone_tests:set_test_", Line], [multiline, {capture, none}])) || Line <-
         ["\\[1\\] answers: no failure in 40 seeds$", "\\[2\\] lives: no failure in 40 seeds$",
-         "\\[3\\.1\\]: no failure in 40 seeds$", "\\[3\\.2\\] is watched: refused: alone_tests\\.erl:12: erlang:process_info\\(_, monitors\\) is not translated.*$"]],
+         "\\[3\\.1\\]: no failure in 40 seeds$", "\\[3\\.2\\] is watched: refused: alone_tests\\.erl:12: erlang:process_info\\(_, reductions\\) is not translated.*$"]],
     has_line("4 tests", "0 fail, 1 refused", Answer),
     ok.
 
@@ -45,6 +47,17 @@ several() ->
          "desk_tests:desk_test_\\[2\\] two: seed [0-9]+ fails: crash <0> at desk_tests\\.erl:7 .*\\{expected,\\[3300,3600\\]\\},\\{value,\\[3300,3300\\]\\}",
          "ledger_tests:price_test: no failure in 40 seeds$"]],
     has_line("3 tests", "1 fails, 0 refused", Answer),
+    ok.
+
+%% Each kind of element of a test set is a root of its own, and each reads and sets the environment.
+-spec elements() -> ok.
+elements() ->
+    {Answer, 1} = checks:command(["eunit", checks:folder("elements"), "--seeds", "0..20"]),
+    Held = ["one_test", "env_test", "all_test_\\[1\\] title", "all_test_\\[2\\]", "all_test_\\[3\\]", "all_test_\\[4\\.1\\]", "all_test_\\[4\\.2\\] t2", "all_test_\\[5\\.1\\]",
+            "all_test_\\[6\\.1\\]", "all_test_\\[7\\]", "all_test_\\[8\\.1\\]", "all_test_\\[9\\.1\\]", "all_test_\\[10\\]", "all_test_\\[11\\.1\\.1\\] deep", "fix_test_\\[1\\] in"],
+    [checks:expect(["an element: ", Test], match, re:run(Answer, ["^elements_tests:", Test, ": no failure in 20 seeds$"], [multiline, {capture, none}])) || Test <- Held],
+    checks:expect("one that fails", match, re:run(Answer, "^elements_tests:all_test_\\[8\\.2\\] bad: seed 0 fails: crash <0> at elements_tests\\.erl:8 .*\\{expected,3\\},\\{value,2\\}", [multiline, {capture, none}])),
+    has_line("16 tests", "1 fails, 0 refused", Answer),
     ok.
 
 %% A line of the answer.

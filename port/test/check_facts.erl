@@ -8,7 +8,7 @@
 -spec check() -> ok.
 check() ->
     Facts = lists:sum([one(File) || File <- lists:sort(filelib:wildcard(checks:folder("facts/*.erl")))]),
-    checks:expect("92 facts", 92, Facts),
+    checks:expect("247 facts", 247, Facts),
     ok.
 
 -spec one(file:filename()) -> non_neg_integer().

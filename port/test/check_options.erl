@@ -37,7 +37,7 @@ command_file(Name) -> checks:folder("commands/" ++ Name).
 json() ->
     File = checks:folder("../examples/bank.erl"),
     Crash = "^\\{\"crash\":\"<0>\",\"file\":\"[^\"]*bank\\.erl\",\"line\":38,\"function\":\"bank:main/0\",\"class\":\"error\",\"reason\":\"\\{lost_update,(5|10)\\}\"\\}$",
-    Event = "^\\{\"event\":[0-9]+,\"choice\":[0-9]+,\"count\":[0-9]+,\"actor\":\"<0>\",\"label\":\"end \\{\\{lost_update,[0-9]+\\},\\[\\]\\}\",\"file\":\"[^\"]*bank\\.erl\","
+    Event = "^\\{\"event\":[0-9]+,\"choice\":[0-9]+,\"count\":[0-9]+,\"actor\":\"<0>\",\"label\":\"ends: \\{\\{lost_update,[0-9]+\\},\\[\\]\\}\",\"file\":\"[^\"]*bank\\.erl\","
             "\"line\":38,\"function\":\"bank:main/0\",\"source\":\"B =:= 15 orelse error\\(\\{lost_update, B\\}\\),\"\\}$",
     Found = prints("a hunt as JSON", ["hunt", File, "--format", "json"], 1,
                   ["^\\{\"seed\":[0-9]+\\}$", "^\\{\"schedule\":\"[0-9,]+\"\\}$", Event, "^\\{\"ended\":\"\\{\\{lost_update,(5|10)\\},\\[\\]\\}\"\\}$",
@@ -49,9 +49,15 @@ json() ->
     prints("no failure as JSON", ["hunt", File, "--format", "json", "-D", "FIXED", "--seeds", "0..9"], 0, ["^\\{\"failure\":false,\"seeds\":9\\}$"]),
     prints("outcomes as JSON", ["hunt", File, "--format", "json", "--all", "--seeds", "0..30"], 1,
           ["^\\{\"property\":\"(holds|fails)\",\"seeds\":[0-9]+,\"least\":[0-9]+,\"(finished|ended)\":"]),
+    prints("an end that passes a reason on, as JSON", ["hunt", checks:folder("corpus/own_quota.erl"), "--root", "race", "--format", "json"], 1,
+          ["^\\{\"ended\":\"<[0-9]+>\",\"as\":\"<0>\",\"class\":\"error\",\"reason\":\"badarg\"\\}$"]),
+    prints("what is refused, as JSON", ["run", command_file("gap.erl"), "--format", "json"], 2,
+          ["^\\{\"refused\":\"<0>\",\"file\":\"[^\"]*gap\\.erl\",\"line\":8,\"function\":\"gap:main/0\",\"lacks\":\"ets:info/2\","]),
+    prints("a place before the end, as JSON", ["run", command_file("gap.erl"), "--root", "other", "--format", "json"], 2,
+          ["^\\{\"refused\":\"<0>\",\"file\":\"[^\"]*gap\\.erl\",\"line\":12,\"function\":\"gap:other/0\",\"after\":true,\"lacks\":\"file:read_file/1\","]),
     prints("a check as JSON", ["check", File, "--format", "json"], 0, ["^\\{\"ok\":true\\}$"]),
     {Text, 1} = checks:command(["hunt", File, "--format", "text"]),
-    checks:expect("text is what goes out without the word", {Text, 1}, checks:command(["hunt", File])),
+    checks:expect("text is printed without the word", {Text, 1}, checks:command(["hunt", File])),
     checks:expect("each line is an object", [], [Line || Line <- string:split(Found ++ Run, "\n", all), Line =/= "", not is_object(Line)]).
 
 %% Whether a line is an object, by a reader of JSON that others wrote, where one is there.
@@ -101,7 +107,7 @@ roots() ->
            "^\\{\"files\":1,\"roots\":3,\"fail\":2,\"refused\":0\\}$"]),
     prints("a root that can't be translated", Words ++ ["-D", "LACKING"], 2,
           ["^roots\\.erl lacks: refused: .*file:list_dir/1", Holds, Crash, Hang, "^1 file, 4 roots: 2 fail, 1 refused$"]),
-    prints("all roots for a time", ["hunt", File, "--all-roots", "--for", "1s"], 1, [Crash, "^roots\\.erl holds: stopped behind [0-9]+ seeds, no failure$"]).
+    prints("all roots for a time", ["hunt", File, "--all-roots", "--for", "1s"], 1, [Crash, "^roots\\.erl holds: stopped after [0-9]+ seeds, no failure$"]).
 
 -spec first_that_fails() -> boolean().
 first_that_fails() ->
@@ -120,7 +126,7 @@ folder() ->
     prints("all roots of a folder", ["hunt", Folder, "--all-roots", "--seeds", "0..200"], 1,
           ["^account\\.erl start: no failure", "^account_race\\.erl helper: seed 0 fails: ", One, Two, Main, "^3 files, 5 roots: 2 fail, 0 refused$"]),
     prints("a folder for a time", ["hunt", Folder, "--for", "2s"], 1,
-          [Two | ["^account_" ++ Root ++ ": stopped behind [1-9][0-9]+ seeds, no failure$" || Root <- ["race\\.erl one_test", "holds\\.erl main"]]]),
+          [Two | ["^account_" ++ Root ++ ": stopped after [1-9][0-9]+ seeds, no failure$" || Root <- ["race\\.erl one_test", "holds\\.erl main"]]]),
     ok = filelib:ensure_path(checks:room("nothing")),
     prints("a folder without files", ["hunt", checks:room("nothing")], 2, ["^pulsefarm-erl: no file; name one or more \\.erl files$"]),
     ok = file:write_file(checks:room("nothing/none.erl"), "-module(none).\n-export([start_link/0]).\nstart_link() -> ok.\n"),
@@ -156,7 +162,7 @@ refused() ->
          {["run", File, "--leaks"], "run has no word --leaks; it is of hunt"},
          {["run", File, "--all-roots"], "run has no word --all-roots; it is of hunt, and eunit hunts the tests of an application"},
          {["hunt", File, "--explain"], "hunt has no word --explain; it is of run and check"},
-         {["chart", File, "--format", "json"], "chart has no word --format; it is of hunt, run, shrink and check; eunit has --junit"},
+         {["chart", File, "--format", "json"], "chart has no word --format; it is of hunt, explore, run, shrink and check; eunit has --junit"},
          {["hunt", File, "--format", "xml"], "--format wants text or json, and not xml"},
          {["hunt", File, "--format"], "the word --format wants a value, or isn't known"},
          {["hunt", File, "--fail-fast"], "--fail-fast goes with --all-roots"},

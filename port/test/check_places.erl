@@ -7,7 +7,7 @@
 
 -spec check() -> ok.
 check() ->
-    Files = lists:sort(filelib:wildcard(checks:folder("../examples/*.erl"))) ++ [checks:folder("facts/facts_of_supervisors.erl"), checks:folder("commands/supervised.erl")],
+    Files = lists:sort(filelib:wildcard(checks:folder("../examples/*.erl"))) ++ [checks:folder("facts/facts_of_supervisors.erl"), checks:folder("facts/facts_of_mailboxes.erl"), checks:folder("commands/supervised.erl")],
     [program(File, Defines) || File <- Files, Defines <- [[], ['FIXED']]],
     ok.
 

@@ -22,7 +22,7 @@ hunted(Rebar) ->
                    [Project, checks:room(""), Rebar]),
     [checks:expect(["rebar3 pulsefarm: ", Line], match, re:run(Answer, Line, [multiline, {capture, none}])) || Line <-
         ["shop_tests:shop_test_\\[3\\] two buy the last: seed [0-9]+ fails: crash <0> at shop_tests\\.erl:23 ",
-         "^1 tests: 1 fails, 0 refused$", "a test fails in some run", "status 1$"]],
+         "^1 test: 1 fails, 0 refused$", "a test fails in some run", "status 1$"]],
     ok.
 
 -spec shell(io:format(), [term()]) -> string().

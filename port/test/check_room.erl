@@ -30,6 +30,10 @@ too_large() ->
             Functions]),
     {refused, [{_, 1, Sentence}]} = checks:translate([File]),
     checks:expect(["what takes the room: ", Sentence], match,
-                  re:run(Sentence, "^the module would have [0-9]+ bytes, over 65536 \\(too_large [0-9]+", [{capture,
-                          none}])),
+                  re:run(Sentence, "^the module would have [0-9]+ bytes, over 65536 \\(too_large [0-9]+.*; the largest functions are f[0-9]+/1 of too_large [0-9]+, ",
+                         [{capture, none}])),
+    {Answer, 0} = checks:command(["check", checks:folder("commands/one_child.erl")]),
+    checks:expect(["what takes the room of what fits: ", Answer], match,
+                  re:run(Answer, "^ok\\n(?:note: .*\\n)*pulsefarm-erl: [0-9]+ of 65536 bytes: gen_server [0-9]+, supervisor [0-9]+, |"
+                                 "^pulsefarm-erl: [0-9]+ of 65536 bytes: gen_server [0-9]+, supervisor [0-9]+, ", [multiline, {capture, none}])),
     ok.

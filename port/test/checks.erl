@@ -1,10 +1,10 @@
 %% @doc The checks of this part that take more than a unit test: they run the translator in this node and call pulsefarm.
 %% Each check counts what passed and failed, and tells each failure on a line.
 -module(checks).
--export([main/0, main/1, pass/1, expect/3, expect/2, folder/1, room/1, translate/2, translate/1, hunt/4, run/3, value_on_erlang/2, value_on_erlang/3, load/2, normal/1, last/1, bare/1, command/1, command/2]).
+-export([main/0, main/1, pass/1, expect/3, expect/2, has/3, folder/1, room/1, translate/2, translate/1, hunt/4, run/3, value_on_erlang/2, value_on_erlang/3, load/2, normal/1, last/1, bare/1, command/1, command/2]).
 
 -spec main() -> no_return().
-main() -> main([check_units, check_language, check_refused, check_notes, check_random, check_calls, check_facts, check_otp, check_programs, check_places, check_command, check_options, check_eunit, check_prop, check_ct, check_rebar,
+main() -> main([check_units, check_language, check_refused, check_notes, check_random, check_calls, check_tables, check_facts, check_otp, check_programs, check_places, check_command, check_explore, check_options, check_eunit, check_prop, check_ct, check_rebar,
               check_corpus, check_room, check_speed]).
 
 %% @doc Runs these checks, and ends with the count on the last line.
@@ -154,4 +154,14 @@ gather(Port, Before) ->
     receive
         {Port, {data, Data}} -> gather(Port, [Data | Before]);
         {Port, {exit_status, Status}} -> {lists:append(lists:reverse(Before)), Status}
+    end.
+
+%% @doc An answer has a line that fits this expression; where it has none, its end is printed.
+-spec has(iodata(), string(), string()) -> boolean().
+has(Name, Expression, Answer) ->
+    case re:run(Answer, Expression, [multiline]) of
+        nomatch ->
+            io:format("  ~ts~n", [lists:nthtail(max(0, length(Answer) - 400), Answer)]),
+            expect([Name, " has ", Expression], false);
+        _ -> expect(Name, true)
     end.

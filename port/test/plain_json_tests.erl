@@ -23,7 +23,7 @@ rows_test_() ->
          {<<"schedule none">>, <<"{\"schedule\":\"none\"}">>},
          {<<"complete">>, <<"{\"complete\":true}">>},
          {<<"no failure in 200 seeds">>, <<"{\"failure\":false,\"seeds\":200}">>},
-         {<<"stopped behind 512 seeds">>, <<"{\"stopped\":true,\"seeds\":512}">>},
+         {<<"stopped after 512 seeds">>, <<"{\"stopped\":true,\"seeds\":512}">>},
          {<<"holds 9 seeds, least 0: finished ok">>, <<"{\"property\":\"holds\",\"seeds\":9,\"least\":0,\"finished\":\"ok\"}">>},
          {<<"fails 2 seeds, least 4: deadlock <0>">>, <<"{\"property\":\"fails\",\"seeds\":2,\"least\":4,\"deadlock\":\"<0>\"}">>},
          {<<"no verdict 1 seeds, least 7: memory">>, <<"{\"property\":\"no verdict\",\"seeds\":1,\"least\":7,\"memory\":true}">>},

@@ -1,14 +1,13 @@
 -- The parts of a chart in turn are a chart.
-use Rattle.std.proofs.Common.{◌≡◌, ◌≢◌, ◌<◌, ◌≤◌, ◌+◌, ◌-◌, ℕ, arith, inl, inr, min, length-drop, Bool, true, false}
+use Rattle.std.proofs.Common.{◌≡◌, ◌<◌, ◌≤◌, ◌+◌, ◌-◌, ℕ, arith, inl, inr, min, length-drop, Bool, true, false}
 use Rattle.std.proofs.Common.{List, [], ◌∷◌, ◌++◌, refl, sym, ◌∙◌, ap, append_assoc, length, get_or, take, drop, map}
-use Rattle.std.proofs.Common.{add-one, suc}
-use Rattle.std.specs.Prelude.{flat_map, nat_lt, if◌then◌else◌}
+use Rattle.std.proofs.Common.{add-one}
+use Rattle.std.specs.Prelude.{flat_map, if◌then◌else◌}
 use Rattle.std.specs.List.{filter}
-use Rattle.std.proofs.lemmas.List.{drop-map, map-append, take-map, take_all, take_more}
+use Rattle.std.proofs.lemmas.List.{drop-map, length-map, map-append, take-map, take_all, take_more}
 use Rattle.std.proofs.lemmas.List.Elements.{filter-append}
 use Rattle.std.proofs.lemmas.List.Folds.{flat_map-map}
 use Rattle.std.proofs.lemmas.Bool.{cases_lt}
-use Rattle.std.proofs.lemmas.Bool.Decides.{nat_tests}
 use Rattle.std.proofs.lemmas.Grind.{common_steps}
 use Rattle.pf_model.specs.declared.report.Event.{Event}
 use Rattle.pf_model.specs.declared.report.Report.{Report}
@@ -18,12 +17,14 @@ use Rattle.pf_model.specs.Text.{outcome_text}
 use Rattle.pf_chart.specs.declared.columns.Column.{Column}
 use Rattle.pf_chart.specs.declared.manner.Manner.{Manner}
 use Rattle.pf_chart.specs.declared.rows.EventRow.{EventRow}
-use Rattle.pf_chart.specs.Chart.{AreColumns, IsChart, ShowsSignals, chart, choice_labels, choice_text, copies}
+use Rattle.pf_chart.specs.Chart.{AreColumns, IsChart, ShowsSignals, chart, copies}
 use Rattle.pf_chart.specs.Chart.{event_labels, first_row, has_row, page_of, process_labels, rows_from, shown_events}
-use Rattle.pf_chart.specs.Chart.{twice}
+use Rattle.pf_chart.specs.Chart.{shown_stars, twice}
 use Rattle.pf_chart.specs.Origins.{process_of}
 use Rattle.pf_chart.specs.Pages.{page_in}
+use Rattle.pf_chart.specs.Rows.{star_labels_of}
 use Rattle.pf_chart.specs.Sheets.{Page}
+use Rattle.pf_chart.specs.Stars.{star_at}
 use Rattle.pf_chart.specs.declared.sheet.Sheet.{Sheet}
 use Rattle.pf_chart.specs.Words.{DrawsInChart}
 use Rattle.pf_svg.specs.Document.{document_end, start_text}
@@ -37,21 +38,11 @@ reported row = view_of_event row.event.now
 abbrev pub of_columns : (rows : ℕ) → List ℕ → List (List ℕ) → List Column → List (List ℕ)
 of_columns n root names cs = flat_map (λ c. process_labels n root names (process_of c)) cs
 
-abbrev pub of_choices : List EventRow → List (List ℕ)
-of_choices rows = flat_map (λ row. choice_labels (view_of_event row.event.now)) rows
+abbrev pub of_stars : List EventRow → List (List ℕ)
+of_stars rows = flat_map star_labels_of rows
 
 abbrev pub of_rows : (ℕ → List ℕ) → List EventRow → List (List ℕ)
 of_rows name rows = flat_map (λ row. event_labels name (view_of_event row.event.now)) rows
-
--- ---- choices
-
-pub unmarked : (e : meaning.Event) → e.choice ≡ 0 → [] ≡ choice_labels e
-unmarked e none = sym (ap (λ (n : ℕ). if nat_lt 0 n then choice_text e ∷ [] else []) none)
-
-pub marked : (e : meaning.Event) (text : List ℕ) → e.choice ≢ 0 → text ≡ choice_text e → text ∷ [] ≡ choice_labels e
-marked e text some is =
-    let above : nat_lt 0 e.choice ≡ true = grind (arith, nat_tests, some) in
-    ap (λ (t : List ℕ). t ∷ []) is ∙ sym (ap (λ (b : Bool). if b then choice_text e ∷ [] else []) above)
 
 -- ---- rows
 
@@ -119,16 +110,23 @@ row_next compact es i e xs ys row false low read index event is put events place
     )
 
 pub length_reported : (rows : List EventRow) → length (map reported rows) ≡ length rows
-length_reported [] = refl
-length_reported (row ∷ rows) = ap suc (length_reported rows)
+length_reported rows = length-map rows reported
 
--- a page of the events is that of the rows
-pub paged : (page : ℕ) (rows : List EventRow) → map reported (page_of page rows) ≡ page_of page (map reported rows)
-paged page rows =
+-- what is read off a page of the rows is a page of what is read off them
+pub paged : {X : Type 0} (f : EventRow → X) (page : ℕ) (rows : List EventRow)
+    → map f (page_of page rows) ≡ page_of page (map f rows)
+paged f page rows =
     let first = first_row page (length rows) in
-    sym (take-map reported 500 (drop first rows))
-    ∙ ap (take 500) (sym (drop-map reported first rows))
-    ∙ ap (λ (n : ℕ). take 500 (drop (first_row page n) (map reported rows))) (sym (length_reported rows))
+    sym (take-map f 500 (drop first rows)) ∙ ap (take 500) (sym (drop-map f first rows))
+    ∙ ap (λ (n : ℕ). take 500 (drop (first_row page n) (map f rows))) (sym (length-map rows f))
+
+-- a page of rows has the stars of its events
+pub starred_page : (es : List meaning.Event) (page : ℕ) (rows : List EventRow)
+    → map star_labels_of rows ≡ map (λ (r : EventRow). star_at es r.index) rows
+    → map star_labels_of (page_of page rows) ≡ map (λ (r : EventRow). star_at es r.index) (page_of page rows)
+starred_page es page rows stars =
+    paged star_labels_of page rows ∙ ap (page_of page) stars
+    ∙ sym (paged (λ (r : EventRow). star_at es r.index) page rows)
 
 -- ---- pages
 
@@ -148,16 +146,18 @@ page_is s pitch events above count a b c d =
 
 -- the document is a chart of the report
 pub chart_of : (name : ℕ → List ℕ) (root : List ℕ) (names : List (List ℕ)) (m : Manner) (r : Report) (cs : List Column)
-    (rows : List EventRow) (n : ℕ) (o p : List ℕ) (width height : ℕ) {x y z w : List ℕ}
+    (rows : List EventRow) (n : ℕ) (o p q : List ℕ) (width height : ℕ) {x y z w : List ℕ}
     → AreColumns (view_of_report r) (map process_of cs) → ShowsSignals m (view_of_report r) (map process_of cs) x w
-    → map reported rows ≡ shown_events m (view_of_report r) → n ≡ length rows
+    → map reported rows ≡ shown_events m (view_of_report r) → of_stars rows ≡ shown_stars m (view_of_report r)
+    → n ≡ length rows
     → o ≡ outcome_text name (view_of_outcome r.outcome) → p ≡ outcome_text name (view_of_outcome r.outcome)
+    → q ≡ outcome_text name (view_of_outcome r.outcome)
     → y ≡ x ++ start_text width height
-    → DrawsInChart ((root ∷ root ∷ o ∷ []) ++ ((of_columns n root names cs ++ (of_choices rows ++ of_rows name rows))
-    ++ twice p)) y z
+    → DrawsInChart ((root ∷ root ∷ o ∷ []) ++ (twice p
+    ++ ((of_columns n root names cs ++ (of_stars rows ++ of_rows name rows)) ++ twice q))) y z
     → w ≡ z ++ document_end
     → IsChart name root names m (view_of_report r) x w
-chart_of name root names m r cs rows n o p width height all shows are count e e' begins d ends =
+chart_of name root names m r cs rows n o p q width height all shows are stars count e e' e'' begins d ends =
     let outcome = outcome_text name (view_of_outcome r.outcome) in
     let events = shown_events m (view_of_report r) in
     let processes = map process_of cs in
@@ -166,30 +166,30 @@ chart_of name root names m r cs rows n o p width height all shows are count e e'
     ≡ flat_map (process_labels (length events) root names) processes =
     sym (flat_map-map (process_labels n root names) process_of cs)
     ∙ ap (λ (k : ℕ). flat_map (process_labels k root names) processes) number in
-    let choices : of_choices rows ≡ flat_map choice_labels events = sym (flat_map-map choice_labels reported rows)
-    ∙ ap (flat_map choice_labels) are in
     let labels : of_rows name rows ≡ flat_map (event_labels name) events =
     sym (flat_map-map (event_labels name) reported rows) ∙ ap (flat_map (event_labels name)) are in
-    let parted : (of_columns n root names cs ++ (of_choices rows ++ of_rows name rows)) ++ twice p
-    ≡ of_columns n root names cs ++ (of_choices rows ++ (of_rows name rows ++ twice p)) =
-    append_assoc (of_columns n root names cs) (of_choices rows ++ of_rows name rows) (twice p)
+    let parted : (of_columns n root names cs ++ (of_stars rows ++ of_rows name rows)) ++ twice q
+    ≡ of_columns n root names cs ++ (of_stars rows ++ (of_rows name rows ++ twice q)) =
+    append_assoc (of_columns n root names cs) (of_stars rows ++ of_rows name rows) (twice q)
     ∙ ap (λ (t : List (List ℕ)). of_columns n root names cs ++ t)
-    (append_assoc (of_choices rows) (of_rows name rows) (twice p)) in
-    let rest : (of_columns n root names cs ++ (of_choices rows ++ of_rows name rows)) ++ twice p
+    (append_assoc (of_stars rows) (of_rows name rows) (twice q)) in
+    let rest : (of_columns n root names cs ++ (of_stars rows ++ of_rows name rows)) ++ twice q
     ≡ flat_map (process_labels (length events) root names) processes
-    ++ (flat_map choice_labels events ++ (flat_map (event_labels name) events ++ twice outcome)) =
+    ++ (shown_stars m (view_of_report r) ++ (flat_map (event_labels name) events ++ twice outcome)) =
     parted
-    ∙ ap (λ (t : List (List ℕ)). t ++ (of_choices rows ++ (of_rows name rows ++ twice p))) labels_of_processes
+    ∙ ap (λ (t : List (List ℕ)). t ++ (of_stars rows ++ (of_rows name rows ++ twice q))) labels_of_processes
     ∙ ap (λ (t : List (List ℕ)). flat_map (process_labels (length events) root names) processes
-    ++ (t ++ (of_rows name rows ++ twice p))) choices
+    ++ (t ++ (of_rows name rows ++ twice q))) stars
     ∙ ap (λ (t : List (List ℕ)). flat_map (process_labels (length events) root names) processes
-    ++ (flat_map choice_labels events ++ (t ++ twice p))) labels
+    ++ (shown_stars m (view_of_report r) ++ (t ++ twice q))) labels
     ∙ ap (λ (t : List ℕ). flat_map (process_labels (length events) root names) processes
-    ++ (flat_map choice_labels events ++ (flat_map (event_labels name) events ++ twice t))) e' in
+    ++ (shown_stars m (view_of_report r) ++ (flat_map (event_labels name) events ++ twice t))) e'' in
     chart processes all (whole width height begins
-    (renamed (ap (λ (t : List ℕ). (root ∷ root ∷ t ∷ [])
-    ++ ((of_columns n root names cs ++ (of_choices rows ++ of_rows name rows)) ++ twice p)) e
-    ∙ ap (λ (t : List (List ℕ)). (root ∷ root ∷ outcome ∷ []) ++ t) rest) d) ends) shows
+    (renamed (ap (λ (t : List ℕ). (root ∷ root ∷ t ∷ []) ++ (twice p
+    ++ ((of_columns n root names cs ++ (of_stars rows ++ of_rows name rows)) ++ twice q))) e
+    ∙ ap (λ (t : List ℕ). (root ∷ root ∷ outcome ∷ []) ++ (twice t
+    ++ ((of_columns n root names cs ++ (of_stars rows ++ of_rows name rows)) ++ twice q))) e'
+    ∙ ap (λ (t : List (List ℕ)). (root ∷ root ∷ outcome ∷ []) ++ (twice outcome ++ t)) rest) d) ends) shows
 
 -- a chart that was made by itself, after what is elsewhere
 pub moved : {name : ℕ → List ℕ} {root : List ℕ} {names : List (List ℕ)} {m : Manner} {r : _} {x y : List ℕ}

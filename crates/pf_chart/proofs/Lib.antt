@@ -6,4 +6,5 @@ mod Lined
 mod Placed
 mod Sending
 mod Spawned
+mod Starred
 mod Ways

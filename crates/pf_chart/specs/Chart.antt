@@ -1,18 +1,19 @@
 -- What a chart shows, as its labels.
-use Rattle.std.specs.Prelude.{ℕ, zero, suc, ◌-◌, ◌*◌, ◌/◌, Bool, true, false, not, ◌&&◌, nat_lt, min, if◌then◌else◌}
+use Rattle.std.specs.Prelude.{ℕ, zero, suc, ◌-◌, ◌*◌, ◌/◌, Bool, true, false, not, ◌&&◌, min, if◌then◌else◌}
 use Rattle.std.specs.Prelude.{List, [], ◌∷◌, ◌++◌, Option, Some, None, length, take, drop, flat_map, slice_index_or}
 use Rattle.std.specs.Prelude.{codes}
 use Rattle.std.specs.List.{filter}
 use Rattle.std.specs.List.Sorted.{IsNonDecreasingBy, IsPermutation}
-use Rattle.std.specs.Fmt.{decimal}
 use Rattle.pf_model.specs.Channels.{message}
 use Rattle.pf_model.specs.Labels.{Label, delivers, took_effect, waits}
 use Rattle.pf_model.specs.Meaning.{Event, Report}
+use Rattle.pf_model.specs.TermText.{value_text}
 use Rattle.pf_model.specs.Text.{label_text, outcome_text}
 use Rattle.pf_chart.specs.Lines.{HaveLines}
 use Rattle.pf_chart.specs.Processes.{Process, processes_of}
 use Rattle.pf_chart.specs.Sheets.{Page, head_rows, pitch_of}
 use Rattle.pf_chart.specs.Signals.{AreArrows, IsManner}
+use Rattle.pf_chart.specs.Stars.{star_at}
 use Rattle.pf_chart.specs.declared.arrows.Arrow.{Arrow}
 use Rattle.pf_chart.specs.declared.manner.Manner.{Manner}
 use Rattle.pf_chart.specs.Words.{IsDocument}
@@ -41,6 +42,10 @@ abbrev pub rows_from : (compact : Bool) → (event : ℕ) → List Event → Lis
 rows_from compact n [] = []
 rows_from compact n (e ∷ es) = if has_row compact e then n ∷ rows_from compact (suc n) es
     else rows_from compact (suc n) es
+
+-- the numbers of those of a run that have a row on the page
+abbrev pub shown_numbers : Manner → Report → List ℕ
+shown_numbers m r = page_of m.page (rows_from m.compact 0 r.events)
 
 -- the events that have a row on the page
 abbrev pub shown_events : Manner → Report → List Event
@@ -74,24 +79,30 @@ origin_labels root names p = name_or_root root (name_of_start names p.pid) p.spa
 abbrev pub process_labels : (rows : ℕ) (root : List ℕ) (names : List (List ℕ)) → Process → List (List ℕ)
 process_labels rows root names p = origin_labels root names p ++ copies (head_rows rows) (origin_labels root names p)
 
--- a choice above 0 is marked by a star, as `*2/3` where number 2 of three went
-abbrev pub choice_text : Event → List ℕ
-choice_text e = codes "*" ++ decimal e.choice ++ codes "/" ++ decimal e.count
+-- which message an event delivers, if it delivers one
+abbrev pub message_text : (name : ℕ → List ℕ) → Label → List ℕ
+message_text name (delivers (message m) x) = codes ": " ++ value_text name m
+message_text name l = []
 
-abbrev pub choice_labels : Event → List (List ℕ)
-choice_labels e = if nat_lt 0 e.choice then choice_text e ∷ [] else []
+-- an event shows its label, and a delivery its message
+abbrev pub shown_text : (name : ℕ → List ℕ) → Label → List ℕ
+shown_text name l = label_text name l ++ message_text name l
 
 abbrev pub event_labels : (name : ℕ → List ℕ) → Event → List (List ℕ)
-event_labels name e = twice (label_text name e.label)
+event_labels name e = twice (shown_text name e.label)
 
--- all labels in their order: the root function in the title; this and the outcome in the words on the document; those
--- of each process; the choices above 0; the label of each event; and the outcome
+-- all labels in their order: the root function in the title; this and the outcome in the words on the document; the
+-- outcome; those of each process; the stars; the label of each event; and the outcome
 abbrev pub chart_labels : (name : ℕ → List ℕ) (root : List ℕ) (names : List (List ℕ)) (outcome : List ℕ)
-    (rows : List Event) (processes : List Process) → List (List ℕ)
-chart_labels name root names outcome rows processes =
-    (root ∷ root ∷ outcome ∷ [])
+    (stars : List (List ℕ)) (rows : List Event) (processes : List Process) → List (List ℕ)
+chart_labels name root names outcome stars rows processes =
+    (root ∷ root ∷ outcome ∷ []) ++ (twice outcome
     ++ (flat_map (process_labels (length rows) root names) processes
-    ++ (flat_map choice_labels rows ++ (flat_map (event_labels name) rows ++ twice outcome)))
+    ++ (stars ++ (flat_map (event_labels name) rows ++ twice outcome))))
+
+-- the stars of the events that have a row on the page
+abbrev pub shown_stars : Manner → Report → List (List ℕ)
+shown_stars m r = flat_map (star_at r.events) (shown_numbers m r)
 
 -- ---- the whole
 
@@ -122,7 +133,7 @@ pub record ShowsSignals (m : Manner) (r : Report) (processes : List Process) (be
 pub data IsChart (name : ℕ → List ℕ) (root : List ℕ) (names : List (List ℕ)) (m : Manner) (r : Report)
     (before after : List ℕ) : Type 0 where
   chart : (processes : List Process) → AreColumns r processes
-      → IsDocument (chart_labels name root names (outcome_text name r.outcome) (shown_events m r) processes) before
-      after
+      → IsDocument (chart_labels name root names (outcome_text name r.outcome) (shown_stars m r) (shown_events m r)
+      processes) before after
       → ShowsSignals m r processes before after
       → IsChart name root names m r before after

@@ -4,7 +4,9 @@ pub mod Lines
 pub mod Origins
 pub mod Pages
 pub mod Processes
+pub mod Rows
 pub mod Sheets
 pub mod Signals
+pub mod Stars
 pub mod Traffic
 pub mod Words

@@ -25,13 +25,13 @@ pitch_of n = if n == 0 then 200 else min (max (1600 / n) 64) 200
 abbrev pub column_x : (pitch column : ℕ) → ℕ
 column_x pitch column = edge (edge (column * pitch) + (80 + pitch / 2))
 
--- the middle of a row of the page; heads are above each 40 rows
+-- the middle of a row of the page; the outcome and heads are above all, and heads above each 40 rows
 abbrev pub row_y : (row : ℕ) → ℕ
-row_y row = edge (edge (edge (row * 26) + edge (row / 40 * 52)) + (64 + 13))
+row_y row = edge (edge (edge (row * 26) + edge (row / 40 * 52)) + (92 + 13))
 
 -- the lower edge of the last of so many rows, and where the lifelines end
 abbrev pub rows_end : (count : ℕ) → ℕ
-rows_end count = edge (edge (edge (count * 26) + edge ((count - 1) / 40 * 52)) + 64)
+rows_end count = edge (edge (edge (count * 26) + edge ((count - 1) / 40 * 52)) + 92)
 
 abbrev pub bottom : (count : ℕ) → ℕ
 bottom count = edge (rows_end count + 26)
@@ -43,8 +43,8 @@ head_rows rows = (rows - 1) / 40 + 2
 -- where a row of heads begins
 abbrev pub head_y : (count index : ℕ) → ℕ
 head_y count index =
-    if index == 0 then 12
-    else (if nat_lt (edge (index + 1)) (head_rows count) then edge (edge (index * (40 * 26 + 52)) + 64) - (52 - 6)
+    if index == 0 then 40
+    else (if nat_lt (edge (index + 1)) (head_rows count) then edge (edge (index * (40 * 26 + 52)) + 92) - (52 - 6)
     else bottom count)
 
 -- how wide the sheet is, with numbers to the left and labels to the right, and how high
@@ -81,7 +81,7 @@ side_of p e = side_at p.above p.count (rows_before p.events e)
 
 -- it is in the middle of its row, or at the edge of the rows if it is on another page
 abbrev pub y_on : (above count n : ℕ) → PageSide → ℕ
-y_on above count n side.Above = 64
+y_on above count n side.Above = 92
 y_on above count n side.Here = row_y (n - above)
 y_on above count n side.Below = rows_end count
 

@@ -22,6 +22,7 @@ abbrev pub classes : List (List ℕ)
 classes =
     codes "bands" ∷ codes "before" ∷ codes "life" ∷ codes "life waiting" ∷ codes "pid" ∷ codes "of" ∷ codes "foot"
     ∷ codes "outcome" ∷ codes "legend" ∷ codes "number" ∷ codes "process" ∷ codes "process deadlocked"
+    ∷ codes "process failed" ∷ codes " failed"
     ∷ codes "event " ∷ codes "send" ∷ codes "spawn" ∷ codes "watched" ∷ codes "link" ∷ codes "unlink"
     ∷ codes "monitor" ∷ codes "demonitor" ∷ codes "exit" ∷ codes "flag" ∷ codes "name" ∷ codes "reference"
     ∷ codes "receive" ∷ codes "wait" ∷ codes "raise" ∷ codes "end" ∷ codes "cut" ∷ codes "delivery"

@@ -4,10 +4,11 @@ ghost use Rattle.std.specs.Prelude.{◌≡◌, ◌++◌, ◌∷◌, [], ℕ, Lis
 ghost use Rattle.pf_terms.specs.Atoms.{name_of};
 ghost use Rattle.pf_model.specs.Reports.{view_of_event, view_of_outcome, view_of_report};
 ghost use Rattle.pf_model.specs.Text.{outcome_text};
-ghost use Rattle.pf_chart.specs.Chart.{IsChart, choice_labels, event_labels, process_labels, twice};
+ghost use Rattle.pf_chart.specs.Chart.{IsChart, event_labels, process_labels, twice};
 ghost use Rattle.pf_chart.specs.Lines.{HaveLines};
 ghost use Rattle.pf_chart.specs.Origins.{process_of, texts};
 ghost use Rattle.pf_chart.specs.Pages.{page_in};
+ghost use Rattle.pf_chart.specs.Rows.{star_labels_of};
 ghost use Rattle.pf_chart.specs.Words.{DrawsInChart, is_phrase};
 
 use crate::events::{put_events, put_numbers};
@@ -31,6 +32,9 @@ use std::alloc::Global;
 
 /// How wide a letter of the outcome is at most, but for a few.
 const LETTER: u64 = 9;
+
+/// The line on which the outcome is above the heads.
+const OUTCOME_TOP: u64 = 24;
 
 /// The outcome as it prints, without its line end.
 fn text_of_outcome(alloc: Global, atoms: &AtomTable, report: &Report) -> Result<Vec<u8>, NoMemory>
@@ -164,13 +168,12 @@ fn put_layout(
         (flat_map (λ c. process_labels sheet.entry.count names.entry.root.now (texts names.entry.known.now)
         (process_of c))
         layout.now.columns.items
-        ++ (flat_map (λ r. choice_labels (view_of_event r.event.now)) rows.now
+        ++ (flat_map star_labels_of rows.now
         ++ flat_map (λ r. event_labels (name_of atoms.now) (view_of_event r.event.now)) rows.now))
         svg.old svg.new) }
     ensures lines { OnOk result (HaveLines (page_in sheet.entry) (length layout.now.columns.items)
         layout.now.traffic.arrows.items svg.old svg.new) }
 {
-    put_ground(svg, sheet)?;
     put_columns(svg, &layout.columns, names, sheet)?;
     put_numbers(alloc, svg, rows, sheet)?;
     put_spawns(svg, &layout.columns, sheet)?;
@@ -200,6 +203,8 @@ fn put_document(
     svg.open(sheet.width(), sheet.height())?;
     put_words(svg, names.root, &outcome, processes, report.events.len())?;
     svg.put(&[Markup(STYLE), Markup(DEFINITIONS)])?;
+    put_ground(svg, sheet)?;
+    put_result(svg, &outcome, OUTCOME_TOP, sheet)?;
     put_layout(alloc, svg, atoms, names, rows, &layout, sheet)?;
     put_bottom(svg, &outcome, manner.compact, sheet)?;
     svg.close()

@@ -22,6 +22,8 @@ pub(crate) struct Column {
     pub(crate) ended: Option<usize>,
     pub(crate) waits: Option<usize>,
     pub(crate) deadlocked: bool,
+    /// It ended with another reason than `normal`.
+    pub(crate) failed: bool,
 }
 
 fn made_column(pid: u32, spawned: Option<(u32, usize)>) -> Column
@@ -34,6 +36,7 @@ fn made_column(pid: u32, spawned: Option<(u32, usize)>) -> Column
         ended: None,
         waits: None,
         deadlocked: false,
+        failed: false,
     }
 }
 
@@ -98,12 +101,13 @@ fn spawned_in(alloc: Global, events: &[Event]) -> Result<Vec<Column>, NoMemory>
     Ok(columns)
 }
 
-/// The process of a column ends in this row.
-pub(crate) fn end_in(columns: &mut Vec<Column>, index: usize, row: usize)
+/// The process of a column ends in this row, by an error or not.
+pub(crate) fn end_in(columns: &mut Vec<Column>, index: usize, row: usize, failed: bool)
     ensures { AreAlike columns.old.items columns.new.items }
 {
     if index < columns.len() {
         columns[index].ended = Some(row);
+        columns[index].failed = failed;
     }
 }
 

@@ -172,6 +172,8 @@ fn class_of(column: &Column) -> &'static str
 {
     if column.deadlocked {
         "process deadlocked"
+    } else if column.failed {
+        "process failed"
     } else {
         "process"
     }

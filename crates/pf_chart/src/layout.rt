@@ -13,6 +13,7 @@ ghost use Rattle.pf_chart.specs.Traffic.{Sends};
 
 use crate::arrows::{Arrow, ArrowEnd, SignalKind};
 use crate::columns::{Column, column_of, columns_of, end_in, wait_in};
+use crate::marks::is_crash;
 use crate::receipts::receipts_of;
 use crate::traffic::Traffic;
 use pf_errors::NoMemory;
@@ -54,11 +55,11 @@ fn delivery_in(label: &Label) -> Option<(&Signal, &Suffix)>
 }
 
 impl Layout {
-    fn end(&mut self, alloc: Global, row: usize, a: usize) -> Result<(), NoMemory>
+    fn end(&mut self, alloc: Global, row: usize, a: usize, label: &Label) -> Result<(), NoMemory>
         ensures processes { SameProcesses self.old.columns.items self.new.columns.items }
         ensures sends { OnOk result (Sends row a self.old.traffic self.new.traffic) }
     {
-        end_in(&mut self.columns, a, row);
+        end_in(&mut self.columns, a, row, is_crash(label));
         self.traffic.end(alloc, row, a)
     }
 
@@ -90,7 +91,7 @@ impl Layout {
     {
         match label {
             Label::Demonitors { reference, .. } => self.traffic.demonitor(row, a, *reference),
-            Label::Ends(_) => self.end(alloc, row, a),
+            Label::Ends(_) => self.end(alloc, row, a, label),
             Label::Waits => {
                 self.wait(row, a);
                 Ok(())
@@ -99,19 +100,13 @@ impl Layout {
         }
     }
 
-    /// What a delivery with this suffix ends.
-    fn end_by(
-        &mut self,
-        alloc: Global,
-        row: usize,
-        a: usize,
-        suffix: &Suffix,
-    ) -> Result<(), NoMemory>
+    /// What a delivery ends.
+    fn end_by(&mut self, alloc: Global, row: usize, a: usize, label: &Label) -> Result<(), NoMemory>
         ensures processes { SameProcesses self.old.columns.items self.new.columns.items }
         ensures sends { OnOk result (Sends row a self.old.traffic self.new.traffic) }
     {
-        match suffix {
-            Suffix::EndingWith(_) => self.end(alloc, row, a),
+        match label {
+            Label::Delivers(_, Suffix::EndingWith(_)) => self.end(alloc, row, a, label),
             _ => Ok(()),
         }
     }
@@ -133,7 +128,7 @@ impl Layout {
             return Ok(());
         };
         self.traffic.deliver(row, a, b, signal, suffix)?;
-        self.end_by(alloc, row, b, suffix)
+        self.end_by(alloc, row, b, label)
     }
 
     /// An event, if its processes are there.

@@ -15,6 +15,7 @@ mod peers;
 mod receipts;
 mod rows;
 mod sheet;
+mod stars;
 mod strokes;
 mod style;
 mod traffic;

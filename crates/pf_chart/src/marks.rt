@@ -1,9 +1,24 @@
 //! What is on the lifelines: a mark for each event, each kind with a shape of its own.
 
-ghost use Rattle.std.specs.Prelude.{IsTrue};
+ghost use Rattle.std.specs.Prelude.{◌≡◌, IsTrue};
+ghost use Rattle.pf_model.specs.Properties as spec;
+ghost use Rattle.pf_model.specs.Reports.{label_of};
 ghost use Rattle.pf_chart.specs.Words.{is_phrase};
 
 use pf_model::report::{Label, Suffix};
+use pf_terms::{AtomId, Term, equal};
+
+/// Whether a process ended, of its own or by an exit signal, with another reason than `normal`.
+pub(crate) fn is_crash(label: &Label) -> bool
+    ensures { result ≡ spec.is_crash (label_of label.now) }
+{
+    match label {
+        Label::Ends(reason) | Label::Delivers(_, Suffix::EndingWith(reason)) => {
+            !equal(reason, &Term::Atom(AtomId::NORMAL))
+        }
+        _ => false,
+    }
+}
 
 /// What kind of event it marks, in a word, and its outline about the place where it is.
 #[derive(Clone, Copy)]

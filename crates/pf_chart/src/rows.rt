@@ -4,7 +4,10 @@ ghost use Rattle.std.specs.Prelude.{◌≡◌, ◌≤◌, ◌++◌, ◌∷◌, [
 ghost use Rattle.std.specs.List.{filter};
 ghost use Rattle.pf_model.specs.Reports.{view_of_event, label_of};
 ghost use Rattle.pf_chart.specs.Chart.{first_row, has_row, is_quiet, page_of, rows_from};
+ghost use Rattle.pf_chart.specs.Rows.{star_labels_of};
+ghost use Rattle.pf_chart.specs.Stars.{star_at};
 
+use crate::stars::Runner;
 use pf_errors::NoMemory;
 use pf_model::Signal;
 use pf_model::report::{Event, Label, Suffix};
@@ -13,11 +16,12 @@ use std::alloc::Global;
 /// How many rows a page has.
 pub(crate) const PAGE: usize = 500;
 
-/// An event that has a row, with its place among all events.
+/// An event that has a row, with its place among all events, and whether it has a star.
 #[derive(Drop, Clone, Copy)]
 pub(crate) struct EventRow<'e> {
     pub(crate) index: usize,
     pub(crate) event: &'e Event,
+    pub(crate) has_star: bool,
 }
 
 /// Whether it is a wait, or the delivery of a message into a mailbox.
@@ -61,11 +65,21 @@ pub(crate) fn rows_of<'e>(
         ≡ filter (has_row compact) (map view_of_event events.now)) }
     ensures places { IfOk result (λ rows. map (λ r. r.index) rows.items
         ≡ rows_from compact 0 (map view_of_event events.now)) }
+    ensures stars { IfOk result (λ rows. map star_labels_of rows.items
+        ≡ map (λ r. star_at (map view_of_event events.now) r.index) rows.items) }
 {
     let mut rows = Vec::new(alloc);
+    let mut runner = Runner::Nobody;
     for (index, event) in events.iter().enumerate() {
         let has_row = has_row(compact, event);
-        put_row(&mut rows, has_row, EventRow { index, event })?;
+        let has_star = runner.has_star(event);
+        let row = EventRow {
+            index,
+            event,
+            has_star,
+        };
+        put_row(&mut rows, has_row, row)?;
+        runner = runner.after(event);
     }
     Ok(rows)
 }

@@ -26,14 +26,14 @@ use crate::rows::EventRow;
 const ROW: u64 = 26;
 
 pub(crate) const HALF_ROW: u64 = 13;
-/// What is above the rows: the heads.
-pub(crate) const TOP: u64 = 64;
+/// What is above the rows: the outcome, and the heads.
+pub(crate) const TOP: u64 = 92;
 /// After so many rows the heads are repeated, and how high they are there.
 const BAND: u64 = 40;
 
 const GAP: u64 = 52;
 /// Where the first heads begin, and how high a head is.
-const HEAD_TOP: u64 = 12;
+const HEAD_TOP: u64 = 40;
 
 pub(crate) const HEAD_HEIGHT: u64 = 40;
 /// What is left of the columns: the numbers of events, and choices above 0.

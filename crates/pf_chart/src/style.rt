@@ -15,8 +15,9 @@ text{font-family:Helvetica,Arial,sans-serif;font-size:11px;fill:#111;paint-order
 .process rect{fill:#eef2f7;stroke:#333;stroke-width:1.5}\n\
 .life{stroke:#333;stroke-width:1.5}\n\
 .before{stroke:#999;stroke-dasharray:1 5}\n\
-.deadlocked rect{fill:#fde8e8;stroke:#b91c1c;stroke-width:3}\n\
-.deadlocked text{fill:#991b1b}\n\
+.process .of{font-family:monospace;font-size:10px}\n\
+.deadlocked rect,.process.failed rect{fill:#fde8e8;stroke:#b91c1c;stroke-width:3}\n\
+.deadlocked text,.process.failed text{fill:#991b1b}\n\
 .waiting{stroke:#b91c1c;stroke-width:4}\n\
 .arrow path{fill:none;stroke-width:1.5;marker-end:url(#pf-head)}\n\
 .lost path{marker-end:url(#pf-open);stroke-width:1}\n\
@@ -33,13 +34,15 @@ text{font-family:Helvetica,Arial,sans-serif;font-size:11px;fill:#111;paint-order
 .event.dropped path{fill:none;stroke-width:2.5}\n\
 .event.chosen text{font-weight:bold;fill:#9a3412}\n\
 .arrow.chosen path{stroke-width:3.5}\n\
+.event.failed path{fill:#b91c1c;stroke:#b91c1c}\n\
+.event.failed text{font-weight:bold;fill:#b91c1c}\n\
 </style>\n";
 
-/// The ends of arrows, and every other row a little darker; a row is 26 high, and the first begins at 64.
+/// The ends of arrows, and every other row a little darker; a row is 26 high, and the first begins at 92.
 pub(crate) const DEFINITIONS: &str = "<defs>\n\
 <marker id=\"pf-head\" viewBox=\"0 0 10 10\" refX=\"10\" refY=\"5\" markerWidth=\"9\" markerHeight=\"9\" markerUnits=\"userSpaceOnUse\" orient=\"auto\"><polygon points=\"0,0 10,5 0,10\" fill=\"#111\"/></marker>\n\
 <marker id=\"pf-open\" viewBox=\"0 0 10 10\" refX=\"1\" refY=\"5\" markerWidth=\"9\" markerHeight=\"9\" markerUnits=\"userSpaceOnUse\" orient=\"auto\"><circle cx=\"5\" cy=\"5\" r=\"4\" fill=\"#fff\" stroke=\"#111\"/></marker>\n\
-<pattern id=\"pf-bands\" x=\"0\" y=\"64\" width=\"8\" height=\"52\" patternUnits=\"userSpaceOnUse\"><rect width=\"8\" height=\"26\" fill=\"#f6f6f4\"/></pattern>\n\
+<pattern id=\"pf-bands\" x=\"0\" y=\"92\" width=\"8\" height=\"52\" patternUnits=\"userSpaceOnUse\"><rect width=\"8\" height=\"26\" fill=\"#f6f6f4\"/></pattern>\n\
 </defs>\n";
 
 /// How to read the marks of spawns.
@@ -54,6 +57,6 @@ pub(crate) const LEGEND: &str =
 pub(crate) const LEGEND_OF_RECEIPTS: &str =
     "A message goes from its send to its receive, and ends in a ring where there is none; a thick one was delivered by a choice above 0.";
 
-/// How to read the marks of choices.
+/// How to read the stars.
 pub(crate) const LEGEND_OF_CHOICES: &str =
-    "A star is a choice above 0: *2/3 is number 2, counted from 0, of three that could go. All other events were number 0.";
+    "A star is where another went although the process that ran before could have gone on: *2/3 is number 2, counted from 0, of three that could go.";

@@ -31,7 +31,8 @@ use Rattle.clap.specs.declared.builder.value_parser.ValueParser.{ValueParser}
 use Rattle.clap.specs.declared.error.kind.ErrorKind.{ErrorKind}
 use Rattle.clap.specs.declared.error.kind.ErrorKind.TheVariants as kind
 use Rattle.pf_cli.specs.Args.{IsFaultBy, clashes_in, fault_under, format_in, hunt_fault, is_shown, one_file_fault}
-use Rattle.pf_cli.specs.Args.{own_fault, pulsefarm, run_fault, status_of_kind, values_fault, words_status, work_fault}
+use Rattle.pf_cli.specs.Args.{own_fault, run_fault, status_of_kind, values_fault, words_status, work_fault}
+use Rattle.pf_cli.specs.Commands.{pulsefarm}
 
 abbrev AllAre : Bool → Kinds → Type 0
 AllAre b [] = Unit {0}
@@ -272,7 +273,8 @@ alike_built a e k h words =
     alike_no)
 
 alike_words : (words : List Text) → Alike (fault_of pulsefarm words)
-alike_words words = alike_built (built pulsefarm) refl (refl, (refl, (refl, (refl, (refl, (refl, (refl, tt)))))))
+alike_words words =
+    alike_built (built pulsefarm) refl (refl, (refl, (refl, (refl, (refl, (refl, (refl, (refl, tt))))))))
     nothing_held (argument_words (built pulsefarm) words)
 
 -- ---- statuses

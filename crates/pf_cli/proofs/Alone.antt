@@ -7,7 +7,8 @@ use Rattle.pf_model.specs.Meaning.{Choices, schedule}
 use Rattle.pf_text.specs.Numbers.{schedule_of}
 use Rattle.pf_cli.specs.Args.{RunArgs, words_asked, bounds_in, chart_asked, chart_of, choices_named, file_at, guided_in}
 use Rattle.pf_cli.specs.Args.{is_given, option_number, schedule_numbers, of_command, of_one_file, page_named}
-use Rattle.pf_cli.specs.Args.{file_placed, property_named, pulsefarm, root_named, run_asked, run_args_of}
+use Rattle.pf_cli.specs.Args.{file_placed, property_named, root_named, run_asked, run_args_of}
+use Rattle.pf_cli.specs.Commands.{pulsefarm}
 use Rattle.pf_cli.specs.Args.{schedule_file_of, shrink_of, shrinking_asked, unless_refused, wanted_as, wanted_by}
 use Rattle.pf_cli.specs.Args.{CommandWork, work_of, explain_of, format_in, run, chart, shrink}
 

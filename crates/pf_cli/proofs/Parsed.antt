@@ -5,7 +5,8 @@ use Rattle.clap.specs.Words.{Text, Row, Kinds, HasKind, IsAmong, fault_of, first
 use Rattle.clap.specs.declared.error.Error.{Error}
 use Rattle.clap.specs.declared.error.kind.ErrorKind.{ErrorKind}
 use Rattle.clap.specs.declared.error.kind.ErrorKind.TheVariants as kind
-use Rattle.pf_cli.specs.Args.{IsFaultBy, own_fault, pulsefarm, of_command, words_asked, unless_refused, wanted_by}
+use Rattle.pf_cli.specs.Args.{IsFaultBy, own_fault, of_command, words_asked, unless_refused, wanted_by}
+use Rattle.pf_cli.specs.Commands.{pulsefarm}
 use Rattle.pf_cli.specs.Args.{file_at, file_of, file_under, schedule_file_of}
 
 refused : {T : Type 0} (kinds : Kinds) (k : ErrorKind) (r : Option T) → IsAmong k kinds → unless_refused kinds r ≡ None

@@ -4,18 +4,17 @@ use Rattle.std.specs.Prelude.{codes, length, map, Bool, true, false, not, ◌==�
 use Rattle.std.specs.Prelude.{if◌then◌else◌}
 use Rattle.std.specs.List.{list_any, before_first, after_first}
 use Rattle.std.specs.Str.{bytes_eq}
-use Rattle.clap.specs.Words.{IsAmong, App, Shape, Rule, Row, Text, all_of, new_app, new_rule, with_rule}
-use Rattle.clap.specs.Words.{with_subcommand, Kinds, first_of, subcommand_of, fault_of}
-use Rattle.clap.specs.Lexer.{usize_max}
-use Rattle.clap.specs.declared.builder.action.ArgAction.TheVariants.{SetTrue}
+use Rattle.clap.specs.Words.{IsAmong, Row, Text, all_of, Kinds, first_of, subcommand_of, fault_of}
 use Rattle.clap.specs.declared.error.kind.ErrorKind.{ErrorKind}
 use Rattle.clap.specs.declared.error.kind.ErrorKind.TheVariants as kind
 use Rattle.pf_model.specs.Meaning.{Choices, seed, schedule, weighted_seed}
 use Rattle.pf_text.specs.Numbers.{number_of_digits, long_number_of, schedule_of}
+use Rattle.pf_cli.specs.Commands.{pulsefarm}
 use Rattle.pf_cli.specs.Seeds.{seeds_named}
 use Rattle.pf_cli.specs.Span.{time_named}
 use Rattle.pf_cli.specs.Form.{format_named}
 use Rattle.pf_cli.specs.Pids.{pid_named}
+use Rattle.pf_cli.specs.Explore.{ExploreArgs, ExploreReach, budget_named, deviations_named, explore_reach, runs_named}
 use Rattle.pf_cli.specs.Reach.{HuntScope, clashes, more_named, names_given, reach_asked, roots_named}
 use Rattle.pf_request.specs.Request as requests
 use Rattle.pf_request.specs.Request.{Request, RequestKind}
@@ -32,167 +31,16 @@ use Rattle.pf_cli.specs.declared.args.Roots.{Roots}
 use Rattle.pf_cli.specs.declared.args.RunArgs as run_code
 use Rattle.pf_cli.specs.declared.args.ChartArgs as chart_code
 use Rattle.pf_cli.specs.declared.args.HuntArgs as hunt_code
+use Rattle.pf_cli.specs.declared.args.ExploreArgs as explore_code
+use Rattle.pf_cli.specs.declared.args.ExploreReach as reach_code
 use Rattle.pf_cli.specs.declared.args.FarmArgs as farm_code
 use Rattle.pf_cli.specs.declared.args.HuntGoal.TheVariants.{Failure, Outcomes}
 use Rattle.pf_cli.specs.declared.args.Args as args_code
-use Rattle.pf_cli.specs.declared.args.Args.TheVariants.{Run, Hunt, Shrink, Chart, Check, Steps, Farm}
+use Rattle.pf_cli.specs.declared.args.Args.TheVariants.{Run, Hunt, Explore, Shrink, Chart, Check, Steps, Farm}
 use Rattle.pf_cli.specs.declared.args.CliCommand as asked_code
 use Rattle.pf_cli.specs.declared.reading.ReadWords as reading_code
 use Rattle.pf_cli.specs.declared.reading.ReadWords.TheVariants as read
 use Rattle.pf_cli.specs.declared.args.HuntGoal.{HuntGoal}
-
--- ---- the words that are taken
-
--- a file comes without a name before it
-abbrev pub file_rule : Rule
-file_rule = record (new_rule (codes "file")) { value_names = 1 }
-
--- words that come without a name before them
-abbrev pub many_rule : Text → Rule
-many_rule name =
-    record (new_rule name) { range = Some (record { start_inclusive = 1; end_inclusive = usize_max }); value_names = 1 }
-
--- files, of which there is at least one
-abbrev pub files_rule : Rule
-files_rule = record (many_rule (codes "files")) { required = true }
-
--- sources, of which there may be none
-abbrev pub sources_rule : Rule
-sources_rule = many_rule (codes "file")
-
--- an option has one value, and may be left out
-abbrev pub option_rule : Text → Rule
-option_rule name = record (new_rule name) { long = Some name; value_names = 1 }
-
--- an option must be given where its command wants it
-abbrev pub wanted_rule : (wanted : Bool) → Text → Rule
-wanted_rule wanted name = record (option_rule name) { required = wanted }
-
--- an option must be given
-abbrev pub required_rule : Text → Rule
-required_rule name = wanted_rule true name
-
--- a flag has no value, and may be left out
-abbrev pub flag_rule : Text → Rule
-flag_rule name = record (new_rule name) { long = Some name; action = Some SetTrue }
-
--- all runs have a source and a root: NAME [FILE] --root F; whether the root must be given, and whether there may be
--- several sources, is their command's
-abbrev pub rooted_app : (source : Rule) → (wanted : Bool) → Text → App
-rooted_app source wanted name = with_rule (with_rule (new_app name) source) (wanted_rule wanted (codes "root"))
-
--- and bounds, whatever their choices are: --limit N [--edition E]
-abbrev pub bounded_app : (source : Rule) → (wanted : Bool) → Text → App
-bounded_app source wanted name =
-    with_rule (with_rule (rooted_app source wanted name) (wanted_rule wanted (codes "limit")))
-    (option_rule (codes "edition"))
-
--- a command of one run: after these [--seed N] [--weights R:D] [--strategy S]
-abbrev pub weighted_app : (wanted : Bool) → Text → App
-weighted_app wanted name =
-    with_rule (with_rule (with_rule (bounded_app file_rule wanted name) (option_rule (codes "seed")))
-    (option_rule (codes "weights"))) (option_rule (codes "strategy"))
-
--- and then [--last PID] [--schedule L] [--property P]
-abbrev pub one_run_app : (wanted : Bool) → Text → App
-one_run_app wanted name =
-    with_rule (with_rule (with_rule (weighted_app wanted name) (option_rule (codes "last")))
-    (option_rule (codes "schedule"))) (option_rule (codes "property"))
-
--- the form of what goes out may be named: [--format FORM]
-abbrev pub format_rule : Rule
-format_rule = option_rule (codes "format")
-
--- `run` wants a root and a limit, and may say more: [--format FORM] [--explain]
-abbrev pub run_app : App
-run_app = with_rule (with_rule (one_run_app true (codes "run")) format_rule) (flag_rule (codes "explain"))
-
--- `chart` takes the same words, and wants neither; and then [--compact] [--page K]
-abbrev pub chart_app : App
-chart_app = with_rule (with_rule (one_run_app false (codes "chart")) (flag_rule (codes "compact")))
-    (option_rule (codes "page"))
-
--- what is hunted: hunt [FILE].. [--root F] [--limit N] [--edition E] [--property P]
-abbrev pub judged_app : App
-judged_app = with_rule (bounded_app sources_rule false (codes "hunt")) (option_rule (codes "property"))
-
--- and how far: after these [--seeds A..B] [--for T]
-abbrev pub seeded_app : App
-seeded_app = with_rule (with_rule judged_app (option_rule (codes "seeds"))) (option_rule (codes "for"))
-
--- and how a seed chooses: after these [--weights R:D] [--strategy S] [--last PID]
-abbrev pub choosing_app : App
-choosing_app =
-    with_rule (with_rule (with_rule seeded_app (option_rule (codes "weights"))) (option_rule (codes "strategy")))
-    (option_rule (codes "last"))
-
--- and on how many threads, and what is reported: [--workers N] [--all] [--shrink N]
-abbrev pub reporting_app : App
-reporting_app =
-    with_rule (with_rule (with_rule choosing_app (option_rule (codes "workers"))) (flag_rule (codes "all")))
-    (option_rule (codes "shrink"))
-
--- and what is gone over: [--all-roots] [--fail-fast] [--leaks]
-abbrev pub reaching_app : App
-reaching_app =
-    with_rule (with_rule (with_rule reporting_app (flag_rule (codes "all-roots"))) (flag_rule (codes "fail-fast")))
-    (flag_rule (codes "leaks"))
-
--- and in what form: [--format FORM]
-abbrev pub hunt_app : App
-hunt_app = with_rule reaching_app format_rule
-
--- what is shrunk: shrink [FILE] --root F --limit N [--edition E] --schedule L --property P --runs N
-abbrev pub shrinking_app : App
-shrinking_app =
-    with_rule (with_rule (with_rule (bounded_app file_rule true (codes "shrink")) (required_rule (codes "schedule")))
-    (required_rule (codes "property"))) (required_rule (codes "runs"))
-
--- and in what form: [--format FORM]
-abbrev pub shrink_app : App
-shrink_app = with_rule shrinking_app format_rule
-
--- check [FILE] [--explain] [--format FORM]
-abbrev pub check_app : App
-check_app = with_rule (with_rule (with_rule (new_app (codes "check")) file_rule) (flag_rule (codes "explain")))
-    format_rule
-
--- steps [FILE]
-abbrev pub steps_app : App
-steps_app = with_rule (new_app (codes "steps")) file_rule
-
--- farm FILE.. --workers N [--summary]
-abbrev pub farm_app : App
-farm_app = with_rule (with_rule (with_rule (new_app (codes "farm")) files_rule) (required_rule (codes "workers")))
-    (flag_rule (codes "summary"))
-
--- the program has a version, wants a command, and has no command `help`
-abbrev pub top_shape : Shape
-top_shape =
-    record (new_app (codes "pulsefarm")).top {
-      has_version = true;
-      subcommand_required = true;
-      disable_help_subcommand = true;
-    }
-
--- the program without its commands
-abbrev pub bare_app : App
-bare_app = record (new_app (codes "pulsefarm")) { top = top_shape }
-
--- with the commands that find a run, and then with those that make something of one
-abbrev pub finding_app : App
-finding_app = with_subcommand (with_subcommand bare_app run_app.top) hunt_app.top
-
-abbrev pub runs_app : App
-runs_app = with_subcommand (with_subcommand finding_app shrink_app.top) chart_app.top
-
--- and then with the others that read one file
-abbrev pub one_file_app : App
-one_file_app = with_subcommand (with_subcommand runs_app check_app.top) steps_app.top
-
--- the command line
-abbrev pub pulsefarm : App
-pulsefarm = with_subcommand one_file_app farm_app.top
 
 -- ---- what is asked for
 
@@ -524,6 +372,35 @@ hunt_of_values rows =
 abbrev pub hunt_of : List Row → Option HuntArgs
 hunt_of rows = if clashes_in rows then None else hunt_of_values rows
 
+-- an exploration is that of the run by the seed 0
+abbrev pub explore_by : (root property : Text) → (bounds : ℕ × ℕ) → (last : Option ℕ) → ExploreReach
+    → (runs : Option ℕ) → ExploreArgs
+explore_by root property bounds last reach runs =
+    record {
+      request = request_by root property (requests.run (seed 0)) bounds.0;
+      edition = bounds.1;
+      last = last;
+      reach = reach;
+      runs = runs;
+    }
+
+abbrev pub explore_asked : (root property : Text) → (bounds : Option (ℕ × ℕ)) → (last : Option (Option ℕ))
+    → Option ExploreReach → (runs : Option (Option ℕ)) → Option ExploreArgs
+explore_asked root property (Some bounds) (Some last) (Some reach) (Some runs) =
+    Some (explore_by root property bounds last reach runs)
+explore_asked root property _ _ _ _ = None
+
+abbrev pub explore_reach_in : List Row → Option ExploreReach
+explore_reach_in rows =
+    explore_reach (budget_named (first_of (codes "budget") rows)) (time_in rows)
+    (deviations_named (first_of (codes "deviations") rows))
+
+abbrev pub explore_of : List Row → Option ExploreArgs
+explore_of rows =
+    explore_asked (root_named (first_of (codes "root") rows)) (property_named (first_of (codes "property") rows))
+    (bounds_in rows) (last_in rows) (explore_reach_in rows)
+    (runs_named (first_of (codes "shrink") rows))
+
 -- files are 1 to 64
 abbrev pub as_files : List Text → Option (List Text)
 as_files files = if nat_le 1 (length files) && nat_le (length files) 64 then Some files else None
@@ -542,22 +419,24 @@ farm_of rows =
 abbrev pub explain_of : List Row → Bool
 explain_of rows = is_given (first_of (codes "explain") rows)
 
--- a command asks for a run, for a hunt over seeds, for the shrinking of a schedule, for the chart of a run, for a check
--- that may explain what it refuses, for the steps that a file lists, or for a farm
+-- a command asks for a run, for a hunt over seeds, for an exploration of all schedules, for the shrinking of one, for
+-- the chart of a run, for a check that may explain what it refuses, for the steps that a file lists, or for a farm
 pub data CommandWork : Type 0 where
   run : RunArgs → CommandWork
   hunt : HuntArgs → CommandWork
+  explore : ExploreArgs → CommandWork
   shrink : RunArgs → CommandWork
   chart : ChartArgs → CommandWork
   check : (explain : Bool) → CommandWork
   steps : CommandWork
   farm : FarmArgs → CommandWork
 
--- what a command without runs of its own asks for
+-- what a command without choices of its own asks for
 abbrev pub of_other : Text → List Row → Option CommandWork
 of_other name rows =
-    if bytes_eq name (codes "check") then Some (check (explain_of rows))
-    else (if bytes_eq name (codes "steps") then Some steps else None)
+    if bytes_eq name (codes "explore") then option_map explore (explore_of rows)
+    else (if bytes_eq name (codes "check") then Some (check (explain_of rows))
+    else (if bytes_eq name (codes "steps") then Some steps else None))
 
 -- what a command of one file asks for by the values of its options, and by the text of its schedule's file where it is
 -- known
@@ -660,12 +539,26 @@ view_of_hunt_args a =
       sought = a.sought;
     }
 
+abbrev pub view_of_reach : reach_code.ExploreReach → ExploreReach
+view_of_reach r = record { budget = r.budget; time = r.time; deviations = r.deviations }
+
+abbrev pub view_of_explore_args : explore_code.ExploreArgs → ExploreArgs
+view_of_explore_args a =
+    record {
+      request = view_of_request a.request;
+      edition = edition_number a.edition;
+      last = a.last;
+      reach = view_of_reach a.reach;
+      runs = a.runs;
+    }
+
 abbrev pub view_of_farm_args : farm_code.FarmArgs → FarmArgs
 view_of_farm_args a = record { workers = a.workers; files = map (λ s. s.now) a.files.items; summary = a.summary }
 
 abbrev pub view_of_args : args_code.Args → CommandWork
 view_of_args (Run a) = run (view_of_run_args a)
 view_of_args (Hunt a) = hunt (view_of_hunt_args a)
+view_of_args (Explore a) = explore (view_of_explore_args a)
 view_of_args (Chart a) = chart (view_of_chart_args a)
 view_of_args (Shrink a) = shrink (view_of_run_args a)
 view_of_args (Check a) = check a.explain
@@ -678,6 +571,7 @@ view_of_command a = record { work = view_of_args a.args; format = a.format; expl
 abbrev pub named_file : args_code.Args → Option Text
 named_file (Run a) = option_map (λ s. s.now) a.file
 named_file (Hunt a) = option_map (λ s. s.now) a.file
+named_file (Explore a) = option_map (λ s. s.now) a.file
 named_file (Chart a) = option_map (λ s. s.now) a.run.file
 named_file (Shrink a) = option_map (λ s. s.now) a.file
 named_file (Check a) = option_map (λ s. s.now) a.file

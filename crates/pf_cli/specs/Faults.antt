@@ -4,11 +4,12 @@ use Rattle.std.specs.Prelude.{if◌then◌else◌}
 use Rattle.std.specs.Str.{bytes_eq}
 use Rattle.std.specs.String.{string_bytes}
 use Rattle.clap.specs.Words.{App, Row, first_of}
-use Rattle.pf_cli.specs.Args.{chart_app, check_app, farm_app, hunt_app, is_given, source_names, run_app, shrink_app}
+use Rattle.pf_cli.specs.Args.{is_given, source_names}
+use Rattle.pf_cli.specs.Commands.{chart_app, check_app, explore_app, farm_app, hunt_app, run_app, shrink_app}
 use Rattle.pf_cli.specs.declared.reading.ReadWords as reading_code
 use Rattle.pf_cli.specs.declared.reading.ReadWords.TheVariants as read
 use Rattle.pf_cli.specs.declared.refusals.Valued.{Valued}
-use Rattle.pf_cli.specs.declared.refusals.Valued.TheVariants.{Run, Hunt, Shrink, Chart, Check, Farm}
+use Rattle.pf_cli.specs.declared.refusals.Valued.TheVariants.{Run, Hunt, Explore, Shrink, Chart, Check, Farm}
 
 -- ---- texts
 
@@ -61,15 +62,18 @@ clash_reported_in rows =
 
 -- ---- of which command the usage is shown
 
--- of that with this name; a form has those of `run`, `hunt`, `shrink` and `check`
+-- of that with this name; a form has those of `run`, `hunt`, `explore`, `shrink` and `check`
 abbrev pub valued_named : (name : List ℕ) → Valued
 valued_named name =
     if bytes_eq name (codes "run") then Run
-    else (if bytes_eq name (codes "hunt") then Hunt else (if bytes_eq name (codes "shrink") then Shrink else Check))
+    else (if bytes_eq name (codes "hunt") then Hunt
+    else (if bytes_eq name (codes "explore") then Explore
+    else (if bytes_eq name (codes "shrink") then Shrink else Check)))
 
 abbrev pub usage_app : Valued → App
 usage_app Run = run_app
 usage_app Hunt = hunt_app
+usage_app Explore = explore_app
 usage_app Shrink = shrink_app
 usage_app Chart = chart_app
 usage_app Check = check_app
@@ -79,6 +83,7 @@ usage_app Farm = farm_app
 abbrev pub usage_name : Valued → List ℕ
 usage_name Run = codes "pulsefarm run"
 usage_name Hunt = codes "pulsefarm hunt"
+usage_name Explore = codes "pulsefarm explore"
 usage_name Shrink = codes "pulsefarm shrink"
 usage_name Chart = codes "pulsefarm chart"
 usage_name Check = codes "pulsefarm check"

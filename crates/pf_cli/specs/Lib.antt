@@ -1,3 +1,5 @@
+pub mod Explore
+pub mod Commands
 pub mod Args
 pub mod Form
 pub mod Reach

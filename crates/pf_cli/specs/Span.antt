@@ -1,4 +1,4 @@
--- For how long a hunt goes on at most, by its words.
+-- For how long a hunt or an exploration goes on at most, by its words.
 use Rattle.std.specs.Prelude.{ℕ, ◌-◌, ◌*◌, List, [], ◌∷◌, Option, Some, None, option_map, length, take, drop, ◌==◌}
 use Rattle.std.specs.Prelude.{nat_le, if◌then◌else◌}
 use Rattle.pf_text.specs.Numbers.{number_of_digits}
@@ -16,7 +16,7 @@ seconds_of _ _ = None
 abbrev pub time_of : List ℕ → Option ℕ
 time_of text = seconds_of (number_of_digits (take (length text - 1) text)) (unit_of (drop (length text - 1) text))
 
--- where none is named a hunt goes on to its end
+-- where none is named it goes on to its end
 abbrev pub time_named : Option (List ℕ) → Option (Option ℕ)
 time_named None = Some None
 time_named (Some word) = option_map Some (time_of word)

@@ -1,6 +1,7 @@
 //! What the words of a command line ask for.
 
 ghost use Rattle.std.specs.Prelude.{◌≡◌, ◌≤◌, true, vec_len};
+ghost use Rattle.std.specs.Option.{ForSome};
 ghost use Rattle.pf_model.specs.Meaning.{weighted_seed};
 ghost use Rattle.pf_request.specs.Request.{choices_in, may_weigh};
 ghost use Rattle.pf_request.specs.View.{view_of_kind};
@@ -103,7 +104,7 @@ pub enum HuntGoal {
 /// Which roots of a source are hunted.
 #[derive(Drop, Clone, Copy)]
 pub enum Roots {
-    /// None is named: `main`; of several sources every one.
+    /// None is named: `main`; of several sources those by convention.
     Main,
     /// The one that is named.
     Named,
@@ -141,6 +142,33 @@ pub struct HuntArgs<'a> {
     ghost weighs: { may_weigh (choices_in (view_of_kind request.kind)) ≡ true },
 }
 
+/// How far an exploration goes.
+#[derive(Drop, Clone, Copy)]
+pub struct ExploreReach {
+    /// The most runs.
+    pub budget: u64,
+    /// For how many seconds it goes on at most, where a time is named.
+    pub time: Option<u64>,
+    /// The most deviations of a run from the first choice, where they are named.
+    pub deviations: Option<u32>,
+    ghost few: { ForSome deviations (λ k. k ≤ 100000) },
+}
+
+/// What `explore` asks for: `request` is the run by the seed 0, in whose place those by its schedules go.
+#[derive(Drop)]
+pub struct ExploreArgs<'a> {
+    /// The file of the source; the standard input where there is none.
+    pub file: Option<&'a str>,
+    pub request: Request,
+    /// The edition of each run.
+    pub edition: Edition,
+    /// The process that goes last in each run, where one is named.
+    pub last: Option<u32>,
+    pub reach: ExploreReach,
+    /// Within how many runs a schedule that fails is shrunk, where it is.
+    pub runs: Option<u32>,
+}
+
 /// What `check` asks for.
 #[derive(Drop)]
 pub struct CheckArgs<'a> {
@@ -175,6 +203,7 @@ pub struct FarmArgs<'a> {
 pub enum Args<'a> {
     Run(RunArgs<'a>),
     Hunt(HuntArgs<'a>),
+    Explore(ExploreArgs<'a>),
     Chart(ChartArgs<'a>),
     Shrink(RunArgs<'a>),
     Check(CheckArgs<'a>),
@@ -194,6 +223,7 @@ impl<'a> Args<'a> {
             Args::Run(args) | Args::Shrink(args) => args.file,
             Args::Chart(args) => args.run.file,
             Args::Hunt(args) => args.file,
+            Args::Explore(args) => args.file,
             Args::Check(args) => args.file,
             Args::Steps(args) => args.file,
             Args::Farm(_) => None,

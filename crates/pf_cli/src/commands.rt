@@ -3,11 +3,12 @@
 ghost use Rattle.std.specs.Prelude.{◌≡◌, IfOk, false, codes};
 ghost use Rattle.clap.specs.Words.{app_of, rule_of, new_app};
 ghost use Rattle.clap.specs.declared.builder.command.Command.TheViews.{out-Command};
-ghost use Rattle.pf_cli.specs.Args.{bare_app, bounded_app, chart_app, check_app, farm_app, file_rule, files_rule};
-ghost use Rattle.pf_cli.specs.Args.{flag_rule, finding_app, format_rule, hunt_app, judged_app, many_rule, one_file_app};
-ghost use Rattle.pf_cli.specs.Args.{one_run_app, option_rule, pulsefarm, reaching_app, required_rule, rooted_app};
-ghost use Rattle.pf_cli.specs.Args.{run_app, runs_app, seeded_app, shrink_app, shrinking_app, steps_app, reporting_app};
-ghost use Rattle.pf_cli.specs.Args.{wanted_rule, weighted_app, choosing_app};
+ghost use Rattle.pf_cli.specs.Commands.{bare_app, bounded_app, chart_app, check_app, choosing_app, explore_app};
+ghost use Rattle.pf_cli.specs.Commands.{explored_app, exploring_app, farm_app, file_rule, files_rule, finding_app};
+ghost use Rattle.pf_cli.specs.Commands.{flag_rule, format_rule, hunt_app, judged_app, many_rule, one_file_app};
+ghost use Rattle.pf_cli.specs.Commands.{one_run_app, option_rule, pulsefarm, reaching_app, reporting_app};
+ghost use Rattle.pf_cli.specs.Commands.{required_rule, rooted_app, run_app, runs_app, seeded_app, shrink_app};
+ghost use Rattle.pf_cli.specs.Commands.{shrinking_app, steps_app, wanted_rule, weighted_app};
 
 use clap::{Arg, ArgAction, Command};
 use std::alloc::{AllocError, Global};
@@ -30,7 +31,8 @@ const JUDGING_HELP: &str =
 const SEEDS_HELP: &str =
     "Seeds from A to before B; `A..=B` has B too, and `N` is 0..N; each from 0 to 18446744073709551615 [default: 10000; with --for all but the greatest]";
 
-const TIME_HELP: &str = "Time after which the hunt stops and tells what it knows, as 90s, 5m or 2h";
+const TIME_HELP: &str =
+    "Time after which the hunt stops and reports what it knows, as 90s, 5m or 2h";
 
 const FORMAT_HELP: &str =
     "Form of what goes out: `text`, or `json`, an object in place of each line [default: text]";
@@ -288,7 +290,7 @@ pub(crate) fn run_command<'a>(alloc: Global) -> Result<Command<'a>, AllocError>
     ensures local { IfOk result (λ c. (out-Command c).has_globals ≡ false) }
 {
     let about = "Runs a module by a seed or a schedule and reports each turn and delivery";
-    let explain = "Says on standard error how each process stands when the run is over";
+    let explain = "Reports on standard error the status of each process when the run is over";
     let run = one_run(alloc, "run", about, RUN_USAGE, true)?
         .arg(format(alloc))?
         .arg(flag(alloc, "explain", explain))?;
@@ -349,7 +351,7 @@ fn reporting<'a>(alloc: Global, about: &'a str) -> Result<Command<'a>, AllocErro
     ensures app { IfOk result (λ c. app_of c ≡ reporting_app) }
     ensures local { IfOk result (λ c. (out-Command c).has_globals ≡ false) }
 {
-    let all = "Tells each outcome, by how many seeds and the least of them, and runs all seeds";
+    let all = "Reports each outcome, by how many seeds and the least of them, and runs all seeds";
     let shrink = "Shrinks the schedule of the seed that fails, within N runs from 1 to 1,000";
     let workers = "Threads that run seeds, from 1 to 64 [default: the machine's processors]";
     let reporting = choosing(alloc, about)?
@@ -364,8 +366,8 @@ fn reaching<'a>(alloc: Global, about: &'a str) -> Result<Command<'a>, AllocError
     ensures app { IfOk result (λ c. app_of c ≡ reaching_app) }
     ensures local { IfOk result (λ c. (out-Command c).has_globals ≡ false) }
 {
-    let roots = "Hunts every exported function without arguments, and tells of each in a line";
-    let fail_fast = "Hunts nothing behind the first root that fails";
+    let roots = "Hunts every exported function without arguments, and reports each in a line";
+    let fail_fast = "Hunts nothing after the first root that fails";
     let leaks = "Lets a seed fail too whose root returned while processes still wait";
     let reaching = reporting(alloc, about)?
         .arg(flag(alloc, "all-roots", roots))?
@@ -382,6 +384,49 @@ pub(crate) fn hunt_command<'a>(alloc: Global) -> Result<Command<'a>, AllocError>
     let about = "Runs a module by many seeds and reports the least that fails a property";
     let hunt = reaching(alloc, about)?.arg(format(alloc))?;
     Ok(hunt)
+}
+
+/// An exploration without the options of how far it goes and of its form.
+fn explored<'a>(alloc: Global) -> Result<Command<'a>, AllocError>
+    ensures app { IfOk result (λ c. app_of c ≡ explored_app) }
+    ensures local { IfOk result (λ c. (out-Command c).has_globals ≡ false) }
+{
+    let about =
+        "Runs a module by each of its schedules and reports one that fails, or that none does";
+    let source = file(alloc, SOURCE_HELP);
+    let judging = option(alloc, "property", "P", JUDGING_HELP);
+    let explored = bounded(alloc, source, "explore", about, false)?
+        .arg(judging)?
+        .arg(last(alloc))?;
+    Ok(explored)
+}
+
+/// The same with how far it goes.
+fn exploring<'a>(alloc: Global) -> Result<Command<'a>, AllocError>
+    ensures app { IfOk result (λ c. app_of c ≡ exploring_app) }
+    ensures local { IfOk result (λ c. (out-Command c).has_globals ≡ false) }
+{
+    let budget = "Most runs, from 1 to 18446744073709551615 [default: 2000000]";
+    let time = "Explore for seconds, minutes or hours, as 90s, 5m or 2h";
+    let deviations =
+        "Most deviations of a run from the first choice, from 0 to 100,000 [default: as many as it can have]";
+    let exploring = explored(alloc)?
+        .arg(option(alloc, "budget", "N", budget))?
+        .arg(option(alloc, "for", "T", time))?
+        .arg(option(alloc, "deviations", "K", deviations))?;
+    Ok(exploring)
+}
+
+/// `explore`.
+pub(crate) fn explore_command<'a>(alloc: Global) -> Result<Command<'a>, AllocError>
+    ensures app { IfOk result (λ c. app_of c ≡ explore_app) }
+    ensures local { IfOk result (λ c. (out-Command c).has_globals ≡ false) }
+{
+    let shrink = "Shrink the schedule that is found within this many runs, from 1 to 1000";
+    let explore = exploring(alloc)?
+        .arg(option(alloc, "shrink", "N", shrink))?
+        .arg(format(alloc))?;
+    Ok(explore)
 }
 
 /// A shrinking without the option of its form.
@@ -413,8 +458,8 @@ pub(crate) fn check_command<'a>(alloc: Global) -> Result<Command<'a>, AllocError
     ensures app { IfOk result (λ c. app_of c ≡ check_app) }
     ensures local { IfOk result (λ c. (out-Command c).has_globals ≡ false) }
 {
-    let about = "Reads a module and tells `ok`, or its first refusal with the place";
-    let explain = "Shows the line of a refusal too, and tells how to mend it";
+    let about = "Reads a module and prints `ok`, or its first refusal with the place";
+    let explain = "Shows the line of a refusal too, and says how to fix it";
     let check = bare(alloc, "check", about)
         .arg(file(alloc, SOURCE_HELP))?
         .arg(flag(alloc, "explain", explain))?
@@ -439,10 +484,10 @@ pub(crate) fn farm_command<'a>(alloc: Global) -> Result<Command<'a>, AllocError>
     ensures local { IfOk result (λ c. (out-Command c).has_globals ≡ false) }
 {
     let about =
-        "Runs a farm of workers, with a client for each file, and prints what each client is told";
+        "Runs a farm of workers, with a client for each file, and prints what each client is answered";
     let clients = "Files of the clients' lines, from 1 to 64; the first is that of project 1";
     let workers = "Threads that work, from 1 to 64";
-    let summary = "Tells at the end what each worker did";
+    let summary = "Reports at the end what each worker did";
     let farm = bare(alloc, "farm", about)
         .arg(files(alloc, clients))?
         .arg(required(alloc, "workers", "N", workers))?
@@ -457,7 +502,7 @@ fn top<'a>(alloc: Global) -> Command<'a>
 {
     Command::new(alloc, "pulsefarm")
         .version("0.1.0")
-        .about("Tests Erlang programs for races")
+        .about("Tests Erlang programs for races; `pulsefarm-erl` takes plain Erlang as it stands")
         .subcommand_required(true)
         .disable_help_subcommand(true)
 }
@@ -469,7 +514,8 @@ fn commands_that_find<'a>(alloc: Global) -> Result<Command<'a>, AllocError>
 {
     let some = top(alloc)
         .subcommand(run_command(alloc)?)?
-        .subcommand(hunt_command(alloc)?)?;
+        .subcommand(hunt_command(alloc)?)?
+        .subcommand(explore_command(alloc)?)?;
     Ok(some)
 }
 

@@ -37,6 +37,8 @@ fn valued_of(name: &str) -> Valued
         Valued::Run
     } else if name == "hunt" {
         Valued::Hunt
+    } else if name == "explore" {
+        Valued::Explore
     } else if name == "shrink" {
         Valued::Shrink
     } else {

@@ -7,7 +7,8 @@ ghost use Rattle.pf_request.specs.Request.{choices_in, may_weigh};
 ghost use Rattle.pf_request.specs.View.{view_of_kind, view_of_request};
 ghost use Rattle.pf_cli.specs.Args.{IsFaultBy, IsFaultOfWords, chart_of, fault_under, file_named, file_of, file_under};
 ghost use Rattle.pf_cli.specs.Args.{hunt_fault, hunt_of, hunt_of_values, named_file, of_command, of_one_file, of_other};
-ghost use Rattle.pf_cli.specs.Args.{one_file_fault, pulsefarm, request_by, run_fault, run_args_of, schedule_file_of};
+ghost use Rattle.pf_cli.specs.Args.{one_file_fault, request_by, run_fault, run_args_of, schedule_file_of};
+ghost use Rattle.pf_cli.specs.Commands.{pulsefarm};
 ghost use Rattle.pf_cli.specs.Args.{shrink_of, status_of_kind, view_of_args, view_of_command, view_of_chart_args};
 ghost use Rattle.pf_cli.specs.Args.{view_of_hunt_args, view_of_run_args, wanted_by, wanted_of, work_fault, work_of};
 
@@ -15,6 +16,7 @@ use crate::args::{
     Args, ChartArgs, CheckArgs, CliCommand, HuntArgs, RunArgs, StepsArgs, WeightArgs,
 };
 use crate::commands::command;
+use crate::explore::explore_args;
 use crate::farm::farm_args;
 use crate::form::format;
 use crate::reach::{clash, reach_of};
@@ -51,7 +53,7 @@ fn bytes(alloc: Global, word: &str) -> Result<ShortBytes, Error>
 }
 
 /// The request of these words and this kind.
-fn request(
+pub(crate) fn request(
     alloc: Global,
     root: &str,
     property: &str,
@@ -172,7 +174,7 @@ fn hunt_values<'a>(alloc: Global, rows: &ArgMatches<'a>) -> Result<HuntArgs<'a>,
         Ok(seeds) => seeds,
         Err(e) => return Err(e),
     };
-    let time = match time(alloc, rows) {
+    let time = match time(alloc, Valued::Hunt, rows) {
         Ok(time) => time,
         Err(e) => return Err(e),
     };
@@ -281,7 +283,7 @@ fn entered<'m, 'a>(matches: &'m ArgMatches<'a>) -> Option<(&'a str, &'m ArgMatch
     matches.subcommand()
 }
 
-/// What a command without runs of its own asks for.
+/// What a command without choices of its own asks for.
 fn other_args<'a>(alloc: Global, name: &str, rows: &ArgMatches<'a>) -> Result<Args<'a>, Error>
     ensures ok { IfOk result (λ a.
         of_other name.now (rows_of (found_of rows.now)) ≡ Some (view_of_args a)) }
@@ -291,6 +293,12 @@ fn other_args<'a>(alloc: Global, name: &str, rows: &ArgMatches<'a>) -> Result<Ar
         ⊎ ((kind_of e ≡ ErrorKind.InvalidValue)
         × (of_other name.now (rows_of (found_of rows.now)) ≡ None))) }
 {
+    if name == "explore" {
+        return match explore_args(alloc, rows) {
+            Ok(args) => Ok(Args::Explore(args)),
+            Err(e) => Err(e),
+        };
+    }
     if name == "check" {
         let checked = named_file(rows);
         let explain = is_given(rows, "explain");

@@ -7,7 +7,8 @@ ghost use Rattle.clap.specs.declared.builder.command.Command.TheViews.{out-Comma
 ghost use Rattle.pf_cli.specs.Faults.{clash_text, file_text, number_option, usage_app, usage_name, value_text};
 
 use crate::commands::{
-    chart_command, check_command, command, farm_command, hunt_command, run_command, shrink_command,
+    chart_command, check_command, command, explore_command, farm_command, hunt_command,
+    run_command, shrink_command,
 };
 use clap::error::ErrorKind;
 use clap::{Command, Error};
@@ -31,6 +32,7 @@ pub(crate) fn mistake(alloc: Global, text: &str) -> Error
 pub(crate) enum Valued {
     Run,
     Hunt,
+    Explore,
     Shrink,
     Chart,
     Check,
@@ -44,6 +46,7 @@ fn command_of<'a>(alloc: Global, valued: Valued) -> Result<Command<'a>, AllocErr
     match valued {
         Valued::Run => run_command(alloc),
         Valued::Hunt => hunt_command(alloc),
+        Valued::Explore => explore_command(alloc),
         Valued::Chart => chart_command(alloc),
         Valued::Shrink => shrink_command(alloc),
         Valued::Check => check_command(alloc),
@@ -58,6 +61,7 @@ fn usage_name(valued: Valued) -> &'static str
     match valued {
         Valued::Run => "pulsefarm run",
         Valued::Hunt => "pulsefarm hunt",
+        Valued::Explore => "pulsefarm explore",
         Valued::Chart => "pulsefarm chart",
         Valued::Shrink => "pulsefarm shrink",
         Valued::Check => "pulsefarm check",

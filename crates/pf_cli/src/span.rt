@@ -1,4 +1,4 @@
-//! For how long a hunt goes on.
+//! For how long a hunt or an exploration goes on.
 
 ghost use Rattle.std.specs.Prelude.{◌≡◌, ◌≤◌, ◌⊎◌, IfOk, IfErr, IfSome, Some, None};
 ghost use Rattle.clap.specs.Words.{kind_of, rows_of, found_of};
@@ -49,8 +49,8 @@ fn time_of(word: &str) -> Option<u64>
     seconds_of(number_of(number), unit_of(unit))
 }
 
-/// For how many seconds a hunt goes on at most, if a time is named.
-pub(crate) fn time(alloc: Global, rows: &ArgMatches) -> Result<Option<u64>, Error>
+/// For how many seconds a hunt or an exploration goes on at most, if a time is named.
+pub(crate) fn time(alloc: Global, valued: Valued, rows: &ArgMatches) -> Result<Option<u64>, Error>
     ensures ok { IfOk result (λ t. time_in (rows_of (found_of rows.now)) ≡ Some t) }
     ensures err { IfErr result (λ e. (kind_of e ≡ ErrorKind.OutOfMemory)
         ⊎ ((kind_of e ≡ ErrorKind.InvalidValue) × (time_in (rows_of (found_of rows.now)) ≡ None))) }
@@ -60,6 +60,6 @@ pub(crate) fn time(alloc: Global, rows: &ArgMatches) -> Result<Option<u64>, Erro
     };
     match time_of(word) {
         Some(seconds) => Ok(Some(seconds)),
-        None => Err(refuse_value(alloc, Valued::Hunt, "for <T>", word, TIMES)),
+        None => Err(refuse_value(alloc, valued, "for <T>", word, TIMES)),
     }
 }

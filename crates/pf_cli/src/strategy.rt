@@ -18,10 +18,13 @@ use pf_text::number_of;
 use std::alloc::Global;
 
 /// What a strategy has to be.
-const STRATEGIES: &str = "`pos` or `uniform`; `pos` beside a seed without weights alone";
+const STRATEGIES: &str = "`pos` or `uniform`; `pos` needs a seed, and no weights";
 
 /// What the process that goes last has to be.
-const PIDS: &str = "a process by its number, as 3 or <3>, beside a seed alone";
+const PIDS: &str = "a process by its number, as 3 or <3>; it needs a seed";
+
+/// The same of an exploration, which has no seed.
+const PIDS_EXPLORED: &str = "a process by its number, as 3 or <3>";
 
 /// Whether a text is between `<` and `>`.
 fn is_enclosed(text: &[u8]) -> bool
@@ -41,8 +44,16 @@ fn unenclosed(text: &[u8]) -> &[u8]
     }
 }
 
+/// What the process that goes last has to be, of a command.
+fn pids_of(valued: Valued) -> &'static str {
+    match valued {
+        Valued::Explore => PIDS_EXPLORED,
+        _ => PIDS,
+    }
+}
+
 /// The process that goes last, if one is named.
-fn last(alloc: Global, valued: Valued, rows: &ArgMatches) -> Result<Option<u32>, Error>
+pub(crate) fn last(alloc: Global, valued: Valued, rows: &ArgMatches) -> Result<Option<u32>, Error>
     ensures ok { IfOk result (λ p. last_in (rows_of (found_of rows.now)) ≡ Some p) }
     ensures err { IfErr result (λ e. (kind_of e ≡ ErrorKind.OutOfMemory)
         ⊎ ((kind_of e ≡ ErrorKind.InvalidValue) × (last_in (rows_of (found_of rows.now)) ≡ None))) }
@@ -52,7 +63,7 @@ fn last(alloc: Global, valued: Valued, rows: &ArgMatches) -> Result<Option<u32>,
     };
     match number_of(unenclosed(word.as_bytes())) {
         Some(pid) => Ok(Some(pid)),
-        None => Err(refuse_value(alloc, valued, "last <PID>", word, PIDS)),
+        None => Err(refuse_value(alloc, valued, "last <PID>", word, pids_of(valued))),
     }
 }
 

@@ -332,7 +332,7 @@ pub(crate) fn choices(
             Err(refuse(alloc, valued, ErrorKind::ArgumentConflict, text))
         }
         (None, _, None) => {
-            let text = "one of '--seed <N>' and '--schedule <L>' is wanted";
+            let text = "give '--seed <N>' or '--schedule <L>'";
             Err(refuse(alloc, valued, ErrorKind::MissingRequiredArgument, text))
         }
     }

@@ -20,6 +20,7 @@ pub use explained::explain_run;
 
 mod escape;
 mod explain;
+mod exploring;
 mod messages;
 mod progress;
 mod reasons;
@@ -27,6 +28,7 @@ mod waiting;
 
 pub use escape::ShownText;
 pub use explain::say_processes;
+pub use exploring::Exploring;
 pub use messages::{REFUSED, end, failed, no_memory, notify, say};
 pub use progress::{Clearing, ProgressLine, Runs, Seeds};
 pub use reasons::{lacking_of, why, why_of_root};

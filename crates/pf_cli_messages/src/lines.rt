@@ -116,9 +116,7 @@ fn form_reason(
         let (role, more_roles) = cut(role_on, b' ');
         let role_text = quoted(alloc, role)?;
         let Some(text) = words else {
-            return Ok(format!(in alloc;
-                "{role_text} is missing: {name} wants `{form}` behind it"
-            )?);
+            return Ok(format!(in alloc; "{role_text} is missing: {name} wants `{form}` after it")?);
         };
         let (word, more_words) = cut(text, b' ');
         if let Some(wants) = wanted(alloc, role, word)? {
@@ -131,7 +129,7 @@ fn form_reason(
         roles = more_roles;
     }
     if words.is_some() {
-        return Ok(format!(in alloc; "it has too many words: {name} wants `{form}` behind it")?);
+        return Ok(format!(in alloc; "it has too many words: {name} wants `{form}` after it")?);
     }
     Ok(format!(in alloc; "the source of as many bytes, and a line end, don't follow {name}")?)
 }
@@ -150,6 +148,6 @@ pub fn line_reason(alloc: Global, line: &[u8], is_whole: bool) -> Result<String,
     match form_of(first) {
         None => Ok(format!(in alloc; "no command begins with {name}")?),
         Some(form) if is_whole => form_reason(alloc, &name, form, words),
-        Some(form) => Ok(format!(in alloc; "{name} wants `{form}` behind it")?),
+        Some(form) => Ok(format!(in alloc; "{name} wants `{form}` after it")?),
     }
 }

@@ -34,7 +34,7 @@ impl ProgressLine {
     }
 
     /// Shows this in place of what it showed before.
-    fn show(&self, reported: &impl fmt::Display) {
+    pub(crate) fn show(&self, reported: &impl fmt::Display) {
         let Some(terminal) = self.terminal else {
             return;
         };

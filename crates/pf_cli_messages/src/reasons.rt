@@ -1,8 +1,9 @@
 //! Why a command of a source ended with the status of what is refused.
 
+use crate::wording::of_explained;
 use crate::{SourceRequest, find_reason, lacking_sentence, sentence};
 use pf_check::ReadSource;
-use pf_cli::{Args, Edition, HuntArgs, HuntGoal, RunArgs};
+use pf_cli::{Args, Edition, ExploreArgs, HuntArgs, HuntGoal, RunArgs};
 use pf_errors::NoMemory;
 use pf_request::Request;
 use std::alloc::Global;
@@ -29,12 +30,22 @@ fn asked_of_hunt<'a>(args: &'a HuntArgs) -> SourceRequest<'a> {
     }
 }
 
+/// What an exploration asks for.
+fn asked_of_exploration<'a>(args: &'a ExploreArgs) -> SourceRequest<'a> {
+    SourceRequest {
+        request: &args.request,
+        is_second_edition: matches!(args.edition, Edition::Second),
+        shrinks: None,
+    }
+}
+
 /// What is asked for of a source.
 fn asked_of<'a>(args: &'a Args) -> Option<SourceRequest<'a>> {
     match args {
         Args::Run(args) | Args::Shrink(args) => Some(asked_of_run(args)),
         Args::Chart(args) => Some(asked_of_run(&args.run)),
         Args::Hunt(args) => Some(asked_of_hunt(args)),
+        Args::Explore(args) => Some(asked_of_exploration(args)),
         Args::Check(_) | Args::Steps(_) | Args::Farm(_) => None,
     }
 }
@@ -67,10 +78,7 @@ pub fn why_of_root(
 /// Why what is asked for of a source is refused, or the source. A check that explains it has said so.
 pub fn why(alloc: Global, args: &Args, source: &ReadSource) -> Result<String, NoMemory> {
     match args {
-        Args::Check(check) if check.explain => Ok(String::from_str(
-            alloc,
-            "the source is refused",
-        )?),
+        Args::Check(check) if check.explain => of_explained(alloc, source),
         _ => sentence_of(alloc, asked_of(args), source),
     }
 }

@@ -18,6 +18,9 @@ const WEIGHTS: &str = "a weight is out of range: it is from 1 to 9";
 const NOTHING_FAILS: &str =
     "the property doesn't fail by this schedule, so there is nothing to shrink: give a schedule by which it fails";
 
+/// What is said of a source with a construct that the language lacks.
+const AS_IT_STANDS: &str = " To hunt plain Erlang as it stands: pulsefarm-erl hunt FILE";
+
 const NO_MEMORY: &str = "memory ran out within the run";
 
 /// The most steps of a run, and the most numbers of a schedule.
@@ -38,6 +41,21 @@ pub(crate) fn quoted(alloc: Global, bytes: &[u8]) -> Result<String, NoMemory> {
     Ok(text)
 }
 
+/// What follows what is said of a refusal: where it has an example of how a construct is written in this language, the
+/// program that takes plain Erlang.
+fn as_it_stands(has_example: bool) -> &'static str {
+    if has_example { AS_IT_STANDS } else { "" }
+}
+
+/// What is said of a source that is refused where its explanation is printed.
+pub(crate) fn of_explained(alloc: Global, source: &ReadSource) -> Result<String, NoMemory> {
+    let after = match source.module() {
+        Ok(_) => "",
+        Err(refusal) => as_it_stands(advise(alloc, source.bytes(), refusal)?.rewrite.is_some()),
+    };
+    Ok(format!(in alloc; "the source is refused.{after}")?)
+}
+
 /// What is said of a source that is refused: where, and how to fix it.
 fn of_source(alloc: Global, source: &[u8], refusal: SourceRefusal) -> Result<String, NoMemory> {
     let advice = advise(alloc, source, refusal)?;
@@ -46,7 +64,10 @@ fn of_source(alloc: Global, source: &[u8], refusal: SourceRefusal) -> Result<Str
         .unwrap_or(source);
     let (line, column) = (line(front), column(front));
     let sentence = advice.sentence;
-    Ok(format!(in alloc; "the source is refused at line {line}, column {column}: {sentence}")?)
+    let after = as_it_stands(advice.rewrite.is_some());
+    Ok(format!(in alloc;
+        "the source is refused at line {line}, column {column}: {sentence}{after}"
+    )?)
 }
 
 /// The names of the functions that a module exports without arguments, at most 20, with commas between them.

@@ -6,4 +6,7 @@ mod instruction;
 mod laws;
 
 pub use instruction::{Instruction, Operation, Source};
-pub use laws::{calls_begin_at_entries, instructions_are_steps, runs_are_steps};
+pub use laws::{
+    calls_begin_at_entries, instructions_are_steps, messages_are_tested, none_is_tested,
+    receives_go_on, runs_are_steps,
+};

@@ -25,11 +25,12 @@ use Rattle.pf_cli.specs.declared.args.HuntGoal.TheVariants.{Failure, Outcomes}
 use Rattle.pf_command.specs.Answers.{AnswersBy, atom_names_of, no_memory_report}
 use Rattle.pf_command.specs.Hunts.{IsLeastFailure, PrintsReport, PrintsShrinking, PrintsSought, choices_of, front_text}
 use Rattle.pf_command.specs.Hunts.{may_stop, none_text, row_text, rows_status, seed_text, strategy_text}
-use Rattle.pf_command.specs.Hunts.{HuntAsksFor, HuntEndsAs, PrintsAs, hunted, refused}
+use Rattle.pf_command.specs.Hunts.{HuntAsksFor, hunted, refused}
 use Rattle.pf_command.specs.Hunts.{none_fails, seed_fails, seed_cut, seed_shrunk, seed_alone, tallied}
 use Rattle.pf_command.specs.declared.answer.Output.{Output}
-use Rattle.pf_command.specs.declared.ending.HuntEnd.{HuntEnd}
-use Rattle.pf_command.specs.declared.ending.HuntEnd.TheVariants.{Reported}
+use Rattle.pf_command.specs.Printed.{HuntEndsAs, PrintsAs}
+use Rattle.pf_command.specs.declared.answers.Answer.{Answer}
+use Rattle.pf_command.specs.declared.answers.Answer.TheVariants.{Reported}
 
 -- the choices of events are those of what they stand for
 pub choices_are : (r : code.Report) → map (λ e. e.choice) r.events.items ≡ choices_of (view_of_report r)
@@ -102,7 +103,7 @@ module _ (h : HuntArgs) (bytes : List ℕ) (j : Job) (ns : List Notice) where
 -- what may be said of the result of a hunt over the job of a source is what the source is answered with
 module _ (h : HuntArgs) (bytes : List ℕ) (m : ReadModule) (j : Job) (ns : List Notice) (sought : HuntGoal)
     (same : sought ≡ h.sought) (of : IsModuleOf bytes m) (asks : HuntAsksFor h h.sought m (Ok j)) where
-  pub ends_as : (x : HuntEnd) → PrintsAs h bytes j sought x ns → HuntEndsAs h h.sought bytes x ns
+  pub ends_as : (x : Answer) → PrintsAs h bytes j sought x ns → HuntEndsAs h h.sought bytes x ns
   ends_as x reports = (
     reports.0,
     λ t s say. hunted m j ns t s of asks (subst (λ g. PrintsSought h bytes j ns g t s) same (reports.1 t s say)),

@@ -1,6 +1,6 @@
 -- What goes out where a command answers.
 use Rattle.std.proofs.Common.{◌≡◌, ℕ, zero, List, ◌++◌, Option, None, Result, Ok, Err, refl, sym, ap, ◌∙◌, subst}
-use Rattle.std.specs.Prelude.{IfErr, IfOk, IfSome, IsErr, IsErrAnd, OnOk, take}
+use Rattle.std.specs.Prelude.{IfOk, IfSome, IsErr, IsErrAnd, take}
 use Rattle.std.specs.Io.KnownBytes.{Appends}
 use Rattle.pf_errors.specs.declared.fault.OrNoMemory.{OrNoMemory}
 use Rattle.pf_errors.specs.declared.fault.OrNoMemory.TheVariants.{NoMemory, Fault}

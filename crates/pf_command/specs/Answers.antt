@@ -18,7 +18,6 @@ use Rattle.pf_request.specs.View.{view_of_request}
 use Rattle.pf_request.specs.declared.request.Request.{Request}
 use Rattle.pf_check.specs.Reads.{Reads, refused}
 use Rattle.pf_check.specs.Reading.{IsModuleOf}
-use Rattle.pf_sched.specs.Asked.{Asks}
 use Rattle.pf_sched.specs.Waiting.{waiting_in}
 use Rattle.pf_cli.specs.Args.{RunArgs, edition_number}
 use Rattle.pf_cli_messages.specs.Explained.{AsksOf}

@@ -21,13 +21,10 @@ use Rattle.pf_strategy.specs.declared.strategy.Strategy.{Strategy}
 use Rattle.pf_hunt.specs.Hunts.{FirstFailing, SearchedTo, Tallies}
 use Rattle.pf_hunt.specs.Notices.{Notice, SearchNotices, TallyNotices}
 use Rattle.pf_hunt.specs.Rows.{OutcomeRow}
-use Rattle.pf_hunt.specs.Views.{failure_of}
 use Rattle.pf_cli.specs.Args.{HuntArgs, RunArgs}
 use Rattle.pf_cli.specs.declared.args.HuntGoal.{HuntGoal}
 use Rattle.pf_cli.specs.declared.args.HuntGoal.TheVariants.{Failure, Outcomes}
 use Rattle.pf_command.specs.declared.answer.Output.{Output}
-use Rattle.pf_command.specs.declared.ending.HuntEnd.{HuntEnd}
-use Rattle.pf_command.specs.declared.ending.HuntEnd.TheVariants.{Reported, Found}
 use Rattle.pf_command.specs.declared.seek.HuntedJob.{HuntedJob}
 use Rattle.pf_command.specs.Answers.{AnswersRun, AnswersBy, IsNoMemory, cut_text, atom_names_of, no_memory_report}
 use Rattle.pf_cli_messages.specs.Explained.{AsksOf}
@@ -69,7 +66,7 @@ abbrev pub may_stop : HuntArgs → Bool
 may_stop h = is_some h.time
 
 abbrev pub stopped_text : (seeds : ℕ) → List ℕ
-stopped_text seeds = codes "stopped behind " ++ decimal seeds ++ codes " seeds\n"
+stopped_text seeds = codes "stopped after " ++ decimal seeds ++ codes " seeds\n"
 
 -- before what is reported of the seeds to before c comes that the hunt stopped there, unless these are all
 abbrev pub front_text : HuntArgs → (c : ℕ) → List ℕ
@@ -165,30 +162,7 @@ HuntNotifies h ns bytes text status = SoughtAnswers h h.sought bytes ns text sta
 abbrev pub HuntAnswers : HuntArgs → (bytes text : List ℕ) → ℕ → Type 0
 HuntAnswers h bytes text status = (ns : List Notice) × HuntNotifies h ns bytes text status
 
--- ---- the result of a hunt before it is reported
-
--- what may be said of the end of a hunt over the runs of a source's job: its answer; or, where a run fails, that
-abbrev pub MaySay : HuntArgs → (bytes : List ℕ) → List Notice → HuntEnd → List ℕ → ℕ → Type 0
-MaySay h bytes ns (Reported a) text status = (text ≡ a.text.items) × (status ≡ a.status)
-MaySay h bytes ns (Found f) text status = PrintsSought h bytes f.job ns (Failure f.runs) text status
-
--- it is a run that fails, the first of the module of the source, or an answer
-abbrev pub IsFound : HuntArgs → (bytes : List ℕ) → List Notice → HuntEnd → Type 0
-IsFound h bytes ns (Reported a) = Unit {0}
-IsFound h bytes ns (Found f) = IsModuleOf bytes f.«module» × IsLeastFailure h f.job ns h.seeds.1
-    (Some (failure_of f.failure))
-
--- whatever may be said of it is reported of the runs of this job
-abbrev pub PrintsAs : HuntArgs → (bytes : List ℕ) → Job → HuntGoal → HuntEnd → List Notice → Type 0
-PrintsAs h bytes j sought x ns =
-    IsFound h bytes ns x × ((text : List ℕ) (status : ℕ) → MaySay h bytes ns x text status
-    → PrintsSought h bytes j ns sought text status)
-
--- so a source of these bytes may be answered
-abbrev pub HuntEndsAs : HuntArgs → HuntGoal → (bytes : List ℕ) → HuntEnd → List Notice → Type 0
-HuntEndsAs h sought bytes x ns =
-    IsFound h bytes ns x × ((text : List ℕ) (status : ℕ) → MaySay h bytes ns x text status
-    → SoughtAnswers h sought bytes ns text status)
+-- ---- what is hunted
 
 -- of each source whose module this is
 abbrev pub OfEach : ReadModule → (so : (bytes : List ℕ) → List Notice → Type 0) → List Notice → Type 0

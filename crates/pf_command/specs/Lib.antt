@@ -5,3 +5,4 @@ pub mod AskedRuns
 pub mod Checks
 pub mod Streams
 pub mod Waiting
+pub mod Printed

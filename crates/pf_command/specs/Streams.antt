@@ -84,8 +84,8 @@ abbrev pub WentOut : (P : List ℕ → ℕ → Type 0) → (written_old written_
 WentOut P w0 w1 status = (text : List ℕ) × P text status × Appends w0 w1 text
 
 -- this is the text of an answer, and its status
-abbrev pub IsAnswer : Output → List ℕ → ℕ → Type 0
-IsAnswer a text status = (text ≡ a.text.items) × (status ≡ a.status)
+abbrev pub IsOutput : Output → List ℕ → ℕ → Type 0
+IsOutput a text status = (text ≡ a.text.items) × (status ≡ a.status)
 
 -- and these are words on a line of their own, with the status of what is refused
 abbrev pub IsRefusedText : (words : List ℕ) → List ℕ → ℕ → Type 0

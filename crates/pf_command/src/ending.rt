@@ -1,5 +1,5 @@
-//! The result of a hunt, and how a run that fails is reported: its seed and its choices go out first, which takes no
-//! memory, so that they are known whatever comes after.
+//! How a run that fails is reported: its seed and its choices go out first, which takes no memory, so that they are
+//! known whatever comes after.
 
 ghost use Rattle.std.specs.Prelude.{◌≡◌, ◌++◌, List, ℕ, Some, OnErr, OnOk, IfErr, IfOk, codes, map};
 ghost use Rattle.std.specs.Fmt.{decimal};
@@ -13,13 +13,13 @@ ghost use Rattle.pf_cli.specs.Args.{view_of_hunt_args};
 ghost use Rattle.pf_cli.specs.declared.args.HuntGoal.TheVariants.{Failure};
 ghost use Rattle.pf_command.specs.Answers.{AnswersRun};
 ghost use Rattle.pf_check.specs.Reading.{IsModuleOf};
-ghost use Rattle.pf_command.specs.Hunts.{IsFound, IsLeastFailure, MaySay, PrintsReport, PrintsShrinking, PrintsSought};
+ghost use Rattle.pf_command.specs.Hunts.{IsLeastFailure, PrintsReport, PrintsShrinking, PrintsSought};
 ghost use Rattle.pf_command.specs.Hunts.{choices_of, seed_text, shrinking_of, strategy_text};
 ghost use Rattle.pf_command.specs.Streams.{PrintsAnswer};
 ghost use Rattle.pf_command.specs.Waiting.{Adds, after_commas};
 
 use crate::answer::{FAILED, Output};
-use crate::printing::{print_answer, print_no_memory};
+use crate::printing::{print_no_memory, print_output};
 use crate::seeds::choices_of;
 use crate::seek::shrink;
 use crate::waiting::{OutputBuffer, add, add_number};
@@ -36,23 +36,15 @@ use std::alloc::Global;
 use std::io::Write;
 use std::sync::ledger::Ledger;
 
-/// A run that fails: its job, the module of that, its seed and its report; and within how many runs its schedule is to
-/// be shrunk, if it is.
+/// A run that fails: the hunt that found it, its job, the module of that, its seed and its report; and within how many
+/// runs its schedule is to be shrunk, if it is.
 #[derive(Drop)]
-pub struct FailingRun {
+pub struct FailingRun<'a> {
+    pub args: &'a HuntArgs<'a>,
     pub job: Job,
     pub module: ReadModule,
     pub failure: FailingSeed,
     pub runs: Option<u32>,
-}
-
-/// The result of a hunt.
-#[derive(Drop)]
-pub enum HuntEnd {
-    /// An answer.
-    Reported(Output),
-    /// A run that fails, which is to be reported.
-    Found(FailingRun),
 }
 
 /// Adds a comma and a choice.
@@ -223,26 +215,28 @@ fn print_shrunk<W: Write, M: Ledger>(
         writer.old.failures.total writer.new.failures.total result }
 {
     match shrink_report(alloc, args, run, observer) {
-        Ok(answer) => print_answer(&answer, writer),
+        Ok(answer) => print_output(&answer, writer),
         Err(NoMemory) => print_no_memory(writer),
     }
 }
 
 /// Prints a run that fails: its seed and its choices, and then its report, or what their shrinking is answered with.
-fn print_found<W: Write, M: Ledger>(
+pub(crate) fn print_found<W: Write, M: Ledger>(
     alloc: Global,
-    args: &HuntArgs,
-    found: FailingRun,
+    found: FailingRun<'_>,
     observer: &mut impl Observer,
     writer: &mut Counted<W, M>,
 ) -> Result<u8, StreamFault>
-    ensures { (bytes : List ℕ) (ns : List Notice) → IsModuleOf bytes found.«module»
-        → IsLeastFailure (view_of_hunt_args args.now) found.job ns args.now.end (Some (failure_of found.failure))
-        → PrintsAnswer (PrintsSought (view_of_hunt_args args.now) bytes found.job ns (Failure found.runs))
+    ensures { (bytes : List ℕ) (ns : List Notice) → IsModuleOf bytes found.entry.«module»
+        → IsLeastFailure (view_of_hunt_args found.entry.args.now) found.entry.job ns found.entry.args.now.end
+        (Some (failure_of found.entry.failure))
+        → PrintsAnswer (PrintsSought (view_of_hunt_args found.entry.args.now) bytes found.entry.job ns
+        (Failure found.entry.runs))
         (W.contents writer.old.inner) (W.contents writer.new.inner)
         writer.old.failures.total writer.new.failures.total result }
 {
     let FailingRun {
+        args,
         job,
         module,
         failure,
@@ -260,24 +254,5 @@ fn print_found<W: Write, M: Ledger>(
             print_shrunk(alloc, args, run, observer, writer)
         }
         None => print_failure(alloc, &job, &failure.report, writer),
-    }
-}
-
-/// Prints the result of a hunt.
-pub fn print_end<W: Write, M: Ledger>(
-    alloc: Global,
-    args: &HuntArgs,
-    end: HuntEnd,
-    observer: &mut impl Observer,
-    writer: &mut Counted<W, M>,
-) -> Result<u8, StreamFault>
-    ensures { (bytes : List ℕ) (ns : List Notice) → IsFound (view_of_hunt_args args.now) bytes ns end
-        → PrintsAnswer (MaySay (view_of_hunt_args args.now) bytes ns end)
-        (W.contents writer.old.inner) (W.contents writer.new.inner)
-        writer.old.failures.total writer.new.failures.total result }
-{
-    match end {
-        HuntEnd::Reported(answer) => print_answer(&answer, writer),
-        HuntEnd::Found(found) => print_found(alloc, args, found, observer, writer),
     }
 }

@@ -3,10 +3,11 @@
 ghost use Rattle.std.specs.Prelude.{IfOk, Ok};
 ghost use Rattle.pf_hunt.specs.Notices.{HearsSome};
 ghost use Rattle.pf_cli.specs.Args.{view_of_hunt_args};
-ghost use Rattle.pf_command.specs.Hunts.{HuntEndsAs, HuntAnswers, HuntNotifies};
+ghost use Rattle.pf_command.specs.Hunts.{HuntAnswers, HuntNotifies};
+ghost use Rattle.pf_command.specs.Printed.{HuntEndsAs};
 ghost use Rattle.pf_command.specs.Streams.{IsAnsweredSo, PrintsAnswer, Sends, Serves, TakesBytes, streams};
 
-use crate::ending::{HuntEnd, print_end};
+use crate::answers::{Answer, print_answer};
 use crate::seek::{hunted_of, seek_failure, seek_outcomes};
 use crate::serving::MOST_BYTES;
 use pf_check::ReadSource;
@@ -28,32 +29,32 @@ pub struct HuntRequest<'a> {
 }
 
 /// The result for a source: an answer, or a run that fails, which is still to be printed.
-pub fn end_of_hunt<T: Threads + Sync, S: HuntObserver>(
+pub fn answer_of_hunt<'a, T: Threads + Sync, S: HuntObserver>(
     rt: &T,
     alloc: Global,
-    asked: &HuntRequest,
+    asked: &HuntRequest<'a>,
     source: &ReadSource,
     seeds: &mut S,
-) -> Result<HuntEnd, NoMemory>
+) -> Result<Answer<'a>, NoMemory>
     ensures { IfOk result (λ x. HearsSome S.Heard seeds.old (HuntEndsAs (view_of_hunt_args asked.now.args.now)
         (view_of_hunt_args asked.now.args.now).sought source.now x) seeds.new) }
 {
     let hunted = match hunted_of(alloc, asked.args, source) {
         Ok(hunted) => hunted,
-        Err(OrNoMemory::Fault(answer)) => return Ok(HuntEnd::Reported(answer)),
+        Err(OrNoMemory::Fault(answer)) => return Ok(Answer::Reported(answer)),
         Err(OrNoMemory::NoMemory) => return Err(NoMemory),
     };
     match asked.args.sought {
         HuntGoal::Failure { runs } => seek_failure(rt, alloc, asked, hunted, runs, seeds),
         HuntGoal::Outcomes => {
             let answer = seek_outcomes(rt, alloc, asked, hunted, seeds)?;
-            Ok(HuntEnd::Reported(answer))
+            Ok(Answer::Reported(answer))
         }
     }
 }
 
 /// Prints what a source is answered with.
-pub fn print_hunt<W: Write, M: Ledger, T: AllocGlobal + Threads + Sync, S: HuntObserver>(
+fn print_hunt<W: Write, M: Ledger, T: AllocGlobal + Threads + Sync, S: HuntObserver>(
     rt: &T,
     asked: &HuntRequest,
     source: &ReadSource,
@@ -70,8 +71,8 @@ pub fn print_hunt<W: Write, M: Ledger, T: AllocGlobal + Threads + Sync, S: HuntO
         writer.old.failures.total writer.new.failures.total (Ok status)) seeds.new) }
 {
     let alloc = rt.alloc();
-    let end = end_of_hunt(rt, alloc, asked, source, seeds)?;
-    Ok(print_end(alloc, asked.args, end, observer, writer)?)
+    let answer = answer_of_hunt(rt, alloc, asked, source, seeds)?;
+    Ok(print_answer(alloc, answer, observer, writer, &mut 0)?)
 }
 
 /// Answers a source whose runs by many seeds are asked for: reads at most one byte more than a source may have, writes

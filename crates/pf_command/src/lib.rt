@@ -2,10 +2,12 @@
 #![tactic(auto)]
 
 mod answer;
+mod answers;
 mod chart;
 mod check;
 mod ending;
 mod hunt;
+mod one_run;
 mod printing;
 mod run;
 mod seeds;
@@ -15,10 +17,12 @@ mod stopping;
 mod waiting;
 
 pub use answer::Output;
+pub use answers::{Answer, answer_by, print_answer};
 pub use chart::Chart;
 pub use check::CheckCommand;
-pub use ending::{FailingRun, HuntEnd, print_end};
-pub use hunt::{HuntRequest, end_of_hunt, hunt_source, print_hunt};
-pub use printing::{print_source, run_source};
-pub use run::Shrink;
-pub use serving::{Answering, MOST_BYTES, answer_by, serve};
+pub use ending::FailingRun;
+pub use hunt::{HuntRequest, answer_of_hunt, hunt_source};
+pub use one_run::RunToPrint;
+pub use printing::run_source;
+pub use run::{Shrink, answer_of_run};
+pub use serving::{Answering, MOST_BYTES, serve};

@@ -1,4 +1,4 @@
-//! What a source is answered with of which a shrinking is asked for.
+//! What a source is answered with of which a run or a shrinking is asked for.
 
 ghost use Rattle.std.specs.Prelude.{◌≡◌, List, ℕ, zero, IfOk, Some};
 ghost use Rattle.pf_terms.specs.Atoms.{name_of};
@@ -7,16 +7,21 @@ ghost use Rattle.pf_model.specs.Text.{report_text};
 ghost use Rattle.pf_request.specs.Job.{memory_report};
 ghost use Rattle.pf_trace.specs.Written.{AreWritten, report_in};
 ghost use Rattle.pf_sched.specs.Views.{IsWritten, result_of};
+ghost use Rattle.pf_cli.specs.Args.{view_of_run_args};
 ghost use Rattle.pf_command.specs.Answers.{AnswersRun, ReportsJob, PrintsResult, run_args};
+ghost use Rattle.pf_command.specs.Printed.{JobEndsAs, RunEndsAs};
 ghost use Rattle.pf_check.specs.Reading.{IsModuleOf};
 
 use crate::answer::{FAILED, Output, refused_at, refused_by_code, run_status};
+use crate::answers::Answer;
+use crate::one_run::RunToPrint;
 use crate::serving::Answering;
 use pf_check::{ReadModule, ReadSource};
 use pf_cli::{Edition, RunArgs};
 use pf_errors::{Code, NoMemory, OrNoMemory};
 use pf_request::Request;
-use pf_sched::{Finished, Job, JobResult, Observer, Scratch, memory_report, run_to_end};
+use pf_sched::{Finished, Job, JobResult, Observer, Scratch, Silent, memory_report, run_to_end};
+use pf_strategy::SeedChoice;
 use pf_terms::AtomTable;
 use pf_trace::{WrittenReport, put_found, put_written};
 use std::alloc::Global;
@@ -95,7 +100,7 @@ fn write_finished(alloc: Global, finished: &Finished) -> Result<Output, NoMemory
 }
 
 /// The answer of a job, which is run to its end.
-pub(crate) fn answer_job(
+pub(crate) fn output_of_job(
     alloc: Global,
     job: Job,
     observer: &mut impl Observer,
@@ -108,7 +113,7 @@ pub(crate) fn answer_job(
 }
 
 /// The answer to a module of which this is asked for.
-pub(crate) fn answer_module(
+pub(crate) fn output_of_module(
     alloc: Global,
     request: &Request,
     edition: Edition,
@@ -119,14 +124,14 @@ pub(crate) fn answer_module(
         → AnswersRun (run_args request.now edition) bytes a.text.items a.status) }
 {
     match Job::new(alloc, module, request, edition.number()) {
-        Ok(job) => answer_job(alloc, job, observer),
+        Ok(job) => output_of_job(alloc, job, observer),
         Err(OrNoMemory::Fault(refusal)) => refused_by_code(alloc, refusal.code()),
         Err(OrNoMemory::NoMemory) => Err(NoMemory),
     }
 }
 
 /// The answer to a source of which this is asked for. The observer receives the progress of a shrinking.
-fn answer_source(
+fn output_of_source(
     alloc: Global,
     request: &Request,
     edition: Edition,
@@ -136,8 +141,61 @@ fn answer_source(
     ensures { IfOk result (λ a. AnswersRun (run_args request.now edition) source.now a.text.items a.status) }
 {
     match source.module() {
-        Ok(module) => answer_module(alloc, request, edition, module.share()?, observer),
+        Ok(module) => output_of_module(alloc, request, edition, module.share()?, observer),
         Err(refusal) => refused_at(alloc, refusal),
+    }
+}
+
+/// What a job is answered with, or its run by a seed: a run, which is still to be printed, or the report of a
+/// shrinking.
+fn answer_of_job<'a>(
+    alloc: Global,
+    job: Job,
+    by_seed: Option<SeedChoice>,
+) -> Result<Answer<'a>, NoMemory>
+    ensures { IfOk result (JobEndsAs by_seed job) }
+{
+    if by_seed.is_none() && job.runs() > 0 {
+        let answer = output_of_job(alloc, job, &mut Silent)?;
+        Ok(Answer::Reported(answer))
+    } else {
+        Ok(Answer::Run(RunToPrint { job, by_seed }))
+    }
+}
+
+/// What a module is answered with of which a run is asked for.
+fn answer_of_module<'a>(
+    alloc: Global,
+    args: &RunArgs,
+    module: ReadModule,
+) -> Result<Answer<'a>, NoMemory>
+    ensures { IfOk result (λ x. (bytes : List ℕ) → IsModuleOf bytes «module»
+        → RunEndsAs (view_of_run_args args.now) bytes x) }
+{
+    match Job::new(alloc, module, &args.request, args.edition.number()) {
+        Ok(job) => answer_of_job(alloc, job, args.by_seed),
+        Err(OrNoMemory::NoMemory) => Err(NoMemory),
+        Err(OrNoMemory::Fault(refusal)) => {
+            let answer = refused_by_code(alloc, refusal.code())?;
+            Ok(Answer::Reported(answer))
+        }
+    }
+}
+
+/// What a source is answered with of which a run is asked for.
+pub fn answer_of_run<'a>(
+    alloc: Global,
+    args: &RunArgs,
+    source: &ReadSource,
+) -> Result<Answer<'a>, NoMemory>
+    ensures { IfOk result (RunEndsAs (view_of_run_args args.now) source.now) }
+{
+    match source.module() {
+        Ok(module) => answer_of_module(alloc, args, module.share()?),
+        Err(refusal) => {
+            let answer = refused_at(alloc, refusal)?;
+            Ok(Answer::Reported(answer))
+        }
     }
 }
 
@@ -156,6 +214,6 @@ impl<O: Observer + Drop> Answering for Shrink<'_, O> {
 
     fn answer(self, alloc: Global, source: &ReadSource) -> Result<Output, NoMemory> {
         let Shrink { args, mut observer } = self;
-        answer_source(alloc, &args.request, args.edition, source, &mut observer)
+        output_of_source(alloc, &args.request, args.edition, source, &mut observer)
     }
 }

@@ -11,14 +11,15 @@ ghost use Rattle.pf_cli.specs.declared.args.HuntGoal.TheVariants as goals;
 ghost use Rattle.pf_command.specs.Answers.{AnswersRun, atom_names_of, run_args};
 ghost use Rattle.pf_cli_messages.specs.Explained.{AsksOf};
 ghost use Rattle.pf_check.specs.Reading.{IsModuleOf};
-ghost use Rattle.pf_command.specs.Hunts.{HuntAsksFor, IsHunted, IsNotHunted, MayShrink, OfEach, PrintsAs};
-ghost use Rattle.pf_command.specs.Hunts.{PrintsSought};
+ghost use Rattle.pf_command.specs.Hunts.{HuntAsksFor, IsHunted, IsNotHunted, MayShrink, OfEach, PrintsSought};
+ghost use Rattle.pf_command.specs.Printed.{PrintsAs};
 ghost use Rattle.pf_command.specs.Hunts.{front_text, none_text, row_text, shrinking_of, strategy_text};
 
 use crate::answer::{Output, refused_at, refused_by_code};
-use crate::ending::{FailingRun, HuntEnd};
+use crate::answers::Answer;
+use crate::ending::FailingRun;
 use crate::hunt::HuntRequest;
-use crate::run::answer_module;
+use crate::run::output_of_module;
 use crate::seeds::{put_none, put_rows, put_strategy, rows_status};
 use crate::stopping::{may_stop, put_front};
 use pf_check::{ReadModule, ReadSource};
@@ -203,7 +204,7 @@ pub(crate) fn shrink(
         → AnswersRun (shrinking_of (view_of_hunt_args args.now) schedule.items runs) bytes a.text.items a.status) }
 {
     let request = shrinking(alloc, args, schedule, runs)?;
-    answer_module(alloc, &request, args.edition, module, observer)
+    output_of_module(alloc, &request, args.edition, module, observer)
 }
 
 /// How many workers have seeds of a hunt.
@@ -212,14 +213,14 @@ fn workers_of(args: &HuntArgs, workers: u64) -> u64 {
 }
 
 /// The result if the least seed that fails is sought.
-pub(crate) fn seek_failure<T: Threads + Sync, S: HuntObserver>(
+pub(crate) fn seek_failure<'a, T: Threads + Sync, S: HuntObserver>(
     rt: &T,
     alloc: Global,
-    asked: &HuntRequest,
+    asked: &HuntRequest<'a>,
     hunted: HuntedJob,
     runs: Option<u32>,
     seeds: &mut S,
-) -> Result<HuntEnd, NoMemory>
+) -> Result<Answer<'a>, NoMemory>
     ensures { IfOk result (λ x. HearsSome S.Heard seeds.old (OfEach hunted.«module»
         (λ bytes. PrintsAs (view_of_hunt_args asked.now.args.now) bytes hunted.job (goals.Failure runs) x))
         seeds.new) }
@@ -249,9 +250,10 @@ pub(crate) fn seek_failure<T: Threads + Sync, S: HuntObserver>(
     };
     let Searched { failure, end, .. } = first_failing(rt, alloc, &hunt, range, seeds)?;
     let Some(failure) = failure else {
-        return Ok(HuntEnd::Reported(write_none(alloc, args, end)?));
+        return Ok(Answer::Reported(write_none(alloc, args, end)?));
     };
-    Ok(HuntEnd::Found(FailingRun {
+    Ok(Answer::Found(FailingRun {
+        args,
         job: hunt.job,
         module,
         failure,

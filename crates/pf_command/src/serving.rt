@@ -3,9 +3,10 @@
 ghost use Rattle.pf_command.specs.Streams.{Sends, Serves, TakesBytes, streams};
 
 use crate::answer::Output;
-use crate::printing::print_answer;
+use crate::answers::{answer_by, print_answer};
 use pf_check::ReadSource;
 use pf_errors::{NoMemory, OrNoMemory};
+use pf_sched::Silent;
 use pf_streams::{Counted, StreamFault};
 use pf_tokens::MOST_SOURCE_BYTES;
 use std::alloc::Global;
@@ -26,8 +27,8 @@ pub trait Answering {
         ensures { IfOk result (λ a. answers self source.now a.text.items a.status) };
 }
 
-/// Answers a source that was read by a command.
-pub fn answer_by<W: Write, M: Ledger, C: Answering + Drop>(
+/// Prints what a source is answered with by a command.
+fn print_by<W: Write, M: Ledger, C: Answering + Drop>(
     alloc: Global,
     command: C,
     source: &ReadSource,
@@ -37,8 +38,8 @@ pub fn answer_by<W: Write, M: Ledger, C: Answering + Drop>(
         (W.contents writer.old.inner) (W.contents writer.new.inner)
         writer.old.failures.total writer.new.failures.total result }
 {
-    let answer = command.answer(alloc, source)?;
-    Ok(print_answer(&answer, writer)?)
+    let answer = answer_by(alloc, command, source)?;
+    Ok(print_answer(alloc, answer, &mut Silent, writer, &mut 0)?)
 }
 
 /// Answers a source by a command: reads at most one byte more than a source may have, writes a text and gives the
@@ -62,5 +63,5 @@ pub fn serve<R: Read, W: Write, L: Ledger, M: Ledger, C: Answering + Drop>(
 {
     let bytes = reader.take_front(alloc, MOST_BYTES)?;
     let source = ReadSource::new(alloc, bytes)?;
-    answer_by(alloc, command, &source, writer)
+    print_by(alloc, command, &source, writer)
 }

@@ -19,7 +19,7 @@ pub(crate) fn may_stop(args: &HuntArgs) -> bool
 fn put_stopped(out: &mut Vec<u8>, seeds: u64) -> Result<(), NoMemory>
     ensures { OnOk result (out.new.items ≡ out.old.items ++ stopped_text seeds) }
 {
-    put(out, b"stopped behind ")?;
+    put(out, b"stopped after ")?;
     put_number(out, seeds)?;
     put(out, b" seeds\n")
 }

@@ -1,7 +1,7 @@
-pub mod Grown
-pub mod Laid
-pub mod Dependent
-pub mod Plans
-pub mod Guarded
+pub mod Evaluated
 pub mod Sizes
-pub mod Slices
+pub mod Clauses
+pub mod Parts
+pub mod Targets
+pub mod Rows
+pub mod Compiled

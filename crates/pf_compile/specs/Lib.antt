@@ -1,6 +1,3 @@
-pub mod Maker
-pub mod Growth
-pub mod Tests
-pub mod Planned
 pub mod Scopes
-pub mod Guarded
+pub mod Evaluated
+pub mod Compiled

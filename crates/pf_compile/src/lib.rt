@@ -1,8 +1,9 @@
 //! The functions of a checked module compiled to instructions over registers.
 #![tactic(auto)]
 
-mod guards;
-mod maker;
-mod operations;
-mod plan;
-mod scope;
+mod expressions;
+mod functions;
+mod target;
+
+pub use functions::{Program, program_of};
+pub use target::NotCompiled;

@@ -21,7 +21,7 @@ sentence_of table.NoHead =
     codes "The first form must be `-module(Name).`, where the name is an atom: begin the source with it."
 sentence_of table.NotGrammar =
     codes
-    "No rule of the grammar goes on like this: mend what is missing, too much or too deep here, or isn't in this language."
+    "No rule of the grammar goes on like this: fix what is missing, too much or too deep here, or isn't in this language."
 sentence_of table.Unbound =
     codes
     "This variable has no value here, or is `_`, which never has one: bind it in a pattern before, or as an argument."
@@ -29,7 +29,7 @@ sentence_of table.Unsafe =
     codes
     "Bind the value of the whole `case`, as in `X = case .. end`: a variable that only some clauses bind, or that every clause binds, is unsafe after `end` here."
 sentence_of table.Undefined =
-    codes "No function of this name with as many arguments is defined or built in here: define it, or mend the call."
+    codes "No function of this name with as many arguments is defined or built in here: define it, or fix the call."
 sentence_of table.DefinedTwice =
     codes
     "An earlier function, or a built-in one, has this name with as many arguments: rename this one, or take it out."
@@ -40,7 +40,7 @@ sentence_of table.SourceTooLong =
     codes "A source has at most 65,536 bytes, and this one has more: shorten it."
 sentence_of table.HeadsDiffer =
     codes
-    "The clauses of a function have one name and one number of arguments: mend this head, or end the clause before by a dot."
+    "The clauses of a function have one name and one number of arguments: fix this head, or end the clause before by a dot."
 sentence_of table.NoModule = of_no_source
 sentence_of table.NoRoot = of_no_source
 sentence_of table.NoTrial = of_no_source

@@ -26,7 +26,7 @@ pub fn sentence(code: Code) -> &'static str
             "The first form must be `-module(Name).`, where the name is an atom: begin the source with it."
         }
         Code::NotGrammar => {
-            "No rule of the grammar goes on like this: mend what is missing, too much or too deep here, or isn't in this language."
+            "No rule of the grammar goes on like this: fix what is missing, too much or too deep here, or isn't in this language."
         }
         Code::Unbound => {
             "This variable has no value here, or is `_`, which never has one: bind it in a pattern before, or as an argument."
@@ -35,7 +35,7 @@ pub fn sentence(code: Code) -> &'static str
             "Bind the value of the whole `case`, as in `X = case .. end`: a variable that only some clauses bind, or that every clause binds, is unsafe after `end` here."
         }
         Code::Undefined => {
-            "No function of this name with as many arguments is defined or built in here: define it, or mend the call."
+            "No function of this name with as many arguments is defined or built in here: define it, or fix the call."
         }
         Code::DefinedTwice => {
             "An earlier function, or a built-in one, has this name with as many arguments: rename this one, or take it out."
@@ -47,7 +47,7 @@ pub fn sentence(code: Code) -> &'static str
             "A source has at most 65,536 bytes, and this one has more: shorten it."
         }
         Code::HeadsDiffer => {
-            "The clauses of a function have one name and one number of arguments: mend this head, or end the clause before by a dot."
+            "The clauses of a function have one name and one number of arguments: fix this head, or end the clause before by a dot."
         }
         Code::NoModule
         | Code::NoRoot

@@ -1,49 +1,47 @@
 -- What comes after a run, and that no schedule is between.
 use Rattle.std.proofs.Common.{◌≡◌, ◌∙◌, ◌⊎◌, inl, inr, refl, sym, ap, subst, ℕ, zero, suc, ◌+◌, ◌-◌, ◌==◌, ◌<◌, ◌≤◌}
 use Rattle.std.proofs.Common.{arith}
-use Rattle.std.proofs.Common.{Bool, true, false, ◌||◌, ◌&&◌, if◌then◌else◌, List, [], ◌∷◌, ◌++◌, length, map, take}
+use Rattle.std.proofs.Common.{Bool, true, false, ◌||◌, ◌&&◌, if◌then◌else◌, List, [], ◌∷◌, ◌++◌, length, take}
 use Rattle.std.proofs.Common.{get_or}
 use Rattle.std.proofs.Common.{Some}
 use Rattle.std.specs.Prelude.{nat_lt}
 use Rattle.std.proofs.lemmas.Bool.{cases_lt}
-use Rattle.std.proofs.lemmas.List.{length-map, length-take-le, map_more}
+use Rattle.std.proofs.lemmas.List.{length-take-le, take_more}
 use Rattle.std.proofs.lemmas.Bool.Decides.{nat_tests}
-use Rattle.pf_model.specs.Meaning.{Event}
-use Rattle.pf_explore_laws.specs.Schedules.{deviations}
+use Rattle.pf_strategy.specs.declared.noted.ChoicePoint.{ChoicePoint}
+use Rattle.pf_explore_laws.specs.Last.{other_choices}
 use Rattle.pf_explore_laws.specs.Parting.{ArePart, Part}
 use Rattle.pf_explore.specs.Branching.{may_branch, seen, seen_all, deviating}
 use Rattle.pf_explore.specs.declared.branch.Seen.{Seen}
 use Rattle.pf_explore.proofs.Order.{choices, IsFrom, Branches, Follow}
 
--- ---- what is seen of one event more
+-- ---- what is seen of one choice more
 
-abbrev pub leaves_out : Seen → Event → Bool
+abbrev pub leaves_out : Seen → ChoicePoint → Bool
 leaves_out s e = may_branch e && s.room == 0
 
--- one event more after others
-pub seen_more : (s : Seen) (i : ℕ) (es : List Event) (e : Event)
+-- one choice more after others
+pub seen_more : (s : Seen) (i : ℕ) (es : List ChoicePoint) (e : ChoicePoint)
     → seen_all s i (es ++ e ∷ []) ≡ seen (seen_all s i es) (i + length es) e
 seen_more s i [] e = let q : i ≡ i + 0 = omega arith in ap (λ k. seen s k e) q
 seen_more s i (x ∷ es) e =
     let q : suc i + length es ≡ i + length (x ∷ es) = omega arith in
     seen_more (seen s i x) (suc i) es e ∙ ap (λ k. seen (seen_all (seen s i x) (suc i) es) k e) q
 
--- the next of these events
-pub seen_next : {X : Type 0} (g : X → Event) (s : Seen) (es : List X) (i : ℕ) (d : X) (so_far : Seen) → i < length es
-    → so_far ≡ seen_all s zero (map g (take i es))
-    → seen so_far i (g (get_or es i d)) ≡ seen_all s zero (map g (take (i + 1) es))
-seen_next g s es i d so_far below so =
+-- the next of these choices
+pub seen_next : (s : Seen) (es : List ChoicePoint) (i : ℕ) (d : ChoicePoint) (so_far : Seen) → i < length es
+    → so_far ≡ seen_all s zero (take i es) → seen so_far i (get_or es i d) ≡ seen_all s zero (take (i + 1) es)
+seen_next s es i d so_far below so =
     let within : i ≤ length es = omega arith in
-    let size : length (map g (take i es)) ≡ i = length-map (take i es) g ∙ length-take-le i es within in
-    let more : map g (take (i + 1) es) ≡ map g (take i es) ++ g (get_or es i d) ∷ [] = map_more g es i d below in
-    let at : i ≡ zero + length (map g (take i es)) = omega arith in
-    ap (λ x. seen x i (g (get_or es i d))) so
-    ∙ ap (λ k. seen (seen_all s zero (map g (take i es))) k (g (get_or es i d))) at
-    ∙ sym (seen_more s zero (map g (take i es)) (g (get_or es i d)))
-    ∙ ap (seen_all s zero) (sym more)
+    let size : length (take i es) ≡ i = length-take-le i es within in
+    let more : take (i + 1) es ≡ take i es ++ get_or es i d ∷ [] = take_more es i d below in
+    let at : i ≡ zero + length (take i es) = omega arith in
+    ap (λ x. seen x i (get_or es i d)) so
+    ∙ ap (λ k. seen (seen_all s zero (take i es)) k (get_or es i d)) at
+    ∙ sym (seen_more s zero (take i es) (get_or es i d)) ∙ ap (seen_all s zero) (sym more)
 
 -- what was left out stays so
-left_stays : (s : Seen) (i : ℕ) (es : List Event) → s.left_out ≡ true → (seen_all s i es).left_out ≡ true
+left_stays : (s : Seen) (i : ℕ) (es : List ChoicePoint) → s.left_out ≡ true → (seen_all s i es).left_out ≡ true
 left_stays s i [] h = h
 left_stays s i (e ∷ es) h = left_stays (seen s i e) (suc i) es (ap (λ b. b || leaves_out s e) h)
 
@@ -53,21 +51,22 @@ or_true false b h = h
 
 -- ---- the last branch
 
--- the last branch at one of these events
-abbrev HasBranch : Seen → ℕ → List Event → Type 0
+-- the last branch at one of these choices
+abbrev HasBranch : Seen → ℕ → List ChoicePoint → Type 0
 HasBranch s i es = (k : ℕ) × (n : ℕ) × ((seen_all s i es).branch ≡ Some (i + k, n)) × Branches (deviating es k n) es
 
-later_branch : (s : Seen) (i : ℕ) (e : Event) (es : List Event) → HasBranch (seen s i e) (suc i) es
+later_branch : (s : Seen) (i : ℕ) (e : ChoicePoint) (es : List ChoicePoint) → HasBranch (seen s i e) (suc i) es
     → HasBranch s i (e ∷ es)
 later_branch s i e es h =
     let q : suc i + h.0 ≡ i + suc h.0 = omega arith in
     (suc h.0, h.1, h.2 ∙ ap (λ k. Some (k, h.1)) q, inr (refl, h.3))
 
 -- where one may branch, the next choice may be made
-next_might : (e : Event) → may_branch e ≡ true → e.choice + 1 < e.count
+next_might : (e : ChoicePoint) → may_branch e ≡ true → e.choice + 1 < e.count
 next_might e h = grind (arith, nat_tests, h)
 
-first_branch : (s : Seen) (i : ℕ) (e : Event) (es : List Event) (b z : Bool) → may_branch e ≡ b → (s.room == 0) ≡ z
+first_branch : (s : Seen) (i : ℕ) (e : ChoicePoint) (es : List ChoicePoint) (b z : Bool) → may_branch e ≡ b
+    → (s.room == 0) ≡ z
     → (seen_all (seen s i e) (suc i) es).branch ≡ (seen s i e).branch
     → ((seen_all s i (e ∷ es)).branch ≡ s.branch) ⊎ HasBranch s i (e ∷ es)
 first_branch s i e es false z may room h =
@@ -85,7 +84,7 @@ first_branch s i e es true false may room h =
       inl (omega arith, next_might e may, refl),
     )
 
-pub branch_of : (s : Seen) (i : ℕ) (es : List Event)
+pub branch_of : (s : Seen) (i : ℕ) (es : List ChoicePoint)
     → ((seen_all s i es).branch ≡ s.branch) ⊎ HasBranch s i es
 branch_of s i [] = inl refl
 branch_of s i (e ∷ es) =
@@ -95,41 +94,44 @@ branch_of s i (e ∷ es) =
 -- ---- no schedule is between
 
 -- choices come with the schedule by the last branch or after it
-abbrev pub ComesAfter : Seen → ℕ → List Event → List Event → Type 0
+abbrev pub ComesAfter : Seen → ℕ → List ChoicePoint → List ChoicePoint → Type 0
 ComesAfter s i es fs =
     (k : ℕ) × (n : ℕ) × ((seen_all s i es).branch ≡ Some (i + k, n)) × IsFrom (deviating es k n) (choices fs)
 
--- so many deviations are left for what follows an event
-room_left : (s : Seen) (i : ℕ) (e f : Event) (fs : List Event) (b : Bool) → (e.choice == 0) ≡ b → e.choice ≡ f.choice
-    → deviations (f ∷ fs) ≤ s.room → deviations fs ≤ (seen s i e).room
+-- so many other_choices are left for what follows an event
+room_left : (s : Seen) (i : ℕ) (e f : ChoicePoint) (fs : List ChoicePoint) (b : Bool) → (e.choice == 0) ≡ b
+    → e.choice ≡ f.choice
+    → other_choices (f ∷ fs) ≤ s.room → other_choices fs ≤ (seen s i e).room
 room_left s i e f fs true z same few =
-    let one : deviations (f ∷ fs) ≡ deviations fs =
-    ap (λ b. if b then deviations fs else suc (deviations fs)) (ap (λ n. n == 0) (sym same) ∙ z) in
+    let one : other_choices (f ∷ fs) ≡ other_choices fs =
+    ap (λ b. if b then other_choices fs else suc (other_choices fs)) (ap (λ n. n == 0) (sym same) ∙ z) in
     let room : (seen s i e).room ≡ s.room = ap (λ b. if b then s.room else s.room - 1) z in
     omega arith
 room_left s i e f fs false z same few =
-    let one : deviations (f ∷ fs) ≡ suc (deviations fs) =
-    ap (λ b. if b then deviations fs else suc (deviations fs)) (ap (λ n. n == 0) (sym same) ∙ z) in
+    let one : other_choices (f ∷ fs) ≡ suc (other_choices fs) =
+    ap (λ b. if b then other_choices fs else suc (other_choices fs)) (ap (λ n. n == 0) (sym same) ∙ z) in
     let room : (seen s i e).room ≡ s.room - 1 = ap (λ b. if b then s.room else s.room - 1) z in
     omega arith
 
--- an event that isn't by the first choice is a deviation
-deviates : (f : Event) (fs : List Event) → 0 < f.choice → 0 < deviations (f ∷ fs)
+-- a choice that isn't the first is a deviation
+deviates : (f : ChoicePoint) (fs : List ChoicePoint) → 0 < f.choice → 0 < other_choices (f ∷ fs)
 deviates f fs h = by (f.choice == 0) refl
   where
-    by : (b : Bool) → (f.choice == 0) ≡ b → 0 < deviations (f ∷ fs)
+    by : (b : Bool) → (f.choice == 0) ≡ b → 0 < other_choices (f ∷ fs)
     by true z = grind (arith, nat_tests, z)
     by false z =
-        let one : deviations (f ∷ fs) ≡ suc (deviations fs) =
-        ap (λ b. if b then deviations fs else suc (deviations fs)) z in
+        let one : other_choices (f ∷ fs) ≡ suc (other_choices fs) =
+        ap (λ b. if b then other_choices fs else suc (other_choices fs)) z in
         omega arith
 
--- two runs part at these events, the other by a later choice
-module _ (s : Seen) (i : ℕ) (e f : Event) (es fs : List Event) (part : ArePart e f) (less : e.choice < f.choice) where
+-- two runs part at these choices, of which the other's is the later
+module _ (s : Seen) (i : ℕ) (e f : ChoicePoint) (es fs : List ChoicePoint) (part : ArePart e f)
+    (less : e.choice < f.choice) where
   may : may_branch e ≡ true
   may = let a = part.count in let b = part.other_might in grind (arith, nat_tests, less)
 
-  parted_at : (z : Bool) → (s.room == 0) ≡ z → ((seen_all s i (e ∷ es)).left_out ≡ true → deviations (f ∷ fs) ≤ s.room)
+  parted_at : (z : Bool) → (s.room == 0) ≡ z
+      → ((seen_all s i (e ∷ es)).left_out ≡ true → other_choices (f ∷ fs) ≤ s.room)
       → ComesAfter s i (e ∷ es) (f ∷ fs)
   parted_at true room few =
       let out : (seen s i e).left_out ≡ true =
@@ -162,21 +164,21 @@ module _ (s : Seen) (i : ℕ) (e f : Event) (es fs : List Event) (part : ArePart
           (suc h.0, h.1, h.2 ∙ ap (λ k. Some (k, h.1)) q, inl less)
 
 -- the same event before two runs
-joined : (s : Seen) (i : ℕ) (e f : Event) (es fs : List Event) → e ≡ f
+joined : (s : Seen) (i : ℕ) (e f : ChoicePoint) (es fs : List ChoicePoint) → e ≡ f
     → (es ≡ fs) ⊎ ComesAfter (seen s i e) (suc i) es fs → (e ∷ es ≡ f ∷ fs) ⊎ ComesAfter s i (e ∷ es) (f ∷ fs)
 joined s i e f es fs same (inl h) = inl (ap (λ x. x ∷ es) same ∙ ap (λ xs. f ∷ xs) h)
 joined s i e f es fs same (inr h) =
     let q : suc i + h.0 ≡ i + suc h.0 = omega arith in
     inr (suc h.0, h.1, h.2 ∙ ap (λ k. Some (k, h.1)) q, inr (ap (λ x. x.choice) same, h.3))
 
-after_first : (e f : Event) → e.choice ≡ 0 → (e.choice ≡ f.choice → ⊥) → e.choice < f.choice
+after_first : (e f : ChoicePoint) → e.choice ≡ 0 → (e.choice ≡ f.choice → ⊥) → e.choice < f.choice
 after_first e f none apart =
     elim (cases_lt e.choice f.choice) [ inl less ↦ less | inr past ↦ absurd (apart (omega arith)) ]
 
 -- a run by a schedule, and another by choices that come with the schedule or after it: the runs are the same, or the
 -- other comes with the next schedule or after it, if it doesn't deviate too often
-pub none_between : (s : Seen) (i : ℕ) (ns : List ℕ) (es fs : List Event) → Part es fs → Follow ns es
-    → IsFrom ns (choices fs) → ((seen_all s i es).left_out ≡ true → deviations fs ≤ s.room)
+pub none_between : (s : Seen) (i : ℕ) (ns : List ℕ) (es fs : List ChoicePoint) → Part es fs → Follow ns es
+    → IsFrom ns (choices fs) → ((seen_all s i es).left_out ≡ true → other_choices fs ≤ s.room)
     → (es ≡ fs) ⊎ ComesAfter s i es fs
 none_between s i ns [] [] p b from few = inl refl
 none_between s i ns [] (f ∷ fs) p b from few = absurd p

@@ -1,21 +1,21 @@
--- Which schedule comes after a run: the one that leaves the run as late as it can, by a later choice at one event.
+-- Which schedule comes after a run: the one that leaves the run as late as it can, by a later choice in one's place.
 use Rattle.std.specs.Prelude.{◌≡◌, ℕ, zero, suc, ◌+◌, ◌-◌, ◌==◌, nat_lt, Bool, false, ◌||◌, ◌&&◌, if◌then◌else◌}
 use Rattle.std.specs.Prelude.{List, []}
 use Rattle.std.specs.Prelude.{◌∷◌, ◌++◌, map, take, Some, None, MatchOption}
-use Rattle.pf_model.specs.Meaning.{Event}
+use Rattle.pf_strategy.specs.declared.noted.ChoicePoint.{ChoicePoint}
 use Rattle.pf_explore.specs.declared.branch.Seen.{Seen}
 use Rattle.pf_explore.specs.declared.branch.Next.{Next}
 
--- after the one who went there is another who might go
-abbrev pub may_branch : Event → Bool
+-- after the one that was chosen there is another who might be
+abbrev pub may_branch : ChoicePoint → Bool
 may_branch e = nat_lt e.choice (e.count - 1)
 
--- no event, with so many deviations left
+-- no choice, with so many deviations left
 abbrev pub none_seen : ℕ → Seen
 none_seen room = record { room = room; branch = None; left_out = false }
 
--- one event more, of this index
-abbrev pub seen : Seen → ℕ → Event → Seen
+-- one choice more, of this index
+abbrev pub seen : Seen → ℕ → ChoicePoint → Seen
 seen s i e =
     record {
       room = if e.choice == 0 then s.room else s.room - 1;
@@ -24,18 +24,18 @@ seen s i e =
       left_out = s.left_out || (may_branch e && s.room == 0);
     }
 
--- these events more, the first of this index
-abbrev pub seen_all : Seen → ℕ → List Event → Seen
+-- these choices more, the first of this index
+abbrev pub seen_all : Seen → ℕ → List ChoicePoint → Seen
 seen_all s i [] = s
 seen_all s i (e ∷ es) = seen_all (seen s i e) (suc i) es
 
--- the choices of the events before one, and then another choice
-abbrev pub deviating : List Event → (index choice : ℕ) → List ℕ
+-- the choices before one, and then another
+abbrev pub deviating : List ChoicePoint → (index choice : ℕ) → List ℕ
 deviating es i n = take i (map (λ e. e.choice) es) ++ n ∷ []
 
--- the schedule after a run with these events among those that deviate at most so often: by the last branch, if there is
+-- the schedule after a run by these choices among those that deviate at most so often: by the last branch, if there is
 -- one; and whether one is left out
-abbrev pub IsNext : (most : ℕ) → List Event → Next → Type 0
+abbrev pub IsNext : (most : ℕ) → List ChoicePoint → Next → Type 0
 IsNext most es next =
     (next.left_out ≡ (seen_all (none_seen most) zero es).left_out)
     × MatchOption next.schedule ((seen_all (none_seen most) zero es).branch ≡ None)

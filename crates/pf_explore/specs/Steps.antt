@@ -1,8 +1,8 @@
 -- How long the runs of a job are.
-use Rattle.std.specs.Prelude.{◌≤◌, ℕ, List}
-use Rattle.pf_model.specs.Meaning.{Job, Report, Means}
-use Rattle.pf_model.specs.Shrinking.{by_schedule}
+use Rattle.std.specs.Prelude.{◌≤◌, ℕ, List, Option}
+use Rattle.pf_model.specs.Meaning.{Job, Report}
+use Rattle.pf_strategy.specs.Noted.{MeansBySchedule}
 
--- no run by a schedule has more steps
-abbrev pub StepsAreWithin : ℕ → Job → Type 0
-StepsAreWithin n j = (ns : List ℕ) (r : Report) → Means (by_schedule j ns) r → r.steps ≤ n
+-- no run by a schedule has more steps, where a process that is named goes last
+abbrev pub StepsAreWithin : (last : Option ℕ) → ℕ → Job → Type 0
+StepsAreWithin p n j = (ns : List ℕ) (r : Report) → MeansBySchedule p j ns r → r.steps ≤ n

@@ -1,15 +1,15 @@
 //! Which schedule comes after a run: the one that leaves the run as late as it can.
 
 ghost use Rattle.std.specs.Prelude.{◌≡◌, ◌-◌, ◌==◌, zero, IfOk, if◌then◌else◌, map};
-ghost use Rattle.pf_model.specs.Reports.{view_of_event};
 ghost use Rattle.pf_explore.specs.Branching.{IsNext, deviating, none_seen, seen, seen_all};
 
 use pf_errors::NoMemory;
 use pf_model::report::Event;
+use pf_strategy::ChoicePoint;
 use std::alloc::Global;
 
-/// What is seen of the events of a run up to one of them: how many deviations are left there, the last event at which a
-/// later choice may be made, by its index and that choice, and whether one may be made for which none was left.
+/// What is seen of the choices of a run up to one of them: how many deviations are left there, the last one in whose
+/// place a later one may be made, by its index and that choice, and whether one may be made for which none was left.
 #[derive(Clone, Copy)]
 pub(crate) struct Seen {
     pub room: u32,
@@ -36,7 +36,7 @@ fn room_after(room: u32, choice: u32) -> u32
 }
 
 impl Seen {
-    /// No event, with so many deviations left.
+    /// No choice, with so many deviations left.
     fn none(room: u32) -> Seen
         ensures { result ≡ none_seen room }
     {
@@ -47,11 +47,11 @@ impl Seen {
         }
     }
 
-    /// One event more, of this index.
-    fn see(self, index: usize, event: &Event) -> Seen
-        ensures { result ≡ seen self index (view_of_event event.now) }
+    /// One choice more, of this index.
+    fn see(self, index: usize, point: &ChoicePoint) -> Seen
+        ensures { result ≡ seen self index point.now }
     {
-        let (choice, count) = (event.choice, event.count);
+        let (choice, count) = (point.choice, point.count);
         let room = room_after(self.room, choice);
         if choice >= count.saturating_sub(1) {
             return Seen { room, ..self };
@@ -71,13 +71,13 @@ impl Seen {
     }
 }
 
-/// What is seen of all events of a run.
-fn see_all(events: &[Event], most: u32) -> Seen
-    ensures { result ≡ seen_all (none_seen most) zero (map view_of_event events.now) }
+/// What is seen of all choices of a run.
+fn see_all(points: &[ChoicePoint], most: u32) -> Seen
+    ensures { result ≡ seen_all (none_seen most) zero points.now }
 {
     let mut so_far = Seen::none(most);
-    for (index, event) in events.iter().enumerate() {
-        so_far = so_far.see(index, event);
+    for (index, point) in points.iter().enumerate() {
+        so_far = so_far.see(index, point);
     }
     so_far
 }
@@ -93,29 +93,39 @@ pub fn choices_of(alloc: Global, events: &[Event]) -> Result<Vec<u32>, NoMemory>
     Ok(numbers)
 }
 
-/// The choices of the events before one, and then this choice.
+/// The choices, without among how many they are made.
+fn numbers_of(alloc: Global, points: &[ChoicePoint]) -> Result<Vec<u32>, NoMemory>
+    ensures { IfOk result (λ numbers. numbers.items ≡ map (λ e. e.choice) points.now) }
+{
+    let mut numbers = Vec::with_capacity(alloc, points.len())?;
+    for point in points {
+        numbers.push(point.choice)?;
+    }
+    Ok(numbers)
+}
+
+/// The choices before one, and then this one.
 fn deviating(
     alloc: Global,
-    events: &[Event],
+    points: &[ChoicePoint],
     index: usize,
     choice: u32,
 ) -> Result<Vec<u32>, NoMemory>
-    ensures { IfOk result (λ numbers.
-        numbers.items ≡ deviating (map view_of_event events.now) index choice) }
+    ensures { IfOk result (λ numbers. numbers.items ≡ deviating points.now index choice) }
 {
-    let mut numbers = choices_of(alloc, events)?;
+    let mut numbers = numbers_of(alloc, points)?;
     numbers.truncate(index);
     numbers.push(choice)?;
     Ok(numbers)
 }
 
 /// The schedule that comes after a run among those that deviate at most so often.
-pub(crate) fn next_of(alloc: Global, events: &[Event], most: u32) -> Result<Next, NoMemory>
-    ensures { IfOk result (IsNext most (map view_of_event events.now)) }
+pub(crate) fn next_of(alloc: Global, points: &[ChoicePoint], most: u32) -> Result<Next, NoMemory>
+    ensures { IfOk result (IsNext most points.now) }
 {
-    let seen = see_all(events, most);
+    let seen = see_all(points, most);
     let schedule = match seen.branch {
-        Some((index, choice)) => Some(deviating(alloc, events, index, choice)?),
+        Some((index, choice)) => Some(deviating(alloc, points, index, choice)?),
         None => None,
     };
     Ok(Next {

@@ -5,10 +5,12 @@
 mod branch;
 mod explored;
 mod level;
+mod pace;
 mod runs;
 mod search;
 
 pub use branch::choices_of;
-pub use explored::Explored;
-pub use runs::ScheduledRuns;
+pub use explored::{Explored, Unseen};
+pub use pace::Pace;
+pub use runs::{MadeRun, ScheduledRuns};
 pub use search::explore;

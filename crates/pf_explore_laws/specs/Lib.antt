@@ -1,4 +1,5 @@
 pub mod Schedules
+pub mod Last
 pub mod Places
 pub mod Room
 pub mod Within

@@ -10,6 +10,6 @@ pub use places::{
     closed_places_hold_within, closed_places_hold_within_of_jobs, more_steps_change_nothing,
 };
 pub use schedules::{
-    all_is_within_the_limit, choices_are_by_schedule, no_chooser_fails, no_chooser_fails_within,
-    no_seed_fails, reports_part,
+    all_is_within_the_limit, choices_are_by_schedule, choices_are_made, choices_part,
+    no_chooser_fails, no_chooser_fails_last, no_chooser_fails_within, no_seed_fails, nobody_last,
 };

@@ -1,5 +1,6 @@
 -- Which hunts go over several sources or roots, by their words, and where the files of a folder are.
-use Rattle.std.specs.Prelude.{◌≡◌, ◌⊎◌, ℕ, Bool, true, false, ◌||◌, List, [], ◌∷◌, ◌++◌, codes}
+use Rattle.std.specs.Prelude.{◌≡◌, ◌⊎◌, ◌==◌, ℕ, Bool, true, false, ◌||◌, ◌&&◌, not, List, [], ◌∷◌, ◌++◌, codes}
+use Rattle.std.specs.Str.{bytes_eq}
 use Rattle.pf_cli.specs.Args.{HuntArgs}
 use Rattle.pf_cli.specs.declared.args.Roots.{Roots}
 use Rattle.pf_cli.specs.declared.args.Roots.TheVariants.{Main, Named, Every}
@@ -21,3 +22,8 @@ goes_over_several h = has_names h.more || is_every h.roots
 abbrev pub IsPathOf : (folder path : List ℕ) → Type 0
 IsPathOf folder path = (path ≡ folder ++ codes "/")
     ⊎ ((path ≡ folder) × (front : List ℕ) × (folder ≡ front ++ codes "/"))
+
+-- what of a folder is looked at, by its name: not what a build leaves, nor what begins with a dot
+abbrev pub is_looked_at : (name : List ℕ) → Bool
+is_looked_at [] = false
+is_looked_at (c ∷ name) = not (c == 46) && not (bytes_eq (c ∷ name) (codes "_build"))

@@ -4,6 +4,7 @@
 mod contents;
 mod folder;
 mod names;
+mod rounds;
 mod suite;
 
 pub use contents::bytes_of_file;

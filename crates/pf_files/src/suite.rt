@@ -9,6 +9,7 @@ ghost use Rattle.pf_files.specs.Suites.{goes_over_several};
 
 use crate::contents::bytes_of_file;
 use crate::folder::{files_in, is_folder};
+use crate::rounds::{RootObserver, RootPlace, RoundSource};
 use pf_check::{ReadModule, ReadSource};
 use pf_cli::{HuntArgs, HuntGoal, Roots};
 use pf_cli_messages::{
@@ -16,9 +17,10 @@ use pf_cli_messages::{
 };
 use pf_command::MOST_BYTES;
 use pf_errors::{NoMemory, OrNoMemory};
+use pf_hunt::Leak;
 use pf_hunt_suite::{
-    Hunted, RootEnd, RootHunt, Suite, SuiteCounts, hunt_root, line_of_refusal, line_of_root,
-    line_of_rootless, read_hunted, request_for, root_name,
+    RootEnd, RootHunt, RootStage, Suite, SuiteCounts, line_of_refusal, line_of_root,
+    line_of_rootless, open_root, read_hunted, request_for, root_name,
 };
 use pf_request::Request;
 use pf_streams::{Counted, StreamFault};
@@ -58,24 +60,36 @@ pub fn is_suite(rt: &impl Files, args: &HuntArgs) -> bool
 
 /// Whether a hunt goes on after a root's result, or stops there.
 #[derive(Clone, Copy, PartialEq, Eq)]
-enum AfterRoot {
+pub(crate) enum AfterRoot {
     GoesOn,
     Stops,
 }
 
 /// Whether a hunt goes on, or what ended it.
-type SuiteStep = Result<AfterRoot, OrNoMemory<StreamFault>>;
+pub(crate) type SuiteStep = Result<AfterRoot, OrNoMemory<StreamFault>>;
+
+/// What a root is, for whoever has none.
+fn what_is_root(roots: Roots) -> &'static str {
+    match roots {
+        Roots::Main | Roots::Named => {
+            "it is an exported function without arguments that is `main` or whose name ends in `_test`, `_race` or `_scenario`; `--root F` names another, and `--all-roots` takes every one"
+        }
+        Roots::Every => "it is an exported function without arguments",
+    }
+}
 
 /// A hunt over several sources, so far.
 #[derive(Drop)]
-struct SuiteHunt<'a, R> {
-    rt: &'a R,
-    args: &'a HuntArgs<'a>,
-    line: &'a ProgressLine,
-    workers: u64,
+pub(crate) struct SuiteHunt<'a, R> {
+    pub(crate) rt: &'a R,
+    pub(crate) args: &'a HuntArgs<'a>,
+    pub(crate) line: &'a ProgressLine,
+    pub(crate) workers: u64,
     /// When it began, if the clock can be read.
     start: Option<Instant>,
     suite: Suite,
+    /// The sources whose roots are hunted in rounds once all names were looked at.
+    pub(crate) sources: Vec<RoundSource>,
     /// Whether the standard input was read.
     is_input_read: bool,
 }
@@ -101,7 +115,7 @@ where
     R::File: Drop,
 {
     /// How many seconds are left, where a time is named.
-    fn time_left(&self) -> Option<u64>
+    pub(crate) fn time_left(&self) -> Option<u64>
         ensures { MatchOption result (self.now.args.now.time ≡ None)
             (λ left. IsSomeAnd self.now.args.now.time (λ limit. left ≤ limit)) }
     {
@@ -153,95 +167,136 @@ where
         Ok(())
     }
 
-    /// Says more of a root than its line on standard error: why it is refused, and how many processes still wait.
-    fn say_more(
-        &self,
-        file: &str,
-        source: &ReadSource,
-        root: &[u8],
-        end: RootEnd,
-        waiting: Option<WaitingProcesses>,
-    ) -> Result<(), NoMemory> {
+    /// Says more of a root than its line on standard error: why it is refused; and where leaks are sought how many
+    /// processes still wait.
+    fn say_more(&self, place: RootPlace, end: RootEnd, leak: Option<Leak>) -> Result<(), NoMemory> {
         let alloc = self.rt.alloc();
-        let bytes = root_name(alloc, file, root)?;
-        let name = str::from_utf8(&bytes).unwrap_or(file);
+        let bytes = root_name(alloc, place.file, place.root)?;
+        let name = str::from_utf8(&bytes).unwrap_or(place.file);
         if matches!(end, RootEnd::Refused(_)) {
-            let request = request_for(alloc, self.args, root)?;
-            self.say_why(name, &request, source)?;
+            let request = request_for(alloc, self.args, place.root)?;
+            self.say_why(name, &request, place.source)?;
         }
-        if let Some(waiting) = waiting {
+        if let (true, Some(Leak { seed, processes })) = (self.args.leaks, leak) {
+            let seed = Some(seed);
+            let waiting = WaitingProcesses { processes, seed };
             let reported = format!(in alloc; "{name}: {waiting}")?;
             say(self.rt, &reported);
         }
         Ok(())
     }
 
-    /// Hunts a root.
-    fn root<W: Write, M: Ledger>(
+    /// Reports how the hunt of a root ended, and counts it.
+    pub(crate) fn report<W: Write, M: Ledger>(
         &mut self,
-        file: &str,
-        source: &ReadSource,
-        module: &ReadModule,
-        root: &[u8],
+        place: RootPlace,
+        end: RootEnd,
+        leak: Option<Leak>,
         writer: &mut Counted<W, M>,
     ) -> SuiteStep {
-        let alloc = self.rt.alloc();
-        let args = self.args;
-        let seeds = args.end.saturating_sub(args.first);
-        let mut observer = Seeds::new(self.line, self.rt, seeds, self.time_left());
-        let hunted = RootHunt {
-            args,
-            module,
-            root,
-            workers: self.workers,
-        };
-        let end = hunt_root(self.rt, alloc, &hunted, &mut observer)?;
         self.suite.ends.push(SuiteCounts::Root(end))?;
-        put_now(&line_of_root(alloc, file, root, end)?, writer)?;
+        put_now(
+            &line_of_root(self.rt.alloc(), place.file, place.root, end)?,
+            writer,
+        )?;
         // The line went out: nothing more is said where memory runs out now.
-        let _said = self.say_more(file, source, root, end, observer.waiting());
-        if args.fail_fast && matches!(end, RootEnd::Fails { .. }) {
+        let _said = self.say_more(place, end, leak);
+        if self.args.fail_fast && matches!(end, RootEnd::Fails { .. }) {
             Ok(AfterRoot::Stops)
         } else {
             Ok(AfterRoot::GoesOn)
         }
     }
 
+    /// Hunts a root by all seeds.
+    fn root<'s, W: Write, M: Ledger>(
+        &mut self,
+        args: &'s HuntArgs<'s>,
+        place: RootPlace<'s>,
+        module: &'s ReadModule,
+        seeds: &mut Seeds<'_, R>,
+        writer: &mut Counted<W, M>,
+    ) -> SuiteStep {
+        let alloc = self.rt.alloc();
+        let mut observer = RootObserver::new(seeds, 0, None);
+        let hunted = RootHunt {
+            args,
+            module,
+            root: place.root,
+            workers: self.workers,
+        };
+        let stage = match open_root(alloc, hunted)? {
+            RootStage::Open(open) => {
+                open.hunt_to(self.rt, alloc, args.end, false, &mut observer)?
+            }
+            RootStage::Over(end) => RootStage::Over(end),
+        };
+        let leak = observer.leak;
+        let end = match stage {
+            RootStage::Open(open) => open.stopped(),
+            RootStage::Over(end) => end,
+        };
+        self.report(place, end, leak, writer)
+    }
+
     /// Hunts the roots of a source.
     fn roots<W: Write, M: Ledger>(
         &mut self,
-        file: &str,
-        source: &ReadSource,
-        hunted: &Hunted,
+        from: &RoundSource,
         writer: &mut Counted<W, M>,
     ) -> SuiteStep {
-        if hunted.roots.is_empty() {
-            put_now(&line_of_rootless(self.rt.alloc(), file)?, writer)?;
-        }
-        for root in &hunted.roots {
-            if self.root(file, source, &hunted.module, root, writer)? == AfterRoot::Stops {
+        let (args, module) = (self.args, &from.hunted.module);
+        let count = args.end.saturating_sub(args.first);
+        for root in &from.hunted.roots {
+            let mut seeds = Seeds::new(self.line, self.rt, count, None);
+            let place = from.place(root);
+            if self.root(args, place, module, &mut seeds, writer)? == AfterRoot::Stops {
                 return Ok(AfterRoot::Stops);
             }
         }
         Ok(AfterRoot::GoesOn)
     }
 
+    /// Hunts the roots of a source that is no refused one, or keeps it for the rounds of a hunt for a time.
+    fn source_of<W: Write, M: Ledger>(
+        &mut self,
+        from: RoundSource,
+        writer: &mut Counted<W, M>,
+    ) -> SuiteStep {
+        if from.hunted.roots.is_empty() {
+            put_now(&line_of_rootless(self.rt.alloc(), &from.file)?, writer)?;
+            return Ok(AfterRoot::GoesOn);
+        }
+        if self.args.time.is_none() {
+            return self.roots(&from, writer);
+        }
+        self.sources.push(from)?;
+        Ok(AfterRoot::GoesOn)
+    }
+
     /// Hunts the roots of the source of these bytes, or says why it is refused.
     fn source<W: Write, M: Ledger>(
         &mut self,
-        file: &str,
+        file: String,
         bytes: Vec<u8>,
         writer: &mut Counted<W, M>,
     ) -> SuiteStep {
         let (alloc, args) = (self.rt.alloc(), self.args);
         let source = ReadSource::new(alloc, bytes)?;
         match read_hunted(alloc, args, &source) {
-            Ok(hunted) => self.roots(file, &source, &hunted, writer),
+            Ok(hunted) => {
+                let from = RoundSource {
+                    file,
+                    source,
+                    hunted,
+                };
+                self.source_of(from, writer)
+            }
             Err(OrNoMemory::NoMemory) => Err(OrNoMemory::NoMemory),
             Err(OrNoMemory::Fault(refusal)) => {
                 self.suite.ends.push(SuiteCounts::Lost)?;
-                put_now(&line_of_refusal(alloc, file, refusal)?, writer)?;
-                let _said = self.say_why(file, &args.request, &source);
+                put_now(&line_of_refusal(alloc, &file, refusal)?, writer)?;
+                let _said = self.say_why(&file, &args.request, &source);
                 Ok(AfterRoot::GoesOn)
             }
         }
@@ -263,11 +318,45 @@ where
                     has_lines,
                 };
                 let file = format!(in self.rt.alloc(); "{shown}")?;
-                self.source(&file, bytes, writer)
+                self.source(file, bytes, writer)
             }
             Err(OrNoMemory::Fault(fault)) => self.lost(name, fault),
             Err(OrNoMemory::NoMemory) => Err(OrNoMemory::NoMemory),
         }
+    }
+
+    /// Says that nothing was hunted, if so it is.
+    fn say_if_nothing(&self) -> Result<(), NoMemory> {
+        if self.suite.ends.is_empty() {
+            let root = what_is_root(self.args.roots);
+            let reported = format!(in self.rt.alloc();
+                "nothing was hunted: no file has a root: {root}"
+            )?;
+            say(self.rt, &reported);
+        }
+        Ok(())
+    }
+
+    /// How much was counted, or is kept to be hunted.
+    fn counted(&self) -> usize {
+        self.suite.ends.len().saturating_add(self.sources.len())
+    }
+
+    /// Says that nothing of a folder is hunted, and counts it.
+    fn lacks_roots(&mut self, folder: &str, files: usize) -> SuiteStep {
+        self.suite.ends.push(SuiteCounts::Lost)?;
+        self.line.clear();
+        let alloc = self.rt.alloc();
+        let reported = if files == 0 {
+            format!(in alloc;
+                "{folder}: there is no file in it or below whose name ends in `.erl`"
+            )?
+        } else {
+            let root = what_is_root(self.args.roots);
+            format!(in alloc; "{folder}: no file in it or below has a root: {root}")?
+        };
+        say(self.rt, &reported);
+        Ok(AfterRoot::GoesOn)
     }
 
     /// Hunts what a name names: a file, or the files of a folder.
@@ -285,10 +374,14 @@ where
             Err(OrNoMemory::Fault(fault)) => return self.lost(name, fault),
             Err(OrNoMemory::NoMemory) => return Err(OrNoMemory::NoMemory),
         };
+        let counted = self.counted();
         for file in &files {
             if self.file(file, stdin, writer)? == AfterRoot::Stops {
                 return Ok(AfterRoot::Stops);
             }
+        }
+        if self.counted() == counted {
+            return self.lacks_roots(name, files.len());
         }
         Ok(AfterRoot::GoesOn)
     }
@@ -340,9 +433,12 @@ where
         workers: workers_of(rt, args),
         start: Instant::now(rt).ok(),
         suite: Suite::new(rt.alloc()),
+        sources: Vec::new(rt.alloc()),
         is_input_read: false,
     };
     hunt.names(stdin, writer)?;
+    hunt.rounds(writer)?;
+    hunt.say_if_nothing()?;
     put_now(&hunt.suite.summary(rt.alloc())?, writer)?;
     Ok(hunt.suite.status())
 }

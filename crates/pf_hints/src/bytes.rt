@@ -52,7 +52,7 @@ const FLOAT: Cure = Cure {
 
 const DOT: Cure = Cure {
     word: ".",
-    says: "A dot ends a form only where a blank or a line end follows: put one behind it.",
+    says: "A dot ends a form only where a blank or a line end follows: put one after it.",
     instead: "f() -> 1.g() -> 2.",
     write: "f() -> 1. g() -> 2.",
 };

@@ -41,7 +41,7 @@ pub(crate) const GUARDS: [Cure; 9] = [
     },
     Cure {
         word: "is_record",
-        says: "There are no records: a tuple in the head tells it by the name in front.",
+        says: "There are no records: match a tuple in the head whose first element is the name of the record.",
         instead: "f(S) when is_record(S, state) -> ..",
         write: "f({state, N}) -> ..",
     },

@@ -44,7 +44,7 @@ const PLUS: Cure = Cure {
 
 const ALIAS: Cure = Cure {
     word: "=",
-    says: "A pattern has no second name: match the parts, and build the whole again where it is wanted.",
+    says: "A pattern has no second name: match the parts, and build the whole again where it is needed.",
     instead: "f({add, N} = M) -> g(N, M).",
     write: "f({add, N}) -> g(N, {add, N}).",
 };
@@ -156,7 +156,7 @@ const NO_DOT: Cure = Cure {
 
 const NO_END: Cure = Cure {
     word: "end",
-    says: "This is never closed: put an `end` behind its last clause.",
+    says: "This is never closed: put an `end` after its last clause.",
     instead: "f(X) -> case X of 1 -> a; _ -> b.",
     write: "f(X) -> case X of 1 -> a; _ -> b end.",
 };

@@ -59,7 +59,7 @@ pub(crate) const UNDEFINED: [Cure; 17] = [
     },
     Cure {
         word: "is_process_alive",
-        says: "There is no `is_process_alive`: a monitor tells it, by the reason `noproc` where the process has ended before.",
+        says: "There is no `is_process_alive`: monitor the process; the reason is `noproc` if it has ended before.",
         instead: "is_process_alive(P)",
         write: "M = monitor(process, P), receive {'DOWN', M, process, P, Why} -> Why end",
     },

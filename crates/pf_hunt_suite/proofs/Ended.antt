@@ -1,39 +1,81 @@
--- How the hunt of a job ended, of whose seeds something is known.
-use Rattle.std.proofs.Common.{◌≡◌, ◌-◌, ℕ, Bool, List, [], Some, None, refl, subst}
-use Rattle.std.specs.Prelude.{Result, Ok, Err, OnErr, is_some}
+-- How far the hunt of a root is, of whose seeds something is known.
+use Rattle.std.proofs.Common.{◌≡◌, ◌≤◌, ◌<◌, ◌-◌, ℕ, Bool, true, Option, Some, None, refl, sym, subst, arith}
+use Rattle.std.specs.Prelude.{Result, Ok, Err, OnErr, IfSome, is_some}
 use Rattle.pf_model.specs.Meaning.{Report}
-use Rattle.pf_request.specs.Job.{Job}
-use Rattle.pf_hunt.specs.Hunts.{SearchedTo, less_far, to_end}
-use Rattle.pf_hunt.specs.Notices.{CutNotices, HearsSome, Notice, begins, has_none}
-use Rattle.pf_hunt.proofs.Hearing.{hears_none}
-use Rattle.pf_hunt.proofs.Stopping.{over_where_found}
-use Rattle.pf_cli.specs.Args.{HuntArgs}
-use Rattle.pf_hunt_suite.specs.Ends.{IsLeastOfRoot, JobEnds, Notifies, fails, none_fails, stopped}
+use Rattle.pf_sched.specs.Asked.{Asks}
+use Rattle.pf_hunt.specs.Hunts.{FirstFailing, NoneIs, SearchedTo, fails, less_far, to_end}
+use Rattle.pf_hunt.specs.declared.seeded.Hunt.{Hunt}
+use Rattle.pf_hunt.proofs.Firsts.{in_first, in_second, none_of}
+use Rattle.pf_hunt_suite.specs.Ends.{IsLeastOfRoot, hunted, none_fails, request_for, stopped}
+use Rattle.pf_hunt_suite.specs.Ends as ends
+use Rattle.pf_hunt_suite.specs.Stages.{Ends, IsOpen, asked_of}
+use Rattle.pf_hunt_suite.specs.declared.hunt.RootHunt.{RootHunt}
+use Rattle.pf_hunt_suite.specs.declared.stage.OpenRoot.{OpenRoot}
 use Rattle.pf_hunt_suite.specs.declared.end.RootEnd.TheVariants.{Fails, NoFailure, Stopped}
 
-module _ (h : HuntArgs) (j : Job) (ns : List Notice) where
-  pub ends_failing : (c s : ℕ) (r : Report) → IsLeastOfRoot h j c (Some (s, r)) → Notifies h j c (Some (s, r)) ns
-      → JobEnds h j (Fails s) ns
-  ends_failing c s r least reported =
-      let e = over_where_found (is_some h.time) h.seeds.0 h.seeds.1 c (s, r) reported.0 reported.2 in
-      fails s r ns (subst (λ b. IsLeastOfRoot h j b (Some (s, r))) e least)
-      (subst (λ b. Notifies h j b (Some (s, r)) ns) e reported)
+-- a hunt goes past its first seed
+pub goes_past : (may_stop : Bool) (a b c : ℕ) → SearchedTo may_stop a b c → a < b → a < c
+goes_past may_stop a b _ to_end l = l
+goes_past may_stop a b _ (less_far c may past before) l = past
 
-  pub ends_whole : (c : ℕ) → c ≡ h.seeds.1 → IsLeastOfRoot h j c None → Notifies h j c None ns
-      → JobEnds h j (NoFailure (h.seeds.1 - h.seeds.0)) ns
-  ends_whole c e least reported = none_fails ns (subst (λ b. IsLeastOfRoot h j b None) e least)
-      (subst (λ b. Notifies h j b None ns) e reported)
+-- what is so of a number is so of one that is equal to it, if there is one
+pub so_if_some : (o : Option ℕ) (P : ℕ → Type 0) (c : ℕ) → IfSome o (λ n. n ≡ c) → P c → IfSome o P
+so_if_some None P c is p = tt
+so_if_some (Some n) P c is p = subst P (sym is) p
 
-  pub ends_stopped : (c : ℕ) → SearchedTo (is_some h.time) h.seeds.0 h.seeds.1 c → (c ≡ h.seeds.1 → ⊥)
-      → IsLeastOfRoot h j c None → Notifies h j c None ns
-      → JobEnds h j (Stopped (c - h.seeds.0)) ns
-  ends_stopped _ to_end n least reported = absurd (n refl)
-  ends_stopped _ (less_far c may past before) n least reported = stopped c ns may past before least reported
+module _ (h : RootHunt) (o : OpenRoot) (known : IsOpen h o) where
+  -- what is known of the seeds from the next on is known of all
+  pub of_all : (c : ℕ) (x : Option (ℕ × Report))
+      → FirstFailing o.hunt.leaks o.hunt.strategy o.hunt.job.asked o.next c x
+      → IsLeastOfRoot (asked_of h) o.hunt.job c x
+  of_all c x found =
+      let a = asked_of h in
+      let j = o.hunt.job.asked in
+      in_second (fails a.leaks) a.strategy j a.seeds.0 o.next c x known.from
+      (none_of (fails a.leaks) a.strategy j a.seeds.0 o.next known.none)
+      (subst (λ b. FirstFailing b a.strategy j o.next c x) known.leaks
+      (subst (λ w. FirstFailing o.hunt.leaks w j o.next c x) known.strategy found))
 
--- no seed was run before memory ran out
-pub cut_at_once : {T : Type 0} (Heard : T → List Notice → Type 0) (may_stop : Bool) (a b : ℕ) (o : T)
-    → HearsSome Heard o (CutNotices has_none may_stop a b) o
-cut_at_once Heard may_stop a b o = ([], (a, begins), hears_none Heard o)
+  pub ends_failing : (c s : ℕ) (r : Report) → c ≤ (asked_of h).seeds.1
+      → FirstFailing o.hunt.leaks o.hunt.strategy o.hunt.job.asked o.next c (Some (s, r)) → Ends h (Fails s)
+  ends_failing c s r within found =
+      let a = asked_of h in
+      hunted o.hunt.job (Fails s) known.asked (ends.fails s r
+      (in_first (fails a.leaks) a.strategy o.hunt.job.asked a.seeds.0 c a.seeds.1 (s, r) within
+      (of_all c (Some (s, r)) found)))
+
+  pub ends_whole : (c : ℕ) → c ≡ (asked_of h).seeds.1
+      → FirstFailing o.hunt.leaks o.hunt.strategy o.hunt.job.asked o.next c None
+      → Ends h (NoFailure ((asked_of h).seeds.1 - (asked_of h).seeds.0))
+  ends_whole c e found =
+      let a = asked_of h in
+      hunted o.hunt.job (NoFailure (a.seeds.1 - a.seeds.0)) known.asked
+      (none_fails (subst (λ b. IsLeastOfRoot a o.hunt.job b None) e (of_all c None found)))
+
+  pub ends_stopped : is_some (asked_of h).time ≡ true → (asked_of h).seeds.0 < o.next
+      → Ends h (Stopped (o.next - (asked_of h).seeds.0))
+  ends_stopped may past =
+      hunted o.hunt.job (Stopped (o.next - (asked_of h).seeds.0)) known.asked
+      (stopped o.next may past known.left known.none)
+
+  -- it goes on from another seed
+  pub still_open : (q : OpenRoot) (c : ℕ) → q.hunted ≡ o.hunted → q.hunt ≡ o.hunt → q.next ≡ c → o.next < c
+      → c < (asked_of h).seeds.1
+      → FirstFailing o.hunt.leaks o.hunt.strategy o.hunt.job.asked o.next c None → IsOpen h q
+  still_open q c same hunt next past before found =
+      let a = asked_of h in
+      let least = of_all c None found in
+      record {
+        hunted = cc;
+        asked = subst (λ (k : Hunt). Asks h.«module».now a.edition (request_for a h.root.now) (Ok k.job)) (sym hunt)
+            known.asked;
+        strategy = cc;
+        leaks = cc;
+        from = omega (arith, known.from, past, next);
+        left = omega (arith, before, next);
+        none = subst (λ (k : Hunt). IsLeastOfRoot a k.job q.next None) (sym hunt)
+            (subst (λ n. IsLeastOfRoot a o.hunt.job n None) (sym next) least);
+      }
 
 -- what is known is so where memory ran out
 pub at_err : {T E : Type 0} {P : Type 0} (r : Result T E) → P → OnErr r P

@@ -1,5 +1,5 @@
 -- The result of the hunt of a root.
-use Rattle.std.specs.Prelude.{◌≡◌, ◌<◌, ℕ, ◌-◌, true, is_some, List, [], Option, Some, None, Ok, Err}
+use Rattle.std.specs.Prelude.{◌≡◌, ◌<◌, ℕ, ◌-◌, true, is_some, List, Option, Some, None, Ok, Err}
 use Rattle.pf_errors.specs.declared.code.Code.{Code}
 use Rattle.pf_model.specs.Meaning.{Report}
 use Rattle.pf_check.specs.Module.{ReadModule}
@@ -7,7 +7,6 @@ use Rattle.pf_request.specs.Request.{Request}
 use Rattle.pf_request.specs.Job.{Job}
 use Rattle.pf_sched.specs.Asked.{Asks}
 use Rattle.pf_hunt.specs.Hunts.{FirstFailing}
-use Rattle.pf_hunt.specs.Notices.{Notice, SearchNotices}
 use Rattle.pf_cli.specs.Args.{HuntArgs}
 use Rattle.pf_hunt_suite.specs.declared.end.RootEnd.{RootEnd}
 use Rattle.pf_hunt_suite.specs.declared.end.RootEnd.TheVariants.{Fails, NoFailure, Stopped, Refused}
@@ -21,27 +20,19 @@ request_for h root = record h.request { root = root }
 abbrev pub IsLeastOfRoot : HuntArgs → Job → (end : ℕ) → Option (ℕ × Report) → Type 0
 IsLeastOfRoot h j end = FirstFailing h.leaks h.strategy j.asked h.seeds.0 end
 
--- and its observer receives these notices
-abbrev pub Notifies : HuntArgs → Job → (end : ℕ) → Option (ℕ × Report) → List Notice → Type 0
-Notifies h j end x ns = SearchNotices h.strategy j.asked (is_some h.time) h.seeds.0 h.seeds.1 end x ns
-
--- JobEnds h j e notices: the hunt over the seeds of a job ends so, and its observer receives these notices
-pub data JobEnds (h : HuntArgs) (j : Job) : RootEnd → List Notice → Type 0 where
+-- JobEnds h j e: the hunt over the seeds of a job ends so
+pub data JobEnds (h : HuntArgs) (j : Job) : RootEnd → Type 0 where
   -- the run by this seed fails, and by none before
-  fails : (s : ℕ) (r : Report) (ns : List Notice) → IsLeastOfRoot h j h.seeds.1 (Some (s, r))
-      → Notifies h j h.seeds.1 (Some (s, r)) ns → JobEnds h j (Fails s) ns
+  fails : (s : ℕ) (r : Report) → IsLeastOfRoot h j h.seeds.1 (Some (s, r)) → JobEnds h j (Fails s)
   -- no run fails
-  none_fails : (ns : List Notice) → IsLeastOfRoot h j h.seeds.1 None → Notifies h j h.seeds.1 None ns
-      → JobEnds h j (NoFailure (h.seeds.1 - h.seeds.0)) ns
+  none_fails : IsLeastOfRoot h j h.seeds.1 None → JobEnds h j (NoFailure (h.seeds.1 - h.seeds.0))
   -- nor any of the runs that there was time for, of which there is one
-  stopped : (c : ℕ) (ns : List Notice) → is_some h.time ≡ true → h.seeds.0 < c → c < h.seeds.1
-      → IsLeastOfRoot h j c None → Notifies h j c None ns
-      → JobEnds h j (Stopped (c - h.seeds.0)) ns
+  stopped : (c : ℕ) → is_some h.time ≡ true → h.seeds.0 < c → c < h.seeds.1 → IsLeastOfRoot h j c None
+      → JobEnds h j (Stopped (c - h.seeds.0))
 
--- RootEnds h root m e notices: the hunt of this root of a module ends so, and its observer receives these notices
-pub data RootEnds (h : HuntArgs) (root : List ℕ) (m : ReadModule) : RootEnd → List Notice → Type 0 where
+-- RootEnds h root m e: the hunt of this root of a module ends so
+pub data RootEnds (h : HuntArgs) (root : List ℕ) (m : ReadModule) : RootEnd → Type 0 where
   -- what is asked for is refused
-  refused : (code : Code) → Asks m h.edition (request_for h root) (Err code) → RootEnds h root m (Refused code) []
+  refused : (code : Code) → Asks m h.edition (request_for h root) (Err code) → RootEnds h root m (Refused code)
   -- its job is hunted
-  hunted : (j : Job) (e : RootEnd) (ns : List Notice) → Asks m h.edition (request_for h root) (Ok j) → JobEnds h j e ns
-      → RootEnds h root m e ns
+  hunted : (j : Job) (e : RootEnd) → Asks m h.edition (request_for h root) (Ok j) → JobEnds h j e → RootEnds h root m e

@@ -1,3 +1,4 @@
 pub mod Roots
 pub mod Ends
+pub mod Stages
 pub mod Lines

@@ -11,10 +11,15 @@ use Rattle.pf_hunt_suite.specs.declared.end.SuiteCounts.TheVariants.{Lost, Root}
 
 -- ---- the line of a root, or of a source without one
 
+-- so few seeds that a hunt which stopped after them was cut short
+abbrev pub is_few : (seeds : ℕ) → Bool
+is_few n = nat_lt n 100
+
 abbrev pub root_end_text : RootEnd → List ℕ
 root_end_text (Fails s) = codes "seed " ++ decimal s ++ codes " fails"
 root_end_text (NoFailure n) = codes "no failure in " ++ decimal n ++ codes " seeds"
-root_end_text (Stopped n) = codes "stopped behind " ++ decimal n ++ codes " seeds, no failure"
+root_end_text (Stopped n) = (if is_few n then codes "cut short after " else codes "stopped after ") ++ decimal n
+    ++ codes " seeds, no failure"
 root_end_text (Refused code) = code_text code
 
 -- a root is named after its file
@@ -29,7 +34,7 @@ abbrev pub root_line : (file root : List ℕ) → RootEnd → List ℕ
 root_line file root e = reported_line (root_name file root) (root_end_text e)
 
 abbrev pub rootless_text : List ℕ
-rootless_text = codes "no exported function without arguments"
+rootless_text = codes "no root"
 
 -- ---- the summary
 
@@ -42,6 +47,11 @@ abbrev pub some_root_fails : SuiteCounts → Bool
 some_root_fails (Root (Fails s)) = true
 some_root_fails _ = false
 
+-- a root of which too few seeds were run before the time was over
+abbrev pub is_cut_short : SuiteCounts → Bool
+is_cut_short (Root (Stopped n)) = is_few n
+is_cut_short _ = false
+
 -- what is refused, or can't be read
 abbrev pub is_refused : SuiteCounts → Bool
 is_refused Lost = true
@@ -52,14 +62,21 @@ is_refused _ = false
 abbrev pub number_with_word : ℕ → (one several : List ℕ) → List ℕ
 number_with_word n one several = decimal n ++ codes " " ++ (if n == 1 then one else several)
 
+-- the part of the summary that there is only if roots were cut short
+abbrev pub cut_short_text : (number : ℕ) → List ℕ
+cut_short_text n = if nat_lt 0 n then codes ", " ++ decimal n ++ codes " cut short" else []
+
 abbrev pub summary_text : (files : ℕ) → List SuiteCounts → List ℕ
 summary_text files ends =
     number_with_word files (codes "file") (codes "files") ++ codes ", " ++ number_with_word (count_by is_root ends)
     (codes "root") (codes "roots") ++ codes ": "
     ++ number_with_word (count_by some_root_fails ends) (codes "fails") (codes "fail") ++ codes ", "
-    ++ line (decimal (count_by is_refused ends) ++ codes " refused")
+    ++ line (decimal (count_by is_refused ends) ++ codes " refused" ++ cut_short_text (count_by is_cut_short ends))
 
--- 2 if something is refused or can't be read, else 1 if a root fails, else 0
+-- 2 if something is refused or can't be read, else 1 if a root fails, else 2 if one was cut short or no root was
+-- hunted, else 0
 abbrev pub suite_status : List SuiteCounts → ℕ
 suite_status ends = if nat_lt 0 (count_by is_refused ends) then 2
-    else (if nat_lt 0 (count_by some_root_fails ends) then 1 else 0)
+    else (if nat_lt 0 (count_by some_root_fails ends) then 1
+    else (if nat_lt 0 (count_by is_cut_short ends) then 2
+    else (if count_by is_root ends == 0 then 2 else 0)))

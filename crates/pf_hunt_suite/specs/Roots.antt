@@ -1,6 +1,8 @@
 -- Which roots of a source are hunted.
-use Rattle.std.specs.Prelude.{◌≡◌, ℕ, Bool, ◌==◌, ◌&&◌, nat_eq, not, if◌then◌else◌, List, [], ◌∷◌, ◌++◌, fold, map}
-use Rattle.std.specs.List.{list_any}
+use Rattle.std.specs.Prelude.{◌≡◌, ℕ, Bool, ◌==◌, ◌&&◌, ◌||◌, nat_eq, not, if◌then◌else◌, List, [], ◌∷◌, ◌++◌, fold}
+use Rattle.std.specs.Prelude.{codes, map}
+use Rattle.std.specs.List.{ends_with, filter, list_any}
+use Rattle.std.specs.Str.{bytes_eq}
 use Rattle.pf_terms.specs.Atoms.{name_of}
 use Rattle.pf_tokens.specs.TokenKinds.{PlacedToken}
 use Rattle.pf_tokens.specs.Rules.{HasTokens}
@@ -30,8 +32,19 @@ pub record HasRoots (bytes : List ℕ) (names : List (List ℕ)) : Type 0 where
   pub derived : DerivesTree (atoms_of tokens) tree (numbered_tokens tokens)
   pub names_are : names ≡ map (name_of (atoms_of tokens)) (roots_of tree.exports)
 
--- the root that is named, or where none is all that the source has
+-- a name that is a root's by convention
+abbrev pub is_conventional : (name : List ℕ) → Bool
+is_conventional name = bytes_eq name (codes "main") || ends_with nat_eq name (codes "_test")
+    || ends_with nat_eq name (codes "_race") || ends_with nat_eq name (codes "_scenario")
+
+-- of the roots of the source those by convention have these names
+pub record HasConventional (bytes : List ℕ) (names : List (List ℕ)) : Type 0 where
+  pub all : List (List ℕ)
+  pub has : HasRoots bytes all
+  pub names_are : names ≡ filter is_conventional all
+
+-- the root that is named; or where none is those by convention; or all that the source has
 abbrev pub AreHunted : Roots → (root bytes : List ℕ) → (names : List (List ℕ)) → Type 0
 AreHunted Named root bytes names = names ≡ root ∷ []
-AreHunted Main root bytes names = HasRoots bytes names
+AreHunted Main root bytes names = HasConventional bytes names
 AreHunted Every root bytes names = HasRoots bytes names

@@ -10,7 +10,7 @@ pub enum RootEnd {
     Fails { seed: u64 },
     /// No run of so many seeds fails.
     NoFailure { seeds: u64 },
-    /// Its time was over after so many seeds, and no run of these fails.
+    /// Its time was over after so many seeds, and no run of these fails. If they are few, it was cut short.
     Stopped { seeds: u64 },
     /// What is asked for of it is refused.
     Refused(Code),
@@ -26,7 +26,10 @@ impl fmt::Display for RootEnd {
         match self {
             RootEnd::Fails { seed } => write!(f, "seed {seed} fails"),
             RootEnd::NoFailure { seeds } => write!(f, "no failure in {seeds} seeds"),
-            RootEnd::Stopped { seeds } => write!(f, "stopped behind {seeds} seeds, no failure"),
+            RootEnd::Stopped { seeds } if *seeds < 100 => {
+                write!(f, "cut short after {seeds} seeds, no failure")
+            }
+            RootEnd::Stopped { seeds } => write!(f, "stopped after {seeds} seeds, no failure"),
             RootEnd::Refused(code) => write!(f, "{code}"),
         }
     }

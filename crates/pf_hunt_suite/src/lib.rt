@@ -7,10 +7,12 @@ mod hunt;
 mod lines;
 mod roots;
 mod source;
+mod stage;
 mod summary;
 
 pub use end::{RootEnd, SuiteCounts};
-pub use hunt::{RootHunt, hunt_root, request_for};
+pub use hunt::{RootHunt, request_for};
 pub use lines::{line_of_refusal, line_of_root, line_of_rootless, root_name};
 pub use source::{Hunted, read_hunted};
+pub use stage::{OpenRoot, RootStage, open_root, seeds_after_round};
 pub use summary::Suite;

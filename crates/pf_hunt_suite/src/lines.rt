@@ -67,5 +67,5 @@ pub fn line_of_refusal(
 pub fn line_of_rootless(alloc: Global, file: &str) -> Result<Vec<u8>, NoMemory>
     ensures { IfOk result (λ v. v.items ≡ reported_line file.now rootless_text) }
 {
-    file_line(alloc, file, "no exported function without arguments")
+    file_line(alloc, file, "no root")
 }

@@ -1,10 +1,12 @@
 //! The roots of a source: its exported functions without arguments.
 
 ghost use Rattle.std.specs.Prelude.{◌≡◌, IfErr, IfOk, OnOk, map};
+ghost use Rattle.std.specs.List.{filter};
 ghost use Rattle.pf_terms.specs.Atoms.{name_of};
 ghost use Rattle.pf_syntax.specs.SyntaxTreeOver.{export_of};
 ghost use Rattle.pf_check.specs.Reads.{IsRefusalOf};
-ghost use Rattle.pf_hunt_suite.specs.Roots.{HasRoots, is_new_root, roots_of, name_with_root};
+ghost use Rattle.pf_hunt_suite.specs.Roots.{HasConventional, HasRoots, is_conventional, is_new_root, roots_of};
+ghost use Rattle.pf_hunt_suite.specs.Roots.{name_with_root};
 
 use pf_errors::{NoMemory, OrNoMemory, SourceRefusal};
 use pf_reader::{ParsedModule, read_tree};
@@ -62,4 +64,40 @@ pub(crate) fn roots(alloc: Global, source: &[u8]) -> Result<Vec<Vec<u8>>, OrNoMe
     let ParsedModule { syntax, atoms } = read_tree(alloc, &found, source.len())?;
     let numbers = roots_of(alloc, syntax.exports())?;
     Ok(names_of(alloc, &atoms, &numbers)?)
+}
+
+/// Whether a root of this name is one by convention.
+fn is_conventional(name: &[u8]) -> bool
+    ensures { result ≡ is_conventional name.now }
+{
+    name == b"main".as_slice()
+        || name.ends_with(b"_test")
+        || name.ends_with(b"_race")
+        || name.ends_with(b"_scenario")
+}
+
+/// Those of these names that are roots' by convention.
+fn conventional(alloc: Global, names: &[Vec<u8>]) -> Result<Vec<Vec<u8>>, NoMemory>
+    ensures { IfOk result (λ v. map (λ name. name.items) v.items
+        ≡ filter is_conventional (map (λ name. name.items) names.now)) }
+{
+    let mut kept = Vec::new(alloc);
+    for name in names {
+        if is_conventional(name) {
+            kept.push(Vec::from_slice(alloc, name)?)?;
+        }
+    }
+    Ok(kept)
+}
+
+/// The names of the roots of a source that are roots by convention, in the order of its export list, each once.
+pub(crate) fn conventional_roots(
+    alloc: Global,
+    source: &[u8],
+) -> Result<Vec<Vec<u8>>, OrNoMemory<SourceRefusal>>
+    ensures roots { IfOk result (λ v. HasConventional source.now (map (λ name. name.items) v.items)) }
+    ensures fault { IfErr result (IsRefusalOf source.now) }
+{
+    let all = roots(alloc, source)?;
+    Ok(conventional(alloc, &all)?)
 }

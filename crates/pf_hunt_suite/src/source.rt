@@ -5,7 +5,7 @@ ghost use Rattle.pf_check.specs.Reads.{IsRefusalOf};
 ghost use Rattle.pf_check.specs.Reading.{IsModuleOf};
 ghost use Rattle.pf_hunt_suite.specs.Roots.{AreHunted};
 
-use crate::roots::roots;
+use crate::roots::{conventional_roots, roots};
 use pf_check::{ReadModule, ReadSource};
 use pf_cli::{HuntArgs, Roots};
 use pf_errors::{NoMemory, OrNoMemory, SourceRefusal};
@@ -27,7 +27,8 @@ fn alone(alloc: Global, name: &[u8]) -> Result<Vec<Vec<u8>>, NoMemory>
     Ok(names)
 }
 
-/// The names of the roots of a source that a hunt goes over: the one that is named, or all that it has.
+/// The names of the roots of a source that a hunt goes over: the one that is named, or those by convention, or all that
+/// it has.
 fn hunted_roots(
     alloc: Global,
     args: &HuntArgs,
@@ -39,7 +40,8 @@ fn hunted_roots(
 {
     match args.roots {
         Roots::Named => Ok(alone(alloc, args.request.root.as_slice())?),
-        Roots::Main | Roots::Every => roots(alloc, source),
+        Roots::Main => conventional_roots(alloc, source),
+        Roots::Every => roots(alloc, source),
     }
 }
 

@@ -3,11 +3,11 @@
 ghost use Rattle.std.specs.Prelude.{◌≡◌, ◌++◌, OnOk};
 ghost use Rattle.std.specs.List.{count_by};
 ghost use Rattle.pf_hunt_suite.specs.Lines as lines;
-ghost use Rattle.pf_hunt_suite.specs.Lines.{number_with_word};
+ghost use Rattle.pf_hunt_suite.specs.Lines.{cut_short_text, number_with_word};
 
 use crate::end::{RootEnd, SuiteCounts};
 use pf_errors::NoMemory;
-use pf_text::{put, put_number};
+use pf_text::{put, put_byte, put_number};
 use std::alloc::Global;
 
 /// Whether a root was hunted.
@@ -32,6 +32,16 @@ fn is_refused(ending: &SuiteCounts) -> bool
         ending,
         SuiteCounts::Lost | SuiteCounts::Root(RootEnd::Refused(_))
     )
+}
+
+/// Whether a root was cut short.
+fn is_cut_short(ending: &SuiteCounts) -> bool
+    ensures { result ≡ lines.is_cut_short ending.now }
+{
+    match ending {
+        SuiteCounts::Root(RootEnd::Stopped { seeds }) => *seeds < 100,
+        _ => false,
+    }
 }
 
 /// How many roots were hunted.
@@ -71,6 +81,31 @@ fn refusals_in(ends: &[SuiteCounts]) -> u64
         }
     }
     count
+}
+
+/// How many roots were cut short.
+fn cut_short_in(ends: &[SuiteCounts]) -> u64
+    ensures { result ≡ count_by lines.is_cut_short ends.now }
+{
+    let mut count = 0;
+    for ending in ends {
+        if is_cut_short(ending) {
+            count += 1;
+        }
+    }
+    count
+}
+
+/// Puts how many roots were cut short, if some were.
+fn put_cut_short(out: &mut Vec<u8>, number: u64) -> Result<(), NoMemory>
+    ensures { OnOk result (out.new.items ≡ out.old.items ++ cut_short_text number) }
+{
+    if number > 0 {
+        put(out, b", ")?;
+        put_number(out, number)?;
+        put(out, b" cut short")?;
+    }
+    Ok(())
 }
 
 /// Puts a number with the word for one or for several.
@@ -118,11 +153,14 @@ impl Suite {
         put_counted(&mut out, failures_in(ends), "fails", "fail")?;
         put(&mut out, b", ")?;
         put_number(&mut out, refusals_in(ends))?;
-        put(&mut out, b" refused\n")?;
+        put(&mut out, b" refused")?;
+        put_cut_short(&mut out, cut_short_in(ends))?;
+        put_byte(&mut out, b'\n')?;
         Ok(out)
     }
 
-    /// The status: 2 if something is refused or can't be read, else 1 if a root fails, else 0.
+    /// The status: 2 if something is refused or can't be read, else 1 if a root fails, else 2 if one was cut short or
+    /// no root was hunted, else 0.
     pub fn status(&self) -> u8
         ensures { result ≡ suite_status self.now.ends.items }
     {
@@ -130,6 +168,10 @@ impl Suite {
             2
         } else if failures_in(&self.ends) > 0 {
             1
+        } else if cut_short_in(&self.ends) > 0 {
+            2
+        } else if roots_in(&self.ends) == 0 {
+            2
         } else {
             0
         }

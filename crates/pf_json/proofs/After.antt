@@ -36,3 +36,10 @@ pub reported_else : (name shape : Option (List Fact)) (f : Fact) → name ≡ No
 reported_else name shape f e d =
     sym (ap (λ (o : Option (List Fact)). unwrap_or (or_else o shape) (f ∷ [])) e
     ∙ ap (λ (o : Option (List Fact)). unwrap_or o (f ∷ [])) d)
+
+-- and of one without a name that has a shape
+pub reported_first : (name shape : Option (List Fact)) (f : Fact) (fs : List Fact) → name ≡ None → shape ≡ Some fs
+    → fs ≡ unwrap_or (or_else name shape) (f ∷ [])
+reported_first name shape f fs e d =
+    sym (ap (λ (o : Option (List Fact)). unwrap_or (or_else o shape) (f ∷ [])) e
+    ∙ ap (λ (o : Option (List Fact)). unwrap_or o (f ∷ [])) d)

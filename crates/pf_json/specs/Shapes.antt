@@ -1,5 +1,5 @@
 -- The shapes of lines that report several facts, or one in words of their own.
-use Rattle.std.specs.Prelude.{true, false, List, [], ◌∷◌, codes}
+use Rattle.std.specs.Prelude.{ℕ, true, false, List, [], ◌∷◌, codes}
 use Rattle.pf_json.specs.Facts.{ShapePart, fact, number, text, truth, words, maybe, count, word, code, rest, says}
 use Rattle.pf_json.specs.Facts.{reports}
 
@@ -27,9 +27,9 @@ abbrev pub no_failure : List ShapePart
 no_failure = reports (fact (codes "failure") (truth false)) ∷ words (codes "no failure in ") ∷ count (codes "seeds")
     ∷ words (codes " seeds") ∷ []
 
--- `stopped following 512 seeds`
+-- `stopped after 512 seeds`
 abbrev pub stopped : List ShapePart
-stopped = reports (fact (codes "stopped") (truth true)) ∷ words (codes "stopped behind ") ∷ count (codes "seeds")
+stopped = reports (fact (codes "stopped") (truth true)) ∷ words (codes "stopped after ") ∷ count (codes "seeds")
     ∷ words (codes " seeds") ∷ []
 
 -- by how many seeds an outcome is met, the least of them, and the outcome
@@ -57,6 +57,43 @@ summary =
     ∷ maybe (codes "s") ∷ words (codes ": ") ∷ count (codes "fail") ∷ words (codes " fail") ∷ maybe (codes "s")
     ∷ words (codes ", ")
     ∷ count (codes "refused") ∷ words (codes " refused") ∷ []
+
+-- `2 files, 3 roots: 0 fail, 0 refused, 1 cut short`
+abbrev pub summary_short : List ShapePart
+summary_short =
+    count (codes "files") ∷ words (codes " file") ∷ maybe (codes "s") ∷ words (codes ", ") ∷ count (codes "roots")
+    ∷ words (codes " root")
+    ∷ maybe (codes "s") ∷ words (codes ": ") ∷ count (codes "fail") ∷ words (codes " fail") ∷ maybe (codes "s")
+    ∷ words (codes ", ")
+    ∷ count (codes "refused") ∷ words (codes " refused, ") ∷ count (codes "short") ∷ words (codes " cut short") ∷ []
+
+-- ---- lines of an exploration
+
+-- `no schedule fails: 20 runs; a run has at most 14 steps`
+abbrev pub none_fails : List ShapePart
+none_fails =
+    reports (fact (codes "failure") (truth false)) ∷ words (codes "no schedule fails: ") ∷ count (codes "runs")
+    ∷ words (codes " runs; a run has at most ")
+    ∷ count (codes "steps") ∷ words (codes " steps") ∷ []
+
+-- how many runs were made, and how often one deviates at most of which none fails
+abbrev pub runs_within : (between : List ℕ) → List ShapePart
+runs_within between =
+    reports (fact (codes "unseen") (truth true)) ∷ words (codes "not all seen: ") ∷ count (codes "runs")
+    ∷ words between
+    ∷ count (codes "deviations") ∷ words (codes " deviations fails") ∷ []
+
+-- `not all seen: 50 runs; no schedule with at most 2 deviations fails`
+abbrev pub deviated : List ShapePart
+deviated = runs_within (codes " runs; no schedule with at most ")
+
+-- `not all seen: 50 runs (budget); no schedule with at most 2 deviations fails`
+abbrev pub cut : List ShapePart
+cut = reports (fact (codes "budget") (truth true)) ∷ runs_within (codes " runs (budget); no schedule with at most ")
+
+-- `not all seen: 50 runs (time); no schedule with at most 2 deviations fails`
+abbrev pub timed : List ShapePart
+timed = reports (fact (codes "stopped") (truth true)) ∷ runs_within (codes " runs (time); no schedule with at most ")
 
 -- ---- refusals
 
@@ -86,9 +123,9 @@ blank_line = reports (fact (codes "blank") (truth true)) ∷ []
 
 abbrev pub shapes : List (List ShapePart)
 shapes =
-    event_shape ∷ no_verdict ∷ schedule ∷ no_failure ∷ stopped ∷ row_holds ∷ row_fails ∷ row_without ∷ summary ∷ refusal
-    ∷ refusal_at ∷ position ∷ instead
-    ∷ write ∷ blank_line ∷ []
+    event_shape ∷ no_verdict ∷ schedule ∷ no_failure ∷ stopped ∷ row_holds ∷ row_fails ∷ row_without ∷ summary
+    ∷ summary_short ∷ none_fails ∷ deviated
+    ∷ cut ∷ timed ∷ refusal ∷ refusal_at ∷ position ∷ instead ∷ write ∷ blank_line ∷ []
 
 -- ---- what is reported after a name, in a hunt over several files or roots
 
@@ -97,20 +134,28 @@ abbrev pub seed_fails : List ShapePart
 seed_fails = reports (fact (codes "failure") (truth true)) ∷ words (codes "seed ") ∷ count (codes "seed")
     ∷ words (codes " fails") ∷ []
 
--- `stopped following 512 seeds, no failure`
+-- `stopped after 512 seeds, no failure`
 abbrev pub stopped_well : List ShapePart
 stopped_well =
     reports (fact (codes "stopped") (truth true)) ∷ reports (fact (codes "failure") (truth false))
-    ∷ words (codes "stopped behind ")
+    ∷ words (codes "stopped after ")
     ∷ count (codes "seeds") ∷ words (codes " seeds, no failure") ∷ []
 
--- `no exported function without arguments`
+-- `cut short after 4 seeds, no failure`
+abbrev pub cut_short : List ShapePart
+cut_short =
+    reports (fact (codes "stopped") (truth true)) ∷ reports (fact (codes "short") (truth true))
+    ∷ reports (fact (codes "failure") (truth false))
+    ∷ words (codes "cut short after ")
+    ∷ count (codes "seeds") ∷ words (codes " seeds, no failure") ∷ []
+
+-- `no root`
 abbrev pub rootless : List ShapePart
-rootless = words (codes "no exported function without arguments") ∷ reports (fact (codes "roots") (number 0)) ∷ []
+rootless = words (codes "no root") ∷ reports (fact (codes "roots") (number 0)) ∷ []
 
 -- what is reported of a root
 abbrev pub root_shapes : List (List ShapePart)
-root_shapes = seed_fails ∷ no_failure ∷ stopped_well ∷ refusal ∷ []
+root_shapes = seed_fails ∷ no_failure ∷ stopped_well ∷ cut_short ∷ refusal ∷ []
 
 -- what is reported of a file
 abbrev pub file_shapes : List (List ShapePart)

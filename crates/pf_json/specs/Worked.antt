@@ -1,5 +1,5 @@
 -- Lines of answers, with the facts that they report.
-use Rattle.std.specs.Prelude.{◌≡◌, true, [], ◌∷◌, codes, refl}
+use Rattle.std.specs.Prelude.{◌≡◌, true, false, [], ◌∷◌, codes, refl}
 use Rattle.pf_json.specs.Facts.{fact, facts_by_first, number, text, truth}
 use Rattle.pf_json.specs.Objects.{facts_at, facts_of, next}
 use Rattle.pf_json.specs.declared.place.LinePlace.TheVariants.{Report, Source}
@@ -55,6 +55,28 @@ pub worked_row : facts_of (codes "fails 2 seeds, least 4: deadlock <0>")
 unfolding facts_by_first
 worked_row = refl
 
+pub worked_none_fails : facts_of (codes "no schedule fails: 20 runs; a run has at most 14 steps")
+    ≡ fact (codes "failure") (truth false) ∷ fact (codes "runs") (number 20) ∷ fact (codes "steps") (number 14) ∷ []
+unfolding facts_by_first
+worked_none_fails = refl
+
+pub worked_cut : facts_of (codes "not all seen: 50 runs (budget); no schedule with at most 2 deviations fails")
+    ≡ fact (codes "budget") (truth true) ∷ fact (codes "unseen") (truth true) ∷ fact (codes "runs") (number 50)
+    ∷ fact (codes "deviations") (number 2) ∷ []
+unfolding facts_by_first
+worked_cut = refl
+
+pub worked_timed : facts_of (codes "not all seen: 50 runs (time); no schedule with at most 2 deviations fails")
+    ≡ fact (codes "stopped") (truth true) ∷ fact (codes "unseen") (truth true) ∷ fact (codes "runs") (number 50)
+    ∷ fact (codes "deviations") (number 2) ∷ []
+unfolding facts_by_first
+worked_timed = refl
+
+pub worked_deviated : facts_of (codes "not all seen: 50 runs; no schedule with at most 2 deviations fails")
+    ≡ fact (codes "unseen") (truth true) ∷ fact (codes "runs") (number 50) ∷ fact (codes "deviations") (number 2) ∷ []
+unfolding facts_by_first
+worked_deviated = refl
+
 pub worked_root : facts_of (codes "a.erl 'a: b c': seed 0 fails")
     ≡ fact (codes "file") (text (codes "a.erl")) ∷ fact (codes "root") (text (codes "'a: b c'"))
     ∷ fact (codes "failure") (truth true)
@@ -73,6 +95,19 @@ pub worked_summary : facts_of (codes "6 files, 1 root: 1 fails, 2 refused")
     ∷ fact (codes "refused") (number 2) ∷ []
 unfolding facts_by_first
 worked_summary = refl
+
+pub worked_short : facts_of (codes "a.erl main: cut short after 4 seeds, no failure")
+    ≡ fact (codes "file") (text (codes "a.erl")) ∷ fact (codes "root") (text (codes "main"))
+    ∷ fact (codes "stopped") (truth true)
+    ∷ fact (codes "short") (truth true) ∷ fact (codes "failure") (truth false) ∷ fact (codes "seeds") (number 4) ∷ []
+unfolding facts_by_first
+worked_short = refl
+
+pub worked_summary_short : facts_of (codes "6 files, 1 root: 0 fail, 0 refused, 1 cut short")
+    ≡ fact (codes "files") (number 6) ∷ fact (codes "roots") (number 1) ∷ fact (codes "fail") (number 0)
+    ∷ fact (codes "refused") (number 0) ∷ fact (codes "short") (number 1) ∷ []
+unfolding facts_by_first
+worked_summary_short = refl
 
 -- ---- a check
 

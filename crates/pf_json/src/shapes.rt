@@ -39,13 +39,13 @@ const NO_FAILURE: [ShapePart<'static>; 4] = [
     ShapePart::Words(b" seeds"),
 ];
 
-/// `stopped following 512 seeds`
+/// `stopped after 512 seeds`
 const STOPPED: [ShapePart<'static>; 4] = [
     ShapePart::Reports(Fact {
         key: b"stopped",
         value: Value::Truth(true),
     }),
-    ShapePart::Words(b"stopped behind "),
+    ShapePart::Words(b"stopped after "),
     ShapePart::Count(b"seeds"),
     ShapePart::Words(b" seeds"),
 ];
@@ -110,6 +110,86 @@ const SUMMARY: [ShapePart<'static>; 14] = [
     ShapePart::Words(b" refused"),
 ];
 
+/// `2 files, 3 roots: 0 fail, 0 refused, 1 cut short`
+const SUMMARY_SHORT: [ShapePart<'static>; 16] = [
+    ShapePart::Count(b"files"),
+    ShapePart::Words(b" file"),
+    ShapePart::Maybe(b"s"),
+    ShapePart::Words(b", "),
+    ShapePart::Count(b"roots"),
+    ShapePart::Words(b" root"),
+    ShapePart::Maybe(b"s"),
+    ShapePart::Words(b": "),
+    ShapePart::Count(b"fail"),
+    ShapePart::Words(b" fail"),
+    ShapePart::Maybe(b"s"),
+    ShapePart::Words(b", "),
+    ShapePart::Count(b"refused"),
+    ShapePart::Words(b" refused, "),
+    ShapePart::Count(b"short"),
+    ShapePart::Words(b" cut short"),
+];
+
+/// `no schedule fails: 20 runs; a run has at most 14 steps`
+const NONE_FAILS: [ShapePart<'static>; 6] = [
+    ShapePart::Reports(Fact {
+        key: b"failure",
+        value: Value::Truth(false),
+    }),
+    ShapePart::Words(b"no schedule fails: "),
+    ShapePart::Count(b"runs"),
+    ShapePart::Words(b" runs; a run has at most "),
+    ShapePart::Count(b"steps"),
+    ShapePart::Words(b" steps"),
+];
+
+/// `not all seen: 50 runs; no schedule with at most 2 deviations fails`
+const DEVIATED: [ShapePart<'static>; 6] = [
+    ShapePart::Reports(Fact {
+        key: b"unseen",
+        value: Value::Truth(true),
+    }),
+    ShapePart::Words(b"not all seen: "),
+    ShapePart::Count(b"runs"),
+    ShapePart::Words(b" runs; no schedule with at most "),
+    ShapePart::Count(b"deviations"),
+    ShapePart::Words(b" deviations fails"),
+];
+
+/// `not all seen: 50 runs (budget); no schedule with at most 2 deviations fails`
+const CUT: [ShapePart<'static>; 7] = [
+    ShapePart::Reports(Fact {
+        key: b"budget",
+        value: Value::Truth(true),
+    }),
+    ShapePart::Reports(Fact {
+        key: b"unseen",
+        value: Value::Truth(true),
+    }),
+    ShapePart::Words(b"not all seen: "),
+    ShapePart::Count(b"runs"),
+    ShapePart::Words(b" runs (budget); no schedule with at most "),
+    ShapePart::Count(b"deviations"),
+    ShapePart::Words(b" deviations fails"),
+];
+
+/// `not all seen: 50 runs (time); no schedule with at most 2 deviations fails`
+const TIMED: [ShapePart<'static>; 7] = [
+    ShapePart::Reports(Fact {
+        key: b"stopped",
+        value: Value::Truth(true),
+    }),
+    ShapePart::Reports(Fact {
+        key: b"unseen",
+        value: Value::Truth(true),
+    }),
+    ShapePart::Words(b"not all seen: "),
+    ShapePart::Count(b"runs"),
+    ShapePart::Words(b" runs (time); no schedule with at most "),
+    ShapePart::Count(b"deviations"),
+    ShapePart::Words(b" deviations fails"),
+];
+
 /// `B2`
 const REFUSAL: [ShapePart<'static>; 1] = [ShapePart::Code(b"refusal")];
 
@@ -147,7 +227,7 @@ const BLANK: [ShapePart<'static>; 1] = [ShapePart::Reports(Fact {
 })];
 
 /// The shapes, in the order in which they are tried.
-pub(crate) const SHAPES: [&[ShapePart<'static>]; 15] = [
+pub(crate) const SHAPES: [&[ShapePart<'static>]; 20] = [
     &EVENT,
     &NO_VERDICT,
     &SCHEDULE,
@@ -157,6 +237,11 @@ pub(crate) const SHAPES: [&[ShapePart<'static>]; 15] = [
     &ROW_FAILS,
     &ROW_WITHOUT,
     &SUMMARY,
+    &SUMMARY_SHORT,
+    &NONE_FAILS,
+    &DEVIATED,
+    &CUT,
+    &TIMED,
     &REFUSAL,
     &REFUSAL_AT,
     &POSITION,
@@ -176,7 +261,7 @@ const SEED_FAILS: [ShapePart<'static>; 4] = [
     ShapePart::Words(b" fails"),
 ];
 
-/// `stopped following 512 seeds, no failure`
+/// `stopped after 512 seeds, no failure`
 const STOPPED_WELL: [ShapePart<'static>; 5] = [
     ShapePart::Reports(Fact {
         key: b"stopped",
@@ -186,14 +271,33 @@ const STOPPED_WELL: [ShapePart<'static>; 5] = [
         key: b"failure",
         value: Value::Truth(false),
     }),
-    ShapePart::Words(b"stopped behind "),
+    ShapePart::Words(b"stopped after "),
     ShapePart::Count(b"seeds"),
     ShapePart::Words(b" seeds, no failure"),
 ];
 
-/// `no exported function without arguments`
+/// `cut short after 4 seeds, no failure`
+const CUT_SHORT: [ShapePart<'static>; 6] = [
+    ShapePart::Reports(Fact {
+        key: b"stopped",
+        value: Value::Truth(true),
+    }),
+    ShapePart::Reports(Fact {
+        key: b"short",
+        value: Value::Truth(true),
+    }),
+    ShapePart::Reports(Fact {
+        key: b"failure",
+        value: Value::Truth(false),
+    }),
+    ShapePart::Words(b"cut short after "),
+    ShapePart::Count(b"seeds"),
+    ShapePart::Words(b" seeds, no failure"),
+];
+
+/// `no root`
 const ROOTLESS: [ShapePart<'static>; 2] = [
-    ShapePart::Words(b"no exported function without arguments"),
+    ShapePart::Words(b"no root"),
     ShapePart::Reports(Fact {
         key: b"roots",
         value: Value::Number(0),
@@ -201,10 +305,11 @@ const ROOTLESS: [ShapePart<'static>; 2] = [
 ];
 
 /// The shapes of what is reported of a root.
-pub(crate) const ROOT_SHAPES: [&[ShapePart<'static>]; 4] = [
+pub(crate) const ROOT_SHAPES: [&[ShapePart<'static>]; 5] = [
     &SEED_FAILS,
     &NO_FAILURE,
     &STOPPED_WELL,
+    &CUT_SHORT,
     &REFUSAL,
 ];
 

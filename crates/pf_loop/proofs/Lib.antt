@@ -1,1 +1,9 @@
+pub mod Words
+pub mod Limits
+pub mod Moved
+pub mod Apart
+pub mod Followed
+pub mod Executed
+pub mod Judged
+pub mod Begun
 pub mod Reached

@@ -1,3 +1,5 @@
 pub mod View
+pub mod Flow
 pub mod Run
 pub mod Reached
+pub mod Judged

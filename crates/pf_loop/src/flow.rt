@@ -16,6 +16,12 @@ pub enum Flow {
     Asks(Builtin, u32, u32, u32),
     /// `!` of a destination and a message.
     Sends(u32, Word, Word),
+    /// A `receive`, whose message goes into a register.
+    Awaits(u32),
+    /// A clause picks the message.
+    Takes,
+    /// No clause picks the message in a register.
+    Passes(u32),
     Calls(FunctionId, u32, u32),
     CallsLast(FunctionId, u32, u32),
     Returns(Word),
@@ -30,6 +36,12 @@ pub enum Halt {
     Asks(Builtin, u32, u32, u32),
     /// `!` of a destination and a message.
     Sends(u32, Word, Word),
+    /// A `receive`, whose message goes into a register.
+    Awaits(u32),
+    /// A clause picks the message that is tested.
+    Takes,
+    /// No clause picks the message that is tested, which is in a register.
+    Passes(u32),
     Raises(Word),
     Returns(Word),
     /// There is no instruction at the place, which is never so in sound code.

@@ -1,10 +1,12 @@
-//! Operations over the words of a heap, and the state of code that words stand for.
+//! A machine that runs code over the words of a heap.
 #![tactic(auto)]
 
 mod answers;
+mod build;
 mod flow;
 mod laws;
 mod machine;
+mod operations;
 mod setting;
 mod stack;
 

@@ -19,8 +19,8 @@ use Rattle.pf_model.specs.Runs.{Passes, Transition, enabled, start}
 use Rattle.pf_model.proofs.Turned.{pass_only}
 use Rattle.pf_stepper.specs.declared.point.Point.{Point}
 use Rattle.pf_stepper.specs.declared.point.Point.TheVariants as point
-use Rattle.pf_system.specs.Steps.{SimulatesTransition}
-use Rattle.pf_system.specs.View.{SystemView, view_of_system}
+use Rattle.pf_system.specs.Steps.{Begins, Represents, SimulatesFrom}
+use Rattle.pf_system.specs.View.{SystemView}
 use Rattle.pf_system.proofs.Bodies.{more_length}
 use Rattle.pf_process_status.specs.Fates.{Began, IsCalled, IsNoCall, IsAtPoint, begun_in}
 use Rattle.pf_process_status.specs.Followed.{AreBegun, HasGone, IsFollowed}
@@ -60,7 +60,7 @@ pub record At (k : KnownRun) (d : Configuration) (h : RunLeadsTo k d) (i : ℕ) 
   pub marked : Marked (module_of_run k) (choose_by_picks h.picks) d h.made 0 k.limit (start k.root.0 k.edition)
       h.transitions h.steps i here s.steps made
   pub module_is : s.checked ≡ checked_of k
-  pub is_there : s.standing ≡ Some here
+  pub is_there : Represents s here
   pub begun : AreBegun k here fs
 
 abbrev pub root_of : KnownRun → Begun
@@ -74,7 +74,7 @@ root_began k zero b e = subst (λ z. (z.pid ≡ zero) × Began k zero z.function
 root_began k (suc p) b e = absurd (cc)
 
 pub at_start : (k : KnownRun) (d : Configuration) (h : RunLeadsTo k d) (s : SystemView) (fs : List Begun)
-    → s ≡ view_of_system (checked_of k) 0 (Some (start k.root.0 k.edition)) → fs ≡ root_of k ∷ [] → At k d h 0 s fs
+    → Begins (checked_of k) k.root.0 k.edition s → fs ≡ root_of k ∷ [] → At k d h 0 s fs
 at_start k d h s fs e g =
     record {
       here = start k.root.0 k.edition;
@@ -83,9 +83,9 @@ at_start k d h s fs e g =
           subst
           (λ n. Marked (module_of_run k) (choose_by_picks h.picks) d h.made 0 k.limit (start k.root.0 k.edition)
           h.transitions h.steps zero (start k.root.0 k.edition) n 0)
-          (sym (ap (λ z. z.steps) e)) (here 0 k.limit (start k.root.0 k.edition) h.transitions h.steps h.goes);
-      module_is = ap (λ z. z.checked) e;
-      is_there = ap (λ z. z.standing) e;
+          (sym e.steps) (here 0 k.limit (start k.root.0 k.edition) h.transitions h.steps h.goes);
+      module_is = e.checked;
+      is_there = e.is_there;
       begun = subst (AreBegun k (start k.root.0 k.edition)) (sym g)
           (record { count = refl; pids = λ p b q. (root_began k p b q).0; each = λ p b q. (root_began k p b q).1 });
     }
@@ -130,21 +130,16 @@ module _ (k : KnownRun) (d : Configuration) (h : RunLeadsTo k d) (i : ℕ) (s : 
     abbrev used : ℕ
     used = went.2.0
 
-    passes : SimulatesTransition (k.limit - s.steps) s went.0 l used s'
+    passes : SimulatesFrom a.here (k.limit - s.steps) s went.0 l used s'
     passes = went.2.1
 
     actor : went.0 ≡ t.actor
     actor = same_Some went.0 t.actor (sym went.1 ∙ chosen_there)
 
-    before : passes.before ≡ a.here
-    before = same_Some passes.before a.here (sym passes.was ∙ a.is_there)
-
     as_it_passes : Passes m (k.limit - s.steps) a.here t.actor passes.passed
     as_it_passes =
         subst (λ z. Passes (module_of z) (k.limit - s.steps) a.here t.actor passes.passed) a.module_is
-        (subst (λ z. Passes (module_of s.checked) (k.limit - s.steps) z t.actor passes.passed) before
-        (subst (λ z. Passes (module_of s.checked) (k.limit - s.steps) passes.before z passes.passed) actor
-        passes.passes))
+        (subst (λ z. Passes (module_of s.checked) (k.limit - s.steps) a.here z passes.passed) actor passes.passes)
 
     same : passes.passed ≡ b.passed
     same =
@@ -152,13 +147,13 @@ module _ (k : KnownRun) (d : Configuration) (h : RunLeadsTo k d) (i : ℕ) (s : 
         ∙ pass_only m (k.limit - s.steps) a.here t.actor b.passed b.passes
 
     steps : s'.steps ≡ s.steps + b.passed.used
-    steps = ap (λ z. z.steps) passes.becomes ∙ ap (λ n. s.steps + n) (passes.counts ∙ ap (λ z. z.used) same)
+    steps = passes.steps ∙ ap (λ n. s.steps + n) (passes.counts ∙ ap (λ z. z.used) same)
 
     abbrev pub after : Configuration
     after = b.passed.after
 
-    pub is_there : s'.standing ≡ Some after
-    is_there = ap (λ z. z.standing) passes.becomes ∙ ap (λ z. Some z.after) same
+    pub is_there : Represents s' after
+    is_there = subst (λ z. Represents s' z.after) same passes.is_there
 
     shows : l ≡ b.passed.label
     shows = passes.label ∙ ap (λ z. z.label) same
@@ -201,8 +196,7 @@ module _ (k : KnownRun) (d : Configuration) (h : RunLeadsTo k d) (i : ℕ) (s : 
           here = after;
           made = b.later;
           marked = next;
-          module_is = ap (λ z. z.checked) passes.becomes
-              ∙ a.module_is;
+          module_is = passes.checked ∙ a.module_is;
           is_there = is_there;
           begun = g;
         }
@@ -235,7 +229,7 @@ module _ (k : KnownRun) (d : Configuration) (h : RunLeadsTo k d) (i : ℕ) (s : 
         its_pid = subst (λ o. IfSome o (λ p. p ≡ length a.here.core.processes)) n is_next ∙ sym a.begun.count
 
         its_module : s'.checked ≡ checked_of k
-        its_module = ap (λ z. z.checked) passes.becomes ∙ a.module_is
+        its_module = passes.checked ∙ a.module_is
 
         began : Began k (length fs) f
         began =
@@ -277,6 +271,6 @@ followed k d h i f a few most =
     let same = at_last k d h i f.system f.begun.items a all in
     record {
       module_is = a.module_is;
-      is_there = a.is_there ∙ ap (λ z. Some z) same;
+      is_there = subst (Represents f.system) same a.is_there;
       begun = subst (λ z. AreBegun k z f.begun.items) same a.begun;
     }

@@ -1,12 +1,11 @@
 //! A run that is made again by the choices of its events.
 
-ghost use Rattle.std.specs.Prelude.{◌≡◌, [], false, IfOk, IfSome, MatchOption, OnOk, Some, option_map, slice_get};
+ghost use Rattle.std.specs.Prelude.{◌≡◌, [], false, IfOk, IfSome, MatchOption, OnOk, slice_get};
 ghost use Rattle.pf_model.specs.Configuration.{Configuration, is_alive, of};
 ghost use Rattle.pf_model.specs.Limits.{IsEdition};
 ghost use Rattle.pf_model.specs.Reports.{label_of};
-ghost use Rattle.pf_model.specs.Runs.{enabled, start};
-ghost use Rattle.pf_system.specs.Steps.{MayGo};
-ghost use Rattle.pf_system.specs.View.{view_of_system};
+ghost use Rattle.pf_model.specs.Runs.{enabled};
+ghost use Rattle.pf_system.specs.Steps.{Begins, MayGo, Represents};
 ghost use Rattle.pf_process_status.specs.Fates.{IsCalled, IsNoCall, IsAtPoint, begun_in};
 ghost use Rattle.pf_process_status.specs.Followed.{HasGone, IsFollowed};
 ghost use Rattle.pf_process_status.specs.Known.{RunLeadsTo, checked_of};
@@ -21,8 +20,8 @@ use std::alloc::Global;
 
 /// The actor at the index of a choice among those who may go.
 pub(crate) fn chosen(system: &System, choice: u32) -> Option<Actor>
-    ensures may_go { IfSome result (λ actor. MayGo actor system.now.standing) }
-    ensures chosen { (c : Configuration) → system.now.standing ≡ Some c
+    ensures may_go { IfSome result (λ actor. MayGo actor system.now) }
+    ensures chosen { (c : Configuration) → Represents system.now c
         → result ≡ slice_get (enabled c) choice }
 {
     let enabled = system.enabled();
@@ -43,7 +42,7 @@ pub(crate) fn go(
     limit: u32,
     shown: &mut Label,
 ) -> Result<bool, NoMemory>
-    ensures { IfOk result (λ went. (c : Configuration) → system.old.standing ≡ Some c
+    ensures { IfOk result (λ went. (c : Configuration) → Represents system.old c
         → HasGone limit choice c system.old (label_of shown.new) system.new went) }
 {
     if system.steps() >= limit {
@@ -60,7 +59,7 @@ pub(crate) fn go(
 
 /// Where a process is; none where it has ended.
 pub(crate) fn point_of(system: &System, pid: u32) -> Option<Point>
-    ensures { (c : Configuration) → system.now.standing ≡ Some c
+    ensures { (c : Configuration) → Represents system.now c
         → MatchOption result (is_alive (of c.core pid).state ≡ false)
         (IsAtPoint system.now.checked (of c.core pid).state) }
 {
@@ -80,7 +79,7 @@ fn called_at(point: Point) -> Option<FunctionId>
 
 /// The function in whose call a process is that only begins.
 fn called(system: &System, pid: u32) -> Option<FunctionId>
-    ensures { (c : Configuration) → system.now.standing ≡ Some c
+    ensures { (c : Configuration) → Represents system.now c
         → IsCalled system.now.checked (of c.core pid).state result }
 {
     match point_of(system, pid) {
@@ -116,8 +115,7 @@ pub(crate) struct Followed {
 impl Followed {
     /// Makes the events of a run.
     fn go_through(&mut self, alloc: Global, run: &KnownRun) -> Result<(), NoMemory>
-        requires system { self.old.system
-            ≡ view_of_system (checked_of run.now) 0 (Some (start run.now.root.0 run.now.edition)) }
+        requires system { Begins (checked_of run.now) run.now.root.0 run.now.edition self.old.system }
         requires none { self.old.begun.items ≡ [] }
         ensures { OnOk result ((d : Configuration) → RunLeadsTo run.now d → IsFollowed run.now d self.new) }
     {

@@ -1,9 +1,10 @@
 //! The processes of a run when it is over.
 
-ghost use Rattle.std.specs.Prelude.{◌≡◌, true, IfOk, List, Some, length, map, slice_get};
+ghost use Rattle.std.specs.Prelude.{◌≡◌, true, IfOk, List, length, map, slice_get};
 ghost use Rattle.pf_model.specs.Configuration.{Configuration, is_alive, of};
 ghost use Rattle.pf_model.specs.Limits.{IsEdition};
 ghost use Rattle.pf_model.specs.Meaning as model;
+ghost use Rattle.pf_system.specs.Steps.{Represents};
 ghost use Rattle.pf_process_status.specs.Fates.{AreStandings, EndsAt, HasEnded, LivesSo};
 ghost use Rattle.pf_process_status.specs.Followed.{AreByPid};
 ghost use Rattle.pf_process_status.specs.Known.{RunLeadsTo, events_of};
@@ -26,7 +27,7 @@ use std::alloc::Global;
 
 /// The status of a process that hasn't ended.
 fn fate_in(system: &System, pid: u32) -> ProcessFate
-    ensures { (c : Configuration) → system.now.standing ≡ Some c
+    ensures { (c : Configuration) → Represents system.now c
         → is_alive (of c.core pid).state ≡ true
         → LivesSo system.now.checked (of c.core pid).state result }
 {
@@ -41,7 +42,7 @@ fn fate_in(system: &System, pid: u32) -> ProcessFate
 
 /// All processes, each with the status that it has if it hasn't ended.
 fn standing_in(alloc: Global, followed: &Followed) -> Result<Vec<ProcessStatus>, NoMemory>
-    ensures { IfOk result (λ v. (c : Configuration) → followed.now.system.standing ≡ Some c
+    ensures { IfOk result (λ v. (c : Configuration) → Represents followed.now.system c
         → AreByPid followed.now.begun.items
         → AreStanding followed.now.system.checked c followed.now.begun.items
         (length followed.now.begun.items) v.items) }

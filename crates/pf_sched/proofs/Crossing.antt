@@ -20,6 +20,7 @@ use Rattle.pf_sched.specs.contracts.finished.Finished as Finished
 use Rattle.pf_sched.specs.contracts.job.Job as Job
 use Rattle.pf_sched.specs.contracts.last.LastChooser as LastChooser
 use Rattle.pf_sched.specs.contracts.last.Sampler as Sampler
+use Rattle.pf_sched.specs.contracts.noted.NotedChoices as NotedChoices
 use Rattle.pf_sched.specs.contracts.parked.Parked as Parked
 use Rattle.pf_sched.specs.contracts.parked.ParkedWork as Work
 use Rattle.pf_sched.specs.contracts.result.JobResult as JobResult
@@ -69,8 +70,11 @@ hunt_send = search (heap.crosses, sendable) depth 30
 others_field_send : IsSend (Others.the_field).row
 others_field_send = search (heap.crosses, sendable) depth 30
 
+noted_field_send : IsSend (NotedChoices.the_field).row
+noted_field_send = search (heap.crosses, sendable) depth 30
+
 sampler_field_send : IsSend (Sampler.the_field).row
-sampler_field_send = search (heap.crosses, sendable) depth 30
+sampler_field_send = search (noted_field_send, heap.crosses, sendable) depth 30
 
 last_field_send : IsSend (LastChooser.the_field).row
 last_field_send = search (others_field_send, sampler_field_send, heap.crosses, sendable) depth 30

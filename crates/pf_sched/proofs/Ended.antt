@@ -9,6 +9,7 @@ use Rattle.pf_sched.specs.Choosing.{Choosing, MeansFor}
 use Rattle.pf_sched.specs.Parts.{Executes}
 use Rattle.pf_sched.specs.Slices.{Advances, IsRunOver}
 use Rattle.pf_sched.specs.declared.execution.Execution.{Execution}
+use Rattle.pf_sched.proofs.Reported.{over_by}
 use Rattle.pf_sched.proofs.SoFar.{ends_by_limit}
 
 -- it is over after as many events as the limit has steps
@@ -20,7 +21,8 @@ over_at_limit j w turns limit all same es x g over off went =
     subst (λ b. Advances 0 (length es) turns b (IsRunOver limit x)) off went in
     let count = a.0 in
     let stops : Stops (j.asked.limit - x.system.steps) g.run.last = ends_by_limit g.run (omega arith) in
-    a.1 (g.run.last, g.run.is_there, subst (λ n. Stops (n - x.system.steps) g.run.last) (sym same) stops)
+    a.1 (over_by limit x g.run.last g.run.is_there (subst (λ n. Stops (n - x.system.steps) g.run.last) (sym same)
+    stops))
 
 -- what is a report by whatever a run begins by is so by this
 pub means_for : (j : Job) (w : Choosing) (x : Execution) → Executes j w [] x → (r : Report)

@@ -1,5 +1,6 @@
 -- What is chosen where a process goes last.
-use Rattle.std.proofs.Common.{◌≡◌, ℕ, suc, ◌+◌, Bool, true, false, if◌then◌else◌, List, length, refl, sym, ap, ◌∙◌}
+use Rattle.std.proofs.Common.{◌≡◌, ℕ, suc, ◌+◌, Bool, true, false, if◌then◌else◌, List, [], ◌∷◌, ◌++◌, length}
+use Rattle.std.proofs.Common.{refl, sym, ap, ◌∙◌}
 use Rattle.std.proofs.Common.{subst, arith}
 use Rattle.std.specs.Prelude.{filter, nat_lt}
 use Rattle.rand_pcg.specs.Lcg.{Lcg}
@@ -13,16 +14,18 @@ use Rattle.pf_model.specs.Meaning.{picks_of, words_of}
 use Rattle.pf_model.specs.Runs.{ready}
 use Rattle.pf_strategy.specs.InOthers.{AreOthers}
 use Rattle.pf_strategy.specs.Last.{are_others, choose_other, is_other, is_other_channel, keep_last, place}
+use Rattle.pf_strategy.specs.Noted.{point}
 use Rattle.pf_strategy.specs.Priorities.{state_of}
 use Rattle.pf_strategy.specs.Runs.{choose_by_priorities}
 use Rattle.pf_strategy.specs.declared.last.Others.{Others}
 use Rattle.pf_strategy.specs.declared.priorities.Priorities.{Priorities}
-use Rattle.pf_sched.specs.Choosing.{Choosing, StateOf, chooser_of, choices, last, priorities}
-use Rattle.pf_sched.specs.Traces.{ChoosesAmong, ChoosesFor, ChoosesLast, IsSampler}
+use Rattle.pf_sched.specs.Choosing.{Choosing, StateOf, chooser_of, choices, last, noted, priorities}
+use Rattle.pf_sched.specs.Traces.{ChoosesAmong, ChoosesFor, ChoosesLast, IsSampler, NotesChoice}
 use Rattle.pf_sched.specs.declared.chooser.ActorChooser.TheVariants as code
 use Rattle.pf_sched.specs.declared.last.LastChooser.{LastChooser}
 use Rattle.pf_sched.specs.declared.last.Sampler.{Sampler}
 use Rattle.pf_sched.specs.declared.last.Sampler.TheVariants as sampler
+use Rattle.pf_sched.specs.declared.noted.NotedChoices.{NotedChoices}
 
 -- what choices choose, whichever they are
 pub among_by_choices : (q q' : Choices Lcg) (pids : List ℕ) (channels : List (ℕ × ℕ)) (k : ℕ)
@@ -42,6 +45,7 @@ among_by_choices q q' pids channels k h (choices cs) i makes =
       },
     )
 among_by_choices q q' pids channels k h (priorities seed) s is = absurd is
+among_by_choices q q' pids channels k h (noted cs) s is = absurd is
 among_by_choices q q' pids channels k h (last p w) s is = absurd is
 
 -- and what priorities do
@@ -54,7 +58,38 @@ among_by_priorities p p' pids channels k h (priorities seed) s is = (
   ap (λ z. choose_by_priorities z pids channels) is ∙ h,
   refl,
 )
+among_by_priorities p p' pids channels k h (noted cs) s is = absurd is
 among_by_priorities p p' pids channels k h (last a w) s is = absurd is
+
+-- and what choices choose that are noted
+pub among_by_noted : (n n' : NotedChoices) (pids : List ℕ) (channels : List (ℕ × ℕ)) (k : ℕ)
+    → NotesChoice n (length pids) (length channels) k n'
+    → ChoosesAmong (sampler.Noted n) pids channels k (sampler.Noted n')
+among_by_noted n n' pids channels k h (choices cs) i is = absurd is
+among_by_noted n n' pids channels k h (priorities seed) s is = absurd is
+among_by_noted n n' pids channels k h (noted cs) s is =
+    let next : s.0 + 1 ≡ suc s.0 = omega arith in
+    let makes = is.0 in
+    let same : k ≡ picks_of cs s.0 (length pids) (length channels) =
+    h.0.choice_is (words_of cs) s.0 makes.at
+    ∙ ap (λ p. chosen p (words_of cs s.0) (length pids) (length channels)) makes.profile in
+    let all : s.1 ++ point (picks_of cs s.0 (length pids) (length channels)) (length pids + length channels) ∷ []
+    ≡ n'.points.items =
+    ap (λ xs. xs ++ point (picks_of cs s.0 (length pids) (length channels)) (length pids + length channels) ∷ []) is.1
+    ∙ ap (λ c. n.points.items ++ point c (length pids + length channels) ∷ []) (sym same) ∙ sym h.1 in (
+      (suc s.0, n'.points.items),
+      ap (λ xs. (picks_of cs s.0 (length pids) (length channels), (suc s.0, xs))) all
+          ∙ ap (λ c. (c, (suc s.0, n'.points.items))) (sym same),
+      (
+        record {
+          at = subst (λ x. IsAt pcg32 (words_of cs) x n'.choices) next (h.0.moves (words_of cs) s.0 makes.at);
+          profile =
+              h.0.keeps ∙ makes.profile;
+        },
+        refl,
+      ),
+    )
+among_by_noted n n' pids channels k h (last a w) s is = absurd is
 
 module _ (o : Others) (by by' : Sampler) (pids : List ℕ) (channels : List (ℕ × ℕ))
     (are : AreOthers o pids channels) where
@@ -105,6 +140,7 @@ pub chosen_by_last : (c : Configuration) (l l' : LastChooser) (k : ℕ) → l'.o
     → ChoosesFor (code.Last l) c k (code.Last l')
 chosen_by_last c l l' k same h (choices cs) i is = absurd is
 chosen_by_last c l l' k same h (priorities seed) s is = absurd is
+chosen_by_last c l l' k same h (noted cs) s is = absurd is
 chosen_by_last c l l' k same h (last p w) s is =
     let r = h w s is.1 in (
       r.0,

@@ -17,4 +17,5 @@ pub mod Printed
 mod SystemCrossing
 pub mod Crossing
 pub mod Lasting
+pub mod NotedChoices
 pub mod BySeed

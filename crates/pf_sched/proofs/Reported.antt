@@ -1,5 +1,5 @@
 -- The report of a run that is over.
-use Rattle.std.proofs.Common.{◌≡◌, ◌-◌, List, map, Option, Some, Bool, sym, ap, ◌∙◌, subst}
+use Rattle.std.proofs.Common.{◌≡◌, inl, inr, ℕ, ◌-◌, List, map, Option, Bool, refl, sym, ap, ◌∙◌, subst}
 use Rattle.pf_model.specs.Choosers.{Chooser}
 use Rattle.pf_model.specs.Configuration.{Configuration}
 use Rattle.pf_model.specs.Meaning as model
@@ -8,7 +8,9 @@ use Rattle.pf_model.specs.Properties.{Outcome, verdict}
 use Rattle.pf_model.specs.Runs.{Run, Stops, start}
 use Rattle.pf_property.proofs.Shown.{labels_of_run}
 use Rattle.pf_request.specs.Job.{Job}
+use Rattle.pf_system.specs.Steps.{Represents}
 use Rattle.pf_system.specs.View.{SystemView}
+use Rattle.pf_system.proofs.WhoMayGo.{actors_of}
 use Rattle.pf_sched.specs.declared.execution.Execution.{Execution}
 use Rattle.pf_sched.specs.Choosing.{Choosing, MeansFor, choices}
 use Rattle.pf_sched.specs.Closing.{ClosesRun}
@@ -16,9 +18,17 @@ use Rattle.pf_sched.specs.Parts.{Executes}
 use Rattle.pf_sched.specs.Slices.{IsRunOver}
 use Rattle.pf_sched.specs.Traces.{Going}
 
--- there is one current configuration only
-pub one_is_there : (o : Option Configuration) (c d : Configuration) → o ≡ Some c → o ≡ Some d → c ≡ d
-one_is_there o c d a b = cc
+-- where a run is over, it stops in the configuration that its system represents
+pub stops_by : (limit : ℕ) (x : Execution) (c : Configuration) → Represents x.system c → IsRunOver limit x
+    → Stops (limit - x.system.steps) c
+stops_by limit x c r (inl none) = inl (sym (actors_of x.system c r) ∙ none)
+stops_by limit x c r (inr none) = inr none
+
+-- and it is over where it stops in that
+pub over_by : (limit : ℕ) (x : Execution) (c : Configuration) → Represents x.system c
+    → Stops (limit - x.system.steps) c → IsRunOver limit x
+over_by limit x c r (inl none) = inl (actors_of x.system c r ∙ none)
+over_by limit x c r (inr none) = inr none
 
 -- the report with the events of a whole run and how it ended is what the job means by the chooser of the run
 pub means_by : {S : Type 0} {choose : Chooser S} {s : S} {j : Job} {es : List Event} {x : SystemView} {t : S}
@@ -75,7 +85,11 @@ pub means : (j : Job) (w : Choosing) (es : List Event) (x : Execution) → Execu
     → (r : Report) → ClosesRun j es x.system r
     → MeansFor w j.asked r
 means j w es x g over r reported =
-    let stops : Stops (j.asked.limit - x.system.steps) g.run.last =
-    subst (Stops (j.asked.limit - x.system.steps))
-    (one_is_there x.system.standing over.0 g.run.last over.1 g.run.is_there) over.2 in
-    means_by g.run stops r reported
+    means_by g.run (stops_by j.asked.limit x g.run.last g.run.is_there over) r reported
+
+-- from the state in which it is then
+pub means_in_state : (j : Job) (w : Choosing) (es : List Event) (x : Execution) (g : Executes j w es x)
+    → IsRunOver j.asked.limit x → (r : Report) → ClosesRun j es x.system r
+    → (h : MeansFor w j.asked r) × (h.state ≡ g.state)
+unfolding means means_by
+means_in_state j w es x g over r reported = (means j w es x g over r reported, refl)

@@ -1,6 +1,6 @@
 -- What a slice leaves of the run of a job.
 use Rattle.std.proofs.Common.{◌≡◌, ◌⊎◌, inl, inr, ℕ, zero, suc, ◌+◌, ◌-◌, ◌<◌, ◌≤◌, Bool, true, false, List, length}
-use Rattle.std.proofs.Common.{Some, sym, ap, ◌∙◌, subst, arith}
+use Rattle.std.proofs.Common.{sym, ap, ◌∙◌, subst, arith}
 use Rattle.std.specs.Prelude.{MatchBool}
 use Rattle.pf_terms.specs.Atoms.{name_of}
 use Rattle.pf_model.specs.Configuration.{Configuration}
@@ -10,6 +10,7 @@ use Rattle.pf_model.specs.Runs.{Stops}
 use Rattle.pf_model.specs.Shrinking as shrinking
 use Rattle.pf_property.specs.Judging.{rules_out}
 use Rattle.pf_property.specs.Views.{labels_in, property_of}
+use Rattle.pf_system.specs.Steps.{Represents}
 use Rattle.pf_system.specs.View.{SystemView}
 use Rattle.pf_request.specs.Job.{Job}
 use Rattle.pf_trace.specs.Written.{AreWritten, AreWrittenSoFar, events_of, report_in, reported_so_far}
@@ -25,7 +26,7 @@ use Rattle.pf_sched.specs.declared.execution.Execution.{Execution}
 use Rattle.pf_sched.specs.declared.run.Run as code
 use Rattle.pf_sched.specs.declared.trace.Writer.{Writer}
 use Rattle.pf_sched.proofs.Hunted.{HasNoFewer, has_more}
-use Rattle.pf_sched.proofs.Reported.{one_is_there}
+use Rattle.pf_sched.proofs.Reported.{over_by, stops_by}
 use Rattle.pf_sched.proofs.SoFar.{has_more_to_come}
 
 -- a run that isn't over has more events to come
@@ -33,7 +34,7 @@ pub run_goes_past : (j : Job) (w : Choosing) (es : List meaning.Event) (x : Exec
     → (IsRunOver j.asked.limit x → ⊥)
     → (report : meaning.Report) → MeansFor w j.asked report → length es < length report.events
 run_goes_past j w es x g going report h = has_more_to_come g.run
-    (λ stops. going (g.run.last, g.run.is_there, stops)) report h
+    (λ stops. going (over_by j.asked.limit x g.run.last g.run.is_there stops)) report h
 
 -- so has the job, where it is no shrinking
 goes_past : (j : Job) (es : List meaning.Event) (x : Execution) → j.asked.runs ≡ zero
@@ -43,16 +44,14 @@ goes_past j es x plain g going m (of_shrinking k ns fails _ e c reports has) =
     absurd (let some : j.asked.runs ≡ suc k = e in cc)
 
 -- where n events were made, a test of where the run is says whether it is over
-pub ended : (limit before after turns : ℕ) (x : Execution) (c : Configuration) → x.system.standing ≡ Some c
+pub ended : (limit before after turns : ℕ) (x : Execution) (c : Configuration) → Represents x.system c
     → after ≡ before + turns → (over : Bool)
     → MatchBool over (Stops (limit - x.system.steps) c) (Stops (limit - x.system.steps) c → ⊥)
     → Advances before after turns over (IsRunOver limit x)
-ended limit before after turns x c is_there count true stops = (omega arith, omega arith, (c, is_there, stops))
-ended limit before after turns x c is_there count false goes = (
-  count,
-  λ over. goes (subst (Stops (limit - x.system.steps))
-      (one_is_there x.system.standing over.0 c over.1 is_there) over.2),
-)
+ended limit before after turns x c is_there count true stops =
+    (omega arith, omega arith, over_by limit x c is_there stops)
+ended limit before after turns x c is_there count false goes =
+    (count, λ over. goes (stops_by limit x c is_there over))
 
 -- so it is where the system has other spare nodes
 pub continues_alike : {T : Type 0} (Reported : T → meaning.Job → List meaning.Event → Type 0) (limit turns : ℕ)

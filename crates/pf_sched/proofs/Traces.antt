@@ -1,8 +1,7 @@
 -- A run by a chooser, transition by transition.
-use Rattle.std.proofs.Common.{◌≡◌, ℕ, suc, ◌+◌, ◌-◌, ◌<◌, List, [], ◌∷◌, ◌++◌, length, map, Some, refl, sym, ap}
-use Rattle.std.proofs.Common.{◌∙◌, subst, arith}
+use Rattle.std.proofs.Common.{◌≡◌, ℕ, suc, ◌+◌, ◌-◌, ◌<◌, List, [], ◌∷◌, ◌++◌, length, map, refl, sym, ap, ◌∙◌}
+use Rattle.std.proofs.Common.{subst, arith}
 use Rattle.std.specs.Prelude.{slice_get}
-use Rattle.std.proofs.lemmas.Option.{same_Some}
 use Rattle.rand_pcg.specs.Pcg.{pcg32}
 use Rattle.rand_pcg.specs.Lcg.{Lcg}
 use Rattle.pf_choice.specs.Choices.{Chooses, IsAt}
@@ -18,11 +17,11 @@ use Rattle.pf_model.specs.Runs.{Transition}
 use Rattle.pf_request.specs.Job.{Job}
 use Rattle.pf_strategy.specs.Priorities.{state_of}
 use Rattle.pf_strategy.specs.Runs.{choose_by_priorities}
-use Rattle.pf_system.specs.Steps.{IsNoteOf, SimulatesTransition}
+use Rattle.pf_system.specs.Steps.{IsNoteOf, Represents, SimulatesFrom}
 use Rattle.pf_system.specs.View.{SystemView}
 use Rattle.pf_system.specs.declared.enabled.Enabled.{Enabled}
 use Rattle.pf_system.proofs.Bodies.{map_more}
-use Rattle.pf_sched.specs.Choosing.{Choosing, chooser_of, choices, first_of, last, priorities}
+use Rattle.pf_sched.specs.Choosing.{Choosing, chooser_of, choices, first_of, last, noted, priorities}
 use Rattle.pf_sched.specs.declared.chooser.ActorChooser.TheVariants as code
 use Rattle.pf_sched.specs.declared.chooser.ActorPriorities.{ActorPriorities}
 use Rattle.pf_sched.specs.declared.execution.Execution.{Execution}
@@ -48,7 +47,7 @@ module _ {S : Type 0} (choose : Chooser S) (first : S) (j : Job) where
   c = start j.asked.root j.asked.edition
 
   -- before the first
-  pub begins : (x : SystemView) → module_of x.checked ≡ m → x.standing ≡ Some c → x.steps ≡ 0
+  pub begins : (x : SystemView) → module_of x.checked ≡ m → Represents x c → x.steps ≡ 0
       → Going choose first j [] x first
   begins x k e z =
       record {
@@ -69,19 +68,19 @@ module _ {S : Type 0} (choose : Chooser S) (first : S) (j : Job) where
       record {
         transitions = g.transitions ++ u ∷ [];
         last = p.passed.after;
-        code = ap (λ z. module_of z.checked) p.becomes ∙ g.code;
-        is_there = ap (λ z. z.standing) p.becomes;
+        code = ap module_of p.checked ∙ g.code;
+        is_there = p.is_there;
         goes =
             subst (Goes m choose first limit c (g.transitions ++ u ∷ []) p.passed.after x'.steps)
             (ap (λ z. z.1) w.chooses)
             (subst (λ n. Goes m choose first limit c (g.transitions ++ u ∷ []) p.passed.after n
             (next_state choose s g.last)) steps longer);
-        within = let u = p.within in let z = ap (λ y. y.steps) p.becomes in omega arith;
+        within = let u = p.within in let z = p.steps in omega arith;
         events = ap (λ l. l ++ e ∷ []) g.events ∙ ap (λ y. map event_of_transition g.transitions ++ y ∷ []) reports
             ∙ sym (map_more event_of_transition g.transitions u);
       }
     where
-      p : SimulatesTransition (limit - x.steps) x e.actor e.label w.used x'
+      p : SimulatesFrom g.last (limit - x.steps) x e.actor e.label w.used x'
       p = w.passes
 
       k : ℕ
@@ -93,17 +92,13 @@ module _ {S : Type 0} (choose : Chooser S) (first : S) (j : Job) where
       chosen_is : e.choice ≡ k
       chosen_is = sym (ap (λ z. z.0) w.chooses)
 
-      from_last : p.before ≡ g.last
-      from_last = same_Some p.before g.last (sym p.was ∙ g.is_there)
-
       left : limit - x.steps ≡ suc (limit - x.steps - 1)
       left = omega arith
 
       passes : Passes m (suc (limit - x.steps - 1)) g.last e.actor p.passed
       passes =
           subst (λ z. Passes z (suc (limit - x.steps - 1)) g.last e.actor p.passed) g.code
-          (subst (λ z. Passes (module_of x.checked) (suc (limit - x.steps - 1)) z e.actor p.passed) from_last
-          (subst (λ n. Passes (module_of x.checked) n p.before e.actor p.passed) left p.passes))
+          (subst (λ n. Passes (module_of x.checked) n g.last e.actor p.passed) left p.passes)
 
       longer : Goes m choose first limit c (g.transitions ++ u ∷ []) p.passed.after (x.steps + p.passed.used)
           (next_state choose s g.last)
@@ -112,7 +107,7 @@ module _ {S : Type 0} (choose : Chooser S) (first : S) (j : Job) where
           (ap (slice_get (enabled g.last)) (sym chosen_is) ∙ w.chosen) (omega arith) passes
 
       steps : x.steps + p.passed.used ≡ x'.steps
-      steps = let z = ap (λ y. y.steps) p.becomes in let u = p.counts in omega arith
+      steps = let z = p.steps in let u = p.counts in omega arith
 
       reports : e ≡ event_of_transition u
       reports =
@@ -169,6 +164,7 @@ chosen_by_choices c q q' k h (choices cs) i makes =
       },
     )
 chosen_by_choices c q q' k h (priorities seed) s is = absurd is
+chosen_by_choices c q q' k h (noted cs) s is = absurd is
 chosen_by_choices c q q' k h (last p w) s is = absurd is
 
 -- and what priorities do
@@ -181,4 +177,5 @@ chosen_by_priorities c p p' k h (priorities seed) s is = (
   ap (λ z. choose_by_priorities z (ready c) (heads c.channels)) is ∙ h,
   refl,
 )
+chosen_by_priorities c p p' k h (noted cs) s is = absurd is
 chosen_by_priorities c p p' k h (last a w) s is = absurd is

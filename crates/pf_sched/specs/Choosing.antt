@@ -1,12 +1,14 @@
 -- What chooses in the run of a job: choices, or the priorities of a seed; by either a process may go last.
-use Rattle.std.specs.Prelude.{ℕ, zero, Option, Some, None}
+use Rattle.std.specs.Prelude.{ℕ, zero, List, [], Option, Some, None}
 use Rattle.rand_pcg.specs.Lcg.{Lcg}
 use Rattle.pf_model.specs.Choosers.{Chooser, choose_by_picks}
 use Rattle.pf_model.specs.Meaning.{Choices, Job, MeansBy, Report, picks_of}
 use Rattle.pf_request.specs.Job.{reseeded}
 use Rattle.pf_strategy.specs.Last.{keep_last}
+use Rattle.pf_strategy.specs.Noted.{note_choices}
 use Rattle.pf_strategy.specs.Priorities.{PriorityState, first}
 use Rattle.pf_strategy.specs.Runs.{choose_by_priorities}
+use Rattle.pf_strategy.specs.declared.noted.ChoicePoint.{ChoicePoint}
 use Rattle.pf_strategy.specs.declared.strategy.Sampling.{Sampling}
 use Rattle.pf_strategy.specs.declared.strategy.Sampling.TheVariants.{Uniform, Priorities}
 use Rattle.pf_strategy.specs.declared.strategy.SeedChoice.{SeedChoice}
@@ -14,6 +16,8 @@ use Rattle.pf_strategy.specs.declared.strategy.SeedChoice.{SeedChoice}
 pub data Choosing : Type 0 where
   choices : Choices → Choosing
   priorities : (seed : ℕ) → Choosing
+  -- choices, each of which is noted
+  noted : Choices → Choosing
   -- the same, but for a process that goes last
   last : (pid : ℕ) → Choosing → Choosing
 
@@ -21,17 +25,20 @@ pub data Choosing : Type 0 where
 abbrev pub StateOf : Choosing → Type 0
 StateOf (choices cs) = ℕ
 StateOf (priorities seed) = PriorityState Lcg
+StateOf (noted cs) = ℕ × List ChoicePoint
 StateOf (last p w) = StateOf w
 
 abbrev pub chooser_of : (w : Choosing) → Chooser (StateOf w)
 chooser_of (choices cs) = choose_by_picks (picks_of cs)
 chooser_of (priorities seed) = choose_by_priorities
+chooser_of (noted cs) = note_choices (choose_by_picks (picks_of cs))
 chooser_of (last p w) = keep_last p (chooser_of w)
 
 -- and the one before the first choice
 abbrev pub first_of : (w : Choosing) → StateOf w
 first_of (choices cs) = zero
 first_of (priorities seed) = first seed
+first_of (noted cs) = (zero, [])
 first_of (last p w) = first_of w
 
 -- a report is what a job means where this chooses, in place of its own choices

@@ -1,19 +1,18 @@
 -- What a slice makes of a parked job.
-use Rattle.std.specs.Prelude.{◌≡◌, ◌⊎◌, ◌+◌, ◌-◌, ◌<◌, ◌≤◌, ℕ, zero, suc, Bool, true, false, List, length, Option, Some}
-use Rattle.std.specs.Prelude.{None}
+use Rattle.std.specs.Prelude.{◌≡◌, ◌⊎◌, ◌+◌, ◌-◌, ◌<◌, ◌≤◌, ℕ, zero, suc, Bool, true, false, List, [], length, Option}
+use Rattle.std.specs.Prelude.{Some, None}
 use Rattle.rand_pcg.specs.Lcg.{Lcg}
 use Rattle.pf_terms.specs.Atoms.{name_of}
 use Rattle.pf_choice.specs.declared.choices.Choices.{Choices}
-use Rattle.pf_model.specs.Configuration.{Configuration}
 use Rattle.pf_model.specs.Shrinking as shrinking
 use Rattle.pf_model.specs.Shrinking.{by_schedule, Found, IsResult, nothing_fails, shrunk_to}
 use Rattle.pf_model.specs.Meaning as meaning
 use Rattle.pf_model.specs.Meaning.{Event, Means, Report, schedule}
-use Rattle.pf_model.specs.Runs.{Stops}
 use Rattle.pf_shrink.specs.Hunts.{Hunting, begins, searches, ended}
 use Rattle.pf_request.specs.Job.{Job}
 use Rattle.pf_trace.specs.Written.{AreWritten, report_in}
 use Rattle.pf_trace.specs.declared.lines.WrittenReport.{WrittenReport}
+use Rattle.pf_system.specs.Steps.{actors_in}
 use Rattle.pf_sched.specs.declared.execution.Execution.{Execution}
 use Rattle.pf_sched.specs.declared.result.JobResult.{JobResult}
 use Rattle.pf_sched.specs.declared.run.Run.{Run}
@@ -48,9 +47,9 @@ abbrev pub Advances : (before after turns : ℕ) → (over : Bool) → (stops : 
 Advances before after turns true stops = (before ≤ after) × (after ≤ before + turns) × stops
 Advances before after turns false stops = (after ≡ before + turns) × (stops → ⊥)
 
--- a run is over where it is
+-- a run is over where it is: nobody may go, or no step is left
 abbrev pub IsRunOver : (limit : ℕ) → Execution → Type 0
-IsRunOver limit x = (c : Configuration) × (x.system.standing ≡ Some c) × Stops (limit - x.system.steps) c
+IsRunOver limit x = (actors_in x.system ≡ []) ⊎ (limit - x.system.steps ≡ zero)
 
 -- a run goes on, whichever job's it is and whatever chooses, and a trace receives all its events
 abbrev pub SimulatesEvents : {T : Type 0} (Reported : T → meaning.Job → List Event → Type 0) (limit : ℕ)

@@ -1,10 +1,11 @@
 -- What a run made of its transitions so far, and which events its trace received.
-use Rattle.std.specs.Prelude.{◌≡◌, ◌≤◌, ℕ, zero, Bool, true, false, List, Option, Some, None, [], length, map}
+use Rattle.std.specs.Prelude.{◌≡◌, ◌≤◌, ℕ, zero, ◌+◌, Bool, true, false, List, Option, Some, None, [], ◌∷◌, ◌++◌}
+use Rattle.std.specs.Prelude.{length, map}
 use Rattle.std.specs.Prelude.{slice_get}
 use Rattle.rand_pcg.specs.Lcg.{Lcg}
 use Rattle.rand_pcg.specs.Pcg.{pcg32}
 use Rattle.pf_choice.specs.Choices as choice
-use Rattle.pf_choice.specs.Choices.{IsAt}
+use Rattle.pf_choice.specs.Choices.{Chooses, IsAt}
 use Rattle.pf_choice.specs.declared.choices.Choices.{Choices}
 use Rattle.pf_model.specs.Channels.{heads}
 use Rattle.pf_model.specs.Choosers.{Chooser}
@@ -16,16 +17,19 @@ use Rattle.pf_model.specs.Module.{module_of}
 use Rattle.pf_model.specs.Runs.{Goes, Transition, enabled, ready, start}
 use Rattle.pf_request.specs.Job.{Job}
 use Rattle.pf_strategy.specs.Last.{keep_last}
+use Rattle.pf_strategy.specs.Noted.{point}
 use Rattle.pf_strategy.specs.Priorities.{state_of}
-use Rattle.pf_system.specs.Steps.{SimulatesTransition}
+use Rattle.pf_strategy.specs.declared.noted.ChoicePoint.{ChoicePoint}
+use Rattle.pf_system.specs.Steps.{Represents, SimulatesFrom}
 use Rattle.pf_system.specs.View.{SystemView}
 use Rattle.pf_sched.specs.declared.chooser.ActorChooser.{ActorChooser}
 use Rattle.pf_sched.specs.declared.chooser.ActorChooser.TheVariants as code
 use Rattle.pf_sched.specs.declared.last.Sampler.{Sampler}
 use Rattle.pf_sched.specs.declared.last.Sampler.TheVariants as sampler
+use Rattle.pf_sched.specs.declared.noted.NotedChoices.{NotedChoices}
 use Rattle.pf_sched.specs.declared.execution.Execution.{Execution}
 use Rattle.pf_sched.specs.declared.execution.Chosen.{Chosen}
-use Rattle.pf_sched.specs.Choosing.{Choosing, StateOf, chooser_of, choices, first_of, last, priorities}
+use Rattle.pf_sched.specs.Choosing.{Choosing, StateOf, chooser_of, choices, first_of, last, noted, priorities}
 use Rattle.pf_sched.specs.Reported.{Hears, event}
 
 -- ---- by a chooser
@@ -38,7 +42,7 @@ pub record Went {S : Type 0} (choose : Chooser S) (left : ℕ) (c : Configuratio
   pub counts : e.count ≡ length (enabled c)
   pub chooses : choose s (ready c) (heads c.channels) ≡ (e.choice, t)
   pub chosen : slice_get (enabled c) e.choice ≡ Some e.actor
-  pub passes : SimulatesTransition left x e.actor e.label used x'
+  pub passes : SimulatesFrom c left x e.actor e.label used x'
 
 -- a run of a job by a chooser from state s so far, which is in state t: it is at some configuration, and these events
 -- show its transitions
@@ -47,7 +51,7 @@ pub record Going {S : Type 0} (choose : Chooser S) (s : S) (j : Job) (es : List 
   pub transitions : List Transition
   pub last : Configuration
   pub code : module_of x.checked ≡ j.asked.code
-  pub is_there : x.standing ≡ Some last
+  pub is_there : Represents x last
   pub goes : Goes j.asked.code choose s j.asked.limit (start j.asked.root j.asked.edition) transitions last x.steps t
   pub within : x.steps ≤ j.asked.limit
   pub events : es ≡ map meaning.event_of_transition transitions
@@ -63,12 +67,23 @@ pub record MakesFrom (cs : meaning.Choices) (i : ℕ) (q : Choices Lcg) : Type 0
 abbrev pub Makes : meaning.Choices → Choices Lcg → Type 0
 Makes cs q = MakesFrom cs zero q
 
+-- of so many processes and channels choices choose this index, and it is noted
+abbrev pub NotesChoice : NotedChoices → (pids channels : ℕ) → ℕ → NotedChoices → Type 0
+NotesChoice n pids channels k n' =
+    Chooses pcg32 n.choices pids channels k n'.choices
+    × (n'.points.items ≡ n.points.items ++ point k (pids + channels) ∷ [])
+
 -- what chooses beside the last process is the chooser of this, in this state
 abbrev pub IsSampler : (w : Choosing) → StateOf w → Sampler → Type 0
 IsSampler (choices cs) i (sampler.Choices q) = MakesFrom cs i q
 IsSampler (choices cs) i (sampler.Priorities p) = ⊥
+IsSampler (choices cs) i (sampler.Noted n) = ⊥
 IsSampler (priorities seed) s (sampler.Choices q) = ⊥
 IsSampler (priorities seed) s (sampler.Priorities p) = s ≡ state_of p
+IsSampler (priorities seed) s (sampler.Noted n) = ⊥
+IsSampler (noted cs) s (sampler.Choices q) = ⊥
+IsSampler (noted cs) s (sampler.Priorities p) = ⊥
+IsSampler (noted cs) s (sampler.Noted n) = MakesFrom cs s.0 n.choices × (s.1 ≡ n.points.items)
 IsSampler (last p w) s q = ⊥
 
 -- ChoosesAmong q pids channels k q': in whichever state of whichever chooser it was, k is the index that this chooses
@@ -84,6 +99,18 @@ ChoosesLast p q pids channels k q' =
     (w : Choosing) (s : StateOf w) → IsSampler w s q
     → (t : StateOf w) × (keep_last p (chooser_of w) s pids channels ≡ (k, t)) × IsSampler w t q'
 
+-- the choices that are noted, of what chooses beside the last process
+abbrev pub noted_by : Sampler → List ChoicePoint
+noted_by (sampler.Choices q) = []
+noted_by (sampler.Priorities p) = []
+noted_by (sampler.Noted n) = n.points.items
+
+-- and in a run
+abbrev pub points_in : ActorChooser → List ChoicePoint
+points_in (code.Choices q) = []
+points_in (code.Priorities p) = []
+points_in (code.Last l) = noted_by l.by
+
 -- what chooses in a run is the chooser of this, in this state
 abbrev pub IsIn : (w : Choosing) → StateOf w → ActorChooser → Type 0
 IsIn (choices cs) i (code.Choices q) = MakesFrom cs i q
@@ -92,6 +119,7 @@ IsIn (priorities seed) s (code.Choices q) = ⊥
 IsIn (priorities seed) s (code.Priorities p) = s ≡ state_of p.priorities
 IsIn (choices cs) i (code.Last l) = ⊥
 IsIn (priorities seed) s (code.Last l) = ⊥
+IsIn (noted cs) s q = ⊥
 IsIn (last p w) s (code.Choices q) = ⊥
 IsIn (last p w) s (code.Priorities q) = ⊥
 IsIn (last p w) s (code.Last l) = (p ≡ l.others.last) × IsSampler w s l.by

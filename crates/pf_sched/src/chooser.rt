@@ -9,12 +9,12 @@ ghost use Rattle.pf_model.specs.Runs.{ready};
 ghost use Rattle.pf_strategy.specs.Priorities.{first, state_of};
 ghost use Rattle.pf_strategy.specs.Runs.{choose_by_priorities};
 ghost use Rattle.pf_system.specs.Steps.{IsNoteOf, noted_actors};
-ghost use Rattle.pf_sched.specs.Traces.{ChoosesFor};
+ghost use Rattle.pf_sched.specs.Traces.{ChoosesFor, points_in};
 
 use crate::last::LastChooser;
 use pf_choice::Choices;
 use pf_errors::NoMemory;
-use pf_strategy::Priorities;
+use pf_strategy::{ChoicePoint, Priorities};
 use pf_system::Enabled;
 use std::alloc::Global;
 
@@ -86,6 +86,15 @@ impl ActorChooser {
             ActorChooser::Choices(choices) => Ok(next_choice(choices, enabled)),
             ActorChooser::Priorities(priorities) => priorities.choose(enabled),
             ActorChooser::Last(last) => last.choose(enabled),
+        }
+    }
+    /// What is noted of its choices so far.
+    pub fn take_points(&mut self, alloc: Global) -> Vec<ChoicePoint>
+        ensures { result.items ≡ points_in self.old }
+    {
+        match self {
+            ActorChooser::Choices(_) | ActorChooser::Priorities(_) => Vec::new(alloc),
+            ActorChooser::Last(last) => last.take_points(alloc),
         }
     }
 }

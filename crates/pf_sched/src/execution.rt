@@ -4,6 +4,7 @@ ghost use Rattle.std.specs.Prelude.{◌≡◌, ◌<◌, ◌-◌, [], IfOk, Match
 ghost use Rattle.pf_model.specs.Configuration.{Configuration};
 ghost use Rattle.pf_model.specs.Reports.{label_of};
 ghost use Rattle.pf_model.specs.Runs.{Stops};
+ghost use Rattle.pf_system.specs.Steps.{Represents};
 ghost use Rattle.pf_sched.specs.Choosing.{Choosing};
 ghost use Rattle.pf_sched.specs.Parts.{Executes};
 ghost use Rattle.pf_sched.specs.Slices.{SimulatesEvents, IsComplete};
@@ -35,7 +36,7 @@ pub(crate) struct Chosen {
 
 /// Whether a run is over where its system is: nobody may go, or no step is left.
 fn is_over(system: &System, limit: u32) -> bool
-    ensures { (c : Configuration) → system.now.standing ≡ Some c
+    ensures { (c : Configuration) → Represents system.now c
         → MatchBool result (Stops (limit - system.now.steps) c) (Stops (limit - system.now.steps) c → ⊥) }
 {
     system.steps() >= limit || system.enabled().len() == 0
@@ -68,7 +69,7 @@ impl Execution {
         shown: &mut Label,
     ) -> Result<Option<Chosen>, NoMemory>
         requires { self.old.system.steps < limit }
-        ensures { IfOk result (λ chosen. (c : Configuration) → self.old.system.standing ≡ Some c
+        ensures { IfOk result (λ chosen. (c : Configuration) → Represents self.old.system c
             → MayHavePassed (limit - self.old.system.steps) c self.old chosen (label_of shown.new) self.new) }
     {
         let enabled = self.system.enabled();
@@ -96,7 +97,7 @@ impl Execution {
         trace: &mut T,
     ) -> Result<bool, NoMemory>
         requires { self.old.system.steps < limit }
-        ensures { IfOk result (λ went. (c : Configuration) → self.old.system.standing ≡ Some c
+        ensures { IfOk result (λ went. (c : Configuration) → Represents self.old.system c
             → MayHaveGone T.Reported (limit - self.old.system.steps) c self.old trace.old went self.new trace.new) }
     {
         let Some(chosen) = self.pass_next(alloc, limit, shown)? else {

@@ -7,11 +7,12 @@ ghost use Rattle.pf_model.specs.Channels.{heads};
 ghost use Rattle.pf_model.specs.Configuration.{Configuration};
 ghost use Rattle.pf_model.specs.Runs.{ready};
 ghost use Rattle.pf_system.specs.Steps.{IsNoteOf, noted_actors};
-ghost use Rattle.pf_sched.specs.Traces.{ChoosesAmong, ChoosesLast};
+ghost use Rattle.pf_sched.specs.Traces.{ChoosesAmong, ChoosesLast, noted_by};
 
+use crate::noted::NotedChoices;
 use pf_choice::Choices;
 use pf_errors::NoMemory;
-use pf_strategy::{Others, Priorities};
+use pf_strategy::{ChoicePoint, Others, Priorities};
 use pf_system::Enabled;
 use std::alloc::Global;
 
@@ -22,6 +23,8 @@ pub(crate) enum Sampler {
     Choices(Choices),
     /// The priorities of each.
     Priorities(Priorities),
+    /// Choices by how many there are, which are noted.
+    Noted(NotedChoices),
 }
 
 /// Which of these the next word chooses, from 0 on, processes first.
@@ -34,7 +37,8 @@ fn next_among(choices: &mut Choices, pids: &[u32], channels: &[(u32, u32)]) -> u
 }
 
 impl Sampler {
-    /// Which of these is chosen, from 0 on, processes first. The allocation for one more priority may fail.
+    /// Which of these is chosen, from 0 on, processes first. The allocation for one more priority, or for what is
+    /// noted, may fail.
     fn choose(&mut self, pids: &[u32], channels: &[(u32, u32)]) -> Result<usize, NoMemory>
         requires { 0 < length pids.now + length channels.now }
         ensures chooses { IfOk result (λ i. ChoosesAmong self.old pids.now channels.now i self.new) }
@@ -43,6 +47,17 @@ impl Sampler {
         match self {
             Sampler::Choices(choices) => Ok(next_among(choices, pids, channels)),
             Sampler::Priorities(priorities) => priorities.choose(pids, channels),
+            Sampler::Noted(noted) => noted.choose(pids, channels),
+        }
+    }
+
+    /// What is noted of its choices so far.
+    fn take_points(&mut self, alloc: Global) -> Vec<ChoicePoint>
+        ensures { result.items ≡ noted_by self.old }
+    {
+        match self {
+            Sampler::Choices(_) | Sampler::Priorities(_) => Vec::new(alloc),
+            Sampler::Noted(noted) => noted.take_points(alloc),
         }
     }
 }
@@ -103,5 +118,11 @@ impl LastChooser {
             enabled.pids(),
             self.channels.as_slice(),
         )
+    }
+    /// What is noted of its choices so far.
+    pub fn take_points(&mut self, alloc: Global) -> Vec<ChoicePoint>
+        ensures { result.items ≡ noted_by self.old.by }
+    {
+        self.by.take_points(alloc)
     }
 }

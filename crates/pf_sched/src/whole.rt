@@ -78,7 +78,7 @@ pub(crate) fn first_execution(
 }
 
 /// The report of a run that is over, with its events.
-fn report_of_events(
+pub(crate) fn report_of_events(
     alloc: Global,
     job: &Job,
     system: &System,

@@ -6,3 +6,4 @@ pub mod Priorities
 pub mod Places
 pub mod Last
 pub mod InOthers
+pub mod Noted

@@ -12,6 +12,10 @@ mod last;
 
 pub use last::Others;
 
+mod noted;
+
+pub use noted::ChoicePoint;
+
 mod priorities;
 
 pub use priorities::Priorities;

@@ -13,9 +13,8 @@ use Rattle.pf_model.specs.Actions.{start_of}
 use Rattle.pf_model.specs.Module.{Module}
 use Rattle.pf_model.specs.Context.{ProcessState, running, ending, literals}
 use Rattle.pf_model.specs.Runs.{can_go}
-use Rattle.pf_stepper.specs.MachineView.{MachineView, at_call}
+use Rattle.pf_stepper.specs.MachineView.{MachineView, at_call, goes}
 use Rattle.pf_system.specs.Acts.{LifeBegins, home_function}
-use Rattle.pf_system.specs.Slots.{state_in}
 use Rattle.pf_system.specs.declared.slot.Life.TheVariants as life
 
 -- by the function that is found
@@ -31,9 +30,13 @@ pub begins_running : (m : Checked) (own f : ℕ) (vs : Values) (s : ProcessState
     → LifeBegins m own s (life.Lives k false)
 begins_running m own f vs s k e q =
     record {
-      sound = λ mail h. ((running (call f (literals vs)), ap (λ z. z.standing) e, refl), h k);
-      is_of = (ap (λ z. z.own) e, ap (λ z. z.checked) e);
-      state = ap (λ z. state_in z.standing) e ∙ sym q;
+      is_there = λ mail h. (
+        (
+          (ap (λ z. z.own) e, ap (λ z. z.checked) e, ap (λ z. z.standing) e ∙ ap goes (sym q)),
+          ap can_go q,
+        ),
+        h k,
+      );
       goes = ap can_go q;
     }
 
@@ -43,9 +46,7 @@ pub begins_ending : (m : Checked) (own : ℕ) (t : Term) (s : ProcessState) → 
     → LifeBegins m own s (life.Ends t)
 begins_ending m own t s q e =
     record {
-      sound = λ mail h. tt;
-      is_of = tt;
-      state = ap ending e ∙ sym q;
+      is_there = λ mail h. q ∙ ap ending (sym e);
       goes = ap can_go q;
     }
 

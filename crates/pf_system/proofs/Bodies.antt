@@ -1,10 +1,9 @@
--- The bodies of a core, and the core that bodies and ties make.
+-- The bodies of a core.
 use Rattle.std.proofs.Common.{◌≡◌, ℕ, zero, suc, ◌<◌, List, [], ◌∷◌, ◌++◌, refl, sym, ap, ◌∙◌, arith, length, map}
-use Rattle.std.proofs.Common.{slice_set}
+use Rattle.std.proofs.Common.{get_or, slice_set}
 use Rattle.pf_model.specs.Configuration.{Process, Core, of, with_process, process_at}
-use Rattle.pf_ties.specs.Ties.{AllTies}
 use Rattle.pf_ties.specs.Laws.{process_ties, ties_of}
-use Rattle.pf_system.specs.Bodies.{Body, process_body, bodies_of, processes_joined, core_with}
+use Rattle.pf_system.specs.Bodies.{process_body, bodies_of}
 use Rattle.std.proofs.lemmas.List.{length-map}
 
 -- ---- lists
@@ -39,22 +38,6 @@ set_front a [] ys x l = absurd (omega arith)
 set_front zero (y ∷ xs) ys x l = refl
 set_front (suc a) (y ∷ xs) ys x l = ap (λ k. y ∷ k) (set_front a xs ys x (omega arith))
 
--- ---- a core is its bodies and its ties
-
-joined_again : (ps : List Process) → processes_joined (map process_body ps) (map process_ties ps) ≡ ps
-joined_again [] = refl
-joined_again (p ∷ ps) = ap (λ z. p ∷ z) (joined_again ps)
-
-abbrev with_list : Core → List Process → Core
-with_list c ps = record { processes = ps; names = c.names; next_reference = c.next_reference; most = c.most }
-
-pub core_again : (c : Core) (bs : List Body) (t : AllTies) (n : ℕ) → bodies_of c ≡ bs → ties_of c ≡ t → c.most ≡ n
-    → core_with bs t n ≡ c
-core_again c bs t n e f g =
-    ap (λ b. core_with b t n) (sym e) ∙ ap (λ z. core_with (bodies_of c) z n) (sym f)
-    ∙ ap (core_with (bodies_of c) (ties_of c)) (sym g)
-    ∙ ap (with_list c) (joined_again c.processes)
-
 -- ---- one process
 
 set_same : {A : Type 0} (f : Process → A) (a : ℕ) (ps : List Process) (x : A) → x ≡ f (process_at a ps)
@@ -76,3 +59,10 @@ length_of c = sym (length-map c.processes process_body)
 
 pub ties_length : (c : Core) → length (ties_of c).processes ≡ length c.processes
 ties_length c = length-map c.processes process_ties
+
+-- the body of one process among all
+pub body_of_one : (i : ℕ) (ps : List Process)
+    → get_or (map process_body ps) i (process_body (process_at i ps)) ≡ process_body (process_at i ps)
+body_of_one i [] = refl
+body_of_one zero (p ∷ ps) = refl
+body_of_one (suc i) (p ∷ ps) = body_of_one i ps

@@ -1,22 +1,26 @@
 -- Processes of which the slot of one is changed.
-use Rattle.std.proofs.Common.{◌≡◌, ℕ, zero, suc, ◌+◌, ◌<◌, ◌≤◌, true, false, List, [], ◌∷◌, Option, Some, refl, sym, ap}
-use Rattle.std.proofs.Common.{◌∙◌, subst, arith, length, map, slice_set}
-use Rattle.std.specs.Prelude.{slice_get}
+use Rattle.std.proofs.Common.{◌≡◌, ℕ, zero, suc, ◌+◌, ◌<◌, ◌≤◌, true, false, List, [], ◌∷◌, ◌++◌, Option, Some, refl}
+use Rattle.std.proofs.Common.{sym, ap, ◌∙◌, subst, arith, length, map, slice_set}
+use Rattle.std.specs.Prelude.{Err, slice_get}
+use Rattle.pf_terms.specs.Value.{pid}
+use Rattle.pf_terms.specs.declared.term.Term.TheVariants as term
 use Rattle.pf_sorted.specs.Maps.{with_number, without_number}
 use Rattle.pf_model.specs.Configuration.{Process, Core, of, with_process, process_at}
+use Rattle.pf_model.specs.Context.{ended, failed}
 use Rattle.pf_model.specs.Runs.{can_go, pids_in_state}
 use Rattle.pf_model.specs.declared.limits.TheConstants.{MOST_PROCESSES}
 use Rattle.pf_ties.specs.Laws.{process_ties}
 use Rattle.pf_ties.proofs.Followed.{none_changed}
 use Rattle.pf_stepper.specs.MachineView.{MachineStatus}
-use Rattle.pf_system.specs.Bodies.{process_body, bodies_of}
-use Rattle.pf_system.specs.Slots.{slot_body, SlotIsSound, SlotsAreSound, SlotIsLeft}
-use Rattle.pf_system.specs.Processes.{Represents, RepresentsBut, IsLeftAt, checked_in, bodies_in, core_of}
+use Rattle.pf_mailbox.specs.MailView.{empty}
+use Rattle.pf_system.specs.Bodies.{Body, body_of, process_body, bodies_of}
+use Rattle.pf_system.specs.Slots.{SlotRepresents, SlotsRepresent, SlotIsLeft}
+use Rattle.pf_system.specs.Processes.{RepresentsCore, RepresentsBut, IsLeftAt, checked_in, view_of_processes}
+use Rattle.pf_system.specs.declared.slot.Life.TheVariants as life
 use Rattle.pf_system.specs.declared.slot.Slot.{Slot}
 use Rattle.pf_system.specs.declared.processes.Processes.{Processes}
-use Rattle.pf_system.proofs.Bodies.{set_map, set_length, set_twice, core_again, bodies_changed, length_of, ties_length}
+use Rattle.pf_system.proofs.Bodies.{set_length, set_twice, bodies_changed, length_of, ties_length}
 use Rattle.pf_system.proofs.Ready.{numbers_in, by_bodies, gone_in, woken_in}
-use Rattle.std.proofs.lemmas.List.{length-map}
 use Rattle.pf_syntax.specs.Module.{Checked}
 
 -- ---- lists
@@ -34,70 +38,100 @@ get_set a [] x l = absurd (omega arith)
 get_set zero (y ∷ xs) x l = refl
 get_set (suc a) (y ∷ xs) x l = get_set a xs x (omega arith)
 
-body_get : (a : ℕ) (ps : List Process) (ss : List Slot) (s : Slot) → map process_body ps ≡ map slot_body ss
-    → slice_get ss a ≡ Some s
-    → process_body (process_at a ps) ≡ slot_body s
-body_get a ps [] s e h = absurd (cc)
-body_get a [] (x ∷ ss) s e h = absurd (cc)
-body_get zero (p ∷ ps) (x ∷ ss) s e h =
-    let k : process_body p ≡ slot_body x = cc in k ∙ ap slot_body (some_is x s h)
-body_get (suc a) (p ∷ ps) (x ∷ ss) s e h =
-    let k : map process_body ps ≡ map slot_body ss = cc in body_get a ps ss s k h
+-- ---- slots and bodies, one by one
 
-pub sound_at : (m : Checked) (n a : ℕ) (ss : List Slot) (s : Slot) → SlotsAreSound m n ss → slice_get ss a ≡ Some s
-    → SlotIsSound m (n + a) s
-sound_at m n a [] s h e = absurd (cc)
-sound_at m n zero (x ∷ ss) s h e =
-    let k : n ≡ n + zero = omega arith in subst (λ j. SlotIsSound m j s) k (subst (SlotIsSound m n) (some_is x s e) h.0)
-sound_at m n (suc a) (x ∷ ss) s h e =
-    let k : suc n + a ≡ n + suc a = omega arith in subst (λ j. SlotIsSound m j s) k (sound_at m (suc n) a ss s h.1 e)
+pub represent_length : (m : Checked) (n : ℕ) (ss : List Slot) (bs : List Body) → SlotsRepresent m n ss bs
+    → length ss ≡ length bs
+represent_length m n [] [] h = refl
+represent_length m n [] (b ∷ bs) h = absurd h
+represent_length m n (s ∷ ss) [] h = absurd h
+represent_length m n (s ∷ ss) (b ∷ bs) h = ap suc (represent_length m (suc n) ss bs h.1)
 
-pub sound_set : (m : Checked) (n a : ℕ) (ss : List Slot) (s : Slot) → SlotsAreSound m n ss → SlotIsSound m (n + a) s
-    → SlotsAreSound m n (slice_set ss a s)
-sound_set m n a [] s h k = tt
-sound_set m n zero (x ∷ ss) s h k = let e : n + zero ≡ n = omega arith in (subst (λ j. SlotIsSound m j s) e k, h.1)
-sound_set m n (suc a) (x ∷ ss) s h k =
+represent_at : (m : Checked) (n a : ℕ) (ss : List Slot) (ps : List Process) (s : Slot)
+    → SlotsRepresent m n ss (map process_body ps) → slice_get ss a ≡ Some s
+    → SlotRepresents m (n + a) s (process_body (process_at a ps))
+represent_at m n a [] ps s h e = absurd (cc)
+represent_at m n a (x ∷ ss) [] s h e = absurd h
+represent_at m n zero (x ∷ ss) (p ∷ ps) s h e =
+    let k : n ≡ n + zero = omega arith in
+    subst (λ j. SlotRepresents m j s (process_body p)) k
+    (subst (λ z. SlotRepresents m n z (process_body p)) (some_is x s e) h.0)
+represent_at m n (suc a) (x ∷ ss) (p ∷ ps) s h e =
+    let k : suc n + a ≡ n + suc a = omega arith in
+    subst (λ j. SlotRepresents m j s (process_body (process_at a ps))) k (represent_at m (suc n) a ss ps s h.1 e)
+
+pub represent_set : (m : Checked) (n a : ℕ) (ss : List Slot) (bs : List Body) (s : Slot) (b : Body)
+    → SlotsRepresent m n ss bs → SlotRepresents m (n + a) s b
+    → SlotsRepresent m n (slice_set ss a s) (slice_set bs a b)
+represent_set m n a [] [] s b h k = tt
+represent_set m n a [] (y ∷ bs) s b h k = absurd h
+represent_set m n a (x ∷ ss) [] s b h k = absurd h
+represent_set m n zero (x ∷ ss) (y ∷ bs) s b h k =
+    let e : n + zero ≡ n = omega arith in (subst (λ j. SlotRepresents m j s b) e k, h.1)
+represent_set m n (suc a) (x ∷ ss) (y ∷ bs) s b h k =
     let e : n + suc a ≡ suc n + a = omega arith in
-    (h.0, sound_set m (suc n) a ss s h.1 (subst (λ j. SlotIsSound m j s) e k))
+    (h.0, represent_set m (suc n) a ss bs s b h.1 (subst (λ j. SlotRepresents m j s b) e k))
+
+pub represent_more : (m : Checked) (n : ℕ) (ss : List Slot) (bs : List Body) (s : Slot) (b : Body)
+    → SlotsRepresent m n ss bs → SlotRepresents m (n + length ss) s b
+    → SlotsRepresent m n (ss ++ s ∷ []) (bs ++ b ∷ [])
+represent_more m n [] [] s b h k =
+    let e : n + zero ≡ n = omega arith in (subst (λ j. SlotRepresents m j s b) e k, tt)
+represent_more m n [] (y ∷ bs) s b h k = absurd h
+represent_more m n (x ∷ ss) [] s b h k = absurd h
+represent_more m n (x ∷ ss) (y ∷ bs) s b h k =
+    let j : ℕ = length ss in
+    let e : n + suc j ≡ suc n + j = omega arith in
+    (h.0, represent_more m (suc n) ss bs s b h.1 (subst (λ z. SlotRepresents m z s b) e k))
 
 -- ---- all processes
 
-pub again : (w : Processes) (c : Core) → Represents w c → core_of w ≡ c
-again w c h = core_again c (bodies_in w) w.shared.ties w.basis.most h.bodies h.ties h.room.most
-
 -- a process whose slot is there has its body
-pub body_at : (w : Processes) (c : Core) (a : ℕ) (s : Slot) → Represents w c → slice_get w.slots.items a ≡ Some s
-    → process_body (of c a) ≡ slot_body s
-body_at w c a s h e = body_get a c.processes w.slots.items s h.bodies e
+pub body_at : (w : Processes) (c : Core) (a : ℕ) (s : Slot) → RepresentsCore (view_of_processes w) c
+    → slice_get w.slots.items a ≡ Some s → SlotRepresents (checked_in w) a s (process_body (of c a))
+body_at w c a s h e =
+    let z : zero + a ≡ a = omega arith in
+    subst (λ j. SlotRepresents (checked_in w) j s (process_body (of c a))) z
+    (represent_at (checked_in w) zero a w.slots.items c.processes s h.slots e)
 
-pub slots_length : (w : Processes) (c : Core) → Represents w c → length w.slots.items ≡ length c.processes
-slots_length w c h = sym (length-map w.slots.items slot_body) ∙ ap length (sym h.bodies) ∙ sym (length_of c)
+pub slots_length : (w : Processes) (c : Core) → RepresentsCore (view_of_processes w) c
+    → length w.slots.items ≡ length c.processes
+slots_length w c h = represent_length (checked_in w) zero w.slots.items (bodies_of c) h.slots ∙ sym (length_of c)
 
-pub ties_length_in : (w : Processes) (c : Core) → Represents w c → length w.shared.ties.processes ≡ length c.processes
+pub ties_length_in : (w : Processes) (c : Core) → RepresentsCore (view_of_processes w) c
+    → length w.shared.ties.processes ≡ length c.processes
 ties_length_in w c h = ap (λ t. length t.processes) (sym h.ties) ∙ ties_length c
+
+-- there are as many processes as slots, whatever stands in one of them
+pub but_length : (w : Processes) (c : Core) (a : ℕ) → RepresentsBut w c a → length c.processes ≡ length w.slots.items
+but_length w c a h =
+    let s : Slot = record { life = life.Ended (Err (term.Pid 0)); mailbox = empty } in
+    let b : Body = body_of (ended (failed (pid 0))) [] in
+    let k = h.slots s b (record { state = refl; mailbox = refl }) in
+    length_of c ∙ sym (set_length a (bodies_of c) b)
+    ∙ sym (represent_length (checked_in w) zero (slice_set w.slots.items a s) (slice_set (bodies_of c) a b) k)
+    ∙ set_length a w.slots.items s
 
 -- one slot is changed, and all else stays
 module _ (w w' : Processes) (c : Core) (a : ℕ) (s' : Slot) where
-  pub ran_but : Represents w c → a < length w.slots.items → w'.slots.items ≡ slice_set w.slots.items a s'
-      → w'.shared ≡ w.shared → w'.ready ≡ w.ready
+  pub ran_but : RepresentsCore (view_of_processes w) c → a < length w.slots.items
+      → w'.slots.items ≡ slice_set w.slots.items a s' → w'.shared ≡ w.shared → w'.ready ≡ w.ready
       → w'.basis ≡ w.basis → RepresentsBut w' c a
   ran_but h l e b r m =
       record {
         there = let k = ap length e ∙ set_length a w.slots.items s' in omega arith;
-        bodies = λ x. ap (λ bs. slice_set bs a x) h.bodies
-            ∙ sym (ap (λ ss. slice_set (map slot_body ss) a x) e ∙ ap (λ bs. slice_set bs a x)
-            (set_map slot_body a w.slots.items s') ∙ set_twice a (bodies_in w) (slot_body s') x);
-        ties = h.ties ∙ ap (λ k. k.ties) (sym b);
-        ready = r ∙ h.ready;
-        slots = λ x k.
+        slots = λ x y k.
             let j : a ≡ zero + a = omega arith in
-            let g : SlotIsSound (checked_in w) (zero + a) x = subst (λ z. SlotIsSound (checked_in w) z x) j
-            (subst (λ z. SlotIsSound z.module.value a x) m k) in
+            let g : SlotRepresents (checked_in w) (zero + a) x y = subst (λ z. SlotRepresents (checked_in w) z x y) j
+            (subst (λ z. SlotRepresents z.module.value a x y) m k) in
             let d : slice_set w'.slots.items a x ≡ slice_set w.slots.items a x = ap (λ ss. slice_set ss a x) e
             ∙ set_twice a w.slots.items s' x in
-            subst (λ ss. SlotsAreSound (checked_in w') zero ss) (sym d)
-            (subst (λ z. SlotsAreSound z.module.value zero (slice_set w.slots.items a x)) (sym m)
-            (sound_set (checked_in w) zero a w.slots.items x h.slots g));
+            subst (λ ss. SlotsRepresent (checked_in w') zero ss (slice_set (bodies_of c) a y)) (sym d)
+            (subst (λ z. SlotsRepresent z.module.value zero (slice_set w.slots.items a x)
+            (slice_set (bodies_of c) a y)) (sym m)
+            (represent_set (checked_in w) zero a w.slots.items (bodies_of c) x y h.slots g));
+        ties = h.ties ∙ ap (λ k. k.ties) (sym b);
+        ready = r ∙ h.ready;
         room = record {
           rows = subst (λ k. length c.processes ≤ length k.channels) (sym b) h.room.rows;
           few = h.room.few;
@@ -116,19 +150,20 @@ module _ (w w' : Processes) (c : Core) (a : ℕ) (s' : Slot) where
       }
 
   -- the process has its slot again
-  pub put_back : (p : Process) → RepresentsBut w c a → process_body p ≡ slot_body s'
-      → process_ties p ≡ process_ties (of c a) → SlotIsSound (checked_in w) a s'
+  pub put_back : (p : Process) → RepresentsBut w c a → SlotRepresents (checked_in w) a s' (process_body p)
+      → process_ties p ≡ process_ties (of c a)
       → w'.slots.items ≡ slice_set w.slots.items a s' → w'.shared ≡ w.shared → w'.basis ≡ w.basis
-      → w'.ready ≡ pids_in_state can_go zero (with_process c a p).processes → Represents w' (with_process c a p)
-  put_back p h y t k e b m r =
+      → w'.ready ≡ pids_in_state can_go zero (with_process c a p).processes
+      → RepresentsCore (view_of_processes w') (with_process c a p)
+  put_back p h k t e b m r =
       let n : length (with_process c a p).processes ≡ length c.processes = set_length a c.processes p in
       record {
-        bodies = bodies_changed c a p ∙ ap (slice_set (bodies_of c) a) y ∙ h.bodies (slot_body s')
-            ∙ sym (ap (map slot_body) e ∙ set_map slot_body a w.slots.items s');
+        slots = subst (λ bs. SlotsRepresent (checked_in w') zero w'.slots.items bs) (sym (bodies_changed c a p))
+            (subst (λ ss. SlotsRepresent (checked_in w') zero ss (slice_set (bodies_of c) a (process_body p))) (sym e)
+            (subst (λ z. SlotsRepresent z.module.value zero (slice_set w.slots.items a s')
+            (slice_set (bodies_of c) a (process_body p))) (sym m) (h.slots s' (process_body p) k)));
         ties = none_changed c a p t ∙ h.ties ∙ ap (λ z. z.ties) (sym b);
         ready = r;
-        slots = subst (λ ss. SlotsAreSound (checked_in w') zero ss) (sym e)
-            (subst (λ z. SlotsAreSound z.module.value zero (slice_set w.slots.items a s')) (sym m) (h.slots s' k));
         room = record {
           rows = let q = subst (λ z. length c.processes ≤ length z.channels) (sym b) h.room.rows in omega arith;
           few = let q = h.room.few in omega arith;

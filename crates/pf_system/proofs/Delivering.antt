@@ -24,7 +24,7 @@ use Rattle.pf_ties.specs.Laws.{process_ties, ties_of, without_link, done_by}
 use Rattle.pf_ties.proofs.Followed.{follow_actions, follow_deliveries, at_map}
 use Rattle.pf_system.specs.Bodies.{process_body}
 use Rattle.pf_system.specs.Placed.{PlacesMessage, PlacesOf, SuffixShown}
-use Rattle.pf_system.specs.Processes.{Represents, IsShaped, Done, Shown, Delivered}
+use Rattle.pf_system.specs.Processes.{RepresentsCore, IsShaped, Done, Shown, Delivered, view_of_processes}
 use Rattle.pf_system.specs.declared.processes.Processes.{Processes}
 use Rattle.pf_system.proofs.Bodies.{set_length, set_twice}
 use Rattle.pf_system.proofs.Rows.{sent_length}
@@ -33,7 +33,8 @@ use Rattle.pf_system.proofs.Shown.{done_so, rows_more, tied}
 
 -- ---- one process and its ties
 
-pub ties_here : (w : Processes) (c : Core) (b : ℕ) → Represents w c → ties.of w.shared.ties b ≡ process_ties (of c b)
+pub ties_here : (w : Processes) (c : Core) (b : ℕ) → RepresentsCore (view_of_processes w) c
+    → ties.of w.shared.ties b ≡ process_ties (of c b)
 ties_here w c b h = ap (λ z. ties.of z b) (sym h.ties) ∙ at_map b c.processes
 
 pub at_set : (b : ℕ) (ps : List Process) (q : Process) → b < length ps → process_at b (slice_set ps b q) ≡ q
@@ -46,7 +47,8 @@ lives_there b [] e = absurd (cc)
 lives_there zero (t ∷ ts) e = omega arith
 lives_there (suc b) (t ∷ ts) e = let q = lives_there b ts e in omega arith
 
-pub shaped : (w : Processes) (c : Core) (b : ℕ) → Represents w c → (ties.of w.shared.ties b).lives ≡ true → IsShaped b w
+pub shaped : (w : Processes) (c : Core) (b : ℕ) → RepresentsCore (view_of_processes w) c
+    → (ties.of w.shared.ties b).lives ≡ true → IsShaped b w
 shaped w c b h e =
     let n = slots_length w c h in
     let k = ties_length_in w c h in
@@ -57,13 +59,14 @@ shaped w c b h e =
 
 -- ---- a signal at a process that ended
 
-pub dropped_there : (w : Processes) (c : Core) (b : ℕ) (s : Signal) (l : Label) → Represents w c
+pub dropped_there : (w : Processes) (c : Core) (b : ℕ) (s : Signal) (l : Label) → RepresentsCore (view_of_processes w) c
     → label_of l ≡ delivers s label.dropped
     → Shown b (drops c s) w.shared.channels w l w
 dropped_there w c b s l h e = record { done = done_so w w b (leaving c []) h h.room.rows refl refl; label = e }
 
 -- one signal goes back
-pub replied : (w w' : Processes) (c : Core) (b to : ℕ) (s : Signal) → Represents w c → w'.slots.items ≡ w.slots.items
+pub replied : (w w' : Processes) (c : Core) (b to : ℕ) (s : Signal) → RepresentsCore (view_of_processes w) c
+    → w'.slots.items ≡ w.slots.items
     → w'.ready ≡ w.ready → w'.basis ≡ w.basis
     → w'.shared.ties ≡ w.shared.ties → w'.shared.channels ≡ sent b to s w.shared.channels
     → Done b (leaving c ((to, s) ∷ [])) w.shared.channels w w'
@@ -85,7 +88,7 @@ with_mail w w1 w' c b v h n e m =
     (ap (λ z. z.channels) h.shared ∙ e) (h.basis ∙ m)
 
 -- ties alone
-pub tied_so : (w w' : Processes) (c : Core) (b : ℕ) (p : Process) → Represents w c
+pub tied_so : (w w' : Processes) (c : Core) (b : ℕ) (p : Process) → RepresentsCore (view_of_processes w) c
     → process_body p ≡ process_body (of c b)
     → w'.slots.items ≡ w.slots.items → w'.ready ≡ w.ready → w'.basis ≡ w.basis
     → ties_of (with_process c b p) ≡ w'.shared.ties → w'.shared.channels ≡ w.shared.channels
@@ -104,7 +107,8 @@ none_so (Some x) e = absurd (cc)
 abbrev forgets : Core → ℕ → ℕ → Core
 forgets c b r = with_process c b (record (of c b) { active = without r (of c b).active })
 
-module _ (w w1 w' : Processes) (c : Core) (a b r : ℕ) (v : Value) (x : Suffix) (h : Represents w c)
+module _ (w w1 w' : Processes) (c : Core) (a b r : ℕ) (v : Value) (x : Suffix)
+    (h : RepresentsCore (view_of_processes w) c)
     (slots : w1.slots.items ≡ w.slots.items) (ready : w1.ready ≡ w.ready) (basis : w1.basis ≡ w.basis)
     (changed : w1.shared.ties ≡ ties.demonitored w.shared.ties b r)
     (rows : w1.shared.channels ≡ w.shared.channels) where
@@ -127,7 +131,7 @@ module _ (w w1 w' : Processes) (c : Core) (a b r : ℕ) (v : Value) (x : Suffix)
         label = ap (delivers (signal.down r v)) q;
       })
 
-  forgets_is_there : (p : ℕ) → got r (of c b).active ≡ Some p → Represents w1 (forgets c b r)
+  forgets_is_there : (p : ℕ) → got r (of c b).active ≡ Some p → RepresentsCore (view_of_processes w1) (forgets c b r)
   forgets_is_there p e =
       let t : ties_of (forgets c b r) ≡ w1.shared.ties =
       ap (λ o. ties_of (actions.demonitored c b r o).left.core) (sym e) ∙ follow_actions.demonitor c b r
@@ -166,7 +170,8 @@ module _ (w w1 w' : Processes) (c : Core) (a b r : ℕ) (v : Value) (x : Suffix)
 
 -- ---- exit signals
 
-module _ (w w1 w' : Processes) (c : Core) (a b : ℕ) (by_link : Bool) (r : Value) (x : Suffix) (h : Represents w c)
+module _ (w w1 w' : Processes) (c : Core) (a b : ℕ) (by_link : Bool) (r : Value) (x : Suffix)
+    (h : RepresentsCore (view_of_processes w) c)
     (l : b < length w.slots.items)
     (slots : w1.slots.items ≡ w.slots.items) (ready : w1.ready ≡ w.ready) (basis : w1.basis ≡ w.basis)
     (changed : w1.shared.ties ≡ ties.exit_placed w.shared.ties a b by_link)
@@ -174,12 +179,12 @@ module _ (w w1 w' : Processes) (c : Core) (a b : ℕ) (by_link : Bool) (r : Valu
   abbrev given : Bool → Core
   given t = if t then with_process c b (record (of c b) { links = without_number a (of c b).links }) else c
 
-  given_is_there : (t : Bool) → ties_of (given t) ≡ w1.shared.ties → Represents w1 (given t)
+  given_is_there : (t : Bool) → ties_of (given t) ≡ w1.shared.ties → RepresentsCore (view_of_processes w1) (given t)
   given_is_there true e = tied w w1 c slots ready basis b
       (record (of c b) { links = without_number a (of c b).links }) h refl e rows
   given_is_there false e = let n = ap length rows in rows_more w w1 c slots ready basis h e (omega arith)
 
-  pub unlinked_is_there : Represents w1 (without_link c a b by_link)
+  pub unlinked_is_there : RepresentsCore (view_of_processes w1) (without_link c a b by_link)
   unlinked_is_there =
       given_is_there (by_link && has a (of c b).links) (follow_deliveries.exit_placed c a b by_link
       ∙ ap (λ z. ties.exit_placed z a b by_link) h.ties ∙ sym changed)

@@ -1,6 +1,6 @@
 -- The end of a monitor, with a flush or without.
 use Rattle.std.proofs.Common.{◌≡◌, ℕ, zero, ◌≤◌, Bool, true, false, Some, None, refl, sym, ap, ◌∙◌, subst, arith}
-use Rattle.std.proofs.Common.{length, map, slice_set}
+use Rattle.std.proofs.Common.{length, slice_set}
 use Rattle.std.specs.Prelude.{slice_get}
 use Rattle.pf_terms.specs.Value.{Value, ref}
 use Rattle.pf_terms.specs.Fixed.{badarg}
@@ -14,13 +14,13 @@ use Rattle.pf_model.specs.declared.limits.TheConstants.{MOST_PROCESSES}
 use Rattle.pf_ties.specs.Laws.{ties_of}
 use Rattle.pf_ties.proofs.Followed.{none_changed}
 use Rattle.pf_system.specs.Bodies.{process_body, bodies_of}
-use Rattle.pf_system.specs.Slots.{slot_body, SlotIsSound, SlotsAreSound}
-use Rattle.pf_system.specs.Processes.{RepresentsBut, checked_in, module_in, bodies_in}
+use Rattle.pf_system.specs.Slots.{SlotRepresents, SlotsRepresent}
+use Rattle.pf_system.specs.Processes.{RepresentsBut, checked_in, module_in}
 use Rattle.pf_system.specs.Acts.{ActAnswer, AnswersAct, CarriesOut, ActedIn, ActsIn, KeepsSlot, FlushesIn}
 use Rattle.pf_system.specs.declared.slot.Slot.{Slot}
 use Rattle.pf_system.specs.declared.processes.Processes.{Processes}
 use Rattle.pf_system.proofs.Acting.{given_none}
-use Rattle.pf_system.proofs.Bodies.{set_map, set_length, set_twice, bodies_changed}
+use Rattle.pf_system.proofs.Bodies.{set_length, set_twice, bodies_changed}
 use Rattle.pf_system.proofs.Delivering.{at_set}
 use Rattle.pf_system.proofs.Ready.{numbers_kept}
 use Rattle.pf_system.proofs.Rows.{posted_length}
@@ -37,18 +37,18 @@ flush_is_there n k d w w' s' e b r m h =
     let i : length (with_process d n p).processes ≡ length d.processes = set_length n d.processes p in
     record {
       there = let j = ap length e ∙ set_length n w.slots.items s' in let t = h.there in omega arith;
-      bodies = λ x. ap (λ bs. slice_set bs n x) (bodies_changed d n p) ∙ set_twice n (bodies_of d)
-          (process_body p) x ∙ h.bodies x
-          ∙ sym (ap (λ ss. slice_set (map slot_body ss) n x) e ∙ ap (λ bs. slice_set bs n x)
-          (set_map slot_body n w.slots.items s') ∙ set_twice n (bodies_in w) (slot_body s') x);
       ties = none_changed d n p refl ∙ h.ties ∙ ap (λ z. z.ties) (sym b);
       ready = r ∙ h.ready ∙ sym (numbers_kept can_go zero d.processes n p refl);
-      slots = λ t z.
+      slots = λ t x z.
           let q : slice_set w'.slots.items n t ≡ slice_set w.slots.items n t = ap (λ ss. slice_set ss n t) e
           ∙ set_twice n w.slots.items s' t in
-          let y = h.slots t (subst (λ v. SlotIsSound v.module.value n t) m z) in
-          subst (λ ss. SlotsAreSound (checked_in w') zero ss) (sym q)
-          (subst (λ v. SlotsAreSound v.module.value zero (slice_set w.slots.items n t)) (sym m) y);
+          let o : slice_set (bodies_of (with_process d n p)) n x ≡ slice_set (bodies_of d) n x =
+          ap (λ bs. slice_set bs n x) (bodies_changed d n p) ∙ set_twice n (bodies_of d) (process_body p) x in
+          let y = h.slots t x (subst (λ v. SlotRepresents v.module.value n t x) m z) in
+          subst (λ bs. SlotsRepresent (checked_in w') zero (slice_set w'.slots.items n t) bs) (sym o)
+          (subst (λ ss. SlotsRepresent (checked_in w') zero ss (slice_set (bodies_of d) n x)) (sym q)
+          (subst (λ v. SlotsRepresent v.module.value zero (slice_set w.slots.items n t) (slice_set (bodies_of d) n x))
+          (sym m) y));
       room = record {
         rows = let v = subst (λ z. length d.processes ≤ length z.channels) (sym b) h.room.rows in omega arith;
         few = let v = h.room.few in omega arith;

@@ -1,5 +1,5 @@
 -- What the last step of a turn does, by its move.
-use Rattle.std.proofs.Common.{◌≡◌, ℕ, zero, suc, true, List, [], ◌∷◌, Some, None, refl, sym, ap, ◌∙◌, subst, length}
+use Rattle.std.proofs.Common.{◌≡◌, ℕ, zero, suc, true, List, [], ◌∷◌, Some, None, refl, sym, ap, subst, length}
 use Rattle.std.proofs.Common.{slice_set}
 use Rattle.std.specs.Prelude.{Result, Ok, Err, slice_get}
 use Rattle.pf_terms.specs.Value.{Value}
@@ -26,9 +26,9 @@ use Rattle.pf_stepper.specs.declared.act.Act.{Act as Asked}
 use Rattle.pf_stepper.specs.declared.machine.Move.TheVariants as v
 use Rattle.pf_mailbox.specs.MailView.{MailView}
 use Rattle.pf_system.specs.Bodies.{body_of}
-use Rattle.pf_system.specs.Slots.{SlotIsLeft, PutsIn, IsAs, state_in, waiting_if, end_of}
-use Rattle.pf_system.specs.Processes.{Represents, RepresentsBut, IsLeftAt, Done, Shown, EndsProcess, checked_in}
-use Rattle.pf_system.specs.Processes.{module_in}
+use Rattle.pf_system.specs.Slots.{SlotIsLeft, SlotRepresents, IsMachineIn, end_of}
+use Rattle.pf_system.specs.Processes.{RepresentsCore, RepresentsBut, IsLeftAt, Done, Shown, EndsProcess}
+use Rattle.pf_system.specs.Processes.{checked_in, module_in, view_of_processes}
 use Rattle.pf_system.specs.Acts.{ShowsAct}
 use Rattle.pf_system.specs.Settled.{SettlesAs, LastStep, WaitsIn, cut_in}
 use Rattle.pf_system.specs.declared.slot.Life.{Life}
@@ -52,20 +52,17 @@ set_back (suc n) (y ∷ xs) x e = ap (λ z. y ∷ z) (set_back n xs x e)
 
 life_puts : (m : Checked) (own : ℕ) (t : ProcessState) (l : Life) (mail : MailView)
     → SlotIsLeft m own (goes t) (slot_with l mail) → can_go t ≡ true
-    → PutsIn m own (body_of t mail.messages) (slot_with l mail)
+    → SlotRepresents m own (slot_with l mail) (body_of t mail.messages)
 life_puts m own t (life.Lives k w) mail h e =
-    record {
-      sound = record { ready = (subst (λ z. IsAs z k.standing) (sym h.2) (t, h.0, e), h.3); is_of = h.1 };
-      is = ap (λ z. body_of (waiting_if z (state_in k.standing)) mail.messages) h.2
-          ∙ ap (λ z. body_of (state_in z) mail.messages) h.0;
-    }
+    record { state = (subst (λ z. IsMachineIn m own z k t) (sym h.1) (h.0, e), h.2); mailbox = refl }
 life_puts m own t (life.Ends r) mail h e = absurd (not_over t h)
 life_puts m own t (life.Ended r) mail h e = absurd (not_over t h)
 
 module _ (w : Processes) (c : Core) (a : ℕ) (x : MachineStatus) (s : Slot) (but : RepresentsBut w c a)
     (can : can_go (of c a).state ≡ true) (left : IsLeftAt w a x s) where
   -- it goes on in this state, over the messages that are left
-  goes_in : (t : ProcessState) → x ≡ goes t → can_go t ≡ true → Represents w (in_state c a t s.mailbox.messages)
+  goes_in : (t : ProcessState) → x ≡ goes t → can_go t ≡ true
+      → RepresentsCore (view_of_processes w) (in_state c a t s.mailbox.messages)
   goes_in t e g =
       goes_again w w c a s t s.mailbox.messages but can g
       (life_puts (checked_in w) a t s.life s.mailbox (subst (λ z. SlotIsLeft (checked_in w) a z s) e left.leaves) g)
@@ -81,7 +78,7 @@ module _ (w : Processes) (c : Core) (a : ℕ) (x : MachineStatus) (s : Slot) (bu
   cut_shown l t q e g k =
       record {
         done = record {
-          is_there = subst (λ z. Represents w (in_state c a t z)) k (goes_in t e g);
+          is_there = subst (λ z. RepresentsCore (view_of_processes w) (in_state c a t z)) k (goes_in t e g);
           channels = quiet_channels t (of c a).mailbox;
           basis = refl;
         };

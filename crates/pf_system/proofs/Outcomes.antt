@@ -1,16 +1,23 @@
 -- Who waits, and the outcome by the state of the root.
-use Rattle.std.proofs.Common.{◌≡◌, ℕ, zero, suc, ◌+◌, ◌<◌, Bool, true, false, List, [], ◌∷◌, ◌++◌, if◌then◌else◌, refl}
-use Rattle.std.proofs.Common.{sym, ap, ◌∙◌, subst, arith, length, map, take, get_or}
-use Rattle.std.proofs.lemmas.List.{take_more, length-take-le, length-map}
+use Rattle.std.proofs.Common.{◌≡◌, ℕ, zero, suc, ◌+◌, ◌<◌, ◌≤◌, Bool, true, false, List, [], ◌∷◌, ◌++◌, if◌then◌else◌}
+use Rattle.std.proofs.Common.{refl, sym, ap, ◌∙◌, subst, arith, length, take}
+use Rattle.std.proofs.lemmas.List.{take_all, take_more, length-take-le}
+use Rattle.std.specs.Prelude.{Result, Ok, Err}
+use Rattle.pf_terms.specs.Term.{value_of}
+use Rattle.pf_terms.specs.Fixed.{undefined}
+use Rattle.pf_terms.specs.declared.term.Term.{Term}
 use Rattle.pf_syntax.specs.Module.{Checked}
-use Rattle.pf_model.specs.Context.{ProcessState}
-use Rattle.pf_model.specs.Runs.{is_waiting, pids_in_state}
-use Rattle.pf_system.specs.Bodies.{Body}
-use Rattle.pf_system.specs.Slots.{slot_body, state_of, SlotIsSound, SlotsAreSound}
-use Rattle.pf_system.specs.Processes.{core_of, Represents}
-use Rattle.pf_system.specs.declared.slot.Slot.{Slot}
-use Rattle.pf_system.specs.declared.processes.Processes.{Processes}
-use Rattle.pf_system.proofs.Bodies.{map_more}
+use Rattle.pf_model.specs.Configuration.{Core, Process, of, process_at}
+use Rattle.pf_model.specs.Context.{ProcessState, running, waiting, ending, ended, failed}
+use Rattle.pf_model.specs.Meaning.{outcome_of_root}
+use Rattle.pf_model.specs.Properties as outcome
+use Rattle.pf_model.specs.Runs.{can_go, is_waiting, pids_in_state}
+use Rattle.pf_mailbox.specs.MailView.{MailView}
+use Rattle.pf_system.specs.Bodies.{Body, bodies_of, process_body}
+use Rattle.pf_system.specs.Slots.{LifeRepresents, end_of}
+use Rattle.pf_system.specs.declared.slot.Life.{Life}
+use Rattle.pf_system.specs.declared.slot.Life.TheVariants as life
+use Rattle.pf_system.proofs.Bodies.{body_of_one, length_of}
 use Rattle.pf_system.proofs.Ready.{by_bodies, numbers_in}
 
 -- one body more
@@ -30,35 +37,65 @@ numbers_more so n (x ∷ bs) b =
     by true h = ap (λ ks. n ∷ ks) h
     by false h = h
 
--- those of the slots are those of the core
-pub numbers_of_processes : (w : Processes) → Represents w (core_of w)
-    → numbers_in is_waiting zero (map slot_body w.slots.items) ≡ pids_in_state is_waiting zero (core_of w).processes
-numbers_of_processes w h = ap (numbers_in is_waiting zero) (sym h.bodies)
-    ∙ sym (by_bodies is_waiting zero (core_of w).processes)
+-- those that wait among the first processes
+abbrev pub waiting_before : Core → ℕ → List ℕ
+waiting_before c i = numbers_in is_waiting zero (take i (bodies_of c))
 
--- one slot more
-pub waiting_more : (ss : List Slot) (i : ℕ) (s : Slot) → i < length ss → get_or ss i s ≡ s → (b : Bool)
-    → b ≡ is_waiting (state_of s.life)
-    → numbers_in is_waiting zero (map slot_body (take (i + 1) ss))
-    ≡ numbers_in is_waiting zero (map slot_body (take i ss)) ++ (if b then i ∷ [] else [])
-waiting_more ss i s h same b e =
-    let bodies : map slot_body (take (i + 1) ss) ≡ map slot_body (take i ss) ++ slot_body s ∷ [] =
-    ap (map slot_body) (take_more ss i s h ∙ ap (λ x. take i ss ++ x ∷ []) same) ∙ map_more slot_body (take i ss) s in
-    let long : zero + length (map slot_body (take i ss)) ≡ i = let a = length-map (take i ss) slot_body in
-    let t = length-take-le i ss (omega arith) in omega arith in
-    ap (numbers_in is_waiting zero) bodies ∙ numbers_more is_waiting zero (map slot_body (take i ss)) (slot_body s)
-    ∙ ap (λ k. numbers_in is_waiting zero (map slot_body (take i ss)) ++ (if is_waiting (state_of s.life) then
-    k ∷ [] else [])) long
-    ∙ ap (λ t. numbers_in is_waiting zero (map slot_body (take i ss)) ++ (if t then i ∷ [] else [])) (sym e)
+-- one process more
+pub waiting_more : (c : Core) (i : ℕ) → i < length c.processes → (b : Bool) → b ≡ is_waiting (of c i).state
+    → waiting_before c (i + 1) ≡ waiting_before c i ++ (if b then i ∷ [] else [])
+waiting_more c i l b e =
+    let bs : List Body = bodies_of c in
+    let x : Body = process_body (of c i) in
+    let h : i < length bs = omega (arith, length_of c) in
+    let bodies : take (i + 1) bs ≡ take i bs ++ x ∷ [] =
+    take_more bs i x h ∙ ap (λ z. take i bs ++ z ∷ []) (body_of_one i c.processes) in
+    let long : zero + length (take i bs) ≡ i = let t = length-take-le i bs (omega arith) in omega arith in
+    ap (numbers_in is_waiting zero) bodies ∙ numbers_more is_waiting zero (take i bs) x
+    ∙ ap (λ k. waiting_before c i ++ (if is_waiting x.state then k ∷ [] else [])) long
+    ∙ ap (λ t. waiting_before c i ++ (if t then i ∷ [] else [])) (sym e)
 
--- each slot is sound
-pub sound_at : (m : Checked) (n : ℕ) (ss : List Slot) (i : ℕ) (s : Slot) → SlotsAreSound m n ss → i < length ss
-    → get_or ss i s ≡ s → SlotIsSound m (n + i) s
-sound_at m n [] i s h k e = absurd (omega arith)
-sound_at m n (x ∷ ss) zero s h k e = let z : n ≡ n + zero = omega arith in
-    subst (λ own. SlotIsSound m own s) z (subst (SlotIsSound m n) e h.0)
-sound_at m n (x ∷ ss) (suc i) s h k e = let z : suc n + i ≡ n + suc i = omega arith in
-    subst (λ own. SlotIsSound m own s) z (sound_at m (suc n) ss i s h.1 (omega arith) e)
+-- and all of them
+pub waiting_all : (c : Core) (i : ℕ) → length c.processes ≤ i
+    → waiting_before c i ≡ pids_in_state is_waiting zero c.processes
+waiting_all c i l =
+    let h : length (bodies_of c) ≤ i = omega (arith, length_of c) in
+    ap (numbers_in is_waiting zero) (take_all i (bodies_of c) h) ∙ sym (by_bodies is_waiting zero c.processes)
+
+-- ---- the root
+
+pub no_root : (ps : List Process) → length ps ≡ zero → (process_at zero ps).state ≡ ended (failed undefined)
+no_root [] e = refl
+no_root (p ∷ ps) e = absurd (omega (arith, e))
+
+-- a root that can go has no outcome of its own
+goes_on_still : (s : ProcessState) (ps : List ℕ) → can_go s ≡ true → outcome_of_root s ps ≡ outcome.deadlock ps
+goes_on_still (running t) ps e = refl
+goes_on_still (waiting t) ps e = absurd cc
+goes_on_still (ending r) ps e = refl
+goes_on_still (ended x) ps e = absurd cc
+
+-- nor has one that hasn't ended
+pub root_lives : (m : Checked) (own : ℕ) (l : Life) (mail : MailView) (s : ProcessState) (ps : List ℕ)
+    → ((e : Result Term Term) → l ≡ life.Ended e → ⊥) → LifeRepresents m own l mail s
+    → outcome_of_root s ps ≡ outcome.deadlock ps
+root_lives m own (life.Lives k true) mail s ps n h = ap (λ z. outcome_of_root z ps) h.0.2
+root_lives m own (life.Lives k false) mail s ps n h = goes_on_still s ps h.0.1
+root_lives m own (life.Ends r) mail s ps n h = ap (λ z. outcome_of_root z ps) h
+root_lives m own (life.Ended e) mail s ps n h = absurd (n e refl)
+
+-- the outcome of a root that ended
+module _ (m : Checked) (own : ℕ) (l : Life) (mail : MailView) (s : ProcessState) (e : Result Term Term) (t t' : Term)
+    (ps : List ℕ) (h : LifeRepresents m own l mail s) (is : l ≡ life.Ended e) (copied : value_of t' ≡ value_of t) where
+  root_ended : outcome_of_root s ps ≡ outcome_of_root (ended (end_of e)) ps
+  root_ended = ap (λ z. outcome_of_root z ps) (subst (λ z. LifeRepresents m own z mail s) is h)
+
+  pub root_finished : e ≡ Ok t → outcome.finished (value_of t') ≡ outcome_of_root s ps
+  root_finished q = ap outcome.finished copied
+      ∙ sym (root_ended ∙ ap (λ z. outcome_of_root (ended (end_of z)) ps) q)
+
+  pub root_failed : e ≡ Err t → outcome.ended (value_of t') ≡ outcome_of_root s ps
+  root_failed q = ap outcome.ended copied ∙ sym (root_ended ∙ ap (λ z. outcome_of_root (ended (end_of z)) ps) q)
 
 pub nothing_after : (xs : List ℕ) → xs ≡ xs ++ []
 nothing_after [] = refl

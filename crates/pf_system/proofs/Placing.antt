@@ -9,24 +9,26 @@ use Rattle.pf_model.specs.Configuration.{Process, Core, of, with_process, is_ali
 use Rattle.pf_model.specs.Deliveries.{woken, with_message}
 use Rattle.pf_model.specs.Runs.{can_go, is_waiting, pids_in_state}
 use Rattle.pf_ties.specs.Laws.{process_ties}
-use Rattle.pf_system.specs.Bodies.{with_one_message}
-use Rattle.pf_system.specs.Slots.{state_of, slot_body, SlotIsSound, PutsIn}
-use Rattle.pf_system.specs.Processes.{Represents, RepresentsBut, checked_in}
+use Rattle.pf_system.specs.Bodies.{Body, bodies_of, process_body, with_one_message}
+use Rattle.pf_system.specs.Slots.{SlotRepresents}
+use Rattle.pf_system.specs.Processes.{RepresentsCore, RepresentsBut, checked_in, view_of_processes}
 use Rattle.pf_system.specs.declared.slot.Slot.{Slot}
 use Rattle.pf_system.specs.declared.processes.Processes.{Processes}
 use Rattle.pf_system.specs.Placed.{PlacesOf}
 use Rattle.pf_system.proofs.Ready.{numbers_kept}
-use Rattle.pf_system.proofs.Changed.{get_within, sound_at, sound_set, body_at, slots_length, put_back, goes_now}
+use Rattle.pf_system.proofs.Changed.{get_within, represent_set, body_at, slots_length, put_back, goes_now}
 
-pub is_there_but : (w : Processes) (c : Core) (a : ℕ) → Represents w c → a < length w.slots.items → RepresentsBut w c a
+pub is_there_but : (w : Processes) (c : Core) (a : ℕ) → RepresentsCore (view_of_processes w) c
+    → a < length w.slots.items → RepresentsBut w c a
 is_there_but w c a h l =
     record {
       there = l;
-      bodies = λ x. ap (λ bs. slice_set bs a x) h.bodies;
       ties = h.ties;
       ready = h.ready;
-      slots = λ s k. let e : a ≡ zero + a = omega arith in sound_set (checked_in w) zero a w.slots.items s h.slots
-          (subst (λ j. SlotIsSound (checked_in w) j s) e k);
+      slots = λ s b k.
+          let e : a ≡ zero + a = omega arith in
+          represent_set (checked_in w) zero a w.slots.items (bodies_of c) s b h.slots
+          (subst (λ j. SlotRepresents (checked_in w) j s b) e k);
       room = h.room;
     }
 
@@ -52,7 +54,8 @@ pub message_ties : (p : Process) (v : Value) → process_ties (with_message p v)
 message_ties p v = ap (λ b. record (process_ties p) { lives = b }) (woken_alive p.state)
 
 module _ (w w' : Processes) (b : ℕ) (v : Value) (s s' : Slot) where
-  ready_so : (c : Core) (t : Bool) → Represents w c → b < length c.processes → t ≡ is_waiting (of c b).state
+  ready_so : (c : Core) (t : Bool) → RepresentsCore (view_of_processes w) c
+      → b < length c.processes → t ≡ is_waiting (of c b).state
       → w'.ready ≡ (if t then with_number b w.ready else w.ready)
       → w'.ready ≡ pids_in_state can_go zero (with_process c b (with_message (of c b) v)).processes
   ready_so c true h l e r =
@@ -62,23 +65,20 @@ module _ (w w' : Processes) (b : ℕ) (v : Value) (s s' : Slot) where
       (stays (of c b).state (sym e)))
 
   pub placed : (t : Bool) → slice_get w.slots.items b ≡ Some s
-      → ((m : Checked) (own : ℕ) → SlotIsSound m own s → PutsIn m own (with_one_message v (slot_body s)) s')
-      → ((m : Checked) (own : ℕ) → SlotIsSound m own s → t ≡ is_waiting (state_of s.life))
+      → ((m : Checked) (own : ℕ) (x : Body) → SlotRepresents m own s x
+      → SlotRepresents m own s' (with_one_message v x))
+      → ((m : Checked) (own : ℕ) (x : Body) → SlotRepresents m own s x → t ≡ is_waiting x.state)
       → w'.slots.items ≡ slice_set w.slots.items b s' → w'.shared ≡ w.shared → w'.basis ≡ w.basis
       → w'.ready ≡ (if t then with_number b w.ready else w.ready) → PlacesOf b v w w'
   placed t at puts waits e k m r c h alive =
       let l = get_within b w.slots.items s at in
       let y = body_at w c b s h at in
-      let pid : zero + b ≡ b = omega arith in
-      let sound = subst (λ j. SlotIsSound (checked_in w) j s) pid
-      (sound_at (checked_in w) zero b w.slots.items s h.slots at) in
-      let put = puts (checked_in w) b sound in
+      let put = puts (checked_in w) b (process_body (of c b)) y in
       let n : b < length c.processes = omega (arith, slots_length w c h) in
-      let q : t ≡ is_waiting (of c b).state = waits (checked_in w) b sound ∙ ap (λ z. is_waiting z.state) (sym y) in
+      let q : t ≡ is_waiting (of c b).state = waits (checked_in w) b (process_body (of c b)) y in
       record {
-        is_there = put_back w w' c b s' (with_message (of c b) v) (is_there_but w c b h l)
-            (ap (with_one_message v) y ∙ sym put.is) (message_ties (of c b) v) put.sound
-            e k m (ready_so c t h n q r);
+        is_there = put_back w w' c b s' (with_message (of c b) v) (is_there_but w c b h l) put
+            (message_ties (of c b) v) e k m (ready_so c t h n q r);
         shared = k;
         basis = m;
       }

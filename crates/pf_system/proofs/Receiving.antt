@@ -18,14 +18,14 @@ use Rattle.pf_ties.specs.Ties.{AllTies}
 use Rattle.pf_ties.specs.Laws.{ties_of}
 use Rattle.pf_system.specs.Bodies.{process_body}
 use Rattle.pf_system.specs.Placed.{PlacesOf, SuffixShown}
-use Rattle.pf_system.specs.Processes.{Represents, Shown}
+use Rattle.pf_system.specs.Processes.{RepresentsCore, Shown, view_of_processes}
 use Rattle.pf_system.specs.declared.processes.Processes.{Processes}
 use Rattle.pf_system.proofs.Delivering.{dropped_there, replied, with_mail, tied_so}
 
 -- ---- at one that ended
 
 pub drops_there : (w : Processes) (c : Core) (a b : ℕ) (s : Program) → (s ≡ code.Link → ⊥)
-    → ((r : ℕ) → s ≡ code.Monitor r → ⊥) → Represents w c
+    → ((r : ℕ) → s ≡ code.Monitor r → ⊥) → RepresentsCore (view_of_processes w) c
     → Shown b (at_ended c a (signal_of s)) w.shared.channels w (shows.Delivers s suffix.Dropped) w
 drops_there w c a b code.Link x y h = absurd (x refl)
 drops_there w c a b (code.Monitor r) x y h = absurd (y r refl)
@@ -41,7 +41,7 @@ drops_there w c a b (code.Exit l t) x y h = dropped_there w c b (signal.exit l (
     (shows.Delivers (code.Exit l t) suffix.Dropped) h refl
 
 -- the ties and all else stay, and one signal goes back
-module _ (w w' : Processes) (c : Core) (a b : ℕ) (s reply : Program) (h : Represents w c)
+module _ (w w' : Processes) (c : Core) (a b : ℕ) (s reply : Program) (h : RepresentsCore (view_of_processes w) c)
     (slots : w'.slots.items ≡ w.slots.items) (ready : w'.ready ≡ w.ready)
     (same : w'.basis ≡ w.basis) (ties : w'.shared.ties ≡ w.shared.ties)
     (goes : w'.shared.channels ≡ sent b a (signal_of reply) w.shared.channels) where
@@ -69,7 +69,7 @@ module _ (w w' : Processes) (c : Core) (a b : ℕ) (s reply : Program) (h : Repr
 
 -- ---- at one that lives
 
-module _ (w : Processes) (c : Core) (a b : ℕ) (s : Program) (h : Represents w c) where
+module _ (w : Processes) (c : Core) (a b : ℕ) (s : Program) (h : RepresentsCore (view_of_processes w) c) where
   pub message_taken : (t : Term) (v : Value) (w' : Processes) → s ≡ code.Message t → v ≡ value_of t
       → is_alive (of c b).state ≡ true → PlacesOf b v w w'
       → Shown b (at_living c a b (signal_of s)) w.shared.channels w (shows.Delivers s suffix.TookEffect) w'

@@ -27,8 +27,8 @@ use Rattle.pf_stepper.specs.Turns.{answer_value}
 use Rattle.pf_stepper.specs.declared.act.Act.{Act as Asked}
 use Rattle.pf_stepper.specs.declared.act.Act.TheVariants as a
 use Rattle.pf_system.specs.Bodies.{Body, body_of, process_body, bodies_of}
-use Rattle.pf_system.specs.Slots.{slot_body, SlotIsSound, SlotsAreSound, AnswersIn, PutsIn, LifeIsLeft, SlotIsLeft}
-use Rattle.pf_system.specs.Processes.{Represents, RepresentsBut, checked_in, module_in, bodies_in}
+use Rattle.pf_system.specs.Slots.{SlotRepresents, SlotsRepresent, LifeIsLeft, SlotIsLeft}
+use Rattle.pf_system.specs.Processes.{RepresentsCore, RepresentsBut, checked_in, module_in, view_of_processes}
 use Rattle.pf_system.specs.Acts.{ActAnswer, AnswersAct, CarriesOut, ActsAs, ActedIn, ActsIn, IsBetween, KeepsLife}
 use Rattle.pf_system.specs.Acts.{KeepsSlot, ShowsAct}
 use Rattle.pf_system.specs.Settled.{WaitsIn}
@@ -39,8 +39,7 @@ use Rattle.pf_system.specs.declared.processes.Processes.{Processes}
 use Rattle.pf_system.proofs.Bodies.{bodies_same, length_of, set_length}
 use Rattle.pf_system.proofs.Ready.{numbers_alike, numbers_kept}
 use Rattle.pf_system.proofs.Rows.{enough_senders, posted_length}
-use Rattle.pf_system.proofs.Changed.{put_back, goes_no_more}
-use Rattle.std.proofs.lemmas.List.{length-map}
+use Rattle.pf_system.proofs.Changed.{but_length, put_back, goes_no_more}
 use Rattle.pf_syntax.specs.Module.{Checked}
 
 -- ---- actions that make no process, and take no message out, keep all bodies
@@ -141,14 +140,14 @@ between n c d w w' e t y s q f k =
     let j = k.room.rows in
     record {
       there = subst (λ z. n < length z.items) (sym s) k.there;
-      bodies = λ z. ap (λ bs. slice_set bs n z) e.0 ∙ k.bodies z
-          ∙ ap (λ ss. slice_set (map slot_body ss.items) n z) (sym s);
       ties = t;
       ready = q ∙ k.ready ∙ numbers_alike can_go zero c d (sym e.0);
-      slots = λ t z.
-          subst (λ v. SlotsAreSound (checked_in w') zero (slice_set v.items n t)) (sym s)
-          (subst (λ v. SlotsAreSound v.module.value zero (slice_set w.slots.items n t)) (sym f)
-          (k.slots t (subst (λ v. SlotIsSound v.module.value n t) f z)));
+      slots = λ x b z.
+          subst (λ bs. SlotsRepresent (checked_in w') zero (slice_set w'.slots.items n x) (slice_set bs n b)) (sym e.0)
+          (subst (λ v. SlotsRepresent (checked_in w') zero (slice_set v.items n x) (slice_set (bodies_of c) n b))
+          (sym s)
+          (subst (λ v. SlotsRepresent v.module.value zero (slice_set w.slots.items n x) (slice_set (bodies_of c) n b))
+          (sym f) (k.slots x b (subst (λ v. SlotRepresents v.module.value n x b) f z))));
       room = record {
         rows = omega arith;
         few = let v = k.room.few in omega arith;
@@ -241,21 +240,21 @@ module _ (w w' : Processes) (c : Core) (n : ℕ) (s' : Slot) (state : ProcessSta
 
   -- a process that could go still can
   pub goes_again : RepresentsBut w c n → can_go (of c n).state ≡ true → can_go state ≡ true
-      → PutsIn (checked_in w) n (body_of state mail) s' → Changes → w'.ready ≡ w.ready
-      → Represents w' (in_state c n state mail)
+      → SlotRepresents (checked_in w) n s' (body_of state mail) → Changes → w'.ready ≡ w.ready
+      → RepresentsCore (view_of_processes w') (in_state c n state mail)
   goes_again h can g p e r =
-      put_back w w' c n s' (record (of c n) { state = state; mailbox = mail }) h (sym p.is)
-      (ties_alive (of c n) state mail (alive_going state g ∙ sym (alive_going (of c n).state can))) p.sound e.0 e.1 e.2
+      put_back w w' c n s' (record (of c n) { state = state; mailbox = mail }) h p
+      (ties_alive (of c n) state mail (alive_going state g ∙ sym (alive_going (of c n).state can))) e.0 e.1 e.2
       (r ∙ h.ready ∙ sym (numbers_kept can_go zero c.processes n (record (of c n) { state = state; mailbox = mail })
       (g ∙ sym can)))
 
   -- it can no longer go, but lives
   pub waits_now : RepresentsBut w c n → n < length c.processes → is_alive state ≡ is_alive (of c n).state
-      → can_go state ≡ false → PutsIn (checked_in w) n (body_of state mail) s'
-      → Changes → w'.ready ≡ without_number n w.ready → Represents w' (in_state c n state mail)
+      → can_go state ≡ false → SlotRepresents (checked_in w) n s' (body_of state mail)
+      → Changes → w'.ready ≡ without_number n w.ready → RepresentsCore (view_of_processes w') (in_state c n state mail)
   waits_now h l lives g p e r =
-      put_back w w' c n s' (record (of c n) { state = state; mailbox = mail }) h (sym p.is)
-      (ties_alive (of c n) state mail lives) p.sound e.0 e.1 e.2
+      put_back w w' c n s' (record (of c n) { state = state; mailbox = mail }) h p
+      (ties_alive (of c n) state mail lives) e.0 e.1 e.2
       (r ∙ ap (without_number n) h.ready ∙ sym
       (goes_no_more c n (record (of c n) { state = state; mailbox = mail }) l g))
 
@@ -276,14 +275,14 @@ left_still : (m : Checked) (own : ℕ) (x : MachineStatus) (s s' : Slot) → Kee
 left_still m own x s s' k h = subst (λ l. LifeIsLeft m own x l s'.mailbox) (sym k.life) (by s.life h)
   where
     by : (l : Life) → LifeIsLeft m own x l s.mailbox → LifeIsLeft m own x l s'.mailbox
-    by (life.Lives machine waits) h = (h.0, h.1, h.2, k.ahead machine h.3)
+    by (life.Lives machine waits) h = (h.0, h.1, k.ahead machine h.2)
     by (life.Ends r) h = h
     by (life.Ended e) h = h
 
 pub shows_act : (n : ℕ) (x : Act) (w w1 w' : Processes) (r : ActAnswer) (s1 s' : Slot) → ActsIn n x w r w1
     → KeepsSlot n w w1 → slice_get w1.slots.items n ≡ Some s1
     → ((m : Checked) (own : ℕ) (fs : _) → SlotIsLeft m own (asking fs) s1
-    → AnswersIn m own fs (answer_value r.value) s1 s')
+    → SlotRepresents m own s' (body_of (with_answer fs (answer_value r.value)) s1.mailbox.messages))
     → w'.slots.items ≡ slice_set w1.slots.items n s' → w'.shared ≡ w1.shared → w'.ready ≡ w1.ready → w'.basis ≡ w1.basis
     → ShowsAct n x w r.label w'
 shows_act n x w w1 w' r s1 s' h keeps at ans e b q f c fs s but can left mail =
@@ -298,13 +297,10 @@ shows_act n x w w1 w' r s1 s' h keeps at ans e b q f c fs s but can left mail =
     subst (λ z. SlotIsLeft z.module.value n (asking fs) s1) (sym g.basis)
     (subst (SlotIsLeft (checked_in w) n (asking fs)) same
     (left_still (checked_in w) n (asking fs) s k.0 k.2 left.leaves)) in
-    let puts0 = ans (checked_in w1) n fs there in
-    let puts : PutsIn (checked_in w1) n (body_of state (of d n).mailbox) s' =
-    record {
-      sound = puts0.sound;
-      is = puts0.is ∙ ap (λ z. body_of (with_answer fs z) s1.mailbox.messages)
-          g.answers.value ∙ ap (body_of state) own_mail;
-    } in
+    let puts : SlotRepresents (checked_in w1) n s' (body_of state (of d n).mailbox) =
+    subst (λ vs. SlotRepresents (checked_in w1) n s' (body_of state vs)) own_mail
+    (subst (λ z. SlotRepresents (checked_in w1) n s' (body_of (with_answer fs z) s1.mailbox.messages)) g.answers.value
+    (ans (checked_in w1) n fs there)) in
     let can' : can_go (of d n).state ≡ true = ap can_go g.state ∙ can in
     let i : length (with_state d n state).processes ≡ length d.processes = set_length n d.processes _ in
     record {
@@ -325,25 +321,19 @@ shows_act n x w w1 w' r s1 s' h keeps at ans e b q f c fs s but can left mail =
 -- ---- a wait
 
 pub but_there : (w : Processes) (c : Core) (n : ℕ) → RepresentsBut w c n → n < length c.processes
-but_there w c n h =
-    let b = body_of (ended (failed undefined)) [] in
-    let e : length c.processes ≡ length w.slots.items =
-    length_of c ∙ sym (set_length n (bodies_of c) b) ∙ ap length (h.bodies b) ∙ set_length n (bodies_in w) b
-    ∙ length-map w.slots.items slot_body in
-    let l = h.there in omega arith
+but_there w c n h = let e = but_length w c n h in let l = h.there in omega arith
 
 pub waits_in : (n : ℕ) (w w' : Processes) (s1 s' : Slot) → slice_get w.slots.items n ≡ Some s1
     → ((m : Checked) (own : ℕ) (t : Tree) → SlotIsLeft m own (goes (running t)) s1
-    → PutsIn m own (body_of (waiting t) s1.mailbox.messages) s')
+    → SlotRepresents m own s' (body_of (waiting t) s1.mailbox.messages))
     → w'.slots.items ≡ slice_set w.slots.items n s' → w'.shared ≡ w.shared → w'.basis ≡ w.basis
     → w'.ready ≡ without_number n w.ready → WaitsIn n w w'
 waits_in n w w' s1 s' at ans e b f q c t s but can left mail =
     let same : s1 ≡ s = slot_is s1 s (sym at ∙ left.at) in
-    let puts0 = ans (checked_in w) n t (subst (SlotIsLeft (checked_in w) n (goes (running t)))
-    (sym same) left.leaves) in
     let own_mail : s1.mailbox.messages ≡ (of c n).mailbox = ap (λ z. z.mailbox.messages) same ∙ mail in
-    let puts : PutsIn (checked_in w) n (body_of (waiting t) (of c n).mailbox) s' =
-    record { sound = puts0.sound; is = puts0.is ∙ ap (body_of (waiting t)) own_mail } in
+    let puts : SlotRepresents (checked_in w) n s' (body_of (waiting t) (of c n).mailbox) =
+    subst (λ vs. SlotRepresents (checked_in w) n s' (body_of (waiting t) vs)) own_mail
+    (ans (checked_in w) n t (subst (SlotIsLeft (checked_in w) n (goes (running t))) (sym same) left.leaves)) in
     let i : length (with_state c n (waiting t)).processes ≡ length c.processes = set_length n c.processes _ in
     record {
       is_there = waits_now w w' c n s' (waiting t) (of c n).mailbox but (but_there w c n but)

@@ -1,5 +1,5 @@
 -- What is left of the processes after a delivery or an end.
-use Rattle.std.proofs.Common.{◌≡◌, ℕ, zero, ◌<◌, ◌≤◌, List, [], refl, sym, ap, ◌∙◌, subst, arith, length, map}
+use Rattle.std.proofs.Common.{◌≡◌, ℕ, zero, ◌<◌, ◌≤◌, List, [], refl, sym, ap, ◌∙◌, subst, arith, length}
 use Rattle.std.proofs.Common.{slice_set}
 use Rattle.std.specs.Prelude.{Result}
 use Rattle.pf_terms.specs.declared.term.Term.{Term}
@@ -13,18 +13,18 @@ use Rattle.pf_model.specs.declared.limits.TheConstants.{MOST_PROCESSES}
 use Rattle.pf_ties.specs.Ties as ties
 use Rattle.pf_ties.specs.Laws.{ties_of}
 use Rattle.pf_ties.proofs.Followed.{follow_ends}
-use Rattle.pf_system.specs.Bodies.{body_of, process_body}
-use Rattle.pf_system.specs.Slots.{slot_body, end_of, SlotIsSound, SlotsAreSound}
-use Rattle.pf_system.specs.Processes.{Represents, RepresentsBut, Done, EndsProcess, checked_in, bodies_in}
+use Rattle.pf_system.specs.Bodies.{body_of, bodies_of, process_body}
+use Rattle.pf_system.specs.Slots.{end_of, SlotRepresents, SlotsRepresent}
+use Rattle.pf_system.specs.Processes.{RepresentsCore, RepresentsBut, Done, EndsProcess, checked_in, view_of_processes}
 use Rattle.pf_system.specs.declared.slot.Slot.{Slot}
 use Rattle.pf_system.specs.declared.processes.Processes.{Processes}
-use Rattle.pf_system.proofs.Bodies.{set_map, set_length, bodies_changed, bodies_same, ties_length}
+use Rattle.pf_system.proofs.Bodies.{set_length, bodies_changed, bodies_same, ties_length}
 use Rattle.pf_system.proofs.Ready.{numbers_kept}
 use Rattle.pf_system.proofs.Rows.{enough_senders, posted_length}
 use Rattle.pf_system.proofs.Changed.{goes_no_more}
 
 -- there are rows enough for what is sent
-pub done_so : (w w' : Processes) (a : ℕ) (d : Left) → Represents w' d.core
+pub done_so : (w w' : Processes) (a : ℕ) (d : Left) → RepresentsCore (view_of_processes w') d.core
     → length d.core.processes ≤ length w.shared.channels
     → w'.shared.channels ≡ posted a d.sent w.shared.channels → w'.basis ≡ w.basis → Done a d w.shared.channels w w'
 done_so w w' a d h n e m =
@@ -38,16 +38,17 @@ done_so w w' a d h n e m =
 -- processes of which nothing but ties and channels is changed
 module _ (w w' : Processes) (c : Core) (slots : w'.slots.items ≡ w.slots.items) (ready : w'.ready ≡ w.ready)
     (basis : w'.basis ≡ w.basis) where
-  kept_slots : Represents w c → SlotsAreSound (checked_in w') zero w'.slots.items
+  kept_slots : RepresentsCore (view_of_processes w) c
+      → SlotsRepresent (checked_in w') zero w'.slots.items (bodies_of c)
   kept_slots h =
-      subst (λ ss. SlotsAreSound (checked_in w') zero ss) (sym slots)
-      (subst (λ z. SlotsAreSound z.module.value zero w.slots.items) (sym basis) h.slots)
+      subst (λ ss. SlotsRepresent (checked_in w') zero ss (bodies_of c)) (sym slots)
+      (subst (λ z. SlotsRepresent z.module.value zero w.slots.items (bodies_of c)) (sym basis) h.slots)
 
-  pub rows_more : Represents w c → ties_of c ≡ w'.shared.ties → length w.shared.channels ≤ length w'.shared.channels
-      → Represents w' c
+  pub rows_more : RepresentsCore (view_of_processes w) c → ties_of c ≡ w'.shared.ties
+      → length w.shared.channels ≤ length w'.shared.channels
+      → RepresentsCore (view_of_processes w') c
   rows_more h t n =
       record {
-        bodies = h.bodies ∙ sym (ap (map slot_body) slots);
         ties = t;
         ready = ready ∙ h.ready;
         slots = kept_slots h;
@@ -59,16 +60,16 @@ module _ (w w' : Processes) (c : Core) (slots : w'.slots.items ≡ w.slots.items
         };
       }
 
-  pub tied : (b : ℕ) (p : Process) → Represents w c → process_body p ≡ process_body (of c b)
+  pub tied : (b : ℕ) (p : Process) → RepresentsCore (view_of_processes w) c → process_body p ≡ process_body (of c b)
       → ties_of (with_process c b p) ≡ w'.shared.ties
-      → w'.shared.channels ≡ w.shared.channels → Represents w' (with_process c b p)
+      → w'.shared.channels ≡ w.shared.channels → RepresentsCore (view_of_processes w') (with_process c b p)
   tied b p h y t r =
       let n : length (with_process c b p).processes ≡ length c.processes = set_length b c.processes p in
       record {
-        bodies = bodies_same c b p y ∙ h.bodies ∙ sym (ap (map slot_body) slots);
+        slots = subst (λ bs. SlotsRepresent (checked_in w') zero w'.slots.items bs) (sym (bodies_same c b p y))
+            (kept_slots h);
         ties = t;
         ready = ready ∙ h.ready ∙ sym (numbers_kept can_go zero c.processes b p (ap (λ z. can_go z.state) y));
-        slots = kept_slots h;
         room = record {
           rows = let q = subst (λ z. length c.processes ≤ length z) (sym r) h.room.rows in omega arith;
           few = let q = h.room.few in omega arith;
@@ -80,14 +81,14 @@ module _ (w w' : Processes) (c : Core) (slots : w'.slots.items ≡ w.slots.items
 -- ---- the end of a process
 
 module _ (w w' : Processes) (a : ℕ) (e : Result Term Term) (s' : Slot) (ss : List (ℕ × Signal)) where
-  pub ends_so : slot_body s' ≡ body_of (ended (end_of e)) [] → ((m : _) → SlotIsSound m a s')
+  pub ends_so : ((m : _) → SlotRepresents m a s' (body_of (ended (end_of e)) []))
       → w'.slots.items ≡ slice_set w.slots.items a s'
       → w'.shared.ties ≡ ties.ended w.shared.ties a → w'.ready ≡ without_number a w.ready → w'.basis ≡ w.basis
       → ss ≡ ties.last_signals_of (ties.of w.shared.ties a) (reason_of (end_of e))
       → w'.shared.channels ≡ posted a ss w.shared.channels
       → length w.slots.items ≡ length w.shared.ties.processes
       → (c : Core) → RepresentsBut w c a → EndsProcess c a e w w'
-  ends_so y sound slots t r m last sent even c h =
+  ends_so is slots t r m last sent even c h =
       let x = end_of e in
       let p = fresh (ended x) [] in
       let n : length (with_process c a p).processes ≡ length c.processes = set_length a c.processes p in
@@ -101,13 +102,13 @@ module _ (w w' : Processes) (a : ℕ) (e : Result Term Term) (s' : Slot) (ss : L
       let long = ap length sent in
       done_so w w' a (ended_by c a x)
       (record {
-        bodies = bodies_changed c a p ∙ h.bodies (body_of (ended x) []) ∙ ap (slice_set (bodies_in w) a) (sym y)
-            ∙ sym (ap (map slot_body) slots ∙ set_map slot_body a w.slots.items s');
+        slots = subst (λ bs. SlotsRepresent (checked_in w') zero w'.slots.items bs) (sym (bodies_changed c a p))
+            (subst (λ z. SlotsRepresent (checked_in w') zero z (slice_set (bodies_of c) a (process_body p))) (sym slots)
+            (subst (λ z. SlotsRepresent z.module.value zero (slice_set w.slots.items a s')
+            (slice_set (bodies_of c) a (process_body p))) (sym m)
+            (h.slots s' (process_body p) (is (checked_in w)))));
         ties = follow_ends.ended c a x ∙ ap (λ z. ties.ended z a) h.ties ∙ sym t;
         ready = r ∙ ap (without_number a) h.ready ∙ sym (goes_no_more c a p size refl);
-        slots = subst (λ z. SlotsAreSound (checked_in w') zero z) (sym slots)
-            (subst (λ z. SlotsAreSound z.module.value zero (slice_set w.slots.items a s')) (sym m)
-            (h.slots s' (sound (checked_in w))));
         room = record {
           rows = omega arith;
           few = omega arith;

@@ -4,7 +4,7 @@ use Rattle.std.proofs.Common.{None, if◌then◌else◌, refl, sym, ap, ◌∙�
 use Rattle.std.specs.Prelude.{Ok, slice_get}
 use Rattle.std.proofs.lemmas.Bool.Decides.{nat_tests}
 use Rattle.pf_terms.specs.Value.{Value, Values, atom, list, pid}
-use Rattle.pf_terms.specs.Fixed.{undefined, badarg, system_limit}
+use Rattle.pf_terms.specs.Fixed.{badarg, system_limit}
 use Rattle.pf_sorted.specs.Maps.{put, with_number}
 use Rattle.pf_model.specs.Contraction as asked
 use Rattle.pf_model.specs.declared.bond.Bond.{Bond}
@@ -14,7 +14,7 @@ use Rattle.pf_model.specs.Configuration.{Process, Core, fresh, of, process_at, i
 use Rattle.pf_model.specs.Actions.{gives, raising, given, given_for, shown_for, as_atom, as_elements, linked_with}
 use Rattle.pf_model.specs.Actions.{watching_with, after_spawn, spawned, start_of}
 use Rattle.pf_model.specs.Labels as label
-use Rattle.pf_model.specs.Context.{ProcessState, ended, failed}
+use Rattle.pf_model.specs.Context.{ProcessState}
 use Rattle.pf_model.specs.Runs.{can_go}
 use Rattle.pf_model.specs.Reports.{label_of}
 use Rattle.pf_model.specs.declared.limits.TheConstants.{MOST_PROCESSES}
@@ -23,8 +23,8 @@ use Rattle.pf_ties.specs.Laws.{ties_of}
 use Rattle.pf_ties.proofs.Followed.{follow_actions}
 use Rattle.pf_stepper.specs.Turns.{answer_value}
 use Rattle.pf_system.specs.Bodies.{Body, body_of, process_body, bodies_of}
-use Rattle.pf_system.specs.Slots.{slot_body, SlotIsSound, SlotsAreSound}
-use Rattle.pf_system.specs.Processes.{RepresentsBut, checked_in, module_in, bodies_in}
+use Rattle.pf_system.specs.Slots.{SlotRepresents, SlotsRepresent}
+use Rattle.pf_system.specs.Processes.{RepresentsBut, checked_in, module_in}
 use Rattle.pf_system.specs.Acts.{ActAnswer, AnswersAct, ActedIn, ActsIn, KeepsSlot, LifeBegins, OpensWithTies}
 use Rattle.pf_system.specs.Acts.{OpensProcess, ReportsSpawn, opened_by}
 use Rattle.pf_system.specs.declared.slot.Life.{Life}
@@ -33,24 +33,15 @@ use Rattle.pf_system.specs.declared.spare.Spare.{Spare}
 use Rattle.pf_system.specs.declared.processes.Processes.{Processes}
 use Rattle.pf_system.proofs.Bodies.{map_more, set_length, set_front, more_length, bodies_same, length_of}
 use Rattle.pf_system.proofs.Acting.{given_none}
+use Rattle.pf_system.proofs.Changed.{but_length, represent_more}
 use Rattle.pf_system.proofs.Ready.{numbers_in, by_bodies, more_in}
 use Rattle.pf_system.proofs.Rows.{senders_length}
 use Rattle.pf_system.proofs.Settling.{but_there, keeps_slot, raised_in, slot_is, alive_going}
-use Rattle.std.proofs.lemmas.List.{length-map}
-use Rattle.pf_syntax.specs.Module.{Checked}
 
 pub get_front : {A : Type 0} (n : ℕ) (xs ys : List A) → n < length xs → slice_get (xs ++ ys) n ≡ slice_get xs n
 get_front n [] ys l = absurd (omega arith)
 get_front zero (x ∷ xs) ys l = refl
 get_front (suc n) (x ∷ xs) ys l = get_front n xs ys (omega arith)
-
-sound_more : (m : Checked) (n : ℕ) (ss : List Slot) (s : Slot) → SlotsAreSound m n ss → SlotIsSound m (n + length ss) s
-    → SlotsAreSound m n (ss ++ s ∷ [])
-sound_more m n [] s h k = let e : n + zero ≡ n = omega arith in (subst (λ z. SlotIsSound m z s) e k, tt)
-sound_more m n (x ∷ ss) s h k =
-    let j : ℕ = length ss in
-    let e : n + suc j ≡ suc n + j = omega arith in
-    (h.0, sound_more m (suc n) ss s h.1 (subst (λ z. SlotIsSound m z s) e k))
 
 process_front : (n : ℕ) (ps qs : List Process) → n < length ps → process_at n (ps ++ qs) ≡ process_at n ps
 process_front n [] qs l = absurd (omega arith)
@@ -102,27 +93,36 @@ module _ (a : ℕ) (bond : Bond) (w w' : Processes) (l : Life) (r : ActAnswer) (
   new_slot = record { life = l; mailbox = o.slots.0 }
 
   same_length : length c.processes ≡ length w.slots.items
-  same_length =
-      let b = body_of (ended (failed undefined)) [] in
-      length_of c ∙ sym (set_length a (bodies_of c) b) ∙ ap length (but.bodies b) ∙ set_length a (bodies_in w) b
-      ∙ length-map w.slots.items slot_body
+  same_length = but_length w c a but
 
-  new_body : slot_body new_slot ≡ body_of s []
-  new_body = ap (λ z. body_of z o.slots.0.messages) h.state ∙ ap (body_of s) o.slots.1
+  new_body : SlotRepresents (checked_in w) (length w.slots.items) new_slot (body_of s [])
+  new_body = record { state = h.is_there o.slots.0 o.slots.2; mailbox = sym o.slots.1 }
 
   after_length : length after.processes ≡ suc (length c.processes)
   after_length = length_of after ∙ ap length (spawn_bodies c a s bond) ∙ more_length (bodies_of c) (body_of s [])
       ∙ ap suc (sym (length_of c))
 
-  new_bodies : bodies_in w' ≡ bodies_in w ++ body_of s [] ∷ []
-  new_bodies = ap (map slot_body) o.slots.3 ∙ map_more slot_body w.slots.items new_slot
-      ∙ ap (λ z. bodies_in w ++ z ∷ []) new_body
-
-  there_in : a < length (bodies_in w)
-  there_in = let k = length-map w.slots.items slot_body in let j = but.there in omega arith
-
   there_of : a < length (bodies_of c)
   there_of = let k = length_of c in let j = but.there in let i = same_length in omega arith
+
+  slots_after : (t : Slot) (b : Body) → SlotRepresents (checked_in w) a t b
+      → SlotsRepresent (checked_in w') zero (slice_set w'.slots.items a t) (slice_set (bodies_of after) a b)
+  slots_after t b i =
+      let ss : List Slot = slice_set w.slots.items a t in
+      let bs : List Body = slice_set (bodies_of c) a b in
+      let y : zero + length ss ≡ length w.slots.items = omega (arith, set_length a w.slots.items t) in
+      let x : SlotRepresents (checked_in w) (zero + length ss) new_slot (body_of s []) =
+      subst (λ z. SlotRepresents (checked_in w) z new_slot (body_of s [])) (sym y) new_body in
+      let v = represent_more (checked_in w) zero ss bs new_slot (body_of s []) (but.slots t b i) x in
+      let q : slice_set w'.slots.items a t ≡ ss ++ new_slot ∷ [] =
+      ap (λ z. slice_set z a t) o.slots.3 ∙ set_front a w.slots.items (new_slot ∷ []) t but.there in
+      let r : slice_set (bodies_of after) a b ≡ bs ++ body_of s [] ∷ [] =
+      ap (λ z. slice_set z a b) (spawn_bodies c a s bond)
+      ∙ set_front a (bodies_of c) (body_of s [] ∷ []) b there_of in
+      subst (SlotsRepresent (checked_in w') zero (slice_set w'.slots.items a t)) (sym r)
+      (subst (λ z. SlotsRepresent z.module.value zero (slice_set w'.slots.items a t) (bs ++ body_of s [] ∷ []))
+      (sym o.basis)
+      (subst (λ z. SlotsRepresent (checked_in w) zero z (bs ++ body_of s [] ∷ [])) (sym q) v))
 
   is_there_after : RepresentsBut w' after a
   is_there_after =
@@ -131,12 +131,6 @@ module _ (a : ℕ) (bond : Bond) (w w' : Processes) (l : Life) (r : ActAnswer) (
       let f = after_length in
       record {
         there = let k = ap length o.slots.3 ∙ more_length w.slots.items new_slot in let j = but.there in omega arith;
-        bodies = λ b.
-            ap (λ z. slice_set z a b) (spawn_bodies c a s bond) ∙ set_front a (bodies_of c)
-            (body_of s [] ∷ []) b there_of
-            ∙ ap (λ z. z ++ body_of s [] ∷ []) (but.bodies b)
-            ∙ sym (set_front a (bodies_in w) (body_of s [] ∷ []) b there_in) ∙ ap (λ z. slice_set z a b)
-            (sym new_bodies);
         ties = spawn_ties c a s bond (alive_going s h.goes) ∙ ap (opened_by bond a) but.ties ∙ sym o.tied;
         ready =
             let z : zero + length (bodies_of c) ≡ length w.slots.items = omega (arith, length_of c) in
@@ -144,17 +138,7 @@ module _ (a : ℕ) (bond : Bond) (w w' : Processes) (l : Life) (r : ActAnswer) (
             ∙ ap (λ k. with_number k (numbers_in can_go zero (bodies_of c))) (sym z)
             ∙ sym (by_bodies can_go zero after.processes ∙ ap (numbers_in can_go zero) (spawn_bodies c a s bond)
             ∙ more_in can_go zero (bodies_of c) (body_of s []) h.goes);
-        slots = λ t k.
-            let i : SlotIsSound (checked_in w) a t = subst (λ z. SlotIsSound z.module.value a t) o.basis k in
-            let y : zero + length (slice_set w.slots.items a t) ≡ n = omega (arith, set_length a w.slots.items t) in
-            let x : SlotIsSound (checked_in w) (zero + length (slice_set w.slots.items a t)) new_slot =
-            subst (λ z. SlotIsSound (checked_in w) z new_slot) (sym y)
-            (record { ready = h.sound o.slots.0 o.slots.2; is_of = h.is_of }) in
-            let v = sound_more (checked_in w) zero (slice_set w.slots.items a t) new_slot (but.slots t i) x in
-            let q : slice_set w'.slots.items a t ≡ slice_set w.slots.items a t ++ new_slot ∷ [] =
-            ap (λ z. slice_set z a t) o.slots.3 ∙ set_front a w.slots.items (new_slot ∷ []) t but.there in
-            subst (λ z. SlotsAreSound z.module.value zero (slice_set w'.slots.items a t)) (sym o.basis)
-            (subst (SlotsAreSound (checked_in w) zero) (sym q) v);
+        slots = λ t b k. slots_after t b (subst (λ z. SlotRepresents z.module.value a t b) o.basis k);
         room = record {
           rows =
               let j = senders_length (n + 1) w.shared.channels in let k = j.1 in
@@ -293,10 +277,7 @@ module _ (a : ℕ) (bond : Bond) (w : Processes) (r : ActAnswer) (home function 
         → ((c : Core) → AnswersAct r (raising c system_limit)) → Spawns w
     limit_refused l k =
         reaches w (λ c but.
-        let b = body_of (ended (failed undefined)) [] in
-        let e : length c.processes ≡ length w.slots.items =
-        length_of c ∙ sym (set_length a (bodies_of c) b) ∙ ap length (but.bodies b) ∙ set_length a (bodies_in w) b
-        ∙ length-map w.slots.items slot_body in
+        let e = but_length w c a but in
         let s = start_of (module_in w) h n vs in
         let j = length c.processes in
         let m = but.room.most in

@@ -1,6 +1,6 @@
 -- A system that begins, and the turn of one of its processes, as a transition.
 use Rattle.std.proofs.Common.{◌≡◌, ◌⊎◌, inl, inr, ℕ, zero, suc, ◌+◌, ◌==◌, ◌≤◌, Bool, true, false, List, [], ◌∷◌, ◌++◌}
-use Rattle.std.proofs.Common.{Some, None, if◌then◌else◌, refl, sym, ap, ◌∙◌, subst, arith, length, map}
+use Rattle.std.proofs.Common.{None, if◌then◌else◌, refl, sym, ap, ◌∙◌, subst, arith, length, map}
 use Rattle.pf_terms.specs.Value.{none}
 use Rattle.pf_syntax.specs.Tree.{call, no_trees}
 use Rattle.pf_syntax.specs.Module.{Checked}
@@ -10,24 +10,23 @@ use Rattle.pf_model.specs.Limits.{most_processes}
 use Rattle.pf_sorted.specs.Maps.{with_number}
 use Rattle.pf_model.specs.declared.limits.TheConstants.{MOST_PROCESSES, MOST_PROCESSES_FIRST}
 use Rattle.pf_model.specs.Channels.{heads, with_senders}
-use Rattle.pf_model.specs.Configuration.{Process, Core, Configuration, of, process_at}
-use Rattle.pf_model.specs.Runs.{enabled, start, can_go, pids_in_state, Passed, Passes, passed, turn}
+use Rattle.pf_model.specs.Configuration.{Process, Configuration, of, posted, process_at}
+use Rattle.pf_model.specs.Runs.{enabled, start, can_go, pids_in_state, Passes, passed, turn}
 use Rattle.pf_model.specs.declared.report.Actor.TheVariants as actors
 use Rattle.pf_model.specs.Reports.{label_of}
 use Rattle.pf_model.specs.declared.report.Label.{Label}
 use Rattle.pf_ties.specs.Ties.{no_process, ties_opened}
 use Rattle.pf_stepper.specs.MachineView.{MachineView, goes, at_call}
-use Rattle.pf_system.specs.View.{view_of_system}
 use Rattle.pf_system.specs.Acts.{OpensWithTies}
-use Rattle.pf_system.specs.Slots.{SlotIsSound, SlotsAreSound, slot_body, state_in}
-use Rattle.pf_system.specs.Steps.{IsAmong, RunsModule, SimulatesTransition}
-use Rattle.pf_system.specs.Processes.{Represents, ProcessTurned, checked_in, core_of, configuration_of}
+use Rattle.pf_system.specs.Bodies.{body_of, bodies_of}
+use Rattle.pf_system.specs.Slots.{SlotRepresents, SlotsRepresent}
+use Rattle.pf_system.specs.Steps.{IsAmong, MayGo, Represents, SimulatesFrom, SimulatesTransition}
+use Rattle.pf_system.specs.Processes.{ProcessTurned, RepresentsCore, TurnsProcess, checked_in, view_of_processes}
 use Rattle.pf_system.specs.declared.slot.Life.TheVariants as life
 use Rattle.pf_system.specs.declared.slot.Slot.{Slot}
 use Rattle.pf_system.specs.declared.processes.Processes.{Processes}
 use Rattle.pf_system.proofs.Going.{IsIn, split_in, in_either}
-use Rattle.pf_system.proofs.Passing.{both, kept_after, is_there_itself}
-use Rattle.pf_system.proofs.Changed.{again}
+use Rattle.pf_system.proofs.Passing.{system_with}
 
 -- ---- a process that may go can go
 
@@ -85,31 +84,40 @@ can_go_of a c h = by (in_either (actors.Process a) (map actors.Process ps)
 
 -- ---- a turn
 
-pub turn_kept : (m : Checked) (w w' : Processes) (c : Core) (a left used : ℕ) (l : Label) → RunsModule m w
-    → ProcessTurned c a left w l used w' → RunsModule m w'
-turn_kept m w w' c a left used l k h = kept_after m w w' h.deed.left.core k h.shown.done.is_there h.shown.done.basis
+module _ (m : Checked) (w w' : Processes) (k a left used : ℕ) (l : Label) where
+  turn_from : (c : Configuration) → Represents (system_with m k false w) c → ProcessTurned c.core a left w l used w'
+      → SimulatesFrom c left (system_with m k false w) (actors.Process a) (label_of l) used
+      (system_with m (k + used) false w')
+  turn_from c r h =
+      let d = h.deed in
+      record {
+        passed = passed a d c.channels None used;
+        passes = subst (λ z. Passes (module_of z) left c (actors.Process a) (passed a d c.channels None used)) r.code
+            (turn a used d h.turn);
+        is_there = record {
+          present = refl;
+          code = ap (λ z. z.module.value) h.shown.done.basis ∙ r.code;
+          core = h.shown.done.is_there;
+          channels = h.shown.done.channels ∙ ap (λ cs.
+              posted a d.left.sent (with_senders (length d.left.core.processes) cs)) r.channels;
+        };
+        checked = refl;
+        steps = refl;
+        label = h.shown.label;
+        counts = refl;
+        within = h.within;
+      }
 
-pub turn_passes : (m : Checked) (w w' : Processes) (k a left used : ℕ) (l : Label) → RunsModule m w
-    → ProcessTurned (core_of w) a left w l used w'
-    → SimulatesTransition left (view_of_system m k (Some (configuration_of w))) (actors.Process a) (label_of l) used
-    (view_of_system m (k + used) (Some (configuration_of w')))
-turn_passes m w w' k a left used l i h =
-    let d = h.deed in
-    let p : Passed = passed a d w.shared.channels None used in
-    let e : configuration_of w' ≡ p.after =
-    ap (λ c. both c w'.shared.channels) (again w' d.left.core h.shown.done.is_there)
-    ∙ ap (both d.left.core) h.shown.done.channels in
-    record {
-      before = configuration_of w;
-      passed = p;
-      was = refl;
-      passes = subst (λ z. Passes (module_of z) left (configuration_of w) (actors.Process a) p) i.code
-          (turn a used d h.turn);
-      becomes = ap (λ c. view_of_system m (k + used) (Some c)) e;
-      label = h.shown.label;
-      counts = refl;
-      within = h.within;
-    }
+  pub turn_passes : (c : Configuration) → Represents (system_with m k false w) c
+      → MayGo (actors.Process a) (system_with m k false w) → TurnsProcess a left w l used w'
+      → SimulatesTransition left (system_with m k false w) (actors.Process a) (label_of l) used
+      (system_with m (k + used) false w')
+  turn_passes c r may h =
+      record {
+        before = c;
+        was = r;
+        from_each = λ d q. turn_from d q (h d.core q.core (can_go_of a d (may d q)));
+      }
 
 -- ---- the beginning
 
@@ -145,22 +153,24 @@ module _ (w w' : Processes) (k : MachineView) (root : ℕ) (none' : IsEmpty w)
   stood : k.standing ≡ goes (running (call root no_trees))
   stood = ap (λ z. z.standing) at
 
-  first_is_sound : SlotIsSound (checked_in w') zero first
-  first_is_sound =
+  first_is : SlotRepresents (checked_in w') zero first (body_of (running (call root no_trees)) [])
+  first_is =
       record {
-        ready = ((running (call root no_trees), stood, refl), o.slots.2 k);
-        is_of = (ap (λ z. z.own) at, ap (λ z. z.checked) at ∙ ap (λ z. z.module.value) (sym o.basis));
+        state = (
+          ((ap (λ z. z.own) at, ap (λ z. z.checked) at ∙ ap (λ z. z.module.value) (sym o.basis), stood), refl),
+          o.slots.2 k,
+        );
+        mailbox = sym o.slots.1;
       }
 
-  pub begins : Represents w' (start root edition).core
+  begins : RepresentsCore (view_of_processes w') (start root edition).core
   begins =
       record {
-        bodies = sym (ap (map slot_body) one_slot ∙ ap (λ z. record { state = z; mailbox = o.slots.0.messages } ∷ [])
-            (ap state_in stood)
-            ∙ ap (λ z. record { state = running (call root no_trees); mailbox = z } ∷ []) o.slots.1);
+        slots = subst (λ ss. SlotsRepresent (checked_in w') zero ss (bodies_of (start root edition).core))
+            (sym one_slot)
+            (first_is, tt);
         ties = sym (o.tied ∙ ap (λ z. ties_opened z None) none'.ties);
         ready = o.ready ∙ ap (λ z. with_number (length z) w.ready) none'.slots ∙ ap (with_number 0) none'.ready;
-        slots = subst (SlotsAreSound (checked_in w') zero) (sym one_slot) (first_is_sound, tt);
         room = record {
           rows = let e = ap length one_row in omega arith;
           few = omega arith;
@@ -170,15 +180,11 @@ module _ (w w' : Processes) (k : MachineView) (root : ℕ) (none' : IsEmpty w)
         };
       }
 
-  pub begins_kept : (m : Checked) → checked_in w ≡ m → RunsModule m w'
-  begins_kept m e = record {
-    is_there = is_there_itself w' (start root edition).core begins;
-    code =
-        ap (λ z. z.module.value) o.basis ∙ e;
-  }
-
-  pub begins_so : (m : Checked) → view_of_system m 0 (Some (configuration_of w')) ≡ view_of_system m 0
-      (Some (start root edition))
-  begins_so m =
-      ap (λ c. view_of_system m 0 (Some (both c w'.shared.channels))) (again w' (start root edition).core begins)
-      ∙ ap (λ cs. view_of_system m 0 (Some (both (start root edition).core cs))) one_row
+  pub begins_so : (m : Checked) → checked_in w ≡ m → Represents (system_with m 0 false w') (start root edition)
+  begins_so m e =
+      record {
+        present = refl;
+        code = ap (λ z. z.module.value) o.basis ∙ e;
+        core = begins;
+        channels = one_row;
+      }

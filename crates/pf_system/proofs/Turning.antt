@@ -25,15 +25,17 @@ use Rattle.pf_stepper.specs.Turns.{CanAnswer, StepsAndMove, MachineRan}
 use Rattle.pf_stepper.proofs.Before.{steps_before, turn_after}
 use Rattle.pf_stepper.specs.declared.machine.Move.{Move}
 use Rattle.pf_stepper.specs.declared.machine.Move.TheVariants as v
-use Rattle.pf_system.specs.Slots.{state_of, LifeAsks, LifeIsLeft, LifeIsReady, RanInSlot, SlotIsSound}
-use Rattle.pf_system.specs.Processes.{Represents, IsShaped, Shown, ProcessTurned, checked_in, module_in}
+use Rattle.pf_system.specs.Bodies.{Body, process_body}
+use Rattle.pf_system.specs.Slots.{LifeAsks, LifeIsLeft, RanInSlot, SlotCanGo}
+use Rattle.pf_system.specs.Processes.{RepresentsCore, IsShaped, Shown, ProcessTurned}
+use Rattle.pf_system.specs.Processes.{checked_in, module_in, view_of_processes}
 use Rattle.pf_system.specs.Settled.{SlotAsksFor, SettlesMove, SettlesAs, LastStep, cut_in}
 use Rattle.pf_system.specs.declared.slot.Life.{Life}
 use Rattle.pf_system.specs.declared.slot.Life.TheVariants as life
 use Rattle.pf_system.specs.declared.slot.Slot.{Slot}
 use Rattle.pf_system.specs.declared.processes.Processes.{Processes}
 use Rattle.pf_system.proofs.Bodies.{set_length}
-use Rattle.pf_system.proofs.Changed.{ran_but, left_at, body_at, get_within, slots_length, sound_at, ties_length_in}
+use Rattle.pf_system.proofs.Changed.{ran_but, left_at, body_at, get_within, slots_length, ties_length_in}
 use Rattle.pf_model.proofs.Turned.{moved_goes_on}
 
 -- ---- a process that goes on by itself can go
@@ -84,21 +86,22 @@ in_range zero (p ∷ ps) e = omega arith
 in_range (suc a) (p ∷ ps) e = let k = in_range a ps e in omega arith
 
 -- a process that can go has a slot
-pub slot_there : (w : Processes) (c : Core) (a : ℕ) → Represents w c → can_go (of c a).state ≡ true
+pub slot_there : (w : Processes) (c : Core) (a : ℕ) → RepresentsCore (view_of_processes w) c
+    → can_go (of c a).state ≡ true
     → a < length w.slots.items
 slot_there w c a h e = let k = in_range a c.processes e in let l = slots_length w c h in omega arith
 
-module _ (w : Processes) (c : Core) (a : ℕ) (s : Slot) (h : Represents w c)
+module _ (w : Processes) (c : Core) (a : ℕ) (s : Slot) (h : RepresentsCore (view_of_processes w) c)
     (at : slice_get w.slots.items a ≡ Some s) where
-  pub slot_ready : LifeIsReady s.life s.mailbox
-  slot_ready = (sound_at (checked_in w) zero a w.slots.items s h.slots at).ready
-
-  pub slot_sound : SlotIsSound (checked_in w) a s
-  slot_sound = let e : zero + a ≡ a = omega arith in subst (λ z. SlotIsSound (checked_in w) z s) e
-      (sound_at (checked_in w) zero a w.slots.items s h.slots at)
-
-  pub slot_can : can_go (of c a).state ≡ true → can_go (state_of s.life) ≡ true
-  slot_can e = ap (λ z. can_go z.state) (sym (body_at w c a s h at)) ∙ e
+  pub slot_can : can_go (of c a).state ≡ true → SlotCanGo s
+  slot_can e =
+      record {
+        code = checked_in w;
+        own = a;
+        body = process_body (of c a);
+        is_there = body_at w c a s h at;
+        can = e;
+      }
 
   pub still_shaped : (w1 : Processes) (s1 : Slot) → w1.slots.items ≡ slice_set w.slots.items a s1 → w1.shared ≡ w.shared
       → w1.basis ≡ w.basis → IsShaped a w1
@@ -121,19 +124,19 @@ module _ (w : Processes) (c : Core) (a : ℕ) (s : Slot) (h : Represents w c)
 
 asks_in : (m : Checked) (own : ℕ) (x : MachineStatus) (l : Life) (mail : MailView) (fs : List Frame)
     → LifeIsLeft m own x l mail → x ≡ asking fs → LifeAsks l
-asks_in m own x (life.Lives k w) mail fs h e = subst CanAnswer (sym (h.0 ∙ e)) tt
+asks_in m own x (life.Lives k w) mail fs h e = subst CanAnswer (sym (h.0.2 ∙ e)) tt
 asks_in m own x (life.Ends r) mail fs h e = tt
 asks_in m own x (life.Ended r) mail fs h e = tt
 
 -- a machine that asked for an action waits for the answer
-pub asks_for : (m : Checked) (own left used : ℕ) (s s1 : Slot) (move : Move) → RanInSlot m own left s move used s1
-    → SlotAsksFor move s1
-asks_for m own left used s s1 (v.Action act) r = asks_in m own r.standing s1.life s1.mailbox r.ran.last.frames r.leaves
+pub asks_for : (m : Checked) (own left used : ℕ) (b : Body) (s1 : Slot) (move : Move)
+    → RanInSlot m own left b move used s1 → SlotAsksFor move s1
+asks_for m own left used b s1 (v.Action act) r = asks_in m own r.standing s1.life s1.mailbox r.ran.last.frames r.leaves
     r.ran.last.is_there
-asks_for m own left used s s1 v.Pure r = tt
-asks_for m own left used s s1 (v.Take t) r = tt
-asks_for m own left used s s1 v.Wait r = tt
-asks_for m own left used s s1 (v.End e) r = tt
+asks_for m own left used b s1 v.Pure r = tt
+asks_for m own left used b s1 (v.Take t) r = tt
+asks_for m own left used b s1 v.Wait r = tt
+asks_for m own left used b s1 (v.End e) r = tt
 
 -- ---- the turn, among all processes
 
@@ -189,16 +192,12 @@ module _ (w w1 w' : Processes) (c : Core) (a left used : ℕ) (l : Label) (e : w
   turned_by v.Wait r k = last_so v.Wait r (k r.middle (moved_from r.middle v.Wait r.last))
   turned_by (v.End z) r k = last_so (v.End z) r (k r.middle (moved_from r.middle (v.End z) r.last))
 
-pub turned : (w w1 w' : Processes) (c : Core) (a left used : ℕ) (s s1 : Slot) (move : Move) (l : Label) → Represents w c
-    → can_go (of c a).state ≡ true
-    → slice_get w.slots.items a ≡ Some s → RanInSlot (checked_in w) a left s move used s1
+pub turned : (w w1 w' : Processes) (c : Core) (a left used : ℕ) (s s1 : Slot) (move : Move) (l : Label)
+    → RepresentsCore (view_of_processes w) c → can_go (of c a).state ≡ true
+    → slice_get w.slots.items a ≡ Some s → RanInSlot (checked_in w) a left (process_body (of c a)) move used s1
     → w1.slots.items ≡ slice_set w.slots.items a s1 → w1.shared ≡ w.shared
     → w1.ready ≡ w.ready → w1.basis ≡ w.basis → SettlesAs a move w1 l w' → ProcessTurned c a left w l used w'
 turned w w1 w' c a left used s s1 move l h can at r e b q f k =
     let n = get_within a w.slots.items s at in
-    let y = body_at w c a s h at in
-    let r' : MachineRan (module_in w) a left (of c a).state (of c a).mailbox move r.standing used s1.mailbox.messages =
-    subst (λ z. MachineRan (module_in w) a left z.state z.mailbox move r.standing used s1.mailbox.messages)
-    (sym y) r.ran in
-    turned_by w w1 w' c a left used l b f can r.standing s1.mailbox.messages move r'
+    turned_by w w1 w' c a left used l b f can r.standing s1.mailbox.messages move r.ran
     (k c r.standing s1 (ran_but w w1 c a s1 h n e b q f) can (left_at w w1 c a s1 r.standing r.leaves n e f))

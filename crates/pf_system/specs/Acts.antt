@@ -25,7 +25,7 @@ use Rattle.pf_mailbox.specs.Tests.{IsAheadOf}
 use Rattle.pf_stepper.specs.Turns.{answer_value}
 use Rattle.pf_stepper.specs.declared.act.Act.{Act as Asked}
 use Rattle.pf_stepper.specs.declared.act.Act.TheVariants as asked
-use Rattle.pf_system.specs.Slots.{LifeAsks, LifeIsReady, LifeIsOf, state_of}
+use Rattle.pf_system.specs.Slots.{LifeAsks, LifeRepresents}
 use Rattle.pf_system.specs.Processes.{RepresentsBut, IsLeftAt, Shown, module_in}
 use Rattle.pf_system.specs.declared.slot.Life.{Life}
 use Rattle.pf_system.specs.declared.slot.Slot.{Slot}
@@ -132,9 +132,7 @@ home_function m home name arity = if home == m.name then exported_as m name arit
 
 -- a process of this pid begins in a state in which it can go
 pub record LifeBegins (m : Checked) (own : ℕ) (s : ProcessState) (l : Life) : Type 0 where
-  pub sound : (mail : MailView) → ((k : MachineView) → IsAheadOf k mail) → LifeIsReady l mail
-  pub is_of : LifeIsOf m own l
-  pub state : state_of l ≡ s
+  pub is_there : (mail : MailView) → ((k : MachineView) → IsAheadOf k mail) → LifeRepresents m own l mail s
   pub goes : can_go s ≡ true
 
 -- one process more, with no message, that can go, and then these ties

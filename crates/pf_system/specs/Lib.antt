@@ -1,5 +1,4 @@
 pub mod View
-pub mod Encoding
 pub mod Messages
 pub mod Bodies
 pub mod Slots

@@ -1,11 +1,10 @@
 -- What the processes of a run stand for.
-use Rattle.std.specs.Prelude.{◌≡◌, ◌<◌, ◌≤◌, ℕ, zero, List, Option, Some, None, Result, map, length, slice_get}
-use Rattle.std.specs.Prelude.{slice_set}
+use Rattle.std.specs.Prelude.{◌≡◌, ◌<◌, ◌≤◌, ℕ, zero, true, Option, Some, None, Result, length, slice_get, slice_set}
 use Rattle.pf_terms.specs.declared.term.Term.{Term}
 use Rattle.pf_syntax.specs.Module.{Checked}
 use Rattle.pf_model.specs.Module.{Module, module_of}
 use Rattle.pf_model.specs.Channels.{Signal, Channels, taken, with_senders}
-use Rattle.pf_model.specs.Configuration.{Core, Configuration, Left, of, posted}
+use Rattle.pf_model.specs.Configuration.{Core, Left, of, posted}
 use Rattle.pf_model.specs.Deliveries.{Deed, delivered}
 use Rattle.pf_model.specs.Ends.{ended_by}
 use Rattle.pf_model.specs.Runs.{can_go, pids_in_state}
@@ -15,8 +14,9 @@ use Rattle.pf_model.specs.declared.limits.TheConstants.{MOST_PROCESSES}
 use Rattle.pf_model.specs.declared.report.Label.{Label}
 use Rattle.pf_ties.specs.Laws.{ties_of}
 use Rattle.pf_stepper.specs.MachineView.{MachineStatus}
-use Rattle.pf_system.specs.Bodies.{Body, bodies_of, core_with}
-use Rattle.pf_system.specs.Slots.{slot_body, SlotIsSound, SlotsAreSound, SlotIsLeft, end_of}
+use Rattle.pf_system.specs.Bodies.{Body, bodies_of}
+use Rattle.pf_system.specs.Slots.{SlotRepresents, SlotsRepresent, SlotIsLeft, end_of}
+use Rattle.pf_system.specs.View.{ProcessesView}
 use Rattle.pf_system.specs.declared.slot.Slot.{Slot}
 use Rattle.pf_system.specs.declared.processes.Processes.{Processes}
 
@@ -26,40 +26,50 @@ checked_in w = w.basis.module.value
 abbrev pub module_in : Processes → Module
 module_in w = module_of (checked_in w)
 
-abbrev pub bodies_in : Processes → List Body
-bodies_in w = map slot_body w.slots.items
-
-abbrev pub core_of : Processes → Core
-core_of w = core_with (bodies_in w) w.shared.ties w.basis.most
-
-abbrev pub configuration_of : Processes → Configuration
-configuration_of w = record { core = core_of w; channels = w.shared.channels }
+abbrev pub view_of_processes : Processes → ProcessesView
+view_of_processes w =
+    record {
+      checked = checked_in w;
+      most = w.basis.most;
+      slots = w.slots.items;
+      ties = w.shared.ties;
+      channels = w.shared.channels;
+      ready = w.ready;
+    }
 
 -- there is a row of channels for each process, and not too many processes; how many there may be is no more than may be
 -- stored
-pub record IsRoomy (w : Processes) (c : Core) : Type 0 where
-  pub rows : length c.processes ≤ length w.shared.channels
+pub record IsRoomy (w : ProcessesView) (c : Core) : Type 0 where
+  pub rows : length c.processes ≤ length w.channels
   pub few : length c.processes ≤ MOST_PROCESSES
-  pub most : c.most ≡ w.basis.most
-  pub within : w.basis.most ≤ MOST_PROCESSES
+  pub most : c.most ≡ w.most
+  pub within : w.most ≤ MOST_PROCESSES
 
 -- the processes represent this core, with any channels, and those that can go are noted
-pub record Represents (w : Processes) (c : Core) : Type 0 where
-  pub bodies : bodies_of c ≡ bodies_in w
-  pub ties : ties_of c ≡ w.shared.ties
+pub record RepresentsCore (w : ProcessesView) (c : Core) : Type 0 where
+  pub slots : SlotsRepresent w.checked zero w.slots (bodies_of c)
+  pub ties : ties_of c ≡ w.ties
   pub ready : w.ready ≡ pids_in_state can_go zero c.processes
-  pub slots : SlotsAreSound (checked_in w) zero w.slots.items
   pub room : IsRoomy w c
 
 -- the same, but for the body of process a, which is in a slot of its own
 pub record RepresentsBut (w : Processes) (c : Core) (a : ℕ) : Type 0 where
   pub there : a < length w.slots.items
-  pub bodies : (b : Body) → slice_set (bodies_of c) a b ≡ slice_set (bodies_in w) a b
+  pub slots : (s : Slot) (b : Body) → SlotRepresents (checked_in w) a s b
+      → SlotsRepresent (checked_in w) zero (slice_set w.slots.items a s) (slice_set (bodies_of c) a b)
   pub ties : ties_of c ≡ w.shared.ties
   pub ready : w.ready ≡ pids_in_state can_go zero c.processes
-  pub slots : (s : Slot) → SlotIsSound (checked_in w) a s
-      → SlotsAreSound (checked_in w) zero (slice_set w.slots.items a s)
-  pub room : IsRoomy w c
+  pub room : IsRoomy (view_of_processes w) c
+
+-- the processes represent some core
+abbrev pub RepresentsSome : Processes → Type 0
+RepresentsSome w = (c : Core) × RepresentsCore (view_of_processes w) c
+
+-- the processes represent a core in which this one can go
+pub record ProcessCanGo (a : ℕ) (w : Processes) : Type 0 where
+  pub core : Core
+  pub is_there : RepresentsCore (view_of_processes w) core
+  pub can : can_go (of core a).state ≡ true
 
 -- the machine of process a ran, and has this status over these messages
 pub record IsLeftAt (w : Processes) (a : ℕ) (x : MachineStatus) (s : Slot) : Type 0 where
@@ -71,7 +81,7 @@ pub record IsLeftAt (w : Processes) (a : ℕ) (x : MachineStatus) (s : Slot) : T
 -- a did this, over these channels, and this is what is left: processes that represent the definition's core and
 -- channels
 pub record Done (a : ℕ) (d : Left) (cs : Channels) (w w' : Processes) : Type 0 where
-  pub is_there : Represents w' d.core
+  pub is_there : RepresentsCore (view_of_processes w') d.core
   pub channels : w'.shared.channels ≡ posted a d.sent (with_senders (length d.core.processes) cs)
   pub basis : w'.basis ≡ w.basis
 
@@ -86,12 +96,22 @@ pub record ProcessTurned (c : Core) (a left : ℕ) (w : Processes) (l : Label) (
   pub within : used ≤ left
   pub shown : Shown a deed w.shared.channels w l w'
 
+-- so it is from each core that the processes represent
+abbrev pub TurnsProcess : (a left : ℕ) → Processes → Label → (used : ℕ) → Processes → Type 0
+TurnsProcess a left w l used w' =
+    (c : Core) → RepresentsCore (view_of_processes w) c → can_go (of c a).state ≡ true
+    → ProcessTurned c a left w l used w'
+
 -- the delivery of the oldest signal of a channel
 pub record Delivered (c : Core) (from to : ℕ) (w : Processes) (l : Label) (w' : Processes) : Type 0 where
   pub signal : Signal
   pub others : Channels
   pub is_taken : taken from to w.shared.channels ≡ Some (signal, others)
   pub shown : Shown to (delivered c from to signal) others w l w'
+
+-- so it is from each core that the processes represent
+abbrev pub DeliversSignal : (from to : ℕ) → Processes → Label → Processes → Type 0
+DeliversSignal from to w l w' = (c : Core) → RepresentsCore (view_of_processes w) c → Delivered c from to w l w'
 
 -- the end of a process
 abbrev pub EndsProcess : Core → ℕ → Result Term Term → Processes → Processes → Type 0

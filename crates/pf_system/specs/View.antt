@@ -1,14 +1,23 @@
 -- A system as contracts see it.
-use Rattle.std.specs.Prelude.{ℕ, Option}
+use Rattle.std.specs.Prelude.{ℕ, Bool, List}
 use Rattle.pf_syntax.specs.Module.{Checked}
-use Rattle.pf_model.specs.Configuration.{Configuration}
+use Rattle.pf_model.specs.Channels.{Channels}
+use Rattle.pf_ties.specs.Ties.{AllTies}
+use Rattle.pf_system.specs.declared.slot.Slot.{Slot}
 
--- the checked module that its processes run, the steps that were used, and all that there is of processes and signals;
--- None once memory ran out
+-- the processes of a run without what is spare: the checked module that they run, how many there may be, the slot of
+-- each by its pid, ties, signals, and who can go
+pub record ProcessesView : Type 0 where
+  pub checked : Checked
+  pub most : ℕ
+  pub slots : List Slot
+  pub ties : AllTies
+  pub channels : Channels
+  pub ready : List ℕ
+
+-- the checked module, the steps that were used, whether memory ran out, and the processes
 pub record SystemView : Type 0 where
   pub checked : Checked
   pub steps : ℕ
-  pub standing : Option Configuration
-
-abbrev pub view_of_system : Checked → ℕ → Option Configuration → SystemView
-view_of_system m k o = record { checked = m; steps = k; standing = o }
+  pub spent : Bool
+  pub processes : ProcessesView

@@ -5,7 +5,7 @@ ghost use Rattle.pf_terms.specs.Term.{value_of};
 ghost use Rattle.pf_model.specs.Channels.{down, exit, taken};
 ghost use Rattle.pf_model.specs.Signals.{signal_of};
 ghost use Rattle.pf_system.specs.Placed.{PlacesOf, ShowsAtEnded, ShowsAtLiving, ShowsSuffix};
-ghost use Rattle.pf_system.specs.Processes.{Delivered, IsShaped, Represents, core_of};
+ghost use Rattle.pf_system.specs.Processes.{DeliversSignal, IsShaped, RepresentsSome};
 
 use crate::messages::{down_message, exit_message};
 use crate::processes::Processes;
@@ -25,9 +25,9 @@ impl Processes {
         to: u32,
         shown: &mut Label,
     ) -> Result<(), NoMemory>
-        requires sound { Represents self.old (core_of self.old) }
+        requires sound { RepresentsSome self.old }
         requires there { is_some (taken from to self.old.shared.channels) ≡ true }
-        ensures { OnOk result (Delivered (core_of self.old) from to self.old shown.new self.new) }
+        ensures { OnOk result (DeliversSignal from to self.old shown.new self.new) }
     {
         let Some(signal) = self.shared.channels.deliver(from, to) else {
             unreachable!();

@@ -4,8 +4,8 @@ ghost use Rattle.std.specs.Prelude.{◌≡◌, false, IfSome, MatchOption};
 ghost use Rattle.pf_model.specs.Configuration.{is_alive, of};
 ghost use Rattle.pf_model.specs.Deliveries.{woken};
 ghost use Rattle.pf_stepper.specs.Points.{IsPointOf};
-ghost use Rattle.pf_system.specs.Processes.{Represents, checked_in, core_of};
-ghost use Rattle.pf_system.specs.Slots.{SlotIsSound, state_of};
+ghost use Rattle.pf_system.specs.Processes.{RepresentsCore, checked_in, view_of_processes};
+ghost use Rattle.pf_system.specs.Slots.{SlotRepresents};
 
 use crate::processes::Processes;
 use crate::slot::{Life, Slot};
@@ -15,10 +15,11 @@ use pf_syntax::Module;
 impl Slot {
     /// Where the process is, and the module that it runs, in whose code that is. None where it has ended.
     fn point<'a>(&'a self, code: &'a Module) -> Option<(&'a Module, Point)>
-        ensures own { (own : _) → SlotIsSound code.now own self.now → IfSome result (λ x. x.0.now ≡ code.now) }
-        ensures point { (own : _) → SlotIsSound code.now own self.now
-            → MatchOption result (is_alive (state_of self.now.life) ≡ false)
-            (λ x. IsPointOf code.now.tables (woken (state_of self.now.life)) x.1) }
+        ensures own { (own : _) (b : _) → SlotRepresents code.now own self.now b
+            → IfSome result (λ x. x.0.now ≡ code.now) }
+        ensures point { (own : _) (b : _) → SlotRepresents code.now own self.now b
+            → MatchOption result (is_alive b.state ≡ false)
+            (λ x. IsPointOf code.now.tables (woken b.state) x.1) }
     {
         match &self.life {
             Life::Lives { machine, waits: _ } => Some(machine.point()),
@@ -32,10 +33,11 @@ impl Processes {
     /// Where a process is, and the module of all processes, in whose code that is; none where there is none of this
     /// pid, or it has ended.
     pub(crate) fn point(&self, pid: u32) -> Option<(&Module, Point)>
-        requires { Represents self.now (core_of self.now) }
-        ensures own { IfSome result (λ x. x.0.now ≡ checked_in self.now) }
-        ensures point { MatchOption result (is_alive (of (core_of self.now) pid).state ≡ false)
-            (λ x. IsPointOf (checked_in self.now).tables (woken (of (core_of self.now) pid).state) x.1) }
+        ensures own { (c : _) → RepresentsCore (view_of_processes self.now) c
+            → IfSome result (λ x. x.0.now ≡ checked_in self.now) }
+        ensures point { (c : _) → RepresentsCore (view_of_processes self.now) c
+            → MatchOption result (is_alive (of c pid).state ≡ false)
+            (λ x. IsPointOf (checked_in self.now).tables (woken (of c pid).state) x.1) }
     {
         match self.slots.get(pid as usize) {
             Some(slot) => slot.point(&self.basis.module),

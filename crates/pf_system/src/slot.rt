@@ -4,11 +4,11 @@ ghost use Rattle.std.specs.Prelude.{◌≡◌, ◌<◌, true, IfOk, OnOk};
 ghost use Rattle.pf_terms.specs.Term.{value_of};
 ghost use Rattle.pf_model.specs.Context.{running, waiting};
 ghost use Rattle.pf_model.specs.Runs.{can_go, is_waiting};
+ghost use Rattle.pf_model.specs.Turns.{with_answer};
 ghost use Rattle.pf_stepper.specs.MachineView.{asking, goes};
 ghost use Rattle.pf_stepper.specs.Turns.{answer_value};
 ghost use Rattle.pf_system.specs.Bodies.{body_of, with_one_message};
-ghost use Rattle.pf_system.specs.Slots.{AnswersIn, LifeAsks, LifeIsReady, PutsIn, RanInSlot, SlotIsLeft};
-ghost use Rattle.pf_system.specs.Slots.{SlotIsSound, slot_body, state_of};
+ghost use Rattle.pf_system.specs.Slots.{LifeAsks, RanInSlot, SlotCanGo, SlotIsLeft, SlotRepresents};
 
 use pf_errors::NoMemory;
 use pf_mailbox::Mailbox;
@@ -44,11 +44,10 @@ impl Slot {
         left: u32,
         did: &mut Move,
     ) -> Result<u32, NoMemory>
-        requires ready { LifeIsReady self.old.life self.old.mailbox }
-        requires can { can_go (state_of self.old.life) ≡ true }
+        requires can { SlotCanGo self.old }
         requires left { 0 < left }
-        ensures { IfOk result (λ used. (m : _) (own : _) → SlotIsSound m own self.old
-            → RanInSlot m own left self.old did.new used self.new) }
+        ensures { IfOk result (λ used. (m : _) (own : _) (b : _) → SlotRepresents m own self.old b
+            → can_go b.state ≡ true → RanInSlot m own left b did.new used self.new) }
     {
         match &mut self.life {
             Life::Lives { machine, waits: _ } => {
@@ -66,7 +65,8 @@ impl Slot {
     pub(crate) fn answer(&mut self, answer: Result<Term, Term>)
         requires { LifeAsks self.old.life }
         ensures { (m : _) (own : _) (fs : _) → SlotIsLeft m own (asking fs) self.old
-            → AnswersIn m own fs (answer_value answer) self.old self.new }
+            → SlotRepresents m own self.new
+            (body_of (with_answer fs (answer_value answer)) self.old.mailbox.messages) }
     {
         if let Life::Lives { machine, waits: _ } = &mut self.life {
             machine.answer(answer);
@@ -76,7 +76,7 @@ impl Slot {
     /// The process waits at a `receive`.
     pub(crate) fn wait(&mut self)
         ensures { (m : _) (own : _) (t : _) → SlotIsLeft m own (goes (running t)) self.old
-            → PutsIn m own (body_of (waiting t) self.old.mailbox.messages) self.new }
+            → SlotRepresents m own self.new (body_of (waiting t) self.old.mailbox.messages) }
     {
         if let Life::Lives { machine: _, waits } = &mut self.life {
             *waits = true;
@@ -85,10 +85,10 @@ impl Slot {
 
     /// A message arrives, and the process goes on where it waited; returns whether it did.
     pub(crate) fn index(&mut self, pool: &mut Pool<Term>, message: Term) -> Result<bool, NoMemory>
-        ensures woken { IfOk result (λ w. (m : _) (own : _) → SlotIsSound m own self.old
-            → w ≡ is_waiting (state_of self.old.life)) }
-        ensures placed { OnOk result ((m : _) (own : _) → SlotIsSound m own self.old
-            → PutsIn m own (with_one_message (value_of message) (slot_body self.old)) self.new) }
+        ensures woken { IfOk result (λ w. (m : _) (own : _) (b : _) → SlotRepresents m own self.old b
+            → w ≡ is_waiting b.state) }
+        ensures placed { OnOk result ((m : _) (own : _) (b : _) → SlotRepresents m own self.old b
+            → SlotRepresents m own self.new (with_one_message (value_of message) b)) }
     {
         self.mailbox.deliver(pool, message)?;
         if let Life::Lives { machine: _, waits } = &mut self.life {

@@ -1,6 +1,6 @@
 //! The system of processes of one run.
 
-ghost use Rattle.std.specs.Prelude.{◌≡◌, ◌-◌, ◌<◌, ◌≤◌, false, length, Some, None};
+ghost use Rattle.std.specs.Prelude.{◌≡◌, ◌-◌, ◌<◌, ◌≤◌, false, true, length};
 ghost use Rattle.std.specs.Prelude.{IfOk, IfSome, IsErr, MatchOption, OnErr, OnOk};
 ghost use Rattle.pf_model.specs.Configuration.{is_alive, of};
 ghost use Rattle.pf_model.specs.Deliveries.{woken};
@@ -9,10 +9,10 @@ ghost use Rattle.pf_model.specs.Meaning.{outcome_of as outcome_where};
 ghost use Rattle.pf_model.specs.Reports.{label_of, view_of_outcome};
 ghost use Rattle.pf_model.specs.declared.report.Actor.TheVariants as who;
 ghost use Rattle.pf_model.specs.declared.limits.TheConstants.{MOST_PROCESSES};
-ghost use Rattle.pf_model.specs.Runs.{enabled, start};
+ghost use Rattle.pf_model.specs.Runs.{enabled};
 ghost use Rattle.pf_stepper.specs.Points.{IsPointOf};
-ghost use Rattle.pf_system.specs.View.{view_of_system};
-ghost use Rattle.pf_system.specs.Steps.{IsNoteOf, MayGo, SimulatesTransition, noted_actors};
+ghost use Rattle.pf_system.specs.Steps.{Begins, IsNoteOf, MayGo, Represents, RunsOut, SimulatesTransition};
+ghost use Rattle.pf_system.specs.Steps.{noted_actors};
 
 use crate::enabled::Enabled;
 use crate::processes::{Basis, Processes};
@@ -43,12 +43,15 @@ pub struct System {
 }
 
 impl Model for System {
+    ghost use Rattle.std.specs.Coded.{codes};
+    ghost use Rattle.pf_syntax.specs.Module.{coded_checked};
+    ghost use Rattle.pf_channels.specs.Encoding.{coded_channels};
+    ghost use Rattle.pf_system.specs.contracts.slot.Slot as slot;
     ghost use Rattle.pf_system.specs.View.{SystemView};
-    ghost use Rattle.pf_system.specs.Encoding.{coded_system_view};
 
     ghost Value = { SystemView };
 
-    ghost coded = { coded_system_view };
+    ghost coded = { Prim.hlevel (codes, slot.the_row.coded, coded_checked, coded_channels) };
 
     ghost use Rattle.pf_system.specs.Steps.{IsValid, view_of_inside};
 
@@ -67,8 +70,7 @@ impl System {
         edition: u32,
     ) -> Result<System, NoMemory>
         requires { IsEdition edition }
-        ensures { IfOk result (λ s.
-            s ≡ view_of_system «module».now.value 0 (Some (start root.0 edition))) }
+        ensures { IfOk result (Begins «module».now.value root.0 edition) }
     {
         System::new_in(alloc, module, root, edition, Spare::new(alloc))
     }
@@ -82,8 +84,7 @@ impl System {
         mut spare: Spare,
     ) -> Result<System, NoMemory>
         requires { IsEdition edition }
-        ensures { IfOk result (λ s.
-            s ≡ view_of_system «module».now.value 0 (Some (start root.0 edition))) }
+        ensures { IfOk result (Begins «module».now.value root.0 edition) }
     {
         let shared = Arc::try_clone(module)?;
         let room = spare.room(alloc);
@@ -126,9 +127,9 @@ impl System {
 
     /// Who may go. Nothing is searched for it, and it takes no memory.
     pub fn enabled(&self) -> Enabled<'_>
-        ensures actors { (c : _) → self.now.standing ≡ Some c → noted_actors result ≡ enabled c }
-        ensures both { (c : _) → self.now.standing ≡ Some c → IsNoteOf result c }
-        ensures few { (c : _) → self.now.standing ≡ Some c → length result.ready.now ≤ MOST_PROCESSES }
+        ensures actors { (c : _) → Represents self.now c → noted_actors result ≡ enabled c }
+        ensures both { (c : _) → Represents self.now c → IsNoteOf result c }
+        ensures few { (c : _) → Represents self.now c → length result.ready.now ≤ MOST_PROCESSES }
     {
         Enabled {
             ready: &self.processes.ready,
@@ -140,10 +141,10 @@ impl System {
     /// it has ended, or memory ran out.
     pub fn point(&self, pid: u32) -> Option<(&Module, Point)>
         ensures own { IfSome result (λ x. x.0.now ≡ self.now.checked) }
-        ensures point { (c : _) → self.now.standing ≡ Some c
+        ensures point { (c : _) → Represents self.now c
             → MatchOption result (is_alive (of c.core pid).state ≡ false)
             (λ x. IsPointOf self.now.checked.tables (woken (of c.core pid).state) x.1) }
-        ensures spent { IfSome result (λ x. self.now.standing ≡ None → ⊥) }
+        ensures present { IfSome result (λ x. self.now.spent ≡ false) }
     {
         if self.spent {
             return None;
@@ -155,8 +156,8 @@ impl System {
     /// it waits.
     pub fn outcome(&self, alloc: Global) -> Result<Outcome, NoMemory>
         ensures outcome { IfOk result (λ o.
-            (c : _) → self.now.standing ≡ Some c → view_of_outcome o ≡ outcome_where c) }
-        ensures refused { self.now.standing ≡ None → IsErr result }
+            (c : _) → Represents self.now c → view_of_outcome o ≡ outcome_where c) }
+        ensures refused { self.now.spent ≡ true → IsErr result }
     {
         if self.spent {
             return Err(NoMemory);
@@ -176,12 +177,12 @@ impl System {
         limit: u32,
         shown: &mut Label,
     ) -> Result<u32, NoMemory>
-        requires enabled { MayGo (who.Process pid) self.old.standing }
+        requires enabled { MayGo (who.Process pid) self.old }
         requires left { self.old.steps < limit }
         ensures passed { IfOk result (λ used. SimulatesTransition (limit - self.old.steps)
             self.old (who.Process pid) (label_of shown.new) used self.new) }
-        ensures spent { OnErr result (self.new ≡ view_of_system self.old.checked self.old.steps None) }
-        ensures refused { self.old.standing ≡ None → IsErr result }
+        ensures spent { OnErr result (RunsOut self.old self.new) }
+        ensures refused { self.old.spent ≡ true → IsErr result }
     {
         if self.spent {
             return Err(NoMemory);
@@ -203,12 +204,12 @@ impl System {
         limit: u32,
         shown: &mut Label,
     ) -> Result<(), NoMemory>
-        requires enabled { MayGo (who.Channel from to) self.old.standing }
+        requires enabled { MayGo (who.Channel from to) self.old }
         requires left { self.old.steps < limit }
         ensures passed { OnOk result
             (SimulatesTransition 1 self.old (who.Channel from to) (label_of shown.new) 1 self.new) }
-        ensures spent { OnErr result (self.new ≡ view_of_system self.old.checked self.old.steps None) }
-        ensures refused { self.old.standing ≡ None → IsErr result }
+        ensures spent { OnErr result (RunsOut self.old self.new) }
+        ensures refused { self.old.spent ≡ true → IsErr result }
     {
         if self.spent {
             return Err(NoMemory);
@@ -229,7 +230,7 @@ impl System {
         limit: u32,
         shown: &mut Label,
     ) -> Result<u32, NoMemory>
-        requires enabled { MayGo actor self.old.standing }
+        requires enabled { MayGo actor self.old }
         requires left { self.old.steps < limit }
         ensures { IfOk result (λ used. SimulatesTransition (limit - self.old.steps)
             self.old actor (label_of shown.new) used self.new) }

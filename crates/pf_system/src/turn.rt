@@ -1,14 +1,12 @@
 //! The turn of a process.
 
-ghost use Rattle.std.specs.Prelude.{◌≡◌, ◌<◌, true, IfOk, OnOk};
-ghost use Rattle.pf_model.specs.Configuration.{of};
+ghost use Rattle.std.specs.Prelude.{◌≡◌, ◌<◌, IfOk, OnOk};
 ghost use Rattle.pf_model.specs.Ends.{reason_of};
 ghost use Rattle.pf_model.specs.Labels.{ends};
 ghost use Rattle.pf_model.specs.Reports.{label_of};
-ghost use Rattle.pf_model.specs.Runs.{can_go};
 ghost use Rattle.pf_system.specs.Slots.{end_of};
 ghost use Rattle.pf_system.specs.Settled.{CanSettle, SettlesAs, WaitsIn};
-ghost use Rattle.pf_system.specs.Processes.{IsShaped, Represents, ProcessTurned, core_of};
+ghost use Rattle.pf_system.specs.Processes.{IsShaped, ProcessCanGo, TurnsProcess};
 
 use crate::processes::Processes;
 use pf_errors::NoMemory;
@@ -37,11 +35,9 @@ impl Processes {
         left: u32,
         shown: &mut Label,
     ) -> Result<u32, NoMemory>
-        requires sound { Represents self.old (core_of self.old) }
-        requires enabled { can_go (of (core_of self.old) pid).state ≡ true }
+        requires can { ProcessCanGo pid self.old }
         requires left { 0 < left }
-        ensures { IfOk result
-            (λ used. ProcessTurned (core_of self.old) pid left self.old shown.new used self.new) }
+        ensures { IfOk result (λ used. TurnsProcess pid left self.old shown.new used self.new) }
     {
         let mut did = Move::Pure;
         let slot = &mut self.slots[pid as usize];

@@ -1,12 +1,12 @@
 //! What the words of each command ask for that name no more than it wants.
 
 use crate::readings::{WantedReading, come_to};
-use pf_cli::{Args, CliCommand, Edition, Format, HuntArgs, HuntGoal, Roots, RunArgs};
+use pf_cli::{Args, CliCommand, Edition, ExploreArgs, Format, HuntArgs, HuntGoal, Roots, RunArgs};
 use pf_request::{Request, RequestKind, RunChoices};
 use pf_strategy::{Sampling, Strategy};
 
 /// Words of each command.
-const WORDS: [&[&str]; 7] = [
+const WORDS: [&[&str]; 8] = [
     &[
         "pulsefarm",
         "run",
@@ -25,6 +25,7 @@ const WORDS: [&[&str]; 7] = [
         "--runs=9",
     ],
     &["pulsefarm", "hunt"],
+    &["pulsefarm", "explore"],
     &["pulsefarm", "check"],
     &["pulsefarm", "steps", "-"],
     &["pulsefarm", "farm", "a", "--workers=1"],
@@ -61,12 +62,23 @@ fn is_plain_hunt(hunt: &HuntArgs) -> bool {
         && matches!(hunt.sought, HuntGoal::Failure { runs: None })
 }
 
+fn is_plain_exploration(explore: &ExploreArgs) -> bool {
+    is_of_defaults(&explore.request)
+        && matches!(explore.edition, Edition::First)
+        && explore.reach.budget == 2_000_000
+        && explore.reach.time.is_none()
+        && explore.reach.deviations.is_none()
+        && explore.last.is_none()
+        && explore.runs.is_none()
+}
+
 /// Whether nothing is asked for but what the command wants and its defaults.
 fn has_defaults(args: &Args) -> bool {
     match args {
         Args::Run(run) | Args::Shrink(run) => is_plain_run(run),
         Args::Chart(chart) => is_plain_run(&chart.run) && !chart.compact && chart.page == 1,
         Args::Hunt(hunt) => is_plain_hunt(hunt),
+        Args::Explore(explore) => is_plain_exploration(explore),
         Args::Check(check) => !check.explain,
         Args::Steps(_) => true,
         Args::Farm(farm) => farm.workers == 1 && !farm.summary,

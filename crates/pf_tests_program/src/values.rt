@@ -1,12 +1,14 @@
 //! What the words of each command ask for that name all it takes.
 
 use crate::readings::{WantedReading, come_to};
-use pf_cli::{Args, ChartArgs, CliCommand, FarmArgs, Format, HuntArgs, HuntGoal, Roots, RunArgs};
+use pf_cli::{
+    Args, ChartArgs, CliCommand, ExploreArgs, FarmArgs, Format, HuntArgs, HuntGoal, Roots, RunArgs,
+};
 use pf_request::{Request, RequestKind, RunChoices};
 use pf_strategy::{Sampling, SeedChoice, Strategy};
 
 /// Words of each command; a file is called as its command.
-const WORDS: [&[&str]; 7] = [
+const WORDS: [&[&str]; 8] = [
     &[
         "pulsefarm",
         "run",
@@ -68,6 +70,21 @@ const WORDS: [&[&str]; 7] = [
         "--leaks",
         "--format=json",
         "-",
+    ],
+    &[
+        "pulsefarm",
+        "explore",
+        "--root=f",
+        "--limit=0",
+        "explore",
+        "--edition=2",
+        "--property=never:{a, _}",
+        "--last=<7>",
+        "--budget=18446744073709551615",
+        "--for=5m",
+        "--deviations=100000",
+        "--shrink=1000",
+        "--format=json",
     ],
     &["pulsefarm", "check", "--explain", "check", "--format=json"],
     &["pulsefarm", "steps", "--", "--"],
@@ -170,6 +187,17 @@ fn is_hunt(hunt: &HuntArgs) -> bool {
         )
 }
 
+fn is_exploration(explore: &ExploreArgs) -> bool {
+    explore.file == Some("explore")
+        && is_request(&explore.request)
+        && explore.edition.number() == 2
+        && explore.last == Some(7)
+        && explore.reach.budget == u64::MAX
+        && explore.reach.deviations == Some(100_000)
+        && explore.reach.time == Some(300)
+        && explore.runs == Some(1_000)
+}
+
 fn is_farm(farm: &FarmArgs) -> bool {
     farm.workers == 64 && farm.summary && farm.files.as_slice() == ["farm", "b", "-"].as_slice()
 }
@@ -182,6 +210,7 @@ pub fn is_named(asked: &CliCommand) -> bool {
         Args::Chart(chart) => is_chart(chart) && !is_json,
         Args::Shrink(shrink) => is_shrink(shrink) && is_json,
         Args::Hunt(hunt) => is_hunt(hunt) && is_json,
+        Args::Explore(explore) => is_exploration(explore) && is_json,
         Args::Check(check) => check.file == Some("check") && check.explain && is_json,
         Args::Steps(steps) => steps.file == Some("--"),
         Args::Farm(farm) => is_farm(farm) && asked.args.file().is_none(),

@@ -10,10 +10,10 @@ use Rattle.pf_errors.specs.declared.fault.OrNoMemory.{OrNoMemory}
 use Rattle.pf_errors.specs.declared.fault.OrNoMemory.TheVariants.{NoMemory}
 use Rattle.pf_streams.specs.declared.stream.StreamFault.{StreamFault}
 use Rattle.clap.specs.Words.{Text}
-use Rattle.pf_cli.specs.Args.{CommandWork, check, chart, farm, hunt, named_file, run, shrink, steps, view_of_args}
-use Rattle.pf_cli.specs.Args.{view_of_hunt_args}
+use Rattle.pf_cli.specs.Args.{CommandWork, check, chart, explore, farm, hunt, named_file, run, shrink, steps}
+use Rattle.pf_cli.specs.Args.{view_of_args, view_of_hunt_args}
 use Rattle.pf_cli.specs.declared.args.Args.{Args}
-use Rattle.pf_cli.specs.declared.args.Args.TheVariants.{Run, Hunt, Shrink, Chart, Check, Steps, Farm}
+use Rattle.pf_cli.specs.declared.args.Args.TheVariants.{Run, Hunt, Explore, Shrink, Chart, Check, Steps, Farm}
 use Rattle.pf_cli.specs.declared.args.FarmArgs.{FarmArgs}
 use Rattle.pf_cli.specs.declared.args.HuntArgs as hunt_code
 use Rattle.pf_files.specs.Suites.{goes_over_several}
@@ -21,7 +21,6 @@ use Rattle.pf_command.specs.Streams.{Sends, Serves, Streams, streams}
 use Rattle.pf_command.specs.declared.serving.TheConstants as command
 use Rattle.pf_command.proofs.Streaming.{source_ends, unread_ends}
 use Rattle.pf_wire.specs.Steps.{SimulatesSteps, StepsLeaves}
-use Rattle.pf_wire.specs.declared.steps.TheConstants as wire
 use Rattle.pf_steps.specs.Profile.{run_profile}
 use Rattle.pf_cli_messages.specs.Texts.{HasStatus, IsFailure}
 use Rattle.pf_words.specs.Words.{AnswerEnds, AnswersOf, End, FromFile, FromNamed, FromOne, StepsEnd}
@@ -50,6 +49,7 @@ module _ (s t : Streams) (r : End) where
       → TakesAtMost command.MOST_BYTES s t → WorkEnds w s t r
   of_source (run a) is h most = (h, most)
   of_source (hunt a) is h most = (h, most)
+  of_source (explore a) is h most = (h, most)
   of_source (chart a) is h most = (h, most)
   of_source (shrink a) is h most = (h, most)
   of_source (check explain) is h most = (h, most)
@@ -60,6 +60,7 @@ module _ (s t : Streams) (r : End) where
 pub only_steps : (w : CommandWork) → has_source w ≡ false → is_farm w ≡ false → w ≡ steps
 only_steps (run a) is not = absurd cc
 only_steps (hunt a) is not = absurd cc
+only_steps (explore a) is not = absurd cc
 only_steps (chart a) is not = absurd cc
 only_steps (shrink a) is not = absurd cc
 only_steps (check explain) is not = absurd cc
@@ -78,6 +79,7 @@ none_read most s t same = (
 nothing_ends : (w : CommandWork) (s : Streams) → is_farm w ≡ false → AnswerEnds w s s (Err NoMemory)
 nothing_ends (run a) s not = ((refl, refl), refl)
 nothing_ends (hunt a) s not = ((refl, refl), refl)
+nothing_ends (explore a) s not = ((refl, refl), refl)
 nothing_ends (chart a) s not = ((refl, refl), refl)
 nothing_ends (shrink a) s not = ((refl, refl), refl)
 nothing_ends (check explain) s not = ((refl, refl), refl)
@@ -122,6 +124,7 @@ from_file w unread before after w0 w1 m n k n0 n1 given end h has = (refl, refl,
 no_farm : (w : CommandWork) → has_source w ≡ true → is_farm w ≡ false
 no_farm (run a) is = refl
 no_farm (hunt a) is = refl
+no_farm (explore a) is = refl
 no_farm (chart a) is = refl
 no_farm (shrink a) is = refl
 no_farm (check explain) is = refl
@@ -217,6 +220,7 @@ hunt_of_several a h old new given is so =
 pub is_no_farm : (a : Args) → ((f : FarmArgs) → a ≡ Farm f → ⊥) → is_farm (view_of_args a) ≡ false
 is_no_farm (Run r) not = refl
 is_no_farm (Hunt h) not = refl
+is_no_farm (Explore r) not = refl
 is_no_farm (Shrink r) not = refl
 is_no_farm (Chart r) not = refl
 is_no_farm (Check k) not = refl

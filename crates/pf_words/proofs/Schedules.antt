@@ -1,5 +1,5 @@
 -- Which schedule a text has.
-use Rattle.std.proofs.Common.{◌≡◌, ℕ, true, false, nat_eq, List, [], ◌∷◌, ◌++◌, length, drop, Option, Some, None}
+use Rattle.std.proofs.Common.{◌≡◌, ℕ, true, false, List, [], ◌∷◌, ◌++◌, drop, Option, Some, None}
 use Rattle.std.proofs.Common.{unwrap_or, codes, map, refl, sym, ap, ◌∙◌, subst}
 use Rattle.std.specs.Prelude.{option_map, MatchOption, if◌then◌else◌}
 use Rattle.std.specs.Str.{IsCharBoundary, trim_end}

@@ -8,7 +8,8 @@ use Rattle.pf_errors.specs.declared.fault.OrNoMemory.{OrNoMemory}
 use Rattle.pf_streams.specs.declared.stream.StreamFault.{StreamFault}
 use Rattle.pf_text.specs.Numbers.{schedule_of}
 use Rattle.clap.specs.Words.{Text}
-use Rattle.pf_cli.specs.Args.{ReadWords, Wanted, CommandWork, check, chart, farm, hunt, reading_of, reads, run, shrink}
+use Rattle.pf_cli.specs.Args.{ReadWords, Wanted, CommandWork, check, chart, explore, farm, hunt, reading_of, reads, run}
+use Rattle.pf_cli.specs.Args.{shrink}
 use Rattle.pf_cli.specs.Args.{named_file, steps, reports, view_of_command, view_of_farm_args, works}
 use Rattle.pf_cli.specs.declared.args.FarmArgs.{FarmArgs}
 use Rattle.pf_cli.specs.declared.args.Format.{Format}
@@ -25,6 +26,7 @@ use Rattle.pf_wire.specs.declared.steps.TheConstants as wire
 use Rattle.pf_steps.specs.Profile.{run_profile}
 use Rattle.pf_cli_messages.specs.Texts.{HasStatus, IsFailure, PrintsText}
 use Rattle.pf_files.specs.Suites.{goes_over_several}
+use Rattle.pf_words.specs.Explorations.{ExplorationAnswers}
 use Rattle.pf_words.specs.Schedules.{schedule_in}
 use Rattle.pf_words.specs.declared.request.WordsRequest.{WordsRequest}
 use Rattle.pf_words.specs.declared.request.WordsRequest.TheVariants as request
@@ -41,6 +43,7 @@ End = Result ℕ (OrNoMemory StreamFault)
 abbrev pub AnswersOf : CommandWork → Answering
 AnswersOf (run a) = RunAnswers a
 AnswersOf (hunt h) = HuntAnswers h
+AnswersOf (explore a) = ExplorationAnswers a
 AnswersOf (chart a) = DrawnAnswers a
 AnswersOf (shrink a) = AnswersRun a
 AnswersOf (check explain) = Checks explain

@@ -1,18 +1,23 @@
-//! The answer to a source, and what is said beside it.
+//! What a source is answered with, how that is printed, and what is said beside it.
 
-ghost use Rattle.std.specs.Prelude.{◌≡◌, true};
-ghost use Rattle.pf_cli.specs.Args.{view_of_args, view_of_run_args};
-ghost use Rattle.pf_command.specs.AskedRuns.{RunAnswers};
+ghost use Rattle.std.specs.Prelude.{◌≡◌, true, ℕ, List, IfOk};
+ghost use Rattle.pf_cli.specs.Args.{view_of_args};
+ghost use Rattle.pf_command.specs.Printed.{IsAnswerTo};
 ghost use Rattle.pf_command.specs.Streams.{Sends};
 ghost use Rattle.pf_words.specs.Words.{AnswersOf, has_source};
 
+use crate::explore::Explore;
 use pf_check::ReadSource;
-use pf_cli::{Args, CliCommand, HuntArgs, HuntGoal, RunArgs};
+use pf_cli::{Args, CliCommand, HuntGoal};
 use pf_cli_messages::{
     ProgressLine, REFUSED, Runs, Seeds, WaitingProcesses, lacking_of, say, say_processes,
     say_waiting, why,
 };
-use pf_command::{Chart, CheckCommand, HuntRequest, Shrink, answer_by, print_hunt, print_source};
+use pf_command::{
+    Answer, Chart, CheckCommand, HuntRequest, Shrink, answer_by, answer_of_hunt, answer_of_run,
+    print_answer,
+};
+use pf_errors::NoMemory;
 use pf_files::{AnsweredRoot, workers_of};
 use pf_streams::Counted;
 use std::alloc::AllocGlobal;
@@ -26,89 +31,111 @@ pub fn has_source(args: &Args) -> bool
     ensures { result ≡ has_source (view_of_args args.now) }
 {
     match args {
-        Args::Run(_) | Args::Hunt(_) | Args::Chart(_) | Args::Shrink(_) | Args::Check(_) => true,
+        Args::Run(_)
+        | Args::Hunt(_)
+        | Args::Explore(_)
+        | Args::Chart(_)
+        | Args::Shrink(_)
+        | Args::Check(_) => true,
         Args::Steps(_) | Args::Farm(_) => false,
     }
 }
 
-/// Answers a source of which a run is asked for, and says how many processes still wait.
-fn answer_run<W: Write, M: Ledger>(
-    rt: &(impl Eprint + AllocGlobal),
-    args: &RunArgs,
+/// Who watches the seeds of a hunt, and for how many seconds it goes on at most.
+pub fn seeds_of<'a, C: Clock>(asked: &Args, clock: &'a C, line: &'a ProgressLine) -> Seeds<'a, C> {
+    match asked {
+        Args::Hunt(args) => Seeds::new(line, clock, args.end.saturating_sub(args.first), args.time),
+        _ => Seeds::new(line, clock, 0, None),
+    }
+}
+
+/// The runs that a schedule may be shrunk within.
+fn most_runs(asked: &Args) -> u32 {
+    match asked {
+        Args::Shrink(args) => args.request.kind.runs(),
+        Args::Hunt(args) => match args.sought {
+            HuntGoal::Failure { runs } => runs.unwrap_or(0),
+            HuntGoal::Outcomes => 0,
+        },
+        _ => 0,
+    }
+}
+
+/// Whether processes that still wait are a failure.
+fn seeks_leaks(asked: &Args) -> bool {
+    matches!(asked, Args::Hunt(args) if args.leaks)
+}
+
+/// What a source is answered with. The seeds hear of a hunt, and the line shows the progress of a shrinking and of an
+/// exploration.
+pub fn answer_of<'a, R: AllocGlobal + Clock + Threads + Sync>(
+    rt: &R,
+    asked: &'a Args<'a>,
     source: &ReadSource,
-    writer: &mut Counted<W, M>,
-) -> AnsweredRoot
-    ensures { Sends (RunAnswers (view_of_run_args args.now) source.now)
-        (W.contents writer.old.inner) (W.contents writer.new.inner)
-        writer.old.failures.total writer.new.failures.total result }
-{
-    let mut processes = 0;
-    let status = print_source(rt.alloc(), args, source, writer, &mut processes)?;
-    if processes > 0 {
-        let seed = None;
-        say_waiting(rt, WaitingProcesses { processes, seed });
-    }
-    Ok(status)
-}
-
-/// The runs that the schedule of a seed may be shrunk within.
-fn most_runs(args: &HuntArgs) -> u32 {
-    match args.sought {
-        HuntGoal::Failure { runs: Some(runs) } => runs,
-        HuntGoal::Failure { runs: None } | HuntGoal::Outcomes => 0,
-    }
-}
-
-/// Says of a hunt that was answered how many processes still wait by a seed.
-fn say_waiting_of_seeds<C: Clock>(
-    rt: &impl Eprint,
-    seeds: &Seeds<'_, C>,
+    seeds: &mut Seeds<'_, R>,
     line: &ProgressLine,
-    answered: &AnsweredRoot,
-) {
-    if let (Ok(_), Some(waiting)) = (answered, seeds.waiting()) {
-        line.clear();
-        say_waiting(rt, waiting);
-    }
-}
-
-/// Answers a source; the line shows the progress of a hunt or a shrinking.
-pub fn answer<W: Write, M: Ledger>(
-    rt: &(impl Eprint + AllocGlobal + Clock + Threads + Sync),
-    asked: &Args,
-    source: &ReadSource,
-    writer: &mut Counted<W, M>,
-    line: &ProgressLine,
-) -> AnsweredRoot
+) -> Result<Answer<'a>, NoMemory>
     requires { has_source (view_of_args asked.now) ≡ true }
-    ensures { Sends (AnswersOf (view_of_args asked.now) source.now)
-        (W.contents writer.old.inner) (W.contents writer.new.inner)
-        writer.old.failures.total writer.new.failures.total result }
+    ensures { IfOk result (IsAnswerTo (AnswersOf (view_of_args asked.now)) source.now) }
 {
     let alloc = rt.alloc();
     match asked {
-        Args::Run(args) => answer_run(rt, args, source, writer),
-        Args::Chart(args) => answer_by(alloc, Chart { args }, source, writer),
+        Args::Run(args) => answer_of_run(alloc, args, source),
+        Args::Chart(args) => answer_by(alloc, Chart { args }, source),
         Args::Hunt(args) => {
             let workers = workers_of(rt, args);
-            let asked = HuntRequest { args, workers };
-            let seeds = args.end.saturating_sub(args.first);
-            let mut seeds = Seeds::new(line, rt, seeds, args.time);
-            let mut runs = Runs::new(line, most_runs(args));
-            let answered = print_hunt(rt, &asked, source, writer, &mut seeds, &mut runs);
-            say_waiting_of_seeds(rt, &seeds, line, &answered);
-            answered
+            answer_of_hunt(rt, alloc, &HuntRequest { args, workers }, source, seeds)
+        }
+        Args::Explore(args) => {
+            let clock = rt;
+            answer_by(alloc, Explore { args, clock, line }, source)
         }
         Args::Shrink(args) => {
-            let observer = Runs::new(line, args.request.kind.runs());
-            answer_by(alloc, Shrink { args, observer }, source, writer)
+            let observer = Runs::new(line, most_runs(asked));
+            answer_by(alloc, Shrink { args, observer }, source)
         }
         Args::Check(args) => {
             let explain = args.explain;
-            answer_by(alloc, CheckCommand { explain }, source, writer)
+            answer_by(alloc, CheckCommand { explain }, source)
         }
         Args::Steps(_) | Args::Farm(_) => unreachable!(),
     }
+}
+
+/// Prints an answer, and says how many processes still wait: of the run, or of the least such seed of a hunt for leaks.
+/// The line shows the progress of a shrinking.
+pub fn send<W: Write, M: Ledger, C: Clock>(
+    rt: &(impl Eprint + AllocGlobal),
+    asked: &Args,
+    answer: Result<Answer<'_>, NoMemory>,
+    seeds: &Seeds<'_, C>,
+    writer: &mut Counted<W, M>,
+    line: &ProgressLine,
+) -> AnsweredRoot
+    ensures { (bytes : List ℕ) → IfOk answer.entry (IsAnswerTo (AnswersOf (view_of_args asked.now)) bytes)
+        → Sends (AnswersOf (view_of_args asked.now) bytes)
+        (W.contents writer.old.inner) (W.contents writer.new.inner)
+        writer.old.failures.total writer.new.failures.total result }
+{
+    let answer = answer?;
+    let mut runs = Runs::new(line, most_runs(asked));
+    let mut processes = 0;
+    let status = print_answer(rt.alloc(), answer, &mut runs, writer, &mut processes)?;
+    let waiting = if processes > 0 {
+        Some(WaitingProcesses {
+            processes,
+            seed: None,
+        })
+    } else if seeks_leaks(asked) {
+        seeds.waiting()
+    } else {
+        None
+    };
+    if let Some(waiting) = waiting {
+        line.clear();
+        say_waiting(rt, waiting);
+    }
+    Ok(status)
 }
 
 /// Says more of a source that was answered on standard error: if it is refused, or what is asked for of it, why.

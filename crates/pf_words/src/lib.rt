@@ -2,6 +2,7 @@
 #![tactic(auto)]
 
 mod answer;
+mod explore;
 mod request;
 mod schedule;
 mod steps;

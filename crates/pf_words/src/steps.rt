@@ -74,7 +74,7 @@ fn refusal(alloc: Global, line: &RefusedLine) -> Result<String, NoMemory> {
     let number = line.number;
     let reason = line_reason(alloc, &line.text, line.is_whole)?;
     Ok(format!(in alloc;
-        "command {number} is none: {reason}; those before it were answered, and nothing behind it was read"
+        "command {number} is none: {reason}; those before it were answered, and nothing after it was read"
     )?)
 }
 

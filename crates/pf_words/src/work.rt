@@ -8,7 +8,7 @@ ghost use Rattle.pf_command.specs.Streams.{streams};
 ghost use Rattle.pf_streams.specs.Streams.{CountsReadOrNone};
 ghost use Rattle.pf_words.specs.Words.{FromNamed, FromOne, is_farm};
 
-use crate::answer::{answer, has_source, say_more};
+use crate::answer::{answer_of, has_source, say_more, seeds_of, send};
 use crate::steps::{answer_file, answer_steps};
 use pf_check::ReadSource;
 use pf_cli::{Args, CliCommand};
@@ -137,13 +137,14 @@ where
     if !has_source(&asked.args) {
         return work_on_steps(rt, file, stdin, writer);
     }
-    match source_of(rt, file, stdin) {
-        Ok(source) => {
-            let answered = answer(rt, &asked.args, &source, writer, line);
-            line.clear();
-            say_more(rt, asked, &source, &answered);
-            end(rt, file, form, answered)
-        }
-        Err(fault) => end(rt, file, form, Err(fault)),
-    }
+    let source = match source_of(rt, file, stdin) {
+        Ok(source) => source,
+        Err(fault) => return end(rt, file, form, Err(fault)),
+    };
+    let mut seeds = seeds_of(&asked.args, rt, line);
+    let answer = answer_of(rt, &asked.args, &source, &mut seeds, line);
+    let answered = send(rt, &asked.args, answer, &seeds, writer, line);
+    line.clear();
+    say_more(rt, asked, &source, &answered);
+    end(rt, file, form, answered)
 }

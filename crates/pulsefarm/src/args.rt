@@ -1,5 +1,8 @@
 //! The words that the program is given.
 
+ghost use Rattle.std.specs.Prelude.{ℕ, List, IfOk, map, ⊤};
+ghost use Rattle.std.specs.String.{string_bytes};
+
 use pf_files::read_word;
 use std::alloc::{AllocError, AllocGlobal};
 use std::env::{Env, FillError};
@@ -21,7 +24,7 @@ fn bytes_at(rt: &(impl Env + AllocGlobal), at: usize) -> Result<Option<Vec<u8>>,
 }
 
 /// The words after the program's name.
-pub fn given_words(rt: &(impl Env + AllocGlobal)) -> Result<Vec<String>, AllocError> {
+fn words_in(rt: &(impl Env + AllocGlobal)) -> Result<Vec<String>, AllocError> {
     let mut given = Vec::new(rt.alloc());
     for at in 1..usize::MAX {
         match bytes_at(rt, at)? {
@@ -30,4 +33,23 @@ pub fn given_words(rt: &(impl Env + AllocGlobal)) -> Result<Vec<String>, AllocEr
         }
     }
     Ok(given)
+}
+
+/// Gives the words after the program's name. No contract of the system says which these are, so whoever uses this is
+/// proved for whatever they may be.
+pub trait GivesWords: Env {
+    /// Which words it may give.
+    ghost gives: { List (List ℕ) → Type 0 };
+
+    /// The words after the program's name.
+    fn given_words(&self) -> Result<Vec<String>, AllocError>
+        ensures { IfOk result (λ words. gives (map (λ s. string_bytes s) words.items)) };
+}
+
+impl GivesWords for HostRuntime {
+    ghost gives = { λ words. ⊤ };
+
+    fn given_words(&self) -> Result<Vec<String>, AllocError> {
+        words_in(self)
+    }
 }

@@ -1,15 +1,15 @@
 //! `farm`: a client for each file, and workers, on one running farm.
 
-ghost use Rattle.std.specs.Prelude.{◌≡◌, ◌<◌, ◌≤◌, IfOk, IfSome, Some, map, vec_len};
+ghost use Rattle.std.specs.Prelude.{◌≡◌, ◌<◌, ◌≤◌, IfOk, IfNone, IfSome, Some, map, vec_len};
 ghost use Rattle.pf_cli.specs.Args.{view_of_farm_args};
-ghost use Rattle.pulsefarm.specs.Program.{path_of, AreOpened, FarmAnswers, FarmEnds, FarmIsDone};
+ghost use Rattle.pulsefarm.specs.Program.{path_of, AreOpened, FarmAnswers, FarmEnds, FarmIsDone, HasReason, LacksFile};
 
 use crate::opening::Opens;
 use crate::watch::FarmWatch;
 use pf_cli::FarmArgs;
 use pf_cli_messages::{REFUSED, end, failed, say};
 use pf_clients::run_farm;
-use pf_errors::OrNoMemory;
+use pf_errors::{NoMemory, OrNoMemory};
 use pf_farm::{Blanks, MOST_SEATS};
 use pf_farm_accounts::{FarmNames, NewRegister};
 use pf_files::AnsweredRoot;
@@ -65,9 +65,12 @@ fn answer<R, W: Write, M: Ledger>(
 where
     R: Opens + Print + Eprint + AllocGlobal + RandomSource + Clock + Threads + Wait + Sync,
     R::File: Send + Drop,
-    ensures { FarmAnswers R.opens R.File.remaining (view_of_farm_args args.now).files
+    ensures answers { FarmAnswers R.opens R.File.remaining (view_of_farm_args args.now).files
         (W.contents writer.old.inner) (W.contents writer.new.inner)
         writer.old.failures.total writer.new.failures.total result }
+    ensures reason { IfOk result (HasReason R.opens R.File.remaining host.has_stack R.refuses
+        (view_of_farm_args args.now).files (W.contents writer.old.inner) (W.contents writer.new.inner)
+        writer.old.failures.total writer.new.failures.total) }
 {
     if !host.has_stack {
         say(
@@ -102,7 +105,7 @@ where
     if status == REFUSED {
         say(
             rt,
-            "a line of a file is no command there: those before it were answered, and nothing behind it was read",
+            "a line of a file is no command there: those before it were answered, and nothing after it was read",
         );
     }
     Ok(status)
@@ -116,11 +119,12 @@ fn path_of(word: &str) -> &str
 }
 
 /// Opens the files of all clients; none, if one can't be opened, which is said then. `-` names the standard input.
-fn opened<R>(rt: &R, names: &[&str]) -> Result<Option<Vec<R::File>>, OrNoMemory<StreamFault>>
+fn opened<R>(rt: &R, names: &[&str]) -> Result<Option<Vec<R::File>>, NoMemory>
 where
     R: Opens + Print + Eprint + AllocGlobal,
-    ensures { IfOk result (λ files. IfSome files (λ v.
+    ensures files { IfOk result (λ files. IfSome files (λ v.
         AreOpened R.opens (map (λ w. w.now) names.now) v.items)) }
+    ensures none { IfOk result (λ files. IfNone files (LacksFile R.refuses (map (λ w. w.now) names.now))) }
 {
     let mut files = Vec::new(rt.alloc());
     let mut is_read = false;
@@ -134,7 +138,7 @@ where
         match rt.open_path(path_of(name)) {
             Ok(file) => files.push(file)?,
             Err(error) if error.kind() == io::ErrorKind::OutOfMemory => {
-                return Err(OrNoMemory::NoMemory);
+                return Err(NoMemory);
             }
             Err(error) => {
                 failed(rt, Some(name), &StreamFault::Read(error));

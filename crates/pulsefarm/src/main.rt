@@ -13,7 +13,7 @@ ghost use Rattle.pf_command.specs.Streams.{Streams, streams};
 ghost use Rattle.pulsefarm.specs.Program.{Does, DoesGiven, IsStatus};
 ghost use Rattle.pulsefarm.specs.Words.{words_of};
 
-use crate::args::given_words;
+use crate::args::GivesWords;
 use crate::farm::{Host, farm};
 use crate::opening::Opens;
 use crate::stack::{STACK_BYTES, first_thread_has_stack};
@@ -22,7 +22,6 @@ use pf_errors::NoMemory;
 use pf_streams::Counted;
 use pf_words::{Obeyed, obey};
 use std::alloc::{AllocGlobal, Global};
-use std::env::Env;
 use std::io::{self, Read, Write};
 use std::marker::Brand;
 use std::process::ExitCode;
@@ -93,15 +92,24 @@ fn answer_words<R, I: Read, W: Write, L: Ledger, M: Ledger>(
     host: Host,
 ) -> Result<u8, NoMemory>
 where
-    R: Env + Opens + Print + Eprint + AllocGlobal + RandomSource + Clock + Threads + Wait + Sync,
+    R: GivesWords
+        + Opens
+        + Print
+        + Eprint
+        + AllocGlobal
+        + RandomSource
+        + Clock
+        + Threads
+        + Wait
+        + Sync,
     R::File: Send + Drop,
-    ensures { DoesGiven R.opens R.File.remaining
+    ensures { DoesGiven R.opens R.File.remaining R.gives
         (streams (I.remaining reader.old.inner) (W.contents writer.old.inner)
         reader.old.failures.total writer.old.failures.total)
         (streams (I.remaining reader.new.inner) (W.contents writer.new.inner)
         reader.new.failures.total writer.new.failures.total) result }
 {
-    let given = given_words(rt)?;
+    let given = rt.given_words()?;
     let words = words_of(rt.alloc(), &given)?;
     obeyed(rt, &words, reader, writer, line, host)
 }
@@ -117,7 +125,16 @@ fn try_all_by<R, I: Read + Drop, W: Write + Drop, L: Ledger, M: Ledger>(
     writes: Blank,
 ) -> Result<u8, NoMemory>
 where
-    R: Env + Opens + Print + Eprint + AllocGlobal + RandomSource + Clock + Threads + Wait + Sync,
+    R: GivesWords
+        + Opens
+        + Print
+        + Eprint
+        + AllocGlobal
+        + RandomSource
+        + Clock
+        + Threads
+        + Wait
+        + Sync,
     R::File: Send + Drop,
     requires reads { reads.name ≡ L.name }
     requires read_parts { reads.parts ≡ L.parts }
@@ -126,7 +143,8 @@ where
     requires write_parts { writes.parts ≡ M.parts }
     requires some_writes { 0 < writes.parts }
     ensures { (after : Streams)
-        × DoesGiven R.opens R.File.remaining (streams (I.remaining stdin) (W.contents stdout) 0 0) after result }
+        × DoesGiven R.opens R.File.remaining R.gives (streams (I.remaining stdin) (W.contents stdout) 0 0)
+        after result }
 {
     let mut reader = Counted::<I, L>::new(stdin, reads);
     let mut writer = Counted::<W, M>::new(stdout, writes);
@@ -142,10 +160,20 @@ fn try_all<R, I: Read + Drop, W: Write + Drop>(
     host: Host,
 ) -> Result<u8, NoMemory>
 where
-    R: Env + Opens + Print + Eprint + AllocGlobal + RandomSource + Clock + Threads + Wait + Sync,
+    R: GivesWords
+        + Opens
+        + Print
+        + Eprint
+        + AllocGlobal
+        + RandomSource
+        + Clock
+        + Threads
+        + Wait
+        + Sync,
     R::File: Send + Drop,
     ensures { (after : Streams)
-        × DoesGiven R.opens R.File.remaining (streams (I.remaining stdin) (W.contents stdout) 0 0) after result }
+        × DoesGiven R.opens R.File.remaining R.gives (streams (I.remaining stdin) (W.contents stdout) 0 0)
+        after result }
 {
     let inner = stdout;
     let clearing = Clearing { line, inner };
@@ -158,9 +186,18 @@ where
 /// Does all work; what it gives is the status.
 fn all<R, I: Read + Drop>(rt: &R, stdin: I, host: Host) -> u8
 where
-    R: Env + Opens + Print + Eprint + AllocGlobal + RandomSource + Clock + Threads + Wait + Sync,
+    R: GivesWords
+        + Opens
+        + Print
+        + Eprint
+        + AllocGlobal
+        + RandomSource
+        + Clock
+        + Threads
+        + Wait
+        + Sync,
     R::File: Send + Drop,
-    ensures { IsStatus R.opens R.File.remaining result }
+    ensures { IsStatus R.opens R.File.remaining R.gives result }
 {
     match try_all(
         rt,

@@ -18,3 +18,6 @@ getenv(_) -> false.
 
 -spec getenv(term(), term()) -> term().
 getenv(_, Default) -> Default.
+
+-spec type() -> {unix, linux}.
+type() -> {unix, linux}.

@@ -1,6 +1,6 @@
 %% Times of seconds beside work: a wait that its answer ends, and one that nothing ends.
 -module(seconds).
--export([answered/0, lost/0, short/0, ordered/0, server/0]).
+-export([answered/0, lost/0, short/0, ordered/0, bank/0, hour/0, second/0, server/0]).
 
 answered() ->
     S = spawn(?MODULE, server, []),
@@ -29,3 +29,19 @@ ordered() ->
     [erlang:send_after(T, self(), T) || T <- [30, 20, 2000, 5, 1]],
     timer:sleep(500),
     [1, 5, 20, 30, 2000] = [receive T -> T end || _ <- [1, 2, 3, 4, 5]].
+
+%% A bank whose clients wait for five seconds at most.
+bank() ->
+    B = spawn(fun() -> balance(0) end),
+    Me = self(),
+    [spawn(fun() -> [ok = asked(B, {add, 1}) || _ <- [1, 2, 3]], Me ! done end) || _ <- [1, 2, 3]],
+    [receive done -> ok after 5000 -> exit(too_late) end || _ <- [1, 2, 3]],
+    9 = asked(B, get),
+    B ! stop.
+
+balance(N) -> receive {P, R, {add, K}} -> P ! {R, ok}, balance(N + K); {P, R, get} -> P ! {R, N}, balance(N); stop -> ok end.
+asked(B, Q) -> R = make_ref(), B ! {self(), R, Q}, receive {R, V} -> V after 5000 -> exit(too_late) end.
+
+%% Waits that take as many steps, however long they are.
+hour() -> receive never -> ok after 3600000 -> ok end.
+second() -> receive never -> ok after 1000 -> ok end.

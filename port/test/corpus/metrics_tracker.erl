@@ -5,9 +5,11 @@
 -export([main/0, race/0]).
 
 main() ->
-    {ok, _} = metrics_process_tracker:start_link(),
+    {ok, Tracker} = metrics_process_tracker:start_link(),
     Told = metrics_process_tracker:track(one),
-    {Told, metrics_process_tracker:track(one), length(ets:tab2list(metrics))}.
+    Seen = {Told, metrics_process_tracker:track(one), length(ets:tab2list(metrics))},
+    ok = gen_server:stop(Tracker), % else it would look for the table of who has ended
+    Seen.
 
 %% Who is tracked ends, and the table is read before the tracker knows of that.
 race() ->

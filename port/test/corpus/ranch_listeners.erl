@@ -9,7 +9,9 @@ main() ->
     ok = ranch_server:set_max_connections(web, 20),
     Most = ranch_server:get_max_connections(web),
     ok = ranch_server:set_connections_sup(web, 1, self()),
-    {Least, Most, ranch_server:get_connections_sup(web, 1) =:= self(), ranch_server:get_protocol_options(web)}.
+    Seen = {Least, Most, ranch_server:get_connections_sup(web, 1) =:= self(), ranch_server:get_protocol_options(web)},
+    ok = gen_server:stop(ranch_server), % else it would look for the table of who has ended
+    Seen.
 
 %% Who stops a listener removes its options, while another starts one of the same name.
 race() ->

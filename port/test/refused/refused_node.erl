@@ -1,4 +1,4 @@
 -module(refused_node).
 -export([main/0]).
-main() -> spawn(node(), fun() -> ok end).
-%% refused: 3: spawn/2 names a node, and the profile has one; spawn on the own node
+main() -> erlang:spawn_request(node(), fun() -> ok end, []).
+%% refused: 3: erlang:spawn_request/3 is not translated; write it by functions that are (port/ENCODINGS.md)

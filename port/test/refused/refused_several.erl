@@ -1,10 +1,10 @@
 -module(refused_several).
 -export([main/0]).
 main() ->
-    X = math:sqrt(2),
+    X = ets:table(f()),
     f(),
     halt(X).
-f() -> math:pi().
-%% refused: 4: math:sqrt/1 is for floats, and only their sums, products and order are translated; count in integers
+f() -> qlc:q(t).
+%% refused: 4: ets:table/1 is not among the functions of ets that the library has (port/ENCODINGS.md); take insert, lookup, delete, match_object, select
 %% refused: 6: erlang:halt/1 ends the node, which the profile can't; let the process end by exit/1
-%% refused: 7: math:pi/0 is for floats, and only their sums, products and order are translated; count in integers
+%% refused: 7: qlc:q/1 makes queries at run time; take match_object or select of ets

@@ -64,7 +64,7 @@ lines_that_are_none() {
   printf 'p1 module 1\ncommand 2 refused C1\np2 module 1\np2 log 1\n' > wanted
   farm 2 2 c1 c2
   [ "$(cat err)" = \
-    'pulsefarm: a line of a file is no command there: those before it were answered, and nothing behind it was read' ]
+    'pulsefarm: a line of a file is no command there: those before it were answered, and nothing after it was read' ]
   note 'what is said of a line that is none' $?
   for line in 'claim 0 1 1' 'slice 0 1 1 5' 'park 0 1 1' 'await 2 1' 'await 1' 'await 1 1 1' 'await  1 1' 'await 1 01' \
     'await 1 -1' 'await 1 4294967296' \

@@ -82,7 +82,7 @@ files() {
     "pulsefarm: command 1 is none: no command begins with \`-module(m).\`; $unread"
 }
 
-unread='those before it were answered, and nothing behind it was read\n'
+unread='those before it were answered, and nothing after it was read\n'
 
 # A line that is no command, $1, is reported by its number and this reason, $2.
 no_command() {
@@ -97,11 +97,11 @@ lines_that_are_no_command() {
   no_command 'usage 0\r' 'the line ends in a carriage return, and a line feed alone ends a line'
   no_command 'usag 0' 'no command begins with `usag`'
   no_command ' usage 0' 'no command begins with ``'
-  no_command 'usage' '`P` is missing: `usage` wants `P` behind it'
-  no_command 'fetch 0' '`T` is missing: `fetch` wants `P T` behind it'
+  no_command 'usage' '`P` is missing: `usage` wants `P` after it'
+  no_command 'fetch 0' '`T` is missing: `fetch` wants `P T` after it'
   no_command 'fetch 0 x' "\`x\` is no \`T\` of \`fetch\`: $small"
   no_command 'fetch 0 01' "\`01\` is no \`T\` of \`fetch\`: $small"
-  no_command 'fetch 0 1 2' 'it has too many words: `fetch` wants `P T` behind it'
+  no_command 'fetch 0 1 2' 'it has too many words: `fetch` wants `P T` after it'
   no_command 'slice 0 0 1 0' \
     '`0` is no `TURNS` of `slice`: it wants a number from 1 to 4294967295 without leading zeros'
   no_command 'order 0 1 main true seed:1:2 9' \
@@ -359,12 +359,16 @@ reasons() {
   roots='name one that it exports, `main`'
   printf -- '-module(m).\n-export([main/0]).\nmain() -> fun() -> 1 end.\n' > fun.erl
   fun='There are no funs here: write a function with a name, and give it what the fun takes from around it.'
+  stands='To hunt plain Erlang as it stands: pulsefarm-erl hunt FILE'
   run run fun.erl $asked
-  ended 'refused source' 2 'E5 at 41\n' "$source 3, column 11: $fun\n"
+  ended 'refused source' 2 'E5 at 41\n' "$source 3, column 11: $fun $stands\n"
   run check fun.erl
-  ended 'refused source of a check' 2 'E5 at 41\n' "$source 3, column 11: $fun\n"
+  ended 'refused source of a check' 2 'E5 at 41\n' "$source 3, column 11: $fun $stands\n"
   run check --explain fun.erl
-  check 'refused source that is explained' test "$(cat err)" = 'pulsefarm: the source is refused'
+  check 'refused source that is explained' test "$(cat err)" = "pulsefarm: the source is refused. $stands"
+  printf -- '-module(m).\n-export([main/0]).\nmain() -> f().\n' > none.erl
+  run check --explain none.erl
+  check 'refused source without an example' test "$(cat err)" = 'pulsefarm: the source is refused.'
   run run m.erl --root mian --limit 5 --schedule none
   ended 'unknown root' 2 'B2\n' "pulsefarm: the module exports no function \`mian\` without arguments: $roots\n"
   printf -- '-module(m).\nmain() -> 1.\n' > hidden.erl
@@ -454,7 +458,7 @@ nest() {
   } | head -c 65536 > in
 }
 
-no_rule="No rule of the grammar goes on like this: mend what is missing, too much or too deep here, or isn't in this language."
+no_rule="No rule of the grammar goes on like this: fix what is missing, too much or too deep here, or isn't in this language."
 
 # Runs the words from $2 on, on `in`, where the system gives $1 KiB of stack, and a thread gets a quarter of what is
 # asked for.

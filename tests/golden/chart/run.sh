@@ -1,9 +1,9 @@
 #!/bin/bash
 # Draws the race of each module of examples/ by the seed that the table there names, and compares the chart with the
-# report of that run: heads for each process, a row for each event, a star for each choice above 0, an arrow for each
-# signal and each spawn; and the same run in a compact chart, and a long run page by page. Where a browser is there, or
-# can be installed from the system's packages, the chart is opened in it, and what is checked is what the browser made
-# of it; else it is the file. A source whose atoms have all that markup has stays text.
+# report of that run: heads for each process, a row for each event, a star for each process that was passed over, an
+# arrow for each signal and each spawn; and the same run in a compact chart, and a long run page by page. Where a
+# browser is there, or can be installed from the system's packages, the chart is opened in it, and what is checked is
+# what the browser made of it; else it is the file. A source whose atoms have all that markup has stays text.
 #
 # Usage: run.sh [BINARY]; the program is that of the crate `pulsefarm` where none is named.
 set -u
@@ -50,6 +50,27 @@ draw() {
   opened "$room/chart.svg" > "$room/opened"
 }
 
+# How many events of the report were a choice above 0 by which another went although the process that ran before could
+# have gone on: its last turn was neither a wait, unless a message came since, nor its end.
+stars() {
+  awk '/^[0-9]+\/[0-9]+ </ {
+    split($1, choice, "/")
+    is_signal = index($2, "->") > 0
+    if (choice[1] > 0 && is_ready && (is_signal || $2 != last)) count++
+    if (!is_signal) {
+      last = $2
+      lives = $3 != "end"
+      is_ready = lives && $3 != "wait"
+      next
+    }
+    split($2, way, "->")
+    if (!lives || way[2] != last) next
+    if ($5 == "ends") lives = is_ready = 0
+    else if ($5 == "message" || ($5 == "" && ($4 == "message" || $4 == "down"))) is_ready = 1
+  }
+  END { print count + 0 }' "$room/report"
+}
+
 # Compares the chart with the report, by counts; $1 names it.
 matches() {
   events=$(grep -cE '^[0-9]+/[0-9]+ ' "$room/report")
@@ -62,10 +83,15 @@ matches() {
   same "heads of $1" "$(times '<g class="process[ "]')" $((spawns + 1))
   same "heads above, between and below the rows of $1" "$(times '<text class="pid"')" \
     $(((spawns + 1) * ((events - 1) / 40 + 2)))
-  same "choices above 0 of $1" "$(times '<text class="choice"[^>]*>\*[1-9][0-9]*/[0-9]+<')" \
-    "$(grep -cE '^[1-9][0-9]*/' "$room/report")"
-  same "numbers in bold of $1" "$(times '<text class="number chosen"')" "$(grep -cE '^[1-9][0-9]*/' "$room/report")"
+  starred=$(stars)
+  same "stars of $1" "$(times '<text class="choice"[^>]*>\*[1-9][0-9]*/[0-9]+<')" "$starred"
+  same "numbers in bold of $1" "$(times '<text class="number chosen"')" "$starred"
   same "processes in a deadlock of $1" "$(times '<g class="process deadlocked"')" "$waiting"
+  same "ends by an error of $1" "$(times '<g class="event (end|ending) failed')" \
+    "$(grep -E '^[0-9]+/[0-9]+ .* ends? ' "$room/report" | grep -cvE ' ends? normal$')"
+  same "processes that failed of $1" "$(times '<g class="process failed"')" \
+    "$(grep -E '^[0-9]+/[0-9]+ .* ends? ' "$room/report" | grep -cvE ' ends? normal$')"
+  same "outcomes of $1" "$(times '<text class="outcome"')" 2
   same "events of $1" "$(times '<g class="event[ "]')" "$events"
   same "spawns of $1" "$(times '<g class="arrow spawn[ "]')" "$spawns"
   same "signals of $1 that arrive" $(($(times '<g class="arrow [a-z]+( dropped)?"') - spawns)) "$delivered"

@@ -11,7 +11,7 @@ top=$(cd "$(dirname "$0")/../../.." && pwd)
 examples=$top/examples
 
 # Runs the program under the words from $2 on; leaves its output in the file $1 and its status.
-told() {
+prints() {
   file=$1
   shift
   timeout 120 "$program" "$@" > "$file" 2> "$room/err" < /dev/null
@@ -28,7 +28,7 @@ outcome_of() {
 least_by_runs() {
   seed=$3
   while [ "$seed" -lt "$4" ]; do
-    told "$room/report" run "$examples/$1.erl" --root main --limit 2000 --property "$2" --seed "$seed" \
+    prints "$room/report" run "$examples/$1.erl" --root main --limit 2000 --property "$2" --seed "$seed" \
       --strategy "$strategy"
     if [ "$status" = 1 ]; then
       echo "$seed"
@@ -40,7 +40,7 @@ least_by_runs() {
 
 # What a hunt reports of the seed $3, by which the property $2 of the module $1 fails; the report stays in `report`.
 failure() {
-  told "$room/report" run "$examples/$1.erl" --root main --limit 2000 --property "$2" --seed "$3" --strategy "$strategy"
+  prints "$room/report" run "$examples/$1.erl" --root main --limit 2000 --property "$2" --seed "$3" --strategy "$strategy"
   printf 'seed %s\n' "$3"
   [ "$strategy" = uniform ] || echo 'strategy pos'
   printf 'schedule %s\n' "$(choices_of "$room/report")"
@@ -52,7 +52,7 @@ first() {
     least=$(least_by_runs "$1" "$2" "$start" 200)
     { failure "$1" "$2" "$least"; cat "$room/report"; } > "$room/wanted"
     cp "$room/report" "$room/by_seed"
-    told "$room/again" run "$examples/$1.erl" --root main --limit 2000 --property "$2" \
+    prints "$room/again" run "$examples/$1.erl" --root main --limit 2000 --property "$2" \
       --schedule "$(choices_of "$room/by_seed")"
     if cmp -s "$room/by_seed" "$room/again"; then pass; else fail "$1: the schedule of seed $least runs otherwise"; fi
     for workers in 1 2 3 4 64; do
@@ -76,7 +76,7 @@ shrunk() {
   least=$(least_by_runs "$1" "$2" 0 200)
   failure "$1" "$2" "$least" > "$room/wanted"
   schedule=$(choices_of "$room/report")
-  told "$room/shrunk" shrink "$examples/$1.erl" --root main --limit 2000 --property "$2" --schedule "$schedule" \
+  prints "$room/shrunk" shrink "$examples/$1.erl" --root main --limit 2000 --property "$2" --schedule "$schedule" \
     --runs "$3"
   cat "$room/shrunk" >> "$room/wanted"
   compare "$1, shrunk within $3 runs" 1 /dev/null "$room/wanted" \
@@ -88,7 +88,7 @@ outcomes() {
   seed=3
   : > "$room/outcomes"
   while [ "$seed" -lt 63 ]; do
-    told "$room/report" run "$examples/$1.erl" --root main --limit 2000 --property "$2" --seed "$seed" \
+    prints "$room/report" run "$examples/$1.erl" --root main --limit 2000 --property "$2" --seed "$seed" \
       --strategy "$strategy"
     echo "$seed $(outcome_of "$room/report")" >> "$room/outcomes"
     seed=$((seed + 1))
@@ -111,7 +111,7 @@ outcomes() {
 }
 
 # The number in the line that says that a hunt stopped; nothing where the first line of the output says something else.
-stopped_behind() { sed -n '1s/^stopped behind \([1-9][0-9]*\) seeds$/\1/p' "$room/out"; }
+stopped_after() { sed -n '1s/^stopped after \([1-9][0-9]*\) seeds$/\1/p' "$room/out"; }
 
 # Hunts of the module $1 for a time: each stops soon, and reports of the seeds that it ran what a hunt over these seeds
 # reports.
@@ -121,14 +121,14 @@ for_a_time() {
   # shellcheck disable=SC2086
   {
     began=$(date +%s)
-    told "$room/out" hunt $asked --property withinlimit --for 1s
-    number=$(stopped_behind)
-    printf 'stopped behind %s seeds\nno failure in %s seeds\n' "$number" "$number" > "$room/wanted"
+    prints "$room/out" hunt $asked --property withinlimit --for 1s
+    number=$(stopped_after)
+    printf 'stopped after %s seeds\nno failure in %s seeds\n' "$number" "$number" > "$room/wanted"
     note "$1 for a second, from seed 0" \
       "$([ -n "$number" ] && [ "$status" = 0 ] && cmp -s "$room/out" "$room/wanted"; echo $?)"
     note "$1 for a second takes no ten" "$([ $(($(date +%s) - began)) -lt 10 ]; echo $?)"
-    told "$room/out" hunt $asked --property "$2" --seeds 7..1000000000 --for 1s --all --strategy "$strategy"
-    number=$(stopped_behind)
+    prints "$room/out" hunt $asked --property "$2" --seeds 7..1000000000 --for 1s --all --strategy "$strategy"
+    number=$(stopped_after)
     wanted_status=$status
     sed 1d "$room/out" > "$room/wanted"
     note "$1 for a second, each outcome" "$([ -n "$number" ]; echo $?)"
@@ -137,7 +137,7 @@ for_a_time() {
     echo 'no failure in 40 seeds' > "$room/wanted"
     compare "$1 over 40 seeds, for an hour" 0 /dev/null "$room/wanted" hunt $asked --property withinlimit \
       --seeds 5..45 --for 1h
-    told "$room/wanted" hunt $asked --property "$2" --seeds 0..200 --strategy "$strategy"
+    prints "$room/wanted" hunt $asked --property "$2" --seeds 0..200 --strategy "$strategy"
     compare "$1 fails within a time" 1 /dev/null "$room/wanted" hunt $asked --property "$2" --seeds 0..200 --for 60m \
       --strategy "$strategy"
     compare "$1 fails within a time, without seeds" 1 /dev/null "$room/wanted" hunt $asked --property "$2" --for 60m \
@@ -175,15 +175,15 @@ lacking() {
     compare 'an atom that the module lacks' 0 /dev/null "$room/wanted" hunt $asked --seeds 0..5 \
       --property 'never:{X,nowhere_at_all,other}'
     note 'the atom is named' "$([ "$(cat "$room/err")" = "$said" ]; echo $?)"
-    told "$room/out" run $asked --seed 1 --property 'never:nowhere_at_all'
+    prints "$room/out" run $asked --seed 1 --property 'never:nowhere_at_all'
     note 'a run names it too' \
       "$([ "$(cat "$room/err")" = "$said" ] && [ "$(tail -n 1 "$room/out")" = 'property holds' ]; echo $?)"
-    told "$room/out" chart $asked --seed 1 --property 'never:nowhere_at_all'
+    prints "$room/out" chart $asked --seed 1 --property 'never:nowhere_at_all'
     note 'a chart names it too' "$([ "$(cat "$room/err")" = "$said" ]; echo $?)"
-    told "$room/out" shrink $asked --schedule none --runs 2 --property 'never:nowhere_at_all'
+    prints "$room/out" shrink $asked --schedule none --runs 2 --property 'never:nowhere_at_all'
     note 'a shrinking says that nothing fails' "$(grep -q 'nothing to shrink' "$room/err"; echo $?)"
     for property in returns 'never:{X,Y,Z,7}' "never:{$2,'EXIT',noproc,X,Y,Z}"; do
-      told "$room/out" run $asked --seed 1 --property "$property"
+      prints "$room/out" run $asked --seed 1 --property "$property"
       note "nothing is said of $property" "$(cmp -s "$room/err" "$room/silent"; echo $?)"
     done
   }

@@ -94,14 +94,16 @@ def count(number, one, several):
 
 def end_of(value):
     """What is reported of a root or a file, by the keys after its name."""
+    if "short" in value:
+        return f"cut short after {value['seeds']} seeds, no failure"
     if "stopped" in value:
-        return f"stopped behind {value['seeds']} seeds, no failure"
+        return f"stopped after {value['seeds']} seeds, no failure"
     if "seed" in value:
         return f"seed {value['seed']} fails"
     if "seeds" in value:
         return f"no failure in {value['seeds']} seeds"
     if "roots" in value:
-        return "no exported function without arguments"
+        return "no root"
     return refusal(value)
 
 
@@ -128,15 +130,27 @@ def row(value):
 
 def summary(value):
     files, roots = count(value["files"], "file", "files"), count(value["roots"], "root", "roots")
-    return f"{files}, {roots}: {count(value['fail'], 'fails', 'fail')}, {value['refused']} refused"
+    short = f", {value['short']} cut short" if "short" in value else ""
+    return f"{files}, {roots}: {count(value['fail'], 'fails', 'fail')}, {value['refused']} refused{short}"
+
+
+def unseen(value):
+    cause = " (budget)" if "budget" in value else " (time)" if "stopped" in value else ""
+    return f"not all seen: {value['runs']} runs{cause}; no schedule with at most {value['deviations']} deviations fails"
 
 
 SHAPES = [
     ({"choice", "count", "actor", "label"}, lambda v: f"{v['choice']}/{v['count']} {v['actor']} {v['label']}"),
     ({"property"}, lambda v: property_of(v["property"])),
     ({"failure", "seeds"}, lambda v: f"no failure in {v['seeds']} seeds"),
-    ({"stopped", "seeds"}, lambda v: f"stopped behind {v['seeds']} seeds"),
+    ({"failure", "runs", "steps"},
+     lambda v: f"no schedule fails: {v['runs']} runs; a run has at most {v['steps']} steps"),
+    ({"budget", "unseen", "runs", "deviations"}, unseen),
+    ({"stopped", "unseen", "runs", "deviations"}, unseen),
+    ({"unseen", "runs", "deviations"}, unseen),
+    ({"stopped", "seeds"}, lambda v: f"stopped after {v['seeds']} seeds"),
     ({"files", "roots", "fail", "refused"}, summary),
+    ({"files", "roots", "fail", "refused", "short"}, summary),
     ({"refusal", "at"}, refusal),
     ({"refusal"}, refusal),
     ({"line", "column"}, lambda v: f"line {v['line']}, column {v['column']}"),

@@ -16,7 +16,7 @@ cd "$room" || exit 1
 : > in
 
 # Runs the program under these words as JSON; leaves its output, what it said and its status.
-told() {
+prints() {
   timeout 120 "$program" "$@" --format json < in > objects 2> said
   status=$?
   cp objects out
@@ -27,7 +27,7 @@ told() {
 agrees() {
   name=$1
   shift
-  told "$@"
+  prints "$@"
   timeout 120 "$program" "$@" < in > text 2> err
   [ $? = "$status" ] && cmp -s said err
   note "$name: the status and what is said" $?
@@ -82,7 +82,7 @@ runs() {
 bounds() {
   for number in 0 10 9007199254740991 9007199254740992 9223372036854775807; do
     printf -- '-module(m).\n-export([main/0]).\nmain() -> %s.\n' "$number" > in
-    told run $job --seed 1
+    prints run $job --seed 1
     case $number in
       9007199254740992 | 9223372036854775807) echo "{\"finished\":\"$number\"}" > wanted ;;
       *) echo "{\"finished\":$number}" > wanted ;;
@@ -103,6 +103,11 @@ examples() {
     agrees "a hunt over $module that shrinks" hunt "$file" --property true --seeds 50 --strategy uniform --shrink 20
     agrees "the outcomes of $module" hunt "$file" --property true --seeds 50 --all
     timeout 60 "$program" hunt "$file" --property true --seeds 50 > found
+    agrees "an exploration of $module" explore "$file" --property true --budget 50
+    agrees "an exploration of $module that shrinks" explore "$file" --property true --budget 50 --shrink 20
+    mended=$top/examples/${module}_mended.erl
+    agrees "a budget for ${module}_mended" explore "$mended" --property true --budget 50
+    agrees "one deviation in ${module}_mended" explore "$mended" --property true --deviations 1
     agrees "a shrinking of $module" shrink "$file" --root main --limit 100000 --property true --schedule @found --runs 9
   done
   agrees 'a hunt by more workers' hunt "$top/examples/wrong_reply.erl" --property true --seeds 40 --workers 4
@@ -152,7 +157,7 @@ hunts() {
     --runs 1
   agrees 'a leak' hunt w.erl --property true --seeds 5 --leaks
   agrees 'no leak' hunt t.erl --property true --seeds 5 --leaks
-  told hunt t.erl --property true --for 1s
+  prints hunt t.erl --property true --for 1s
   sed 's/[1-9][0-9]*/5/g' objects > counted
   printf '{"stopped":true,"seeds":5}\n{"failure":false,"seeds":5}\n' > wanted
   python3 "$lines" same wanted counted && python3 "$lines" valid "$top/docs/json.schema.json" objects
@@ -185,13 +190,26 @@ suites() {
 {"files":2,"roots":2,"fail":0,"refused":2}' hunt e.erl t.erl --root other --property true --seeds 5
   agrees 'leaks of several' hunt t.erl w.erl --property true --seeds 5 --leaks
   agrees 'a file that is not there' hunt t.erl none.erl e.erl --property true --seeds 5
-  told hunt t.erl t.erl --property true --for 1s
+  prints hunt t.erl t.erl --property true --for 1s
   sed 's/"seeds":[1-9][0-9]*/"seeds":5/' objects > counted
   printf '%s\n' '{"file":"t.erl","root":"main","stopped":true,"failure":false,"seeds":5}' > line
   cat line line > wanted
   echo '{"files":2,"roots":2,"fail":0,"refused":0}' >> wanted
   python3 "$lines" same wanted counted && python3 "$lines" valid "$top/docs/json.schema.json" objects
   note 'a time for several' $?
+  {
+    echo '-module(slow).'
+    for k in $(seq 1 40); do printf -- '-export([r%s_test/0]).\n' "$k"; done
+    for k in $(seq 1 40); do printf 'r%s_test() -> r%s_test().\n' "$k" "$k"; done
+  } > slow.erl
+  prints hunt slow.erl --all-roots --property nocrash --limit 100000 --for 1s
+  sed 's/"seeds":[1-9][0-9]*/"seeds":5/; s/r[0-9]*_test/r_test/' objects | sort -u > counted
+  {
+    echo '{"file":"slow.erl","root":"r_test","stopped":true,"short":true,"failure":false,"seeds":5}'
+    echo '{"files":1,"roots":40,"fail":0,"refused":0,"short":40}'
+  } > wanted
+  [ "$status" = 2 ] && python3 "$lines" same wanted counted && python3 "$lines" valid "$top/docs/json.schema.json" objects
+  note 'roots that are cut short' $?
 }
 
 checks() {
@@ -207,7 +225,7 @@ checks() {
 {"write":"X > 0 andalso is_pid(P)"}' check and.erl --explain
   # The line of the source could be a line of a report, and it is a line of the source all the same.
   printf -- '-module(m).\n-export([main/0]).\nline 3, column 4\n' > odd.erl
-  told check odd.erl --explain
+  prints check odd.erl --explain
   sed -n 3p objects | cut -d '"' -f 2,4 > out
   [ "$(cat out)" = 'source"line 3, column 4' ]
   note 'a line of the source that could be another' $?

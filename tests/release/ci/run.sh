@@ -58,9 +58,9 @@ answers() {
   "$program" hunt "$top/examples/wrong_reply.erl" --root main --limit 2000 --property true --seeds 0..9 |
     python3 "$top/examples/ci/answer.py" > "$room/json"
   holds "$room/json" 'it["seed"] == 2 and "shrinking" not in it and len(it["schedule"]) == len(it["events"]) == 20'
-  printf 'stopped behind 512 seeds\nno failure in 512 seeds\n' | python3 "$top/examples/ci/answer.py" > "$room/json"
+  printf 'stopped after 512 seeds\nno failure in 512 seeds\n' | python3 "$top/examples/ci/answer.py" > "$room/json"
   holds "$room/json" 'it == {"answer": "none", "seeds": 512, "stopped": 512}'
-  printf 'stopped behind 8 seeds\nstrategy pos\nholds 8 seeds, least 0: finished true\n' |
+  printf 'stopped after 8 seeds\nstrategy pos\nholds 8 seeds, least 0: finished true\n' |
     python3 "$top/examples/ci/answer.py" > "$room/json"
   holds "$room/json" '(it["stopped"], it["strategy"], it["outcomes"][0]["seeds"]) == (8, "pos", 8)'
   echo 'E6 at 41' | python3 "$top/examples/ci/answer.py" > "$room/json"

@@ -9,7 +9,7 @@ top=$(cd "$(dirname "$0")/../../.." && pwd)
 # shellcheck source=tests/compare.sh
 . "$top/tests/compare.sh"
 export PROGRAM="$program" PATH="$PATH:/usr/sbin:/sbin"
-commands='run hunt shrink chart check steps farm'
+commands='run hunt explore shrink chart check steps farm'
 main_job=$(printf '%s\n' '0/1 <0> end normal' 'finished 7' 'steps 4' 'property holds')
 "$top/tests/debian.sh" zsh fish man-db
 "$top/tests/erlang/erlang.sh" && has_erlang=1 || has_erlang=0
@@ -206,7 +206,7 @@ page() {
   cmp -s "$room/out" "$room/wanted"
   note "the page has the options of help" $?
   for command in $commands; do
-    grep -q "^       pulsefarm $command " "$room/page" && grep -q "^       $command " "$room/page"
+    grep -q "^       pulsefarm $command " "$room/page" && grep -qE "^       $command( |\$)" "$room/page"
     note "the page has $command" $?
   done
   # The synopsis of a command has each option that its usage wants.

@@ -13,17 +13,16 @@ returns c =
     let p = page_in c.args.sheet in
     let columns = renamed (ap (of_columns c.args.sheet.count c.args.names.root.now (texts c.args.names.known.now))
     c.deref.ensures.value) c.in_ok-put_columns.ensures in
-    let before = grown_on (drawn_grows _ _ _ c.in_ok-put_ground.ensures)
-    (grown_on (drawn_grows _ _ _ c.in_ok-put_columns.ensures)
-    (grown_on (drawn_grows _ _ _ c.in_ok-put_numbers.ensures) (drawn_grows _ _ _ c.in_ok-put_spawns.ensures))) in
+    let before = grown_on (drawn_grows _ _ _ c.in_ok-put_columns.ensures)
+    (grown_on (drawn_grows _ _ _ c.in_ok-put_numbers.ensures) (drawn_grows _ _ _ c.in_ok-put_spawns.ensures)) in
     let lines = lines_of p p _ (length c.args.layout.now.columns.items) _ c.args.layout.now.traffic.arrows.items _ _
     refl (ap (λ (cs : List Column). length cs) c.deref-4.ensures.value)
     c.deref-3.ensures.value c.in_ok-put_arrows.ensures.lines in
     record {
       drawn = on_ok_weaker c.put_events.result
-          (λ h. in_turn c.in_ok-put_ground.ensures (in_turn columns
+          (λ h. in_turn columns
           (in_turn (plainly (plainly c.in_ok-put_numbers.ensures c.in_ok-put_spawns.ensures)
-          c.in_ok-put_arrows.ensures.drawn) h)))
+          c.in_ok-put_arrows.ensures.drawn) h))
           c.put_events.ensures;
       lines = on_ok_weaker c.put_events.result
           (λ h. lines_within p (length c.args.layout.now.columns.items) c.args.layout.now.traffic.arrows.items before

@@ -1,6 +1,5 @@
 use Rattle.std.proofs.Common.{◌≡◌, get_or, rules}
-use Rattle.pf_model.specs.Reports.{view_of_event}
-use Rattle.pf_chart.specs.Chart.{choice_labels}
+use Rattle.pf_chart.specs.Rows.{star_labels_of}
 use Rattle.pf_svg.proofs.Drawn.{grown_by, in_turn, nothing, renamed, to_end}
 use Rattle.pf_chart.proofs.events.put_numbers.Goals as goal
 
@@ -11,10 +10,8 @@ pub loop-place-preserved : goal.loop-place-preserved
 loop-place-preserved c =
     let row = c.index-rows-place.result in
     let read : row ≡ get_or c.args.rows.now c.loop-place.place row = search rules in
-    renamed (grown_by (λ row. choice_labels (view_of_event row.event.now)) c.args.rows.now c.loop-place.place row
-    c.loop-place-test.true read)
+    renamed (grown_by star_labels_of c.args.rows.now c.loop-place.place row c.loop-place-test.true read)
     (in_turn c.loop-place.invariant c.in_ok-put_number_of.ensures)
 
 pub returns : goal.returns
-returns c = to_end (λ row. choice_labels (view_of_event row.event.now)) c.args.rows.now c.loop-place.place
-    c.loop-place-test.false c.loop-place.invariant
+returns c = to_end star_labels_of c.args.rows.now c.loop-place.place c.loop-place-test.false c.loop-place.invariant

@@ -1,8 +1,8 @@
 use Rattle.std.proofs.Common.{take}
-use Rattle.pf_chart.proofs.Charts.{of_choices}
+use Rattle.pf_chart.proofs.Charts.{of_stars}
 use Rattle.pf_chart.specs.Words.{DrawsInChart}
 use Rattle.pf_chart.proofs.events.put_numbers.Given as goal
 
--- the choices so far are drawn
+-- the stars so far are drawn
 abbrev pub invariant-loop-place : goal.invariant-loop-place
-invariant-loop-place l = DrawsInChart (of_choices (take l.place l.rows)) l.fn.svg l.svg
+invariant-loop-place l = DrawsInChart (of_stars (take l.place l.rows)) l.fn.svg l.svg

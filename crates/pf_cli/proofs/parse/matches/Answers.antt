@@ -2,7 +2,7 @@ use Rattle.std.proofs.Common.{◌≡◌, IfOk, List, ℕ, map, refl, true, subst
 use Rattle.std.proofs.lemmas.Result.{IfOk-weaker}
 use Rattle.clap.specs.Words.{App, FailsBy, HasMatchesOf, fault_of, is_simple_and_free, subcommand_of}
 use Rattle.clap.specs.Words.{subcommand_rows_of}
-use Rattle.pf_cli.specs.Args.{pulsefarm}
+use Rattle.pf_cli.specs.Commands.{pulsefarm}
 use Rattle.pf_cli.proofs.parse.matches.Goals as goal
 
 pub returns-clause-ok : goal.returns-clause-ok

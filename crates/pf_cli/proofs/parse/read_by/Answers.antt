@@ -1,7 +1,8 @@
 use Rattle.std.proofs.Common.{◌≡◌, None, Some, ap, inl, inr, ◌∙◌, sym, map}
 use Rattle.std.specs.Prelude.{option_map}
 use Rattle.clap.specs.Words.{found_of, rows_of, subcommand_of}
-use Rattle.pf_cli.specs.Args.{own_fault, pulsefarm}
+use Rattle.pf_cli.specs.Args.{own_fault}
+use Rattle.pf_cli.specs.Commands.{pulsefarm}
 use Rattle.pf_cli.proofs.Parsed.{words_refused, words_none, words_wanted, words_file, words_schedule, values_refused}
 use Rattle.pf_cli.proofs.parse.read_by.Goals as goal
 

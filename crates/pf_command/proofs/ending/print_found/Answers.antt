@@ -11,7 +11,7 @@ use Rattle.pf_command.proofs.ending.print_found.Goals as goal
 
 pub returns-in_err-print_seed : goal.returns-in_err-print_seed
 returns-in_err-print_seed g c bytes ns of least =
-    let h = view_of_hunt_args c.args.args.now in
+    let h = view_of_hunt_args c.args.found.args.now in
     let f = c.args.found in
     let s = f.failure.seed in
     let r = view_of_report f.failure.report in
@@ -28,7 +28,7 @@ returns-in_err-print_seed g c bytes ns of least =
 
 pub returns-in-Some : goal.returns-in-Some
 returns-in-Some g c bytes ns of least =
-    let h = view_of_hunt_args c.args.args.now in
+    let h = view_of_hunt_args c.args.found.args.now in
     let f = c.args.found in
     let s = f.failure.seed in
     let r = view_of_report f.failure.report in
@@ -48,7 +48,7 @@ returns-in-Some g c bytes ns of least =
 
 pub returns : goal.returns
 returns g c bytes ns of least =
-    let h = view_of_hunt_args c.args.args.now in
+    let h = view_of_hunt_args c.args.found.args.now in
     let f = c.args.found in
     let s = f.failure.seed in
     let r = view_of_report f.failure.report in

@@ -1,24 +1,36 @@
-use Rattle.pf_errors.specs.Codes.{refusal_text}
+use Rattle.std.proofs.Common.{Ok, Err}
 use Rattle.pf_cli.specs.Args.{view_of_run_args}
-use Rattle.pf_command.specs.Answers.{refused_before, source_refused}
-use Rattle.pf_command.specs.AskedRuns.{RunAnswers, RunCounts}
-use Rattle.pf_command.specs.Streams.{IsRefusedText}
-use Rattle.pf_command.proofs.Counting.{went_refused}
-use Rattle.pf_command.proofs.Streaming.{sends_more}
+use Rattle.pf_command.specs.AskedRuns.{RunAnswers}
+use Rattle.pf_command.proofs.Printed.{answer_sent, run_is_answer, run_waits}
+use Rattle.pf_command.proofs.Streaming.{sent_fault, sent_memory}
 use Rattle.pf_command.proofs.printing.print_source.Goals as goal
 
-pub returns-in-Err-clause-reported : goal.returns-in-Err-clause-reported
-returns-in-Err-clause-reported g c =
-    let refusal = c.in-Err.refusal in
-    let asked = view_of_run_args c.args.args.now in
-    let bytes = c.args.source.now in
-    sends_more (IsRefusedText (refusal_text refusal.code refusal.offset)) (RunAnswers asked bytes) _ _ _ _
-    (λ t s is. rw (is.0, is.1) (source_refused refusal.code refusal.offset c.in-Err.ensures)) c.print_refusal.result
-    c.print_refusal.ensures
+pub returns-in_err-answer-clause-reported : goal.returns-in_err-answer-clause-reported
+returns-in_err-answer-clause-reported g c =
+    sent_memory (RunAnswers (view_of_run_args c.args.args.now) c.args.source.now) _ _ c.from_residual.result
+    c.from_residual.ensures
 
-pub returns-in-Err-clause-waits : goal.returns-in-Err-clause-waits
-returns-in-Err-clause-waits g c =
-    let old = c.args.waiting.now in
+pub returns-in_err-print_answer-clause-reported : goal.returns-in_err-print_answer-clause-reported
+returns-in_err-print_answer-clause-reported g c =
+    let a = view_of_run_args c.args.args.now in
     let bytes = c.args.source.now in
-    went_refused (RunCounts (view_of_run_args c.args.args.now) old old bytes) _ _ _ _ _ (λ t. refused_before bytes t)
-    c.print_refusal.result c.print_refusal.ensures
+    let x = c.in_ok-answer.answer in
+    let f = c.in_err-print_answer.field-0.0 in
+    sent_fault (RunAnswers a bytes) _ _ _ _ c.from_residual-in_err-print_answer.result f
+    c.from_residual-in_err-print_answer.ensures
+    (answer_sent (RunAnswers a) bytes x _ _ _ _ (Err f) (run_is_answer a bytes x c.in_ok-answer.ensures)
+    c.in_err-print_answer.ensures.printed)
+
+pub returns-clause-reported : goal.returns-clause-reported
+returns-clause-reported g c =
+    let a = view_of_run_args c.args.args.now in
+    let bytes = c.args.source.now in
+    let x = c.in_ok-answer.answer in
+    answer_sent (RunAnswers a) bytes x _ _ _ _ (Ok c.in_ok-print_answer.field-0)
+    (run_is_answer a bytes x c.in_ok-answer.ensures) c.in_ok-print_answer.ensures.printed
+
+pub returns-clause-waits : goal.returns-clause-waits
+returns-clause-waits g c =
+    run_waits (view_of_run_args c.args.args.now) c.args.source.now c.in_ok-answer.answer _ _ _ _ _ _
+    c.in_ok-print_answer.field-0 c.in_ok-answer.ensures c.in_ok-print_answer.ensures.printed
+    c.in_ok-print_answer.ensures.waits

@@ -21,6 +21,6 @@ returns-clause-served g c =
     source_ends (g.C.Answering.answers c.args.command) c.in_ok-bytes.bytes.items
     (g.R.Read.remaining c.args.reader.now.inner) _ _ _ _ _ _ _ c.in_ok-bytes.ensures.front
     c.in_ok-bytes.ensures.kept
-    c.answer_by.result
+    c.print_by.result
     (sent_as (g.C.Answering.answers c.args.command) c.in_ok-source.source c.in_ok-bytes.bytes.items _ _ _ _
-    c.answer_by.result c.in_ok-source.ensures c.answer_by.ensures)
+    c.print_by.result c.in_ok-source.ensures c.print_by.ensures)

@@ -11,7 +11,7 @@ more o x y a b e f = f ∙ ap (λ t. t ++ y) e ∙ append_assoc o x y
 pub returns : goal.returns
 returns c =
     let o = c.args.out.now.items in
-    let s = codes "stopped behind " in
+    let s = codes "stopped after " in
     let n = decimal c.args.seeds in
     let one = more o s n _ _ c.in_ok-put.ensures.ok c.in_ok-put_number.ensures.ok in
     on_ok_weaker c.put-2.result (λ e. more o (s ++ n) (codes " seeds\n") _ _ one e) c.put-2.ensures.ok

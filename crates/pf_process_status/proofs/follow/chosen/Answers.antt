@@ -6,7 +6,7 @@ use Rattle.pf_process_status.proofs.follow.chosen.Goals as goal
 
 pub returns-then-index-len-clause-may_go : goal.returns-then-index-len-clause-may_go
 returns-then-index-len-clause-may_go c =
-    may_go c.args.system.now.standing (noted_actors c.enabled-enabled.result) c.enabled-enabled.ensures.actors
+    may_go c.args.system.now (noted_actors c.enabled-enabled.result) c.enabled-enabled.ensures.actors
     c.args.choice c.actor.result c.actor.ensures
 
 pub returns-then-index-len-clause-chosen : goal.returns-then-index-len-clause-chosen

@@ -1,5 +1,5 @@
-use Rattle.std.proofs.Common.{◌≡◌, Some}
 use Rattle.pf_model.specs.Configuration.{Configuration}
+use Rattle.pf_system.specs.Steps.{Represents}
 use Rattle.pf_process_status.specs.Followed.{AreByPid}
 use Rattle.pf_process_status.specs.Put.{AreStanding}
 use Rattle.pf_process_status.proofs.processes.standing_in.Given as goal
@@ -7,5 +7,5 @@ use Rattle.pf_process_status.proofs.processes.standing_in.Given as goal
 -- those so far have their statuses
 abbrev pub invariant-loop-begun : goal.invariant-loop-begun
 invariant-loop-begun l =
-    (c : Configuration) → l.followed.system.standing ≡ Some c → AreByPid l.followed.begun.items
+    (c : Configuration) → Represents l.followed.system c → AreByPid l.followed.begun.items
     → AreStanding l.followed.system.checked c l.followed.begun.items l.begun-index l.standings.items

@@ -1,6 +1,7 @@
 use Rattle.std.proofs.Common.{◌≡◌, ◌-◌, zero, ◌∷◌, ◌++◌, [], inr, ◌∙◌, subst, arith}
 use Rattle.pf_trace.proofs.Fronts.{handed_on}
 use Rattle.pf_sched.specs.Printing.{CutsShort, PrintsOn}
+use Rattle.pf_sched.proofs.Reported.{over_by}
 use Rattle.pf_sched.proofs.SoFar.{ends_by_limit}
 use Rattle.pf_sched.proofs.Traces.{length_last}
 use Rattle.pf_sched.proofs.printing.print_events.Goals as goal
@@ -20,10 +21,9 @@ returns-in_err-print_next-clause-fault g c =
 pub returns-then-steps-limit-clause-printed : goal.returns-then-steps-limit-clause-printed
 returns-then-steps-limit-clause-printed g c u first =
     let i = c.loop.invariant.printed u first in
-    let run = i.2.run.run in
     let limit = c.requires.limit in
     let none : c.args.job.now.asked.limit - c.loop.execution.system.steps ≡ zero = omega arith in
-    (i.0, i.2, (run.last, run.is_there, inr none))
+    (i.0, i.2, inr none)
 
 pub returns-then-not-branch-clause-printed : goal.returns-then-not-branch-clause-printed
 returns-then-not-branch-clause-printed g c u first =
@@ -59,4 +59,5 @@ returns-clause-printed g c u first =
     let run = i.2.run.run in
     let count = i.1 in
     let limit = c.requires.limit in
-    (i.0, i.2, (run.last, run.is_there, ends_by_limit run (omega arith)))
+    let stops = ends_by_limit run (omega arith) in
+    (i.0, i.2, over_by c.args.job.now.asked.limit c.loop.execution run.last run.is_there stops)

@@ -1,10 +1,12 @@
-use Rattle.std.proofs.Common.{◌≡◌, ◌-◌, ◌∷◌, ◌++◌, [], Some, inl, refl, sym, subst}
+use Rattle.std.proofs.Common.{◌≡◌, ◌-◌, ◌∷◌, ◌++◌, [], inl, refl, sym, subst}
 use Rattle.pf_errors.specs.declared.fault.OrNoMemory.TheVariants.{NoMemory}
 use Rattle.pf_model.specs.Reports.{label_of}
 use Rattle.pf_trace.proofs.Fronts.{handed_on}
 use Rattle.pf_sched.specs.Printing.{IsPrinted, atom_names_of}
 use Rattle.pf_sched.specs.Reported.{event}
+use Rattle.pf_sched.specs.Slices.{IsRunOver}
 use Rattle.pf_sched.specs.Traces.{MayHavePassed}
+use Rattle.pf_sched.proofs.Reported.{over_by}
 use Rattle.pf_sched.proofs.Printed.{cut, printed_out, reported_next, waiting_written}
 use Rattle.pf_sched.proofs.printing.print_next.Goals as goal
 
@@ -24,7 +26,8 @@ returns-in_default-clause-printed g c j cs es w0 same printed =
     (c.in_ok-chosen.ensures last printed.run.run.is_there) in (
       subst (λ x. IsPrinted j cs es x c.args.printer.now w0 (g.W.Write.contents c.args.writer.now.inner))
           (sym none.1) printed,
-      (last, subst (λ x. x.system.standing ≡ Some last) (sym none.1) printed.run.run.is_there, inl none.0),
+      subst (IsRunOver j.asked.limit) (sym none.1)
+          (over_by j.asked.limit old last printed.run.run.is_there (inl none.0)),
     )
 
 pub returns-in_err-notify-clause-fault : goal.returns-in_err-notify-clause-fault

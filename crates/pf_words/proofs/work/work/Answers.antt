@@ -21,9 +21,10 @@ returns-in-Err g c =
     c.source_of.ensures.taken c.source_of.ensures.unread c.in-Err.fault c.in-Err.ensures.counted
     c.source_of.ensures.unfailed c.end-in-Err.ensures
 
-pub returns-in-Ok : goal.returns-in-Ok
-returns-in-Ok g c =
+pub returns : goal.returns
+returns g c =
     source_from (view_of_args c.args.asked.now.args) (sym c.if-not-has_source.ensures) _ _ _ _ _ _ _ _
-    c.end-in-Ok.result c.file-file.result (named_file c.args.asked.now.args) c.file-file.ensures
-    c.source_of.ensures.taken c.source_of.ensures.unread c.in-Ok.source c.answer-answered.result
-    c.in-Ok.ensures.front c.in-Ok.ensures.kept c.answer-answered.ensures c.end-in-Ok.ensures
+    c.end-2.result c.file-file.result (named_file c.args.asked.now.args) c.file-file.ensures
+    c.source_of.ensures.taken c.source_of.ensures.unread c.in-Ok.source c.send-answered.result
+    c.in-Ok.ensures.front c.in-Ok.ensures.kept (c.send-answered.ensures c.in-Ok.source c.answer_of-answer.ensures)
+    c.end-2.ensures

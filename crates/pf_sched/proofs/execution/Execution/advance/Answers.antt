@@ -1,6 +1,8 @@
-use Rattle.std.proofs.Common.{◌≡◌, zero, ◌+◌, ◌-◌, ◌<◌, ◌≤◌, ◌∷◌, ◌++◌, [], inl, inr, Some, length, sym, subst, arith}
+use Rattle.std.proofs.Common.{◌≡◌, zero, ◌+◌, ◌-◌, ◌<◌, ◌≤◌, ◌∷◌, ◌++◌, [], inl, inr, length, sym, subst, arith}
 use Rattle.pf_sched.specs.Parts.{Executes}
+use Rattle.pf_sched.specs.Slices.{IsRunOver}
 use Rattle.pf_sched.specs.Traces.{MayHaveGone, WentOn}
+use Rattle.pf_sched.proofs.Reported.{over_by}
 use Rattle.pf_sched.proofs.Sliced.{ended}
 use Rattle.pf_sched.proofs.Traces.{executes_next, length_last}
 use Rattle.pf_sched.proofs.execution.Execution.advance.Goals as goal
@@ -10,7 +12,7 @@ returns-then-steps-limit g c j cs es e run reported =
     let i = c.loop.invariant j cs es e run reported in
     let count : length i.0 ≤ length es + c.args.turns = omega arith in
     let none : c.args.limit - c.loop.self.system.steps ≡ zero = omega arith in
-    (i.0, i.1, i.2, (omega arith, count, (i.1.run.last, i.1.run.is_there, inr none)))
+    (i.0, i.1, i.2, (omega arith, count, inr none))
 
 pub returns-then-not-branch : goal.returns-then-not-branch
 returns-then-not-branch g c j cs es e run reported =
@@ -28,11 +30,8 @@ returns-then-not-branch g c j cs es e run reported =
       (
         omega arith,
         count,
-        (
-          i.1.run.last,
-          subst (λ z. z.system.standing ≡ Some i.1.run.last) (sym w.1) i.1.run.is_there,
-          inl w.0,
-        ),
+        subst (IsRunOver c.args.limit) (sym w.1)
+            (over_by c.args.limit x i.1.run.last i.1.run.is_there (inl w.0)),
       ),
     )
 

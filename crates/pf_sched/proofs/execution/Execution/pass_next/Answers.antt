@@ -6,7 +6,7 @@ use Rattle.pf_sched.proofs.execution.Execution.pass_next.Goals as goal
 
 pub pass-requires-clause-enabled : goal.pass-requires-clause-enabled
 pass-requires-clause-enabled c =
-    may_go c.args.self.now.system.standing (noted_actors c.enabled-enabled.result) c.enabled-enabled.ensures.actors
+    may_go c.args.self.now.system (noted_actors c.enabled-enabled.result) c.enabled-enabled.ensures.actors
     c.in_ok-index.index c.actor-actor.result
     c.actor-actor.ensures
 
@@ -20,7 +20,7 @@ returns c d is_there w s is =
         chooses = chosen.1;
         chosen = ap (λ xs. slice_get xs c.in_ok-index.index) (sym (c.enabled-enabled.ensures.actors d is_there))
             ∙ c.actor-actor.ensures;
-        passes = c.in_ok-pass.ensures;
+        passes = c.in_ok-pass.ensures.from_each d is_there;
       },
       chosen.2,
     )

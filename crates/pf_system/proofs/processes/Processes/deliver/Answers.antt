@@ -3,20 +3,21 @@ use Rattle.std.proofs.lemmas.Result.{on_ok_weaker}
 use Rattle.pf_model.specs.Configuration.{Core, of, is_alive}
 use Rattle.pf_model.specs.Signals.{signal_of}
 use Rattle.pf_ties.specs.Ties as ties
-use Rattle.pf_system.specs.Processes.{Represents, Shown, core_of}
+use Rattle.pf_system.specs.Processes.{RepresentsCore, Shown, view_of_processes}
 use Rattle.pf_system.specs.declared.processes.Processes.{Processes}
 use Rattle.pf_system.proofs.Shown.{rows_more}
 use Rattle.pf_system.proofs.Delivering.{shaped, ties_here, delivered_so, by_life}
 use Rattle.pf_system.proofs.processes.Processes.deliver.Goals as goal
 
 -- the process lives where its ties say so
-alive_by : (w : Processes) (c : Core) (b : _) (t : Bool) → Represents w c → t ≡ (ties.of w.shared.ties b).lives
+alive_by : (w : Processes) (c : Core) (b : _) (t : Bool) → RepresentsCore (view_of_processes w) c
+    → t ≡ (ties.of w.shared.ties b).lives
     → t ≡ is_alive (of c b).state
 alive_by w c b t h e = e ∙ ap (λ z. z.lives) (ties_here w c b h)
 
 taken_so : (w w1 : Processes) (c : Core) → w1 ≡ record w { shared = record w.shared { channels = w1.shared.channels } }
     → length w1.shared.channels ≡ length w.shared.channels
-    → Represents w c → Represents w1 c
+    → RepresentsCore (view_of_processes w) c → RepresentsCore (view_of_processes w1) c
 taken_so w w1 c e n h =
     rows_more w w1 c (ap (λ z. z.slots.items) e) (ap (λ z. z.ready) e) (ap (λ z. z.basis) e) h
     (h.ties ∙ sym (ap (λ z. z.shared.ties) e)) (omega arith)
@@ -24,7 +25,7 @@ taken_so w w1 c e n h =
 pub at_living-requires : goal.at_living-requires
 at_living-requires c =
     let w : Processes = c.args.self.now in
-    let s = shaped w (core_of w) c.args.to c.requires.sound (sym c.if-lives.ensures) in
+    let s = shaped w c.requires.sound.0 c.args.to c.requires.sound.1 (sym c.if-lives.ensures) in
     let n = c.deliver.ensures.senders in
     let rows = s.rows in
     record { there = s.there; ties = s.ties; rows = omega arith; few = s.few; within = s.within }
@@ -38,12 +39,11 @@ returns-then-lives c =
     let a = c.args.from in
     let b = c.args.to in
     let s = signal_of c.in-Some.signal in
-    let k = core_of w in
-    let t = alive_by w k b true c.requires.sound c.if-lives.ensures in
     on_ok_weaker c.at_living.result
-    (λ h. delivered_so w w1 w2 k a b s l c.in-Some.ensures.delivered refl
+    (λ h k sound. let t = alive_by w k b true sound c.if-lives.ensures in
+    delivered_so w w1 w2 k a b s l c.in-Some.ensures.delivered refl
     (subst (λ d. Shown b d w1.shared.channels w1 l w2) (sym (by_life k a b s true t))
-    (h k (taken_so w w1 k refl c.deliver.ensures.senders c.requires.sound) (sym t))))
+    (h k (taken_so w w1 k refl c.deliver.ensures.senders sound) (sym t))))
     c.at_living.ensures
 
 pub returns-else-lives : goal.returns-else-lives
@@ -55,10 +55,9 @@ returns-else-lives c =
     let a = c.args.from in
     let b = c.args.to in
     let s = signal_of c.in-Some.signal in
-    let k = core_of w in
-    let t = alive_by w k b false c.requires.sound c.if-lives.ensures in
     on_ok_weaker c.at_ended.result
-    (λ h. delivered_so w w1 w2 k a b s l c.in-Some.ensures.delivered refl
+    (λ h k sound. let t = alive_by w k b false sound c.if-lives.ensures in
+    delivered_so w w1 w2 k a b s l c.in-Some.ensures.delivered refl
     (subst (λ d. Shown b d w1.shared.channels w1 l w2) (sym (by_life k a b s false t))
-    (h k (taken_so w w1 k refl c.deliver.ensures.senders c.requires.sound))))
+    (h k (taken_so w w1 k refl c.deliver.ensures.senders sound))))
     c.at_ended.ensures

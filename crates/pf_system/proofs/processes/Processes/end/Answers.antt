@@ -7,10 +7,8 @@ use Rattle.pf_model.specs.Channels.{Signal}
 use Rattle.pf_model.specs.Configuration.{Core, posted}
 use Rattle.pf_model.specs.Ends.{reason_of}
 use Rattle.pf_sorted.specs.Maps.{without_number}
-use Rattle.pf_model.specs.Context.{ended}
 use Rattle.pf_ties.specs.Ties as ties
 use Rattle.pf_ties.specs.Fates.{sent_of}
-use Rattle.pf_system.specs.Bodies.{body_of}
 use Rattle.pf_system.specs.Slots.{end_of}
 use Rattle.pf_mailbox.specs.MailView.{MailView, empty}
 use Rattle.pf_system.specs.Processes.{RepresentsBut, EndsProcess}
@@ -57,8 +55,7 @@ ended_so r w w1 w' a e m ss u none slots t k code even =
     let s' : Slot = record { life = life.Ended e; mailbox = m } in
     on_ok_weaker r
     (λ sent. ends_so w w' a e s' ss
-    (ap (λ z. body_of (ended (end_of e)) z.messages) none)
-    (λ c. record { ready = tt {0}; is_of = tt {0} })
+    (λ c. record { state = refl; mailbox = sym (ap (λ z. z.messages) none) })
     (slots ∙ ap (λ z. slice_set z.slots.items a s') u.rest)
     (t ∙ ap (λ z. z.shared.ties) u.rest)
     (k ∙ ap (λ z. without_number a z.ready) u.rest)

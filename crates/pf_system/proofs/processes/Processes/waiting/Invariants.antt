@@ -1,9 +1,10 @@
-use Rattle.std.proofs.Common.{◌≡◌, zero, map, take}
-use Rattle.pf_model.specs.Runs.{is_waiting}
-use Rattle.pf_system.specs.Slots.{slot_body}
-use Rattle.pf_system.proofs.Ready.{numbers_in}
+use Rattle.std.proofs.Common.{◌≡◌}
+use Rattle.pf_model.specs.Configuration.{Core}
+use Rattle.pf_system.specs.Processes.{RepresentsCore, view_of_processes}
+use Rattle.pf_system.proofs.Outcomes.{waiting_before}
 use Rattle.pf_system.proofs.processes.Processes.waiting.Given as goal
 
 -- those before are noted
 abbrev pub invariant-loop-pid : goal.invariant-loop-pid
-invariant-loop-pid l = l.pids.items ≡ numbers_in is_waiting zero (map slot_body (take l.pid l.self.slots.items))
+invariant-loop-pid l =
+    (c : Core) → RepresentsCore (view_of_processes l.self) c → l.pids.items ≡ waiting_before c l.pid

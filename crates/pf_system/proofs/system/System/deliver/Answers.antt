@@ -1,20 +1,21 @@
-use Rattle.std.proofs.Common.{◌+◌, Some, sym, subst, arith}
+use Rattle.std.proofs.Common.{◌≡◌, ◌+◌, true, false, is_some, sym, subst, arith}
+use Rattle.pf_model.specs.Channels.{taken}
 use Rattle.pf_model.specs.declared.report.Actor.TheVariants.{Channel}
 use Rattle.pf_model.specs.Reports.{label_of}
-use Rattle.pf_system.specs.View.{view_of_system}
 use Rattle.pf_system.specs.Steps.{MayGo, SimulatesTransition}
-use Rattle.pf_system.specs.Processes.{configuration_of}
 use Rattle.pf_system.proofs.Going.{has_signal}
-use Rattle.pf_system.proofs.Passing.{unspent, still_kept, delivery_passes}
+use Rattle.pf_system.proofs.Passing.{unspent, still_valid, delivery_passes, system_with, valid_of}
 use Rattle.pf_system.proofs.system.System.deliver.Goals as goal
+
+pub deliver-requires-clause-sound : goal.deliver-requires-clause-sound
+deliver-requires-clause-sound c = let i = c.self.invariant c.if-self.false in (i.0.core, i.1.core)
 
 pub deliver-requires-clause-there : goal.deliver-requires-clause-there
 deliver-requires-clause-there c =
-    let f = c.self.inside in
-    let d = configuration_of f.processes in
-    let v = unspent c.args.self.now f.module.value f.steps f.spent d c.self.view_is c.if-self.false in
-    has_signal c.args.from c.args.to d (subst (λ s. MayGo (Channel c.args.from c.args.to) s.standing) v
-    c.requires.enabled)
+    let i = c.self.invariant c.if-self.false in
+    let may = subst (MayGo (Channel c.args.from c.args.to)) (sym c.self.view_is) c.requires.enabled in
+    subst (λ cs. is_some (taken c.args.from c.args.to cs) ≡ true) (sym i.1.channels)
+    (has_signal c.args.from c.args.to i.0 (may i.0 i.1))
 
 pub overflow_add-self : goal.overflow_add-self
 overflow_add-self c =
@@ -23,19 +24,23 @@ overflow_add-self c =
 
 pub invariant_of-self-2 : goal.invariant_of-self-2
 invariant_of-self-2 c e =
-    still_kept c.self.inside.module.value c.self.inside.processes c.deliver.new.self c.args.from c.args.to
-    c.deliver.new.shown
-    (c.self.invariant c.if-self.false) c.in_ok-deliver.ensures
+    let f = c.self.inside in
+    let m = f.module.value in
+    let i = valid_of m f.steps f.spent f.processes c.if-self.false (c.self.invariant c.if-self.false) in
+    still_valid 1 (system_with m f.steps false f.processes) (Channel c.args.from c.args.to)
+    (label_of c.deliver.new.shown) 1 (system_with m (f.steps + 1) false c.deliver.new.self)
+    (delivery_passes m f.processes c.deliver.new.self f.steps c.args.from c.args.to c.deliver.new.shown i.0 i.1
+    c.in_ok-deliver.ensures)
 
 pub returns-clause-passed : goal.returns-clause-passed
 returns-clause-passed c =
     let f = c.self.inside in
     let m = f.module.value in
-    let d = configuration_of f.processes in
-    let e = configuration_of c.deliver.new.self in
     let x = Channel c.args.from c.args.to in
     let l = label_of c.deliver.new.shown in
-    subst (λ s. SimulatesTransition 1 s x l 1 (view_of_system m (f.steps + 1) (Some e)))
-    (sym (unspent c.args.self.now m f.steps f.spent d c.self.view_is c.if-self.false))
-    (delivery_passes m f.processes c.deliver.new.self f.steps c.args.from c.args.to c.deliver.new.shown
+    let s = system_with m (f.steps + 1) false c.deliver.new.self in
+    let i = valid_of m f.steps f.spent f.processes c.if-self.false (c.self.invariant c.if-self.false) in
+    subst (λ z. SimulatesTransition 1 z x l 1 s)
+    (sym (unspent c.args.self.now m f.steps f.spent f.processes c.self.view_is c.if-self.false))
+    (delivery_passes m f.processes c.deliver.new.self f.steps c.args.from c.args.to c.deliver.new.shown i.0 i.1
     c.in_ok-deliver.ensures)

@@ -1,12 +1,11 @@
-use Rattle.std.proofs.Common.{◌≡◌, List, [], sym, ap, ◌∙◌, Some, zero}
+use Rattle.std.proofs.Common.{◌≡◌, List, [], refl, sym, ap, ◌∙◌, zero}
 use Rattle.pf_terms.specs.Value.{none}
 use Rattle.pf_terms.specs.Term.{values_of}
 use Rattle.pf_terms.specs.declared.term.Term.{Term}
 use Rattle.pf_syntax.specs.Module.{Checked}
 use Rattle.pf_model.specs.Runs.{start}
 use Rattle.pf_stepper.specs.MachineView.{MachineView, at_call}
-use Rattle.pf_system.specs.View.{view_of_system}
-use Rattle.pf_system.proofs.Systems.{begins_kept, begins_so}
+use Rattle.pf_system.proofs.Systems.{begins_so}
 use Rattle.pf_system.proofs.system.System.new_in.Goals as goal
 
 at_root : (k : MachineView) (m m1 m2 : Checked) (root : _) (ts : List Term) → k ≡ at_call zero m1 root (values_of ts)
@@ -17,7 +16,7 @@ at_root k m m1 m2 root ts e p q t =
 
 pub invariant_of-result : goal.invariant_of-result
 invariant_of-result c _ =
-    begins_kept _ c.open.new.self c.in_ok-machine.machine c.args.root.0
+    let r = begins_so _ c.open.new.self c.in_ok-machine.machine c.args.root.0
     (record {
       slots = c.take_slots.ensures;
       ties = c.new-3.ensures;
@@ -27,13 +26,13 @@ invariant_of-result c _ =
     })
     (at_root _ c.args.module.now.value _ _ c.args.root.0 _ c.in_ok-machine.ensures c.in_ok-shared.ensures
     c.in_ok-try_clone.ensures c.new.ensures.items)
-    c.in_ok-open.ensures c.args.edition c.most_processes.ensures _
-    (c.in_ok-try_clone.ensures ∙ sym c.in_ok-try_clone-2.ensures)
+    c.in_ok-open.ensures c.args.edition c.most_processes.ensures c.in_ok-try_clone-2.field-0.value
+    (c.in_ok-try_clone.ensures ∙ sym c.in_ok-try_clone-2.ensures) in
+    (start c.args.root.0 c.args.edition, r)
 
 pub returns : goal.returns
 returns c =
-    let k = c.in_ok-try_clone-2.field-0.value in
-    begins_so _ c.open.new.self c.in_ok-machine.machine c.args.root.0
+    let r = begins_so _ c.open.new.self c.in_ok-machine.machine c.args.root.0
     (record {
       slots = c.take_slots.ensures;
       ties = c.new-3.ensures;
@@ -43,5 +42,6 @@ returns c =
     })
     (at_root _ c.args.module.now.value _ _ c.args.root.0 _ c.in_ok-machine.ensures c.in_ok-shared.ensures
     c.in_ok-try_clone.ensures c.new.ensures.items)
-    c.in_ok-open.ensures c.args.edition c.most_processes.ensures k
-    ∙ ap (λ z. view_of_system z 0 (Some (start c.args.root.0 c.args.edition))) c.in_ok-try_clone-2.ensures
+    c.in_ok-open.ensures c.args.edition c.most_processes.ensures c.in_ok-try_clone-2.field-0.value
+    (c.in_ok-try_clone.ensures ∙ sym c.in_ok-try_clone-2.ensures) in
+    record { checked = c.in_ok-try_clone-2.ensures; steps = refl; is_there = r }

@@ -1,0 +1,10 @@
+use Rattle.pf_compile_patterns.specs.Maker.{code_of}
+use Rattle.pf_compile_patterns.proofs.Grown.{by_ok}
+use Rattle.pf_compile.proofs.Clauses.{raises_with}
+use Rattle.pf_compile.proofs.expressions.raise_with.Goals as goal
+
+pub returns : goal.returns
+returns c =
+    by_ok _ _ _ c.push.ensures
+    (λ pc h. raises_with (code_of c.args.maker.now) (code_of c.push.new.self) c.args.atom.0 c.args.register pc
+    c.requires h)

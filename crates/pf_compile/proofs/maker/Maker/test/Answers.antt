@@ -1,9 +1,0 @@
-use Rattle.pf_compile.specs.Maker.{code_of}
-use Rattle.pf_compile.proofs.Grown.{by_ok}
-use Rattle.pf_compile.proofs.Guarded.{tests}
-use Rattle.pf_compile.proofs.maker.Maker.test.Goals as goal
-
-pub returns : goal.returns
-returns c =
-    by_ok _ _ _ c.put.ensures
-    (λ pc h. tests (code_of c.args.self.now) (code_of c.put.new.self) c.args.operation c.args.exits pc c.requires h)

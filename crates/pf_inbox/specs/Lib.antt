@@ -1,0 +1,5 @@
+pub mod InboxView
+pub mod Tests
+pub mod Received
+pub mod Searches
+pub mod Inner

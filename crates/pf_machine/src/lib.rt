@@ -1,0 +1,10 @@
+//! The machine of one process over code, whose arguments, messages, actions and answers are terms.
+#![tactic(auto)]
+
+mod laws;
+mod lifting;
+mod lowering;
+mod machine;
+
+pub use laws::{messages_arrive, status_stays};
+pub use machine::{Machine, Turn};

@@ -1,0 +1,6 @@
+pub mod Reasons
+pub mod Settled
+pub mod Halted
+pub mod Answered
+pub mod Stayed
+pub mod Going

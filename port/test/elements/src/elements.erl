@@ -1,0 +1,3 @@
+-module(elements).
+-export([f/0]).
+f() -> 1.
