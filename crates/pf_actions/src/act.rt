@@ -4,8 +4,8 @@ use pf_heap::Word;
 use pf_model::Bond;
 use pf_terms::AtomId;
 
-/// An action, with the words of its operands (Erlang Reference Manual, "Processes"). `!` isn't among them: it has a halt
-/// of its own.
+/// An action, with the words of its operands (Erlang Reference Manual, "Processes"). `!` isn't among them: it has a
+/// halt of its own.
 #[derive(Clone, Copy)]
 pub enum Act {
     /// `spawn`, `spawn_link` or `spawn_monitor`, by its bond.

@@ -90,7 +90,7 @@ delivered_somewhere as_message n h = absurd (cc)
 delivered_somewhere (ending_with r) n h = absurd (cc)
 
 module _ (es : List Event) (ps : List Process) where
-  -- ---- what goes out
+  -- ---- what is written
 
   put_after : (xs more : List Arrow) → ((i : ℕ) (a : Arrow) → slice_get xs i ≡ Some a → IsArrow es ps a)
       → ((i : ℕ) (a : Arrow) → slice_get more i ≡ Some a → IsArrow es ps a)

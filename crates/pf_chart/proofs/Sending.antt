@@ -1,4 +1,4 @@
--- Signals go out one after another, and all that wait are arrows of their ways.
+-- Signals are sent one after another, and all that wait are arrows of their ways.
 use Rattle.std.proofs.Common.{◌≡◌, ◌≢◌, ◌<◌, ◌⊎◌, inl, inr, ℕ, zero, suc, Bool, true, false, List, [], ◌∷◌, ◌++◌, Some}
 use Rattle.std.proofs.Common.{None, Result, Ok, Err, eqb, length, get_or, refl, sym, ap, ◌∙◌, subst, append_assoc}
 use Rattle.std.proofs.Common.{append-nil, arith}
@@ -133,13 +133,13 @@ on_way_after j r xs ys h w (i ∷ is) (one, above, rest) (first, low) = (
   on_way_after j r xs ys h w is rest low,
 )
 
--- ---- what goes out in an event
+-- ---- the signals that an event sends
 
 sent_both : (n a : ℕ) (xs ys : List Arrow) → AreSentIn n a xs → AreSentIn n a ys → AreSentIn n a (xs ++ ys)
 sent_both n a [] ys h k = k
 sent_both n a (x ∷ xs) ys (one, rest) k = (one, sent_both n a xs ys rest k)
 
--- nothing goes out
+-- no signal is sent
 pub sends_none : (n a : ℕ) (s t : Traffic) → t.arrows.items ≡ s.arrows.items → t.on_way ≡ s.on_way → Sends n a s t
 sends_none n a s t arrows ways = record {
   more = [];
@@ -157,7 +157,7 @@ sends_both n a s t u h k = record {
   wait = λ all. k.wait (h.wait all);
 }
 
--- one goes out
+-- one is sent
 pub sends_one : (n a b : ℕ) (k : SignalKind) (s t : Traffic)
     → t.arrows.items ≡ s.arrows.items ++ open_arrow n a b k ∷ []
     → waiting_signals t.on_way (way_of a b k) ≡ waiting_signals s.on_way (way_of a b k) ++ length s.arrows.items ∷ []

@@ -1,4 +1,4 @@
--- Signals that go out and end.
+-- Signals that are sent and end.
 use Rattle.std.proofs.Common.{◌≡◌, ℕ, ◌++◌, Option, sym, ap, ◌∙◌, subst}
 use Rattle.std.specs.Prelude.{option_to_list}
 use Rattle.std.specs.BTreeMap.{get}

@@ -27,7 +27,7 @@ impl OnWay {
         }
     }
 
-    /// The first signal of a way goes out.
+    /// The first signal of a way is sent.
     fn open(&mut self, way: Way, signal: usize) -> Result<(), NoMemory>
         ensures only { OnOk result (waiting_signals self.new way ≡ signal ∷ []) }
         ensures others { OnOk result (KeepsOthers way self.old self.new) }
@@ -38,7 +38,7 @@ impl OnWay {
         Ok(())
     }
 
-    /// A signal goes out, after those of its way.
+    /// A signal is sent, after those of its way.
     pub(crate) fn put(&mut self, way: Way, signal: usize) -> Result<(), NoMemory>
         ensures last { OnOk result (waiting_signals self.new way ≡ waiting_signals self.old way ++ signal ∷ []) }
         ensures others { OnOk result (KeepsOthers way self.old self.new) }

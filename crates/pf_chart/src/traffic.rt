@@ -74,7 +74,7 @@ impl Traffic {
         })
     }
 
-    /// A signal goes out.
+    /// A signal is sent.
     fn send(&mut self, row: usize, from: usize, to: usize, kind: SignalKind) -> Result<(), NoMemory>
         ensures arrow { OnOk result (self.new.arrows.items ≡ self.old.arrows.items
             ++ open_arrow row from to kind ∷ []) }
@@ -95,7 +95,7 @@ impl Traffic {
         self.on_way.put((from, to, kind.number()), index)
     }
 
-    /// A signal goes out if so.
+    /// A signal is sent if so.
     fn send_if(
         &mut self,
         goes: bool,
@@ -113,7 +113,7 @@ impl Traffic {
         }
     }
 
-    /// A link signal goes out if the link is new, and isn't to oneself.
+    /// A link signal is sent if the link is new, and isn't to oneself.
     fn link(&mut self, row: usize, a: usize, b: usize) -> Result<(), NoMemory>
         ensures { OnOk result (Sends row a self.old self.new) }
     {
@@ -124,7 +124,7 @@ impl Traffic {
         self.send_if(is_new, row, a, b, SignalKind::Link)
     }
 
-    /// An unlink signal goes out if there was a link.
+    /// An unlink signal is sent if there was a link.
     fn unlink(&mut self, row: usize, a: usize, b: usize) -> Result<(), NoMemory>
         ensures { OnOk result (Sends row a self.old self.new) }
     {
@@ -132,7 +132,7 @@ impl Traffic {
         self.send_if(was_there, row, a, b, SignalKind::Unlink)
     }
 
-    /// What a process does to another. No signal goes out to a child that is linked or watched at once.
+    /// What a process does to another. No signal is sent to a child that is linked or watched at once.
     pub(crate) fn act(
         &mut self,
         row: usize,
@@ -164,7 +164,7 @@ impl Traffic {
         }
     }
 
-    /// A demonitor signal goes out if the reference is active.
+    /// A demonitor signal is sent if the reference is active.
     pub(crate) fn demonitor(&mut self, row: usize, a: usize, reference: u64) -> Result<(), NoMemory>
         ensures { OnOk result (Sends row a self.old self.new) }
     {

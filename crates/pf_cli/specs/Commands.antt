@@ -64,7 +64,7 @@ one_run_app wanted name =
     with_rule (with_rule (with_rule (weighted_app wanted name) (option_rule (codes "last")))
     (option_rule (codes "schedule"))) (option_rule (codes "property"))
 
--- the form of what goes out may be named: [--format FORM]
+-- the form of what is written may be named: [--format FORM]
 abbrev pub format_rule : Rule
 format_rule = option_rule (codes "format")
 

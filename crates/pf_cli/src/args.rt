@@ -235,7 +235,7 @@ impl<'a> Args<'a> {
 #[derive(Drop)]
 pub struct CliCommand<'a> {
     pub args: Args<'a>,
-    /// In what form it goes out.
+    /// In what form it is written.
     pub format: Format,
     /// Whether more is explained: the report of a run, or the refusal of a check.
     pub explain: bool,

@@ -14,7 +14,7 @@ HasStatus (Ok status) given = given ≡ status
 HasStatus (Err e) given = IsFailure given
 
 -- PrintsText is_fault status given old new failed_old failed_new: the text of a fault goes to the standard error, and
--- any other text goes out, with its status; or the output can't be written
+-- any other text is written, with its status; or the output can't be written
 abbrev pub PrintsText : (is_fault : Bool) → (status given : ℕ) → (old new : Option (List ℕ))
     → (failed_old failed_new : ℕ) → Type 0
 PrintsText true status given old new m n = (given ≡ status) × (new ≡ old) × (n ≡ m)

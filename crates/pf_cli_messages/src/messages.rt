@@ -46,7 +46,7 @@ fn no_memory_in(rt: &(impl Print + Eprint), format: Format) -> u8
     REFUSED
 }
 
-/// The same on standard error, for a command whose replies went out before.
+/// The same on standard error, for a command whose replies were written before.
 fn no_more_memory(rt: &impl Eprint) -> u8
     ensures { result ≡ 2 }
 {
@@ -77,8 +77,8 @@ pub fn failed(rt: &(impl Print + Eprint), file: Option<&str>, fault: &StreamFaul
     REFUSED
 }
 
-/// The status of a command, and what is said of its end. The answer to a source goes out in a form; replies to commands
-/// have none.
+/// The status of a command, and what is said of its end. The answer to a source is written in a form; replies to
+/// commands have none.
 pub fn end(
     rt: &(impl Print + Eprint),
     file: Option<&str>,

@@ -1,4 +1,4 @@
--- What a farm of clients and workers answers, and what goes out of it.
+-- What a farm of clients and workers answers, and what it prints.
 use Rattle.std.specs.Prelude.{◌≡◌, ◌⊎◌, ⊤, ℕ, suc, ◌+◌, List, [], ◌∷◌, ◌++◌, Option, Some, None}
 use Rattle.std.specs.Io.KnownBytes.{Appends}
 use Rattle.std.specs.Global.{Vec}
@@ -22,7 +22,7 @@ use Rattle.pf_clients.specs.declared.reported.ClientAnswers.{ClientAnswers}
 use Rattle.pf_clients.specs.Lines.{AnswersFile}
 use Rattle.pf_clients.specs.Texts.{reported_text}
 
--- ---- what goes out
+-- ---- what is written
 
 -- what a client was answered, and how its file ended
 pub record ClientText : Type 0 where
@@ -74,7 +74,7 @@ status_of (c ∷ cs) = status_at c.ended (status_of cs)
 abbrev pub Prints : List ClientText → (status : ℕ) → (written_old written_new : Option (List ℕ)) → Type 0
 Prints cs status w0 w1 = (first_stop cs ≡ None) × (status ≡ status_of cs) × Appends w0 w1 (printed cs)
 
--- a write failed and was counted, and a beginning of what is printed went out; or a file can't be read or memory ran
+-- a write failed and was counted, and a beginning of what is printed was; or a file can't be read or memory ran
 -- out, and all that is printed did
 abbrev pub PrintsInPart : List ClientText → OrNoMemory StreamFault → (written_old written_new : Option (List ℕ))
     → (failed_old failed_new : ℕ) → Type 0

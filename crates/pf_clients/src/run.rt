@@ -161,7 +161,7 @@ fn serve<
     join_mut(rt, &mut work, &mut answer).1
 }
 
-/// Has all workers work, unless the clients have given up.
+/// Has all workers work, unless the clients have stopped early.
 fn farm_out<N: FarmNames + Send + Sync, T: Threads + Wait + Sync, G: Gate + Sync>(
     alloc: Global,
     rt: &T,

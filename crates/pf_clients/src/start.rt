@@ -33,7 +33,7 @@ impl FarmStart {
         }
     }
 
-    /// The workers begin, unless the clients have given up; whether they do.
+    /// The workers begin, unless the clients have stopped early; whether they do.
     pub(crate) fn begin<T: Wait>(&self, rt: &T) -> bool {
         let mut stage = self.stage.lock(rt);
         if *stage == StartStage::GivenUp {

@@ -1,4 +1,4 @@
--- Texts that go out by way of room of a fixed size.
+-- Texts that are written by way of a buffer of a fixed size.
 use Rattle.std.proofs.Common.{◌≡◌, ◌<◌, ◌+◌, ℕ, List, [], ◌∷◌, ◌++◌, Option, Result, Ok, Err, length, map, take, drop}
 use Rattle.std.proofs.Common.{get_or, sym, ap, ◌∙◌, subst, append_assoc}
 use Rattle.std.specs.Prelude.{codes, OnErr}
@@ -40,7 +40,7 @@ pub front_longer : (g a b : List ℕ) (w0 w1 : Option (List ℕ)) → AppendsFro
     → AppendsFront w0 w1 (g ++ (a ++ b))
 front_longer g a b w0 w1 h = subst (AppendsFront w0 w1) (append_assoc g a b) (front_of_more w0 w1 (g ++ a) b h)
 
--- all went out
+-- all was written
 pub adds_out : (g a g1 : List ℕ) (w0 w1 w2 : Option (List ℕ)) → Adds g a g1 w0 w1 → Appends w1 w2 g1
     → Appends w0 w2 (g ++ a)
 adds_out g a g1 w0 w1 w2 h k = subst (Appends w0 w2) h.2 (appends_both w0 w1 w2 h.0 g1 h.1 k)
@@ -55,7 +55,7 @@ pub at_fault : {T E : Type 0} {P : Type 0} (r : Result T E) → P → OnErr r P
 at_fault (Ok x) p = tt
 at_fault (Err e) p = p
 
--- a fault before what waits went out
+-- a fault before what waits was written
 pub front_out : (g a g1 : List ℕ) (w0 w1 w2 : Option (List ℕ)) → Adds g a g1 w0 w1 → AppendsFront w1 w2 g1
     → AppendsFront w0 w2 (g ++ a)
 front_out g a g1 w0 w1 w2 h k = subst (AppendsFront w0 w2) h.2 (front_of_both w0 w1 w2 h.0 g1 h.1 k)

@@ -1,4 +1,4 @@
--- What goes out where a command answers.
+-- What is written where a command answers.
 use Rattle.std.proofs.Common.{◌≡◌, ℕ, zero, List, ◌++◌, Option, None, Result, Ok, Err, refl, sym, ap, ◌∙◌, subst}
 use Rattle.std.specs.Prelude.{IfOk, IfSome, IsErr, IsErrAnd, take}
 use Rattle.std.specs.Io.KnownBytes.{Appends}
@@ -34,7 +34,7 @@ module _ (P Q : List ℕ → ℕ → Type 0) (w0 w1 : Option (List ℕ)) (n0 n1 
   sends_more (Err NoMemory) h = h
   sends_more (Err (Fault e)) h = (h.0, h.1, more h.0 h.1 h.2, h.3, h.4)
 
--- after a text that went out
+-- after a text that was written
 pub prints_after : (P Q : List ℕ → ℕ → Type 0) (front : List ℕ) (w0 w w1 : Option (List ℕ)) (n0 n n1 : ℕ)
     (r : Result ℕ StreamFault) → Appends w0 w front → n ≡ n0
     → ((t : List ℕ) (s : ℕ) → P t s → Q (front ++ t) s) → PrintsAnswer P w w1 n n1 r → PrintsAnswer Q w0 w1 n0 n1 r
@@ -91,7 +91,7 @@ unread_ends P u0 u1 w m0 m1 n NoMemory h = ((h, refl), refl)
 unread_ends P u0 u1 w m0 m1 n (Fault (Read e)) h = (h, refl, refl)
 unread_ends P u0 u1 w m0 m1 n (Fault (Write e)) h = absurd h
 
--- it was read, and its answer goes out
+-- it was read, and its answer is written
 module _ (P : Answering) (bytes : List ℕ) (u0 u1 w0 w1 : Option (List ℕ)) (m0 m1 n0 n1 : ℕ)
     (read : IfSome u0 (λ input. bytes ≡ take MOST_BYTES input)) (same : m1 ≡ m0) where
   pub answered : (r : Result ℕ (OrNoMemory StreamFault)) → Sends (P bytes) w0 w1 n0 n1 r

@@ -1,4 +1,4 @@
--- What a source is answered with of which a run or a shrinking is asked for: the text that goes out and the status.
+-- What a source is answered with of which a run or a shrinking is asked for: the text that is written and the status.
 use Rattle.std.specs.Prelude.{◌≡◌, ◌<◌, ℕ, zero, Bool, true, false, List, ◌++◌, Option, None, Some, Result, Ok, Err}
 use Rattle.std.specs.Prelude.{codes}
 use Rattle.pf_errors.specs.Codes.{code_text, refusal_text}
@@ -79,7 +79,7 @@ abbrev pub cut_text : (ℕ → List ℕ) → List Event → List ℕ
 cut_text name es = lines_text name es ++ no_memory_report
 
 -- what is reported of a job: its result; or of a run that memory ran out within it, after the lines of its first events
--- that went out by then. Nothing is reported of a shrinking without memory
+-- that was written by then. Nothing is reported of a shrinking without memory
 pub data ReportsJob (j : Job) : List ℕ → ℕ → Type 0 where
   result : (x : shrinking.Result) → IsResult j.asked x
       → ReportsJob j (reported_text (atom_names_of j) x) (reported_status x)

@@ -1,4 +1,4 @@
--- What a source is answered with of which the chart of a run is asked for: the text that goes out and the status.
+-- What a source is answered with of which the chart of a run is asked for: the text that is written and the status.
 use Rattle.std.specs.Prelude.{◌≡◌, ◌⊎◌, ℕ, List, [], Some}
 use Rattle.pf_errors.specs.Codes.{code_text}
 use Rattle.pf_errors.specs.declared.code.Code.TheVariants as code

@@ -1,4 +1,4 @@
--- What a source is answered with that is only checked: the text that goes out and the status.
+-- What a source is answered with that is only checked: the text that is written and the status.
 use Rattle.std.specs.Prelude.{◌≡◌, ℕ, Bool, true, false, List, [], ◌++◌, codes}
 use Rattle.pf_errors.specs.Codes.{refusal_text}
 use Rattle.pf_errors.specs.declared.code.Code.{Code}

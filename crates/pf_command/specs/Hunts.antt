@@ -1,4 +1,4 @@
--- What a source is answered with whose runs by many seeds are asked for: the text that goes out and the status.
+-- What a source is answered with whose runs by many seeds are asked for: the text that is written and the status.
 use Rattle.std.specs.Prelude.{◌≡◌, ◌⊎◌, ℕ, ◌-◌, ◌==◌, Bool, true, false, if◌then◌else◌, is_some, List, [], ◌++◌, map}
 use Rattle.std.specs.Prelude.{flat_map, codes, Option, None, Some, Result, Ok, Err}
 use Rattle.std.specs.List.{list_any}
@@ -122,7 +122,7 @@ pub data PrintsSought (h : HuntArgs) (bytes : List ℕ) (j : Job) (ns : List Not
   seed_fails : (s : ℕ) (r : Report) → IsLeastFailure h j ns h.seeds.1 (Some (s, r))
       → PrintsSought h bytes j ns (Failure None)
       (seed_text s h.strategy (choices_of r) ++ report_text (atom_names_of j) r) 1
-  -- or, if memory ran out within the report, the lines of its first events that went out by then, and that it did
+  -- or, if memory ran out within the report, the lines of its first events that were written by then, and that it did
   seed_cut : (s : ℕ) (r : Report) (es rest : List Event) → IsLeastFailure h j ns h.seeds.1 (Some (s, r))
       → r.events ≡ es ++ rest
       → PrintsSought h bytes j ns (Failure None)

@@ -1,4 +1,4 @@
--- What goes out between a reader and a writer, of which it is said what answers which bytes.
+-- What is read and written, where it is defined which text answers which bytes.
 use Rattle.std.specs.Prelude.{◌≡◌, ◌≤◌, ◌+◌, ℕ, List, length, take, Option, IfSome, Result, Ok, Err}
 use Rattle.std.specs.Io.KnownBytes.{Appends, Consumes}
 use Rattle.pf_errors.specs.declared.fault.OrNoMemory.{OrNoMemory}
@@ -30,12 +30,12 @@ Answering = (bytes text : List ℕ) → ℕ → Type 0
 abbrev pub AreRead : Streams → List ℕ → Type 0
 AreRead s bytes = IfSome s.unread (λ input. bytes ≡ take MOST_BYTES input)
 
--- what was read is answered with the text that went out and the status
+-- what was read is answered with the text that was written and the status
 abbrev pub IsAnsweredSo : Answering → (old new : Streams) → ℕ → Type 0
 IsAnsweredSo P old new status = (bytes : List ℕ) × (text : List ℕ) × AreRead old bytes × P bytes text status
     × Appends old.written new.written text
 
--- a beginning of the text of an answer went out
+-- a beginning of the text of an answer was written
 abbrev pub AnsweredInPart : Answering → (old new : Streams) → Type 0
 AnsweredInPart P old new =
     (bytes : List ℕ) × (text : List ℕ) × (status : ℕ) × AreRead old bytes × P bytes text status
@@ -49,7 +49,7 @@ TakesBytes old new = (bytes : List ℕ) × (length bytes ≤ MOST_BYTES) × Cons
 abbrev pub NoneFailed : (old new : Streams) → Type 0
 NoneFailed old new = (new.failed_reads ≡ old.failed_reads) × (new.failed_writes ≡ old.failed_writes)
 
--- what a fault leaves: which stream failed once more, and what went out
+-- what a fault leaves: which stream failed once more, and what was written
 abbrev pub Leaves : OrNoMemory StreamFault → Answering → (old new : Streams) → Type 0
 Leaves NoMemory P old new = NoneFailed old new × (new.written ≡ old.written)
 Leaves (Fault (Read e)) P old new = (new.failed_reads ≡ old.failed_reads + 1) × (new.failed_writes ≡ old.failed_writes)
@@ -57,29 +57,29 @@ Leaves (Fault (Read e)) P old new = (new.failed_reads ≡ old.failed_reads + 1) 
 Leaves (Fault (Write e)) P old new = (new.failed_reads ≡ old.failed_reads) × (new.failed_writes ≡ old.failed_writes + 1)
     × AnsweredInPart P old new
 
--- a source is answered; or a stream failed or memory ran out, and a beginning of the answer went out
+-- a source is answered; or a stream failed or memory ran out, and a beginning of the answer was written
 abbrev pub Serves : Answering → (old new : Streams) → Result ℕ (OrNoMemory StreamFault) → Type 0
 Serves P old new (Ok status) = NoneFailed old new × IsAnsweredSo P old new status
 Serves P old new (Err e) = Leaves e P old new
 
 -- ---- within a command
 
--- what goes out of a text that may be printed, with its status: all of it; or a beginning, where a write failed and was
--- counted
+-- what is written of a text that may be printed, with its status: all of it; or a beginning, where a write failed and
+-- was counted
 abbrev pub PrintsAnswer : (may : List ℕ → ℕ → Type 0) → (written_old written_new : Option (List ℕ))
     → (failed_old failed_new : ℕ) → Result ℕ StreamFault → Type 0
 PrintsAnswer P w0 w1 n0 n1 (Ok status) = (text : List ℕ) × P text status × Appends w0 w1 text × (n1 ≡ n0)
 PrintsAnswer P w0 w1 n0 n1 (Err f) = (text : List ℕ) × (status : ℕ) × P text status × AppendsFront w0 w1 text
     × CountsWrite f n0 n1
 
--- the same; or memory ran out before anything went out
+-- the same; or memory ran out before anything was written
 abbrev pub Sends : (may : List ℕ → ℕ → Type 0) → (written_old written_new : Option (List ℕ))
     → (failed_old failed_new : ℕ) → Result ℕ (OrNoMemory StreamFault) → Type 0
 Sends P w0 w1 n0 n1 (Ok status) = PrintsAnswer P w0 w1 n0 n1 (Ok status)
 Sends P w0 w1 n0 n1 (Err NoMemory) = (w1 ≡ w0) × (n1 ≡ n0)
 Sends P w0 w1 n0 n1 (Err (Fault f)) = PrintsAnswer P w0 w1 n0 n1 (Err f)
 
--- this holds of the text that went out, and of the status
+-- this holds of the text that was written, and of the status
 abbrev pub WentOut : (P : List ℕ → ℕ → Type 0) → (written_old written_new : Option (List ℕ)) → ℕ → Type 0
 WentOut P w0 w1 status = (text : List ℕ) × P text status × Appends w0 w1 text
 

@@ -14,7 +14,7 @@ pub(crate) const REFUSED: u8 = 2;
 /// The status if a property fails.
 pub(crate) const FAILED: u8 = 1;
 
-/// A text that goes out, and the status that the program ends with.
+/// The text that is written, and the status that the program ends with.
 #[derive(Drop)]
 pub struct Output {
     pub text: Vec<u8>,

@@ -1,5 +1,5 @@
-//! How a run that fails is reported: its seed and its choices go out first, which takes no memory, so that they are
-//! known whatever comes after.
+//! How a run that fails is reported: its seed and its choices are written first, which takes no memory, so that they
+//! are known whatever comes after.
 
 ghost use Rattle.std.specs.Prelude.{◌≡◌, ◌++◌, List, ℕ, Some, OnErr, OnOk, IfErr, IfOk, codes, map};
 ghost use Rattle.std.specs.Fmt.{decimal};

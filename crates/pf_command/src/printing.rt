@@ -1,5 +1,5 @@
-//! The work of a run between a reader and a writer: its report goes out as the run goes, so that no more of it is held
-//! than a piece.
+//! The work of a run between a reader and a writer: its report is written while the run goes on, so that no more of it
+//! is held than a piece.
 
 ghost use Rattle.std.specs.Prelude.{IfOk};
 ghost use Rattle.pf_cli.specs.Args.{view_of_run_args};
@@ -23,7 +23,7 @@ use std::alloc::Global;
 use std::io::{Read, Write};
 use std::sync::ledger::Ledger;
 
-/// Writes what is reported of a run within which memory ran out, after the lines that went out. It takes no memory.
+/// Writes what is reported of a run within which memory ran out, after the lines that were written. It takes no memory.
 pub(crate) fn print_no_memory<W: Write, M: Ledger>(
     writer: &mut Counted<W, M>,
 ) -> Result<u8, StreamFault>

@@ -1,4 +1,4 @@
-//! A text that goes out by way of room of a fixed size, so that it takes no memory.
+//! A text that is written by way of a buffer of a fixed size, so that it takes no memory.
 
 ghost use Rattle.std.specs.Prelude.{◌≡◌, ◌++◌, List, ℕ, IfErr, OnErr, OnOk};
 ghost use Rattle.std.specs.Fmt.{decimal};
@@ -14,10 +14,10 @@ use std::sync::ledger::Ledger;
 /// How many bytes may wait.
 const ROOM: usize = 4_096;
 
-/// The bytes that wait to go out.
+/// The bytes that wait to be written.
 pub(crate) type OutputBuffer = ArrayVec<u8, ROOM>;
 
-/// Adds a text to what waits, or has both go out if there is no room for it.
+/// Adds a text to what waits, or has both written if there is no room for it.
 pub(crate) fn add<W: Write, M: Ledger>(
     waiting: &mut OutputBuffer,
     text: &[u8],

@@ -44,7 +44,7 @@ module _ {T : Type 0} where
   gone_index (z ∷ xs) (suc k) zero x h = h
   gone_index (z ∷ xs) (suc k) (suc i) x h = gone_index xs k i x h
 
-  -- what is held where something was given up was held before
+  -- what is held where something was dropped was held before
   gone_held : (xs : List (Option T)) (u n : ℕ) (x : T) → held_at (with_held xs u None) n ≡ Some x
       → held_at xs n ≡ Some x
   gone_held xs zero n x h = h

@@ -94,7 +94,7 @@ pub(crate) struct SuiteHunt<'a, R> {
     is_input_read: bool,
 }
 
-/// What goes out at once.
+/// What is written at once.
 fn put_now<W: Write, M: Ledger>(
     text: &[u8],
     writer: &mut Counted<W, M>,
@@ -199,7 +199,7 @@ where
             &line_of_root(self.rt.alloc(), place.file, place.root, end)?,
             writer,
         )?;
-        // The line went out: nothing more is said where memory runs out now.
+        // The line was written: nothing more is said where memory runs out now.
         let _said = self.say_more(place, end, leak);
         if self.args.fail_fast && matches!(end, RootEnd::Fails { .. }) {
             Ok(AfterRoot::Stops)

@@ -46,7 +46,7 @@ fn turn(alloc: Global, held: &HeldText, text: &[u8]) -> Result<TurnedLine, Alloc
     Ok(TurnedLine { out, held })
 }
 
-/// Writes the whole text; where a call fails, a beginning of it went out.
+/// Writes the whole text; where a call fails, a beginning of it was written.
 fn put<W: Write>(inner: &mut W, text: &[u8]) -> io::Result<()>
     ensures written { OnOk result (Appends (W.contents inner.old) (W.contents inner.new) text.now) }
     ensures front { OnErr result (AppendsFront (W.contents inner.old) (W.contents inner.new) text.now) }
@@ -96,7 +96,7 @@ impl<W: Write> Write for JsonLines<W> {
     ghost use Rattle.pf_json.specs.Writers.{held_text_of};
 
     /// Takes the whole text, and writes the objects of the lines that end in it. Where that fails, a beginning of them
-    /// went out.
+    /// was written.
     fn write(&mut self, buf: &[u8]) -> io::Result<usize>
         ensures bound { WritesAtMost result buf.now }
         ensures bytes { WriteAppends None None result buf.now }
@@ -113,7 +113,7 @@ impl<W: Write> Write for JsonLines<W> {
         Ok(buf.len())
     }
 
-    /// Flushes the inner writer: what is held stays, since its line may go on, and nothing goes out that wasn't
+    /// Flushes the inner writer: what is held stays, since its line may go on, and nothing is written that wasn't
     /// written.
     fn flush(&mut self) -> io::Result<()>
         ensures bytes { Keeps None None }

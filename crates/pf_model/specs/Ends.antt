@@ -19,7 +19,7 @@ abbrev pub last_signals : Core → ℕ → Value → List (ℕ × Signal)
 last_signals c a r =
     map (λ l. (l, exit true r)) (of c a).links ++ map (λ w. (w.1, down w.0 r)) (of c a).watchers
 
--- the process ends: its name is lost, and the last signals go out
+-- the process ends: its name is lost, and the last signals are sent
 abbrev pub ended_by : Core → ℕ → End → Left
 ended_by c a e =
     let d = with_process c a (fresh (ended e) []) in

@@ -167,7 +167,7 @@ pub fn put_page(alloc: Global, out: &mut Vec<u8>, page: &Page) -> Result<(), NoM
     put(out, &text)
 }
 
-/// Writes a page. If memory runs out, nothing is written; where a write fails, a beginning of the page went out.
+/// Writes a page. If memory runs out, nothing is written; where a write fails, a beginning of the page is.
 pub fn print_page<W: Write, M: Ledger>(
     alloc: Global,
     page: &Page,

@@ -1,4 +1,4 @@
--- What went out of the report of a run.
+-- What was written of the report of a run.
 use Rattle.std.proofs.Common.{◌≡◌, ◌<◌, ◌-◌, ℕ, List, [], ◌∷◌, ◌++◌, Bool, Option, Some, None, map, refl, ap, sym, ◌∙◌}
 use Rattle.std.proofs.Common.{subst, arith}
 use Rattle.std.specs.Io.KnownBytes.{Appends}
@@ -42,7 +42,7 @@ pub waiting_written : (j : Job) (u : Choosing) (es : List Event) (x : Execution)
 waiting_written j u es x p w0 w printed = subst (λ a. AreWrittenSoFar (name_of a) p.pieces.lines)
     printed.reported.1 printed.reported.3
 
--- the lines that wait didn't go out, or a beginning of them did
+-- the lines that wait weren't written, or a beginning of them was
 pub cut : (e : OrNoMemory StreamFault) (j : Job) (u : Choosing) (es : List Event) (x : Execution) (p : Printer)
     (w0 w w1 : Option (List ℕ)) (n0 n1 : ℕ)
     → IsPrinted j u es x p w0 w
@@ -70,7 +70,7 @@ reported_next j u es e x x' p p' w0 w limit same some printed went reported gone
           (sym gone) printed.out;
     }
 
--- lines that waited went out
+-- lines that waited were written
 pub printed_out : (j : Job) (u : Choosing) (es : List Event) (x : Execution) (p : Printer) (q : Pieces)
     (w0 w w1 : Option (List ℕ)) → IsPrinted j u es x p w0 w
     → GoesOut (atom_names_of j) p.pieces q w w1 → IsPrinted j u es x (record p { pieces = q }) w0 w1
@@ -99,7 +99,7 @@ some_meaning j valid (Some g) =
     let m = some_report g.strategy j.asked g.seed (is_profile j.asked.choices valid.weighs) in
     (m.0, means_for_seed g j.asked m.0 m.1)
 
--- nothing went out before the first event
+-- nothing was written before the first event
 pub stopped_first : (j : Job) → IsValid j → (by_seed : Option SeedChoice) (w : Option (List ℕ)) (n : ℕ)
     → HasStopped NoMemory j (choosing_of by_seed j.asked) w w n n
 stopped_first j valid o w n = let m = some_meaning j valid o in (m.0, m.1, ([], m.0.events, refl, Appends-nil w, refl))
@@ -137,7 +137,7 @@ module _ (j : Job) (u : Choosing) (es : List Event) (x : Execution) (p : Printer
         ≡ lines_text (atom_names_of j) (reported_so_far q.lines) ++ report_end_text (atom_names_of j) r
     last_text = rw (of_job, ends, steps, judged) refl
 
-    -- what was left of its report went out
+    -- what was left of its report was written
     pub ends_whole : (n : ℕ) → n ≡ waiting_in r
         → Appends w w1 (lines_text (name_of atoms) (reported_so_far q.lines) ++ last_lines (name_of atoms) o s v)
         → HasPrinted j u (record { verdict = v; waiting = n }) w0 w1

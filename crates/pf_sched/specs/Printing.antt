@@ -1,4 +1,4 @@
--- Runs whose reports go out as they are written.
+-- Runs whose reports are written while they go on.
 use Rattle.std.specs.Prelude.{◌≡◌, ℕ, Bool, true, false, List, ◌∷◌, ◌++◌, [], Option}
 use Rattle.std.specs.Io.KnownBytes.{Appends}
 use Rattle.pf_errors.specs.declared.fault.OrNoMemory.{OrNoMemory}
@@ -30,7 +30,7 @@ PrintsRun p j reported =
     × (all_reported p.pieces ≡ reported)
     × AreWrittenSoFar (name_of p.atoms.now) p.pieces.lines
 
--- a run so far where this chooses, with these events; the lines of those that don't wait went out
+-- a run so far where this chooses, with these events; the lines of those that don't wait were written
 pub record IsPrinted (j : Job) (w : Choosing) (es : List Event) (x : Execution) (p : Printer)
     (written_old written_new : Option (List ℕ)) : Type 0 where
   pub run : Executes j w es x
@@ -48,8 +48,8 @@ abbrev pub CutsShort : OrNoMemory StreamFault → Job → Choosing → (written_
     → (failed_old failed_new : ℕ) → Type 0
 CutsShort e j w w0 w1 n0 n1 = (r : Report) → MeansFor w j.asked r → StopsShort e (atom_names_of j) r w0 w1 n0 n1
 
--- the report that a job means where this chooses went out, and it is known what its verdict is and how many processes
--- still wait though its root returned
+-- the report that a job means where this chooses was written, and it is known what its verdict is and how many
+-- processes still wait though its root returned
 abbrev pub HasPrinted : Job → Choosing → PrintedRun → (written_old written_new : Option (List ℕ)) → Type 0
 HasPrinted j w p w0 w1 =
     (r : Report) × MeansFor w j.asked r × (r.verdict ≡ p.verdict) × (p.waiting ≡ waiting_in r)

@@ -1,4 +1,5 @@
-//! Runs whose reports go out as they are written: no event is kept, and of the lines those alone that haven't gone out.
+//! Runs whose reports are written while they go on: no event is kept, and of the lines only those that aren't written
+//! yet.
 
 ghost use Rattle.std.specs.Prelude.{◌≡◌, ◌++◌, ◌∷◌, ◌<◌, [], List, ℕ, zero, IfErr, IfOk, IsNone, Option, OnOk};
 ghost use Rattle.pf_model.specs.Meaning as model;
@@ -31,7 +32,7 @@ use std::io::Write;
 use std::mem;
 use std::sync::ledger::Ledger;
 
-/// Has the lines of a run's events go out piece by piece, and keeps what a verdict needs of them.
+/// Writes the lines of a run's events piece by piece, and keeps what a verdict needs of them.
 #[derive(Drop)]
 pub(crate) struct Printer<'a> {
     property: &'a Property,
@@ -146,8 +147,8 @@ fn print_events<W: Write, M: Ledger>(
     Ok(())
 }
 
-/// What is known of a run whose report went out: whether its property holds, and how many processes still wait at its
-/// end, where its root returned; else none are reported.
+/// What is known of a run whose report was written: whether its property holds, and how many processes still wait at
+/// its end, where its root returned; else none are reported.
 #[derive(Drop, Clone, Copy)]
 pub struct PrintedRun {
     pub verdict: Option<bool>,
@@ -220,7 +221,7 @@ fn print_execution<W: Write, M: Ledger>(
 
 /// Prints the report of a job that is one run, by its own choices or by a seed in place of them, as the run goes, and
 /// gives its verdict and how many processes still wait though its root returned. Where a write fails, a beginning of
-/// the report went out; where memory runs out, the lines of its first events did. What is in the scratch makes no
+/// the report was written; where memory runs out, the lines of its first events were. What is in the scratch makes no
 /// difference.
 pub fn print_run<W: Write, M: Ledger>(
     alloc: Global,

@@ -25,7 +25,7 @@ abbrev pub CountsReadOrNone : OrNoMemory StreamFault → ℕ → ℕ → Type 0
 CountsReadOrNone NoMemory old new = new ≡ old
 CountsReadOrNone (Fault f) old new = CountsRead f old new
 
--- memory ran out before anything was written; or a write failed and was counted, and a beginning of the text went out
+-- memory ran out before anything was written; or a write failed and was counted, and a beginning of the text was
 abbrev pub LeavesFront : OrNoMemory StreamFault → (text : List ℕ) → (written_old written_new : Option (List ℕ))
     → (failed_old failed_new : ℕ) → Type 0
 LeavesFront NoMemory text w0 w1 n0 n1 = (w1 ≡ w0) × (n1 ≡ n0)

@@ -95,7 +95,7 @@ impl<R: Read, L: Ledger> Counted<R, L> {
 }
 
 impl<W: Write, L: Ledger> Counted<W, L> {
-    /// Writes the whole text; where a call fails, a beginning of it went out.
+    /// Writes the whole text; where a call fails, a beginning of it was written.
     pub fn put(&mut self, text: &[u8]) -> Result<(), StreamFault>
         ensures written { OnOk result (Appends (W.contents self.old.inner) (W.contents self.new.inner) text.now) }
         ensures front { OnErr result (AppendsFront (W.contents self.old.inner) (W.contents self.new.inner) text.now) }

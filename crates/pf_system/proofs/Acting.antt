@@ -57,7 +57,7 @@ not_atom (term.List l) h = refl
 pub given_none : {T : Type 0} (c : Core) (o : Option T) (go : T → Acted) → o ≡ None → given c o go ≡ raising c badarg
 given_none c o go e = ap (λ q. given c q go) e
 
--- a signal that goes out on a condition
+-- a signal that is sent on a condition
 pub sent_if : (a : ℕ) (t : Bool) (x : ℕ × Signal) (cs cs' : Channels) → t ≡ true → cs' ≡ sent a x.0 x.1 cs
     → cs' ≡ posted a (law.only_if t x) cs
 sent_if a t x cs cs' e s = subst (λ z. cs' ≡ posted a (law.only_if z x) cs) (sym e) s

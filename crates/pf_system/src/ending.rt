@@ -12,7 +12,8 @@ use std::alloc::Global;
 use std::mem;
 
 impl Processes {
-    /// A process ends, with the value that it returned or with a reason: its name is lost, and its last signals go out.
+    /// A process ends, with the value that it returned or with a reason: its name is lost, and its last signals are
+    /// sent.
     pub(crate) fn end(
         &mut self,
         alloc: Global,

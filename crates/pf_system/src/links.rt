@@ -51,7 +51,7 @@ impl Shared {
         Ok(Ok(message))
     }
 
-    /// `link/1`. A signal goes out where the link is new and not to oneself.
+    /// `link/1`. A signal is sent where the link is new and not to oneself.
     pub(crate) fn link(
         &mut self,
         alloc: Global,
@@ -72,7 +72,7 @@ impl Shared {
         Ok(giving_true(Label::Links(other), shown))
     }
 
-    /// `unlink/1`. A signal goes out where there was a link.
+    /// `unlink/1`. A signal is sent where there was a link.
     pub(crate) fn unlink(
         &mut self,
         alloc: Global,

@@ -62,7 +62,7 @@ impl Shared {
         Ok(Ok(Term::Ref(reference)))
     }
 
-    /// A reference no longer watches. A signal goes out where it was active.
+    /// A reference no longer watches. A signal is sent where it was active.
     pub(crate) fn demonitor(
         &mut self,
         alloc: Global,

@@ -45,7 +45,7 @@ pub(crate) fn giving_true(label: Label, shown: &mut Label) -> Result<Term, Term>
 }
 
 impl Shared {
-    /// Signals go out from a process, one after the other.
+    /// Signals are sent from a process, one after the other.
     pub(crate) fn post(
         &mut self,
         alloc: Global,

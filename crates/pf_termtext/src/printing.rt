@@ -15,7 +15,7 @@ use std::alloc::Global;
 use std::io::Write;
 use std::sync::ledger::Ledger;
 
-/// Writes the text of a term. Where a write fails, a beginning of it went out.
+/// Writes the text of a term. Where a write fails, a beginning of it was written.
 pub fn print<W: Write, L: Ledger>(
     alloc: Global,
     term: &Term,

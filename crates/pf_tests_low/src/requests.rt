@@ -36,7 +36,7 @@ fn tokens_are_as_long_as_they_can_be(rt: HostRuntime) -> Result<(), Fail> {
     Ok(())
 }
 
-/// What a project uses that made a call, holds a module and a trial, and gave up another of each.
+/// What a project uses that made a call, holds a module and a trial, and dropped another of each.
 fn lessened() -> Result<Usage, LimitRefusal> {
     let mut usage = Usage::new();
     usage.charge(1, Charge::Call)?;

@@ -105,7 +105,7 @@ fn ask(
     })
 }
 
-/// The same of a signal that comes, of which an exit becomes a message, and of an end, where so many signals go out.
+/// The same of a signal that comes, of which an exit becomes a message, and of an end, where so many signals are sent.
 fn meet(
     ties: &mut Ties,
     alloc: Global,

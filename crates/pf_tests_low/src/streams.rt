@@ -34,7 +34,7 @@ impl Write for Narrow {
 
 const TEXT: &[u8] = b"0/1 <0> wait";
 
-/// How many bytes of the text go out, and of which kind the error is, if there is one.
+/// How many bytes of the text are written, and of which kind the error is, if there is one.
 fn put_by<L: Ledger>(narrow: Narrow, at: u64, blank: Blank) -> (usize, Option<ErrorKind>)
     requires name { blank.name ≡ L.name }
     requires parts { blank.parts ≡ L.parts }

@@ -11,8 +11,8 @@ use std::marker::Brand;
 use std::sync::ledger::{Blank, Ledger};
 use std::test::Fail;
 
-/// How many bytes of the text go out to a writer of which this call fails, or none if it is another text, and whether
-/// printing succeeded.
+/// How many bytes of the text are written to a writer of which this call fails, or none if it is another text, and
+/// whether printing succeeded.
 fn print_by<L: Ledger>(
     alloc: Global,
     term: &Term,

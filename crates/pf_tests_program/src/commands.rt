@@ -1,4 +1,4 @@
-//! Whole commands: what goes out, and what is left if a call of the reader or of the writer fails.
+//! Whole commands: what is written, and what is left if a call of the reader or of the writer fails.
 
 use crate::streams::{Failing, WorkEnd, Worked, carry_out};
 use pf_cli::{Args, read_args};
@@ -6,19 +6,19 @@ use std::alloc::Global;
 use std::hash::RandomState;
 use std::test::Fail;
 
-/// A command, and what goes out.
+/// A command, and what it writes.
 #[derive(Clone, Copy)]
 struct Case {
     words: &'static [&'static str],
     input: &'static str,
-    /// What goes out where no call fails, and with which status.
+    /// What is written where no call fails, and with which status.
     out: &'static str,
     status: u8,
-    /// How many bytes go out before the end of the input is read.
+    /// How many bytes are written before the end of the input is read.
     answered: usize,
     /// How many writes there are, of 7 bytes each but the last.
     writes: u64,
-    /// How many bytes go out before the last of them.
+    /// How many bytes are written before the last of them.
     written: usize,
 }
 
@@ -73,7 +73,7 @@ p2 refused B5\np2 refused B3\nw4 not now N2\n",
     written: 231,
 };
 
-/// Whether the work ended so, and the first n bytes of the text went out.
+/// Whether the work ended so, and the first n bytes of the text were written.
 fn is_left(worked: &Worked, ended: WorkEnd, text: &str, count: usize) -> bool {
     worked.ended == ended && worked.out.len() == count && text.as_bytes().starts_with(&worked.out)
 }
@@ -92,7 +92,7 @@ fn leaves(
     is_left(&worked, ended, case.out, count)
 }
 
-/// Whether all goes out where no call fails, and else a beginning. One read gives the whole input and one its end, so
+/// Whether all is written where no call fails, and else a beginning. One read gives the whole input and one its end, so
 /// that a third can't fail.
 fn is_answered(alloc: Global, keys: RandomState, args: &Args, case: &Case) -> bool {
     let none = Failing {

@@ -44,7 +44,7 @@ pub enum WorkEnd {
     NoMemory,
 }
 
-/// What went out, and how the work ended.
+/// What was written, and how the work ended.
 #[derive(Drop)]
 pub struct Worked {
     pub out: Vec<u8>,

@@ -1,4 +1,4 @@
-//! Texts that go out, and numbers in words that come in.
+//! Texts that are written, and numbers in words that come in.
 #![tactic(auto)]
 
 mod numbers;

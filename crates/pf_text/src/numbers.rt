@@ -1,4 +1,4 @@
-//! Numbers and schedules in words, and schedules that go out.
+//! Numbers and schedules in words, and schedules that are written.
 
 ghost use Rattle.std.specs.Prelude.{◌≡◌, ◌==◌, ◌++◌, IfOk, OnOk, codes, flat_map, option_map, true};
 ghost use Rattle.std.specs.Fmt.{decimal as digits_of};

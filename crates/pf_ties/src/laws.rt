@@ -2,7 +2,7 @@
 
 ghost use Rattle.pf_ties.specs.Laws.{FollowActions, FollowDeliveries, FollowEnds};
 
-/// What an action does to the ties of a core, and whether its signal goes out, is what the calls here say.
+/// What an action does to the ties of a core, and whether its signal is sent, is what the calls here say.
 pub fn ties_follow_actions()
     ensures { FollowActions }
 {}
@@ -12,7 +12,7 @@ pub fn ties_follow_deliveries()
     ensures { FollowDeliveries }
 {}
 
-/// So is what the end of a process does, and which signals go out then.
+/// So is what the end of a process does, and which signals are sent then.
 pub fn ties_follow_ends()
     ensures { FollowEnds }
 {}

@@ -1,4 +1,4 @@
--- What went out of a report that was cut short.
+-- What was written of a report that was cut short.
 use Rattle.std.proofs.Common.{◌≡◌, ℕ, List, [], ◌∷◌, ◌++◌, Option, Result, Ok, Err, refl, sym, ap, ◌∙◌, subst}
 use Rattle.std.proofs.Common.{append_assoc}
 use Rattle.std.specs.Prelude.{IfErr, IsErr, IsErrAnd}
@@ -60,7 +60,7 @@ module _ (name : ℕ → List ℕ) where
       subst (AppendsFront w0 w1) (sym (whole_text r es rest e))
       (front_of_more w0 w1 (lines_text name es) (lines_text name rest ++ report_end_text name r) k)
 
-  -- the lines of some events went out, and those of others didn't, or a beginning of them did
+  -- the lines of some events were written, and those of others weren't, or a beginning of them was
   pub stops_among : (e : OrNoMemory StreamFault) (r : Report) (gone waiting rest : List Event)
       (w0 w w1 : Option (List ℕ)) (n0 n1 : ℕ)
       → r.events ≡ (gone ++ waiting) ++ rest → Appends w0 w (lines_text name gone)

@@ -54,9 +54,9 @@ last_lines name o steps v = line (outcome_text name o) ++ line (codes "steps " +
 abbrev pub report_end_text : (name : ℕ → List ℕ) → Report → List ℕ
 report_end_text name r = last_lines name r.outcome r.steps r.verdict
 
--- ---- reports that go out as they are written
+-- ---- reports that are written while their runs go on
 
--- the events whose lines went out
+-- the events whose lines were written
 abbrev pub gone_from : Pieces → List Event
 gone_from p = map (λ s. view_of_event s.value) p.gone.items
 
@@ -72,20 +72,20 @@ waiting_bytes p = p.lines.text.items
 abbrev pub IsShort : Pieces → Type 0
 IsShort p = length (waiting_bytes p) < 65536
 
--- the lines that waited went out, or they wait on
+-- the lines that waited were written, or they wait on
 abbrev pub GoesOut : (name : ℕ → List ℕ) → (old new : Pieces) → (written_old written_new : Option (List ℕ)) → Type 0
 GoesOut name p q w0 w1 =
     (out : List Event) × (gone_from q ≡ gone_from p ++ out) × (all_reported q ≡ all_reported p)
     × AreWrittenSoFar name q.lines
     × Appends w0 w1 (lines_text name out)
 
--- these events were put, and the lines of those that don't wait went out
+-- these events were put, and the lines of those that don't wait were written
 abbrev pub HasGoneOut : (name : ℕ → List ℕ) → List Event → Pieces → (written_old written_new : Option (List ℕ)) → Type 0
 HasGoneOut name es p w0 w1 = (es ≡ all_reported p) × AreWrittenSoFar name p.lines
     × Appends w0 w1 (lines_text name (gone_from p))
 
--- a report was cut short: memory ran out, and the lines of its first events went out, each whole; or a write failed and
--- was counted, and a beginning of its text went out
+-- a report was cut short: memory ran out, and the lines of its first events were written, each whole; or a write failed
+-- and was counted, and a beginning of its text was written
 abbrev pub StopsShort : OrNoMemory StreamFault → (name : ℕ → List ℕ) → Report
     → (written_old written_new : Option (List ℕ)) → (failed_old failed_new : ℕ) → Type 0
 StopsShort NoMemory name r w0 w1 n0 n1 =

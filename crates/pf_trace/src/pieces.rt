@@ -1,4 +1,4 @@
-//! The lines of a run's events that go out as they are written, piece by piece.
+//! The lines of a run's events that are written while the run goes on, piece by piece.
 
 ghost use Rattle.std.specs.Prelude.{◌≡◌, ◌++◌, ◌∷◌, [], List, ℕ, IfErr, OnOk};
 ghost use Rattle.std.specs.Io.KnownBytes.{Appends};
@@ -21,11 +21,11 @@ use std::io::Write;
 use std::snapshot::Snapshot;
 use std::sync::ledger::Ledger;
 
-/// Lines that have so many bytes go out.
+/// Lines that have so many bytes are written.
 const PIECE_BYTES: usize = 65_536;
 
-/// The lines of a run's events, which go out in pieces: those that wait. Lines that went out are not kept; what stands
-/// for their events has no bytes, and only clauses read it.
+/// The lines of a run's events, which are written in pieces: those that wait. Lines that were written are not kept;
+/// what stands for their events has no bytes, and only clauses read it.
 #[derive(Drop)]
 pub struct Pieces {
     gone: Vec<Snapshot<Event>>,
@@ -46,7 +46,7 @@ impl Pieces {
         }
     }
 
-    /// Adds the line of an event, and so as many bytes to those that wait. None goes out.
+    /// Adds the line of an event, and so as many bytes to those that wait. None is written.
     pub fn add(&mut self, atoms: &AtomTable, event: &Event) -> Result<(), NoMemory>
         ensures gone { self.new.gone ≡ self.old.gone }
         ensures event { OnOk result (reported_so_far self.new.lines
@@ -59,7 +59,7 @@ impl Pieces {
         self.lines.add(atoms, event)
     }
 
-    /// Has the lines that wait go out.
+    /// Writes the lines that wait.
     fn print<W: Write, M: Ledger>(
         &mut self,
         writer: &mut Counted<W, M>,
@@ -79,7 +79,7 @@ impl Pieces {
         Ok(())
     }
 
-    /// Has the lines that wait go out if they make a piece: each piece has 65,536 bytes or more, and fewer wait on.
+    /// Writes the lines that wait if they make a piece: each piece has 65,536 bytes or more, and fewer wait on.
     pub fn print_full<W: Write, M: Ledger>(
         &mut self,
         writer: &mut Counted<W, M>,
@@ -100,7 +100,7 @@ impl Pieces {
         self.print(writer)
     }
 
-    /// Has the lines that wait go out, and after them what follows the lines of a report's events.
+    /// Writes the lines that wait, and after them what follows the lines of a report's events.
     pub fn print_end<W: Write, M: Ledger>(
         self,
         atoms: &AtomTable,

@@ -41,8 +41,8 @@ fn print_events<W: Write, M: Ledger>(
     Ok(pieces)
 }
 
-/// Writes the text of a report, piece by piece. Where a write fails, a beginning of it went out; where memory runs out,
-/// the lines of its first events did.
+/// Writes the text of a report, piece by piece. Where a write fails, a beginning of it was written; where memory runs
+/// out, the lines of its first events did.
 pub fn print_report<W: Write, M: Ledger>(
     alloc: Global,
     report: &Report,

@@ -42,13 +42,13 @@ added_both g g1 g2 a b text w0 w1 w2 e h k = (
       ∙ ap (λ (t : List ℕ). g ++ t) e,
 )
 
--- a beginning of the one went out
+-- a beginning of the one was written
 pub front_of_first : (g a b text : List ℕ) (w0 w1 : Option (List ℕ)) → a ++ b ≡ text → AppendsFront w0 w1 (g ++ a)
     → AppendsFront w0 w1 (g ++ text)
 front_of_first g a b text w0 w1 e k =
     subst (AppendsFront w0 w1) (append_assoc g a b ∙ ap (λ (t : List ℕ). g ++ t) e) (front_of_more w0 w1 (g ++ a) b k)
 
--- the one was added, and a beginning of the other went out
+-- the one was added, and a beginning of the other was written
 pub front_of_second : (g g1 a b text : List ℕ) (w0 w1 w2 : Option (List ℕ)) → a ++ b ≡ text → IsAdded g a g1 w0 w1
     → AppendsFront w1 w2 (g1 ++ b)
     → AppendsFront w0 w2 (g ++ text)
@@ -90,7 +90,7 @@ pub reported_with : (put : List ℕ) (t : WrittenAnswer) (r : ReportedReport) �
     → put ++ report_lines r ≡ whole_text t
 reported_with put t r p e = ap (λ (s : List ℕ). s ++ report_lines r) p ∙ ap (with_report t.text.items) (sym e)
 
--- a beginning of what was put went out
+-- a beginning of what was put was written
 pub front_of_put : (g text : List ℕ) (r : Option ReportedReport) (w0 w1 : Option (List ℕ))
     → AppendsFront w0 w1 (g ++ text)
     → AppendsFront w0 w1 (g ++ with_report text r)

@@ -1,4 +1,4 @@
--- What went out where the work stops.
+-- What was written where the work stops.
 use Rattle.std.proofs.Common.{◌≡◌, ◌==◌, ◌<◌, ◌≤◌, ◌+◌, ◌-◌, ℕ, Bool, true, false, List, [], ◌∷◌, ◌++◌, length, take}
 use Rattle.std.proofs.Common.{Option, Some, None, refl, sym, ap, ◌∙◌, subst, arith, append_assoc, length-append, ◌⊎◌}
 use Rattle.std.proofs.Common.{inl, inr, zero, suc, not, eqb-true}
@@ -58,7 +58,7 @@ shorter_after over (b ∷ bs) after k w w' text due a = omega (arith, command_sh
 
 -- ---- turns that are gathered
 
--- what went out, and after it what is gathered, is the text of commands up to a rest
+-- what was written, and after it what is gathered, is the text of commands up to a rest
 abbrev pub AtHand : RunProfile → Bool → (bytes : List ℕ) → World → ℕ → (gathered rest : List ℕ) → World → ℕ
     → (written_old written_new : Option (List ℕ)) → Type 0
 AtHand p over bytes v j gathered rest w k w0 w1 = (out : List ℕ) × Appends w0 w1 out × Turns p over bytes v j
@@ -83,13 +83,13 @@ module _ (p : RunProfile) where
       → ReportsInPart p over bytes v j w0 w1
   in_part over bytes rest v w j k w0 w1 t = (t.0, so_far rest w k t.1, (t.0, [], sym (append-nil t.0), t.2))
 
-  -- all that is gathered went out
+  -- all that is gathered was written
   pub at_hand_sent : (over : Bool) (bytes g rest : List ℕ) (v w : World) (j k : ℕ) (w0 w1 w2 : Option (List ℕ))
       → AtHand p over bytes v j g rest w k w0 w1
       → Appends w1 w2 g → ReportsUpTo p over bytes v j rest w k w0 w2
   at_hand_sent over bytes g rest v w j k w0 w1 w2 a h = (a.0 ++ g, a.2, appends_both w0 w1 w2 a.0 g a.1 h)
 
-  -- a beginning of it went out
+  -- a beginning of it was written
   pub at_hand_in_part : (over : Bool) (bytes g rest : List ℕ) (v w : World) (j k : ℕ) (w0 w1 w2 : Option (List ℕ))
       → AtHand p over bytes v j g rest w k w0 w1
       → AppendsFront w1 w2 g → ReportsInPart p over bytes v j w0 w2
@@ -124,7 +124,7 @@ module _ (p : RunProfile) (right : IsRight p) where
         (one_more over bytes rest after v w w' j k (h.0 ++ g) text h.2 due a),
   )
 
-  -- a beginning of it went out, with what was gathered before
+  -- a beginning of it was written, with what was gathered before
   pub more_in_part : (over : Bool) (bytes g rest : List ℕ) (v w w' : World) (j k : ℕ) (w0 w1 w2 : Option (List ℕ))
       (text : List ℕ) (next : Option (List ℕ))
       → AtHand p over bytes v j g rest w k w0 w1 → is_due over rest ≡ true → AnswersOne rest k w text next w'
@@ -140,7 +140,7 @@ module _ (p : RunProfile) (right : IsRight p) where
     subst (AppendsFront w0 w2) (sym (append_assoc h.0 g text)) (front_of_both w0 w1 w2 h.0 (g ++ text) h.1 f),
   )
 
-  -- the answer that the line is no command went out
+  -- the answer that the line is no command was written
   pub ends_ill : (over : Bool) (bytes g g' rest : List ℕ) (v w w' : World) (j k : ℕ) (w0 w1 w2 w3 : Option (List ℕ))
       (text : List ℕ) → AtHand p over bytes v j g rest w k w0 w1
       → is_due over rest ≡ true → AnswersOne rest k w text None w' → IsAdded g text g' w1 w2 → Appends w2 w3 g'
@@ -156,7 +156,7 @@ module _ (p : RunProfile) (right : IsRight p) where
         (appends_both w0 w2 w3 (h.0 ++ added.0) g' (appends_both w0 w1 w2 h.0 added.0 h.1 added.1) sent),
   )
 
-  -- a beginning of that went out
+  -- a beginning of that was written
   pub ends_ill_in_part : (over : Bool) (bytes g g' rest : List ℕ) (v w w' : World) (j k : ℕ)
       (w0 w1 w2 w3 : Option (List ℕ)) (text : List ℕ) → AtHand p over bytes v j g rest w k w0 w1
       → is_due over rest ≡ true → AnswersOne rest k w text None w' → IsAdded g text g' w1 w2 → AppendsFront w2 w3 g'
@@ -196,7 +196,7 @@ covers most over (Some input) (Some left) read h le ends = (
   sym (ap (take most) h ∙ take_both most read left le),
 )
 
--- n bytes were read, and what went out is the text of their commands up to the bytes that are kept
+-- n bytes were read, and what was written is the text of their commands up to the bytes that are kept
 abbrev pub IsThere : (over : Bool) (bytes : List ℕ) → World
     → (k taken : ℕ) (read_old read_new written_old written_new : Option (List ℕ)) → Type 0
 IsThere over bytes w k taken r0 r1 w0 w1 = (read : List ℕ) × Consumes r0 r1 read × (length read ≡ taken)
@@ -295,7 +295,7 @@ is_there_further over bytes rest w w' k l taken r0 r1 w0 w1 w2 s t = (
 )
 
 module _ (p : RunProfile) (right : IsRight p) where
-  -- a beginning of the answer went out
+  -- a beginning of the answer was written
   pub is_there_in_part : (over : Bool) (bytes : List ℕ) (w : World) (k taken : ℕ) (r0 r1 w0 w1 : Option (List ℕ))
       → IsThere over bytes w k taken r0 r1 w0 w1 → taken ≤ MOST_BYTES
       → StepsAnsweredInPart p r0 w0 w1

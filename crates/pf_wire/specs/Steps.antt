@@ -55,7 +55,7 @@ pub record StepsText (p : RunProfile) (bytes text : List ℕ) (status : ℕ) : T
 
 -- ---- what `steps` leaves
 
--- a beginning of the text of the answer to some bytes went out
+-- a beginning of the text of the answer to some bytes was written
 abbrev pub AnswersInPart : RunProfile → List ℕ → (written_old written_new : Option (List ℕ)) → Type 0
 AnswersInPart p bytes w0 w1 = (text : List ℕ) × (status : ℕ) × StepsText p bytes text status × AppendsFront w0 w1 text
 
@@ -63,12 +63,12 @@ AnswersInPart p bytes w0 w1 = (text : List ℕ) × (status : ℕ) × StepsText p
 abbrev pub AreRead : Option (List ℕ) → List ℕ → Type 0
 AreRead r0 bytes = IfSome r0 (λ input. bytes ≡ take MOST_BYTES input)
 
--- what was read is answered with the text that went out and the status
+-- what was read is answered with the text that was written and the status
 abbrev pub SimulatesSteps : RunProfile → (read_old written_old written_new : Option (List ℕ)) → ℕ → Type 0
 SimulatesSteps p r0 w0 w1 status = (bytes : List ℕ) × (text : List ℕ) × AreRead r0 bytes × StepsText p bytes text status
     × Appends w0 w1 text
 
--- a beginning of the answer to what was to be read went out
+-- a beginning of the answer to what was to be read was written
 abbrev pub StepsAnsweredInPart : RunProfile → (read_old written_old written_new : Option (List ℕ)) → Type 0
 StepsAnsweredInPart p r0 w0 w1 = (bytes : List ℕ) × AreRead r0 bytes × AnswersInPart p bytes w0 w1
 
@@ -79,7 +79,7 @@ WholeAnswered p r0 r1 w0 w1 = (bytes : List ℕ) × (steps : List WorldStep) × 
     × Consumes r0 r1 bytes × CompleteCommands bytes steps × RespondsInTurn p (new_world WORKERS) steps outcomes last
     × Appends w0 w1 (outcomes_text steps outcomes)
 
--- what a fault leaves: which stream failed once more, and what went out
+-- what a fault leaves: which stream failed once more, and what was written
 abbrev pub StepsLeaves : RunProfile → OrNoMemory StreamFault
     → (read_old read_new written_old written_new : Option (List ℕ))
     → (reads_old reads_new writes_old writes_new : ℕ) → Type 0

@@ -49,25 +49,25 @@ pub data AnswersCommands (p : RunProfile) (over : Bool) (bytes : List ℕ) (v : 
   no_more : (front rest : List ℕ) (w : World) (k : ℕ) → Turns p over bytes v j front rest w k → IsNoCommand over rest
       → text ≡ front ++ last_text false k → AnswersCommands p over bytes v j text
 
--- what went out is the text of commands up to a rest, which is not due
+-- what was written is the text of commands up to a rest, which is not due
 abbrev pub ReportsUpTo : RunProfile → Bool → (bytes : List ℕ) → World → ℕ → (rest : List ℕ) → World → ℕ
     → (written_old written_new : Option (List ℕ)) → Type 0
 ReportsUpTo p over bytes v j rest w k w0 w1 = (text : List ℕ) × Turns p over bytes v j text rest w k
     × Appends w0 w1 text
 
--- what went out is the text of commands and of a line that is none
+-- what was written is the text of commands and of a line that is none
 abbrev pub ReportsAll : RunProfile → Bool → (bytes : List ℕ) → World → ℕ
     → (written_old written_new : Option (List ℕ)) → Type 0
 ReportsAll p over bytes v j w0 w1 = (front rest : List ℕ) × (w : World) × (k : ℕ)
     × Turns p over bytes v j front rest w k
     × IsNoCommand over rest × Appends w0 w1 (front ++ last_text false k)
 
--- a beginning of such a text went out
+-- a beginning of such a text was written
 abbrev pub ReportsInPart : RunProfile → Bool → (bytes : List ℕ) → World → ℕ
     → (written_old written_new : Option (List ℕ)) → Type 0
 ReportsInPart p over bytes v j w0 w1 = (text : List ℕ) × AnswersCommands p over bytes v j text × AppendsFront w0 w1 text
 
--- what a fault leaves: whether a write failed, and what went out
+-- what a fault leaves: whether a write failed, and what was written
 abbrev pub TurnsLeave : RunProfile → OrNoMemory StreamFault → Bool → (bytes : List ℕ) → World → ℕ
     → (written_old written_new : Option (List ℕ)) → (writes_old writes_new : ℕ) → Type 0
 TurnsLeave p NoMemory over bytes v j w0 w1 n0 n1 = (n1 ≡ n0) × ReportsInPart p over bytes v j w0 w1

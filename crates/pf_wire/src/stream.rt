@@ -1,4 +1,4 @@
-//! Takes an input piece by piece, and gathers what goes out.
+//! Takes an input piece by piece, and gathers the output.
 
 ghost use Rattle.std.specs.Prelude.{◌≡◌, ◌≤◌, ◌<◌, ◌+◌, ◌++◌, [], List, ℕ, length, false, true, IfErr, IfOk, OnErr};
 ghost use Rattle.std.specs.Prelude.{OnOk};
@@ -96,7 +96,7 @@ impl Input {
     }
 }
 
-/// What is to go out, gathered so that one write hands on many replies.
+/// What is to be written, gathered so that one write hands on many replies.
 #[derive(Drop)]
 pub struct Gathered {
     pub text: Vec<u8>,

@@ -153,7 +153,7 @@ are_contents file contents u0 u1 w m0 m1 n most unread kept whole = (
 )
 
 module _ (words : List Text) (file contents : Text) (old read new : Streams) where
-  -- nothing went out since
+  -- nothing was written since
   out_since : NothingOut old read → NothingOut read new → NothingOut old new
   out_since a b = (b.0 ∙ a.0, b.1 ∙ a.1)
 

@@ -127,7 +127,7 @@ FromOne w file old new given = unless_several (may_be_several w file) (FromNamed
 abbrev pub writing_to : (written : Option (List ℕ)) → (failed_writes : ℕ) → Streams → Streams
 writing_to written failed s = record s { written = written; failed_writes = failed }
 
--- text goes out as it is; of the objects that go out in place of its lines nothing is said
+-- text is written as it is; of the objects that are written in place of its lines nothing is said
 abbrev pub InForm : Format → ((old new : Streams) → ℕ → Type 0) → (old new : Streams) → ℕ → Type 0
 InForm format.Text P old new given = P old new given
 InForm Json P old new given =
@@ -136,7 +136,7 @@ InForm Json P old new given =
 
 -- ---- words
 
--- nothing went out
+-- nothing was written
 abbrev pub NothingOut : (old new : Streams) → Type 0
 NothingOut old new = (new.written ≡ old.written) × (new.failed_writes ≡ old.failed_writes)
 
@@ -152,7 +152,7 @@ IsDone (works w file) = InForm w.format (FromOne w.work file)
 IsDone (reports status is_fault) = TextReported status is_fault
 IsDone (reads file) = λ old new given. ⊥
 
--- nothing goes out, and the status is that of what fails
+-- nothing is written, and the status is that of what fails
 abbrev pub IsRefused : (old new : Streams) → ℕ → Type 0
 IsRefused old new given = NothingOut old new × IsFailure given
 
@@ -167,14 +167,15 @@ AreContents file contents old new =
     (length contents ≤ 67108864) × NothingOut old new × (bytes_eq file (codes "-") ≡ false → new ≡ old)
     × (bytes_eq file (codes "-") ≡ true → IfSome old.unread (λ input. contents ≡ input))
 
--- what the words ask for is done by the schedule in these contents; or they have none, and nothing goes out
+-- what the words ask for is done by the schedule in these contents; or they have none, and nothing is written
 abbrev pub IsDoneIn : (words : List Text) → (contents : Text) → (old new : Streams) → ℕ → Type 0
 IsDoneIn words contents old new given =
     ((is_some (schedule_of (schedule_in contents)) ≡ true)
     × IsDoneOrRefused (reading_of (Some (schedule_in contents)) words) old new given)
     ⊎ IsRefused old new given
 
--- a file is read, and it is done by the schedule in it; or the file can't be read or is too long, and nothing goes out
+-- a file is read, and it is done by the schedule in it; or the file can't be read or is too long, and nothing is
+-- written
 abbrev pub IsDoneBy : (words : List Text) → (file : Text) → (old new : Streams) → ℕ → Type 0
 IsDoneBy words file old new given =
     ((contents : Text) × (read : Streams) × AreContents file contents old read × IsDoneIn words contents read new given)
@@ -190,7 +191,7 @@ abbrev pub IsFarmOf : (words : List Text) → FarmArgs → Type 0
 IsFarmOf words args = (text : Option Text) × (w : Wanted) × (reading_of text words ≡ works w None)
     × (w.work ≡ farm (view_of_farm_args args))
 
--- what words ask for is done; or they ask for a farm, or memory ran out, and nothing went out
+-- what words ask for is done; or they ask for a farm, or memory ran out, and nothing was written
 abbrev pub Obeys : (words : List Text) → (old new : Streams) → Result Obeyed NoMemory → Type 0
 Obeys words old new (Ok (Status given)) = IsDoneAs words (reading_of None words) old new given
 Obeys words old new (Ok (Farm args)) = IsFarmOf words args × NothingOut old new

@@ -146,7 +146,7 @@ pub fn say_more(
     answered: &AnsweredRoot,
 ) {
     let args = &asked.args;
-    // The answer went out: nothing more is said where memory runs out now.
+    // The answer was written: nothing more is said where memory runs out now.
     match answered {
         Ok(REFUSED) => {
             if let Ok(reported) = why(rt.alloc(), args, source) {

@@ -78,7 +78,7 @@ where
 }
 
 /// Does what words ask for, the first of which names the program, between the standard streams and with the files that
-/// they name. If they ask for no work, nothing is read, and only their text goes out.
+/// they name. If they ask for no work, nothing is read, and only their text is written.
 pub fn obey<'a, R, I: Read, W: Write, L: Ledger, M: Ledger>(
     rt: &R,
     words: &'a [&'a str],

@@ -14,8 +14,8 @@ use Rattle.pulsefarm.specs.Words.{words_of}
 
 -- ---- a farm
 
--- a farm over these inputs ended: what its clients were answered went out; or a stream failed or memory ran out, before
--- the farm began or after
+-- a farm over these inputs ended: what its clients were answered was written; or a stream failed or memory ran out,
+-- before the farm began or after
 abbrev pub FarmEnds : List (Option (List ℕ)) → (written_old written_new : Option (List ℕ))
     → (failed_old failed_new : ℕ) → End → Type 0
 FarmEnds inputs w0 w1 n0 n1 (Ok status) = FarmPrints inputs status w0 w1 × (n1 ≡ n0)
@@ -46,7 +46,7 @@ LacksFile refuses words =
 -- F is what files are to the system, which says which of them a path may open and what each still holds
 module _ {F : Type 0} (opens : (path : List ℕ) → F → Type 0) (remaining : F → Option (List ℕ)) where
   -- the files of these words were opened and a farm was run over what they held, and the program has the status of its
-  -- end; or it wasn't begun, which is a failure, and nothing went out
+  -- end; or it wasn't begun, which is a failure, and nothing was written
   abbrev pub FarmIsDone : (words : List (List ℕ)) → (written_old written_new : Option (List ℕ))
       → (failed_old failed_new : ℕ) → ℕ → Type 0
   FarmIsDone words w0 w1 n0 n1 given =
@@ -70,7 +70,7 @@ module _ {F : Type 0} (opens : (path : List ℕ) → F → Type 0) (remaining : 
 
   -- ---- words
 
-  -- what words ask for is done, a farm too; or memory ran out, and nothing went out
+  -- what words ask for is done, a farm too; or memory ran out, and nothing was written
   abbrev pub Does : (words : List (List ℕ)) → (old new : Streams) → Result ℕ NoMemory → Type 0
   Does words old new (Ok given) =
       IsDoneAs words (reading_of None words) old new given

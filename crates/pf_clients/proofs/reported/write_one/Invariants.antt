@@ -3,7 +3,7 @@ use Rattle.pf_wire.proofs.Leaving.{IsAdded}
 use Rattle.pf_clients.specs.Texts.{reported_text}
 use Rattle.pf_clients.proofs.reported.write_one.Given as goal
 
--- what went out, and after it what is gathered, is the text of the replies so far
+-- what was written, and after it what is gathered, is the text of the replies so far
 abbrev pub invariant-replies : goal.invariant-replies
 invariant-replies g l =
     let contents = g.W.Write.contents in

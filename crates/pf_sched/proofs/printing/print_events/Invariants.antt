@@ -5,7 +5,8 @@ use Rattle.pf_sched.specs.Parts.{Executes}
 use Rattle.pf_sched.specs.Printing.{IsPrinted}
 use Rattle.pf_sched.proofs.printing.print_events.Given as goal
 
--- an event was made in each turn, all were received, and the lines of those that don't wait went out; no call failed
+-- an event was made in each turn, all were received, and the lines of those that don't wait were written; no call
+-- failed
 abbrev pub invariant-loop : goal.invariant-loop
 invariant-loop g l =
     let contents = g.W.Write.contents in

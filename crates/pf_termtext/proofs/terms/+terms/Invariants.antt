@@ -20,7 +20,7 @@ decreases-put_list l = 4 * nodes_in (elements_of l.elements.now) + 3
 abbrev pub decreases-put_tail : goal.decreases-put_tail
 decreases-put_tail l = 4 * nodes_in (elements_of l.tail.now) + 2
 
--- what went out and what is left make the text of the whole, and what is left is no larger
+-- what was written and what is left make the text of the whole, and what is left is no larger
 abbrev pub invariant-put_others-loop-first : goal.invariant-put_others-loop-first
 invariant-put_others-loop-first l = record {
   text_is : l.out.items ++ rest_text (name_of l.atoms) (values_of l.rest) ≡ l.fn.out.items

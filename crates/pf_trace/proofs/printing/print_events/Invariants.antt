@@ -4,8 +4,8 @@ use Rattle.pf_model.specs.Reports.{view_of_event}
 use Rattle.pf_trace.specs.Written.{HasGoneOut, IsShort}
 use Rattle.pf_trace.proofs.printing.print_events.Given as goal
 
--- the events so far were put, the lines of those that don't wait went out, fewer wait than make a piece, and no call
--- failed
+-- the events so far were put, the lines of those that don't wait were written, fewer wait than make a piece, and no
+-- call failed
 abbrev pub invariant-loop-event : goal.invariant-loop-event
 invariant-loop-event g l =
     let contents = g.W.Write.contents in

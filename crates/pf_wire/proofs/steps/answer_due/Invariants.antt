@@ -4,7 +4,7 @@ use Rattle.pf_wire.specs.Endings.{LeadsTo}
 use Rattle.pf_wire.proofs.Leaving.{AtHand}
 use Rattle.pf_wire.proofs.steps.answer_due.Given as goal
 
--- what went out and what is gathered answers the commands before the rest
+-- what was written and what is gathered answers the commands before the rest
 abbrev pub invariant-loop-alloc : goal.invariant-loop-alloc
 invariant-loop-alloc g l =
     let contents = g.W.Write.contents in
