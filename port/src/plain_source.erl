@@ -39,16 +39,17 @@ compiled_forms(File) ->
         _ -> none
     end.
 
-%% @doc A file of the library or of OTP, which doesn't change while this program runs, and so is read once for all passes.
+%% @doc A file of the library or of OTP, which doesn't change while this program runs, and so is read once for all passes
+%% with the same macros. One reading of each file is kept: all of them, by each set of macros, don't fit a long session.
 -spec read_library(file:filename(), [term()]) -> source().
 read_library(File, Defines) ->
-    Key = {?MODULE, File, Defines, maps:get(includes, plain_state:get(options))},
-    case persistent_term:get(Key, none) of
-        none ->
+    Asked = {Defines, maps:get(includes, plain_state:get(options))},
+    case get({?MODULE, File}) of
+        {Asked, Source} -> Source;
+        _ ->
             Source = maps:remove(forms, read(File, Defines)),
-            persistent_term:put(Key, Source),
-            Source;
-        Source -> Source
+            _ = put({?MODULE, File}, {Asked, Source}),
+            Source
     end.
 
 -spec forms(file:filename(), [term()]) -> [term()].
