@@ -1,4 +1,4 @@
--- Farms that a fault ended, and farms that began once nothing had gone out.
+-- Farms that a fault ended, and farms that began before anything was written.
 use Rattle.std.proofs.Common.{◌≡◌, ◌<◌, ◌+◌, ◌||◌, ◌⊎◌, ℕ, suc, Bool, true, false, List, [], ◌∷◌, ◌++◌, map, take, drop}
 use Rattle.std.proofs.Common.{get_or, length, Option, Result, Ok, Err, inr, ◌∙◌, refl, ap, subst, sym}
 use Rattle.std.specs.Prelude.{IfOk, IsErr}
@@ -91,7 +91,7 @@ module _ {F : Type 0} (opens : (path : List ℕ) → F → Type 0) (remaining : 
   ended_by ws fs w0 w1 n0 n1 r e opened is ends given fails =
       inr (fs, Err e, opened, subst (FarmEnds (map remaining fs) w0 w1 n0 n1) is ends, fails)
 
-  -- one that is done from where nothing had gone out is done from the beginning
+  -- one that is done from where nothing was written is done from the beginning
   pub from_beginning : (ws : List (List ℕ)) (w w0 w1 : Option (List ℕ)) (k n0 n1 given : ℕ) → w ≡ w0 → k ≡ n0
       → FarmIsDone opens remaining ws w w1 k n1 given → FarmIsDone opens remaining ws w0 w1 n0 n1 given
   from_beginning ws w w0 w1 k n0 n1 given written failed done =

@@ -58,32 +58,7 @@ fn words_of<'a>(alloc: Global, given: &'a [String]) -> Result<Vec<&'a str>, NoMe
     Ok(words)
 }
 
-/// Does what the words ask for, a farm too; its status.
-fn obeyed<R, I: Read, W: Write, L: Ledger, M: Ledger>(
-    rt: &R,
-    words: &[&str],
-    reader: &mut Counted<I, L>,
-    writer: &mut Counted<W, M>,
-    line: &ProgressLine,
-    host: Host,
-) -> Result<u8, NoMemory>
-where
-    R: Opens + Print + Eprint + AllocGlobal + RandomSource + Clock + Threads + Wait + Sync,
-    R::File: Send + Drop,
-    ensures { Does R.opens R.File.remaining (map (λ w. w.now) words.now)
-        (streams (I.remaining reader.old.inner) (W.contents writer.old.inner)
-        reader.old.failures.total writer.old.failures.total)
-        (streams (I.remaining reader.new.inner) (W.contents writer.new.inner)
-        reader.new.failures.total writer.new.failures.total) result }
-{
-    let done = obey(rt, words, reader, writer, line)?;
-    match &done {
-        Obeyed::Status(status) => Ok(*status),
-        Obeyed::Farm(args) => Ok(farm(rt, args, host, writer)),
-    }
-}
-
-/// Reads the words and does what they ask for, between a reader and a writer.
+/// Reads the words and does what they ask for, a farm too, between a reader and a writer; its status.
 fn answer_words<R, I: Read, W: Write, L: Ledger, M: Ledger>(
     rt: &R,
     reader: &mut Counted<I, L>,
@@ -111,11 +86,15 @@ where
 {
     let given = rt.given_words()?;
     let words = words_of(rt.alloc(), &given)?;
-    obeyed(rt, &words, reader, writer, line, host)
+    let done = obey(rt, &words, reader, writer, line)?;
+    match &done {
+        Obeyed::Status(status) => Ok(*status),
+        Obeyed::Farm(args) => Ok(farm(rt, args, host, writer)),
+    }
 }
 
 /// The same between the standard streams, of which no call has failed yet.
-fn try_all_by<R, I: Read + Drop, W: Write + Drop, L: Ledger, M: Ledger>(
+fn try_all<R, I: Read + Drop, W: Write + Drop, L: Ledger, M: Ledger>(
     rt: &R,
     stdin: I,
     stdout: W,
@@ -151,39 +130,7 @@ where
     answer_words(rt, &mut reader, &mut writer, line, host)
 }
 
-/// The same; before anything is written the line is emptied.
-fn try_all<R, I: Read + Drop, W: Write + Drop>(
-    rt: &R,
-    stdin: I,
-    stdout: W,
-    line: &ProgressLine,
-    host: Host,
-) -> Result<u8, NoMemory>
-where
-    R: GivesWords
-        + Opens
-        + Print
-        + Eprint
-        + AllocGlobal
-        + RandomSource
-        + Clock
-        + Threads
-        + Wait
-        + Sync,
-    R::File: Send + Drop,
-    ensures { (after : Streams)
-        × DoesGiven R.opens R.File.remaining R.gives (streams (I.remaining stdin) (W.contents stdout) 0 0)
-        after result }
-{
-    let inner = stdout;
-    let clearing = Clearing { line, inner };
-    let (reads, writes) = (Blank::new(1), Blank::new(1));
-    try_all_by::<R, I, Clearing<'_, W>, Brand, Brand>(
-        rt, stdin, clearing, line, host, reads, writes,
-    )
-}
-
-/// Does all work; what it gives is the status.
+/// Does all work; before anything is written the line is emptied. Its result is the status.
 fn all<R, I: Read + Drop>(rt: &R, stdin: I, host: Host) -> u8
 where
     R: GivesWords
@@ -199,12 +146,12 @@ where
     R::File: Send + Drop,
     ensures { IsStatus R.opens R.File.remaining R.gives result }
 {
-    match try_all(
-        rt,
-        stdin,
-        io::writer(rt),
-        &ProgressLine::new(host.stderr),
-        host,
+    let line = &ProgressLine::new(host.stderr);
+    let inner = io::writer(rt);
+    let stdout = Clearing { line, inner };
+    let (reads, writes) = (Blank::new(1), Blank::new(1));
+    match try_all::<R, I, Clearing<'_, _>, Brand, Brand>(
+        rt, stdin, stdout, line, host, reads, writes,
     ) {
         Ok(status) => status,
         Err(NoMemory) => no_memory(rt),

@@ -1,12 +1,17 @@
-use Rattle.std.proofs.Common.{ap, ◌∙◌, map, subst, sym}
+use Rattle.std.proofs.Common.{ap, ◌∙◌, inr, map, subst, sym, Ok}
 use Rattle.std.specs.String.{string_bytes}
 use Rattle.pulsefarm.proofs.Beginning.{for_given}
+use Rattle.pulsefarm.proofs.Farms.{from_beginning}
 use Rattle.pulsefarm.proofs.answer_words.Goals as goal
 
 pub returns : goal.returns
 returns g c =
-    for_given g.R.Opens.opens g.R.File.Read.remaining g.R.GivesWords.gives
-    (map (λ s. string_bytes s) c.deref.result.now) _ _ _ c.obeyed.result
+    let opens = g.R.Opens.opens in
+    let remaining = g.R.File.Read.remaining in
+    let done = rw (c.in_ok-done.was, c.in-Farm.is) at c.obey.ensures in
+    for_given opens remaining g.R.GivesWords.gives (map (λ s. string_bytes s) c.deref.result.now) _ _ _
+    (Ok c.farm.result)
     (subst (λ ws. g.R.GivesWords.gives (map (λ s. string_bytes s) ws)) (sym c.deref.ensures.value)
     c.in_ok-given.ensures)
-    (ap (λ ws. map (λ w. w.now) ws) c.deref-2.ensures.value ∙ c.in_ok-words.ensures) c.obeyed.ensures
+    (ap (λ ws. map (λ w. w.now) ws) c.deref-2.ensures.value ∙ c.in_ok-words.ensures)
+    (inr (c.in-Farm.args, done.0, from_beginning opens remaining _ _ _ _ _ _ _ _ done.1.0 done.1.1 c.farm.ensures))

@@ -1,6 +1,6 @@
 use Rattle.std.proofs.Common.{ap}
 use Rattle.pulsefarm.proofs.Beginning.{from_equal}
-use Rattle.pulsefarm.proofs.try_all_by.Goals as goal
+use Rattle.pulsefarm.proofs.try_all.Goals as goal
 
 pub returns : goal.returns
 returns g c = (
