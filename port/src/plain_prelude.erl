@@ -134,4 +134,4 @@ atoms(Table, Mode) ->
         [Name, "(", From, ")->", Open, To, Close, ";\n"]
     end,
     Unknown = [[Name, "([_|_])->", action("exit", ["{refused,erlang,list_to_atom,1}"]), ";\n"] || Table =:= list_to_atom],
-    [[Clause(Atom) || Atom <- plain_state:keys(atoms), Atom =/= ''], Unknown, Name, "(_)->", plain_dispatch:failing(Mode, "badarg"), ".\n"].
+    [[Clause(Atom) || Atom <- plain_state:keys(atoms)], Unknown, Name, "(_)->", plain_dispatch:failing(Mode, "badarg"), ".\n"].

@@ -131,9 +131,9 @@ pid(Pid) ->
         nomatch -> -1
     end.
 
-%% A question to the service that keeps the tables.
+%% A question to a service that keeps tables.
 -spec asked() -> binary().
-asked() -> <<"^send <[0-9]+> {ask,<[0-9]+>,#Ref<[0-9]+>,{([a-z_]+),(.*)}}$">>.
+asked() -> <<"^send <[0-9]+> {(ask|dets),<[0-9]+>,#Ref<[0-9]+>,{([a-z_]+),(.*)}}$">>.
 
 %% A label in the words of who wrote the source.
 -spec said(binary()) -> binary().
@@ -141,7 +141,7 @@ said(Label) ->
     lists:foldl(fun({From, To}, Before) -> re:replace(Before, From, To, [{return, binary}]) end, Label, asks() ++ servers() ++ actions()).
 
 -spec asks() -> [{binary(), binary()}].
-asks() -> [{asked(), <<"ets:\\1(\\2)">>}].
+asks() -> [{asked(), <<"\\1:\\2(\\3)">>}, {<<"^ask:">>, <<"ets:">>}].
 
 %% What goes between servers, their clients and who starts them.
 -spec servers() -> [{binary(), binary()}].
