@@ -1,4 +1,4 @@
-%% @doc Notes on the encodings that a source is seen to use: each is told once, with what it adds or loses.
+%% @doc Notes on the encodings that a source is seen to use: each is written once, with what it adds or loses.
 -module(plain_encodings).
 -export([note/3, times/0]).
 
@@ -10,7 +10,7 @@ note(application, _, _) ->
     lists:member(pf_application, plain_state:get(users))
         orelse plain_refusal:note_once(application, "no application has an environment here, so get_env answers the default; starting one does nothing"),
     ok;
-note(timer, tc, _) -> plain_refusal:note_once(measured, "timer:tc measures nothing, and tells 0");
+note(timer, tc, _) -> plain_refusal:note_once(measured, "timer:tc measures nothing, and answers 0");
 note(timer, _, _) -> times();
 note(Module, _, _) ->
     case sentence(Module) of
@@ -37,5 +37,5 @@ sentence(io_lib) -> {formats, "pids, references and funs are formatted without n
 sentence(string) -> {text, "a character is a code point, upper and lower case are those of ASCII, and a text is a flat list or a binary"};
 sentence(gen_statem) -> {statem, "gen_statem is a library after OTP 25, without hibernation, code change and change of the callback module"};
 sentence(supervisor) -> {supervisor, "supervisor is a library after OTP 25, without code change and auto_shutdown; its restarts are counted by the clock of the run"};
-sentence(net_kernel) -> {nodes, "there is one node; nothing tells of others"};
+sentence(net_kernel) -> {nodes, "there is one node; nothing is known of others"};
 sentence(_) -> none.

@@ -1,4 +1,4 @@
-%% @doc What can't be translated, told with its place and a cure, and notes on what an encoding adds or loses.
+%% @doc What can't be translated, with its place and a cure, and notes on what an encoding adds or loses.
 -module(plain_refusal).
 -export([refuse/2, refuse/3, record/3, note/2, note_once/2, place/2, why/2]).
 
@@ -18,7 +18,7 @@ refuse(Format, Arguments) -> refuse(plain_state:get(line), Format, Arguments).
 record(File, Line, Sentence) ->
     plain_state:put(refusals, [{File, Line, lists:flatten(Sentence)} | plain_state:get(refusals)]).
 
-%% @doc A note on the place where the translation stands.
+%% @doc A note on the place where the translation is.
 -spec note(io:format(), [term()]) -> ok.
 note(Format, Arguments) ->
     Text = lists:flatten(io_lib:format("~ts: " ++ Format, [place(plain_state:get(file), plain_state:get(line)) | Arguments])),

@@ -293,7 +293,7 @@ help() ->
     "  --all-roots         of hunt: each exported function without arguments of the first file, with a line for each and one at the\n"
     "                      end; with --fail-fast none after the first that fails. Of a folder in the place of files the roots are\n"
     "                      main, race, and what ends with _race or _test in each of its files; with --all-roots all\n"
-    "  --explain           of run: how each process stands at the end, on standard error\n"
+    "  --explain           of run: where each process is at the end, on standard error\n"
     "  --calls M:F         says that a value names this function, where a text of over 24,576 bytes left it out\n"
     "  --lax               takes calls that aren't known; who calls one ends with {refused,Module,Function,Arity}\n"
     "\n"

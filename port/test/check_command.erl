@@ -27,7 +27,7 @@ check() ->
     completed(),
     ok.
 
-%% One command finds the race of a program and tells it by a line that the file names.
+%% One command finds the race of a program and reports it by a line that the file names.
 -spec reported(file:filename()) -> boolean().
 reported(File) ->
     {ok, Text} = file:read_file(File),
@@ -189,7 +189,7 @@ by_default() ->
     {Timed, 0} = checks:command(["hunt", File, "--for", "1s"]),
     checks:has("for a time", "^stopped after [0-9]+ seeds\nno failure in [0-9]+ seeds$", Timed).
 
-%% Who comes to what the translator lacks is refused, whatever catches errors there, and never told as a failure of the program.
+%% Who comes to what the translator lacks is refused, whatever catches errors there, and never reported as a failure of the program.
 -spec gaps() -> boolean().
 gaps() ->
     File = checks:folder("commands/gap.erl"),
@@ -259,7 +259,7 @@ hidden() ->
     checks:has("functions that aren't exported", "^finished inside$", Answer),
     checks:has("the one that is started", "^crash <1> at hidden\\.erl:9 hidden:main/0: error undef$", Answer).
 
-%% A deadlock is told by the lines of the receives.
+%% A deadlock is reported by the lines of the receives.
 -spec waits() -> boolean().
 waits() ->
     {Answer, 1} = checks:command(["hunt", checks:folder("commands/waiting.erl")]),
@@ -267,7 +267,7 @@ waits() ->
     checks:has("a fun waits", "^waits <[12]> at waiting\\.erl:8 waiting:main/0$", Answer),
     checks:has("a function waits", "^waits <[12]> at waiting\\.erl:21 waiting:second/0$", Answer).
 
-%% What is written before and behind an answer in the same file keeps its place.
+%% What is written before and after an answer in the same file keeps its place.
 -spec into_a_file() -> boolean().
 into_a_file() ->
     File = checks:room("log"),
