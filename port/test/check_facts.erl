@@ -1,5 +1,5 @@
-%% @doc Facts of OTP on links, monitors, timers, gen_server, gen_statem, supervisors and ets that no schedule may change: each is the
-%% same on Erlang and in each run.
+%% @doc Facts of OTP on links, monitors, timers, gen_server, gen_statem, supervisors, ets, dets, qlc and reports that no
+%% schedule may change: each is the same on Erlang and in each run.
 -module(check_facts).
 -export([check/0]).
 
@@ -8,7 +8,7 @@
 -spec check() -> ok.
 check() ->
     Facts = lists:sum([one(File) || File <- lists:sort(filelib:wildcard(checks:folder("facts/*.erl")))]),
-    checks:expect("247 facts", 247, Facts),
+    checks:expect("436 facts", 436, Facts),
     ok.
 
 -spec one(file:filename()) -> non_neg_integer().
