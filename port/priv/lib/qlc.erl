@@ -1,7 +1,30 @@
 %% Handles of qlc, for tables, lists, and what is joined or sorted of them, after OTP 25: each is evaluated in one piece.
-%% Queries by list comprehension, cursors and tables by functions of one's own are refused.
+%% Of a query by list comprehension the generators are evaluated in their order, each once. Cursors and tables by
+%% functions of one's own are refused.
 -module(qlc).
 -compile([export_all, nowarn_export_all]).
+-spec q(term()) -> {qlc_handle, term()}.
+q(F) -> q(F, []).
+
+-spec q(term(), term()) -> {qlc_handle, term()}.
+q(F, Options) when is_function(F, 0) ->
+    All = case is_list(Options) of true -> Options; false -> [Options] end,
+    lists:all(fun is_of_query/1, All) orelse error(badarg),
+    {qlc_handle, {query, F, lists:member(unique, All) orelse lists:member({unique, true}, All)}};
+q({qlc_lc, _, _}, _) -> prim:raw(exit, {refused, qlc, q, 2});
+q(_, _) -> error(badarg).
+
+-spec is_of_query(term()) -> boolean().
+is_of_query({max_lookup, N}) -> N =:= infinity orelse is_integer(N) andalso N >= 0;
+is_of_query({join, How}) -> lists:member(How, [any, nested_loop, merge, lookup]);
+is_of_query({lookup, How}) -> is_boolean(How) orelse How =:= any;
+is_of_query({cache, How}) -> is_boolean(How) orelse lists:member(How, [list, ets, no]);
+is_of_query(Flag) -> is_flag(Flag, [unique, cache]).
+
+%% the answers of a generator
+-spec generated(term()) -> list().
+generated(Q) -> is_handle(Q) orelse error(badarg), answers(Q).
+
 -spec e(term()) -> list().
 e(Q) -> eval(Q, []).
 
@@ -67,6 +90,7 @@ is_handle(Q) -> is_list(Q).
 
 -spec answers(term()) -> list().
 answers({qlc_handle, {table, F}}) -> F();
+answers({qlc_handle, {query, F, Unique}}) -> once(Unique, F());
 answers({qlc_handle, {append, Qs}}) -> lists:append([answers(Q) || Q <- Qs]);
 answers({qlc_handle, {sort, Q, How, Order, Unique}}) ->
     L = case How of
