@@ -54,11 +54,13 @@ complete(Answer) -> Answer.
 %% Values that are refused before anything is translated.
 -spec sensible(asked()) -> yes | {no, iodata()}.
 sensible(#{words := Words, property := Property}) ->
-    case {plain_hunt:seeds(value("--seeds", Words, "1")), plain_hunt:time(value("--for", Words, none)), is_property(Property)} of
+    Seeds = plain_hunt:seeds(value("--seeds", Words, "1")),
+    case {Seeds, plain_hunt:time(value("--for", Words, none)), is_property(Property)} of
         {no, _, _} -> {no, "--seeds wants A..B, A below B"};
         {_, no, _} -> {no, "--for wants a number followed by s, m or h"};
         {_, _, false} ->
-            {no, ["there is no property ", Property, "; write sound, supervised, returns, true, nocrash, nodeadlock, withinlimit or never:PATTERN"]};
+            {no, ["there is no property ", Property,
+                  "; write sound, supervised, returns, true, nocrash, nodeadlock, withinlimit or never:PATTERN"]};
         _ -> yes
     end.
 

@@ -16,7 +16,8 @@ open_file(File) ->
 open_file(Name, Args) when is_list(Args) ->
     File = text(given(file, Args, Name)),
     lists:all(fun is_argument/1, Args) andalso is_list(File) andalso fit(Args) orelse error(badarg),
-    Config = {File, given(type, Args, set), given(keypos, Args, 1), given(access, Args, read_write), given(ram_file, Args, false)},
+    Config = {File, given(type, Args, set), given(keypos, Args, 1), given(access, Args, read_write),
+              given(ram_file, Args, false)},
     pf_dets:ask({open, Name, Config, given(auto_save, Args, 180000)});
 open_file(Name, Arg) -> open_file(Name, [Arg]).
 
@@ -63,7 +64,7 @@ fit(Args) ->
 close(T) -> pf_dets:ask({close, T}).
 
 -spec is_dets_file(term()) -> boolean() | {error, term()}.
-is_dets_file(File) -> case pf_dets:ask({is_file, File}) of true -> true; false -> {error, {file_error, File, enoent}} end.
+is_dets_file(File) -> pf_dets:ask({is_file, File}) orelse {error, {file_error, File, enoent}}.
 
 -spec insert(term(), term()) -> ok | {error, term()}.
 insert(T, Xs) when is_list(Xs) -> pf_dets:ask({insert, T, Xs});
@@ -177,7 +178,8 @@ fact(owner, _) -> erlang:whereis('port@dets');
 fact(pid, _) -> erlang:whereis('port@dets');
 fact(hash, _) -> phash2;
 fact(version, _) -> 9;
-fact(Item, _) when Item =:= memory; Item =:= file_size; Item =:= no_slots; Item =:= bchunk_format; Item =:= delayed_write ->
+fact(Item, _) when Item =:= memory; Item =:= file_size; Item =:= no_slots; Item =:= bchunk_format;
+                   Item =:= delayed_write ->
     prim:raw(exit, {refused, dets, info, 2});
 fact(_, _) -> undefined.
 

@@ -15,7 +15,8 @@ ask(Q) ->
 -spec start() -> term().
 start() -> prim:raw(register, 'port@dets', spawn(fun() -> serve([], []) end)).
 
-%% Ts: {Name, {File, Type, KeyPos, Access, Ram}, AutoSave, Users, Fixed, Objects sorted}; Files: {File, Type, KeyPos, Objects}
+%% Ts: {Name, {File, Type, KeyPos, Access, Ram}, AutoSave, Users, Fixed, Objects sorted};
+%% Files: {File, Type, KeyPos, Objects}
 -spec serve(Ts :: list(), Files :: list()) -> no_return().
 serve(Ts, Files) ->
     receive
@@ -23,7 +24,10 @@ serve(Ts, Files) ->
             case opened(lists:keyfind(Name, 1, Ts), Name, Config, Save, P, Ts, Files) of
                 {error, Why} -> P ! {R, ok, {error, Why}}, serve(Ts, Files);
                 refused -> P ! {R, refused, open_file, 2}, serve(Ts, Files);
-                T -> monitor(process, P), P ! {R, ok, {ok, Name}}, serve(lists:keystore(Name, 1, Ts, T), noted(Config, Files))
+                T ->
+                    monitor(process, P),
+                    P ! {R, ok, {ok, Name}},
+                    serve(lists:keystore(Name, 1, Ts, T), noted(Config, Files))
             end;
         {dets, P, R, {reopen, File}} ->
             case {lists:keyfind(File, 1, Files), is_open(File, Ts)} of
@@ -38,7 +42,9 @@ serve(Ts, Files) ->
             case lists:keyfind(Name, 1, Ts) of
                 {_, Config, Save, Users, Fix, L} ->
                     case lists:member(P, Users) of
-                        true -> P ! {R, ok, ok}, closed([{Name, Config, Save, lists:delete(P, Users), lists:delete(P, Fix), L}], Ts, Files);
+                        true ->
+                            P ! {R, ok, ok},
+                            closed([{Name, Config, Save, lists:delete(P, Users), lists:delete(P, Fix), L}], Ts, Files);
                         false -> P ! {R, ok, {error, not_owner}}, serve(Ts, Files)
                     end;
                 false -> P ! {R, ok, {error, not_owner}}, serve(Ts, Files)
@@ -60,7 +66,8 @@ serve(Ts, Files) ->
     end.
 
 -spec without(pid(), tuple()) -> tuple().
-without(P, {Name, Config, Save, Users, Fix, L}) -> {Name, Config, Save, [U || U <- Users, U =/= P], [F || F <- Fix, F =/= P], L}.
+without(P, {Name, Config, Save, Users, Fix, L}) ->
+    {Name, Config, Save, [U || U <- Users, U =/= P], [F || F <- Fix, F =/= P], L}.
 
 %% Tables as they are then: one that nobody uses goes into its file.
 -spec closed([tuple()], list(), list()) -> no_return().
@@ -138,5 +145,6 @@ changed({update_counter, _, K, {I, N}}, set, Pos, L) ->
             end;
         _ -> error
     end;
-changed({update_counter, Name, K, N}, set, Pos, L) when is_number(N) -> changed({update_counter, Name, K, {Pos + 1, N}}, set, Pos, L);
+changed({update_counter, Name, K, N}, set, Pos, L) when is_number(N) ->
+    changed({update_counter, Name, K, {Pos + 1, N}}, set, Pos, L);
 changed({update_counter, _, _, _}, _, _, _) -> error.

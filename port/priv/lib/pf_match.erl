@@ -193,7 +193,8 @@ together(Op, [A | As]) -> {Op, A, together(Op, As)};
 together(_, []) -> error(badarg).
 
 -spec is_named(term(), term(), term()) -> boolean().
-is_named(T, N, S) when is_atom(N), is_integer(S), S >= 0 -> is_tuple(T) andalso tuple_size(T) =:= S andalso element(1, T) =:= N.
+is_named(T, N, S) when is_atom(N), is_integer(S), S >= 0 ->
+    is_tuple(T) andalso tuple_size(T) =:= S andalso element(1, T) =:= N.
 
 -spec op(term(), term()) -> term().
 op('not', A) -> not A;

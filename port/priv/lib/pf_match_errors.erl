@@ -55,7 +55,7 @@ all(Es, Vs) -> lists:append([of_term(E, Vs) || E <- Es]).
 of_term(T, Vs) when is_atom(T) ->
     case pf_match:number(T) of
         none -> [];
-        N -> case lists:member(N, Vs) of true -> []; false -> [one("Variable $" ++ integer_to_list(N) ++ " is unbound.")] end
+        N -> [one("Variable $" ++ integer_to_list(N) ++ " is unbound.") || not lists:member(N, Vs)]
     end;
 of_term([H | T], Vs) -> of_term(H, Vs) ++ of_term(T, Vs);
 of_term({'#map', L}, Vs) -> all(lists:reverse([V || {_, V} <- L]), Vs) ++ all(lists:reverse([K || {K, _} <- L]), Vs);
@@ -102,8 +102,8 @@ why_not(_, _) -> " does_not_exist.".
 -spec of_tracing(atom()) -> atom().
 of_tracing(set_seq_token) -> set_seq_trace;
 of_tracing(F) ->
-    Forms = [is_seq_trace, get_seq_token, message, exception_trace, return_trace, caller, caller_line, process_dump, enable_trace,
-             disable_trace, trace, silent, display],
+    Forms = [is_seq_trace, get_seq_token, message, exception_trace, return_trace, caller, caller_line, process_dump,
+             enable_trace, disable_trace, trace, silent, display],
     case lists:member(F, Forms) of true -> F; false -> none end.
 
 -spec special(atom(), string()) -> {error, string()}.

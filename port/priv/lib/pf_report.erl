@@ -1,5 +1,5 @@
-%% The text of a crash report, after OTP 25, where each of its terms fits a line. What Erlang would break into lines, and
-%% frames of a stack with arguments or of built-in functions, end the process as refused.
+%% The text of a crash report, after OTP 25, where each of its terms fits a line. What Erlang would break into lines,
+%% and frames of a stack with arguments or of built-in functions, end the process as refused.
 -module(pf_report).
 -compile([export_all, nowarn_export_all]).
 -spec format(term(), pos_integer() | unlimited) -> string().
@@ -18,14 +18,17 @@ joined([T | Ts]) -> T ++ "\n" ++ joined(Ts).
 -spec own(term(), term()) -> string().
 own(Own, Depth) ->
     case separated(Own, []) of
-        {First, {Class, Reason, Stack}, Rest} -> joined([report(First, "    ", Depth), "    " ++ exception(Class, Reason, Stack, Depth), report(Rest, "    ", Depth)]);
+        {First, {Class, Reason, Stack}, Rest} ->
+            Error = "    " ++ exception(Class, Reason, Stack, Depth),
+            joined([report(First, "    ", Depth), Error, report(Rest, "    ", Depth)]);
         no -> report(Own, "    ", Depth)
     end.
 
 %% what comes before the error, the error, and what comes after it
 -spec separated(term(), list()) -> {list(), term(), list()} | no.
 separated([{error_info, Info} | Rest], Before) -> {lists:reverse(Before), Info, Rest};
-separated([X | Rest], Before) when is_tuple(X), tuple_size(X) > 0, element(1, X) =/= error_info -> separated(Rest, [X | Before]);
+separated([X | Rest], Before) when is_tuple(X), tuple_size(X) > 0, element(1, X) =/= error_info ->
+    separated(Rest, [X | Before]);
 separated(_, _) -> no.
 
 -spec neighbour(term(), term()) -> string().
@@ -38,11 +41,15 @@ report(Report, Indent, Depth) -> Indent ++ shown(Report, length(Indent) + 1, Dep
 
 -spec parts(term(), string(), term()) -> [string()].
 parts([{initial_call, {M, F, As}} | Rest], Indent, Depth) when is_atom(M), is_atom(F), is_list(As) ->
-    [Indent ++ "initial call: " ++ io_lib:write(M) ++ ":" ++ io_lib:write(F) ++ "/" ++ integer_to_list(length(As)) | parts(Rest, Indent, Depth)];
+    [Indent ++ "initial call: " ++ named(M, F, length(As)) | parts(Rest, Indent, Depth)];
 parts([{initial_call, Call} | _], _, _) when not is_tuple(Call); tuple_size(Call) =/= 3 -> error(function_clause);
 parts([{Tag, Data} | Rest], Indent, Depth) ->
-    [Indent ++ shown(Tag, length(Indent) + 1, unlimited) ++ ": " ++ shown(Data, 18, Depth) | parts(Rest, Indent, Depth)];
+    Part = Indent ++ shown(Tag, length(Indent) + 1, unlimited) ++ ": " ++ shown(Data, 18, Depth),
+    [Part | parts(Rest, Indent, Depth)];
 parts(_, _, _) -> [].
+
+-spec named(atom(), atom(), arity()) -> string().
+named(M, F, A) -> io_lib:write(M) ++ ":" ++ io_lib:write(F) ++ "/" ++ integer_to_list(A).
 
 %% ---- errors
 
@@ -61,13 +68,15 @@ explained(Class, Reason, Stack, Depth) ->
     case {is_stack(Stack), Reason, Stack} of
         {false, _, _} -> {value("", {Reason, Stack}, Class, Depth), []};
         {true, function_clause, [{_, _, As, _} | _]} when is_list(As), Class =:= error -> refuse();
-        {true, undef, [{M, F, A, _} | Rest]} when Class =:= error -> {"undefined function " ++ called(M, F, arity(A)), Rest};
+        {true, undef, [{M, F, A, _} | Rest]} when Class =:= error ->
+            {"undefined function " ++ called(M, F, arity(A)), Rest};
         _ -> {reason(Class, Reason, Depth), Stack}
     end.
 
 -spec is_stack(term()) -> boolean().
 is_stack([]) -> true;
-is_stack([{M, F, A, I} | Fs]) when is_atom(M), is_atom(F), is_list(I) -> (is_integer(A) orelse is_list(A)) andalso is_stack(Fs);
+is_stack([{M, F, A, I} | Fs]) when is_atom(M), is_atom(F), is_list(I) ->
+    (is_integer(A) orelse is_list(A)) andalso is_stack(Fs);
 is_stack(_) -> false.
 
 -spec arity(integer() | list()) -> integer().
@@ -90,8 +99,9 @@ reason(error, noproc, _) -> "no such process or port";
 reason(error, notalive, _) -> "the node cannot be part of a distributed system";
 reason(error, system_limit, _) -> "a system limit has been reached";
 reason(error, timeout_value, _) -> "bad receive timeout value";
-reason(error, Reason, _) when element(1, Reason) =:= shell_undef; element(1, Reason) =:= argument_limit; element(1, Reason) =:= bad_filter;
-                              element(1, Reason) =:= bad_generator; element(1, Reason) =:= unbound ->
+reason(error, Reason, _) when element(1, Reason) =:= shell_undef; element(1, Reason) =:= argument_limit;
+                              element(1, Reason) =:= bad_filter; element(1, Reason) =:= bad_generator;
+                              element(1, Reason) =:= unbound ->
     refuse();
 reason(exit, calling_self, _) -> "the current process attempted to call itself";
 reason(Class, Reason, Depth) -> value("", Reason, Class, Depth).
@@ -110,11 +120,12 @@ frames([], _) -> [];
 frames([{M, F, A, Info} | Fs], N) ->
     is_integer(A) andalso not lists:keymember(error_info, 1, Info) orelse refuse(),
     Origin = case N of 1 -> "in function  "; _ -> "in call from " end,
-    [Origin ++ called(M, F, A) ++ " " ++ location(lists:keyfind(file, 1, Info), lists:keyfind(line, 1, Info)) | frames(Fs, N + 1)].
+    Place = location(lists:keyfind(file, 1, Info), lists:keyfind(line, 1, Info)),
+    [Origin ++ called(M, F, A) ++ " " ++ Place | frames(Fs, N + 1)].
 
 -spec called(atom(), atom(), integer()) -> string().
 called(erlang, _, _) -> refuse();
-called(M, F, A) -> io_lib:write(M) ++ ":" ++ io_lib:write(F) ++ "/" ++ integer_to_list(A).
+called(M, F, A) -> named(M, F, A).
 
 -spec location(term(), term()) -> string().
 location({file, File}, {line, Line}) -> "(" ++ File ++ ", line " ++ io_lib:write(Line) ++ ")";

@@ -1,6 +1,6 @@
-%% Handles of qlc, for tables, lists, and what is joined or sorted of them, after OTP 25: each is evaluated in one piece.
-%% Of a query by list comprehension the generators are evaluated in their order, each once. Cursors and tables by
-%% functions of one's own are refused.
+%% Handles of qlc, for tables, lists, and what is joined or sorted of them, after OTP 25: each is evaluated in one
+%% piece. Of a query by list comprehension the generators are evaluated in their order, each once. Cursors and tables
+%% by functions of one's own are refused.
 -module(qlc).
 -compile([export_all, nowarn_export_all]).
 -spec q(term()) -> {qlc_handle, term()}.
@@ -113,4 +113,8 @@ once(true, L) -> once_each(L, []).
 
 -spec once_each(list(), list()) -> list().
 once_each([], Seen) -> lists:reverse(Seen);
-once_each([X | Xs], Seen) -> case lists:member(X, Seen) of true -> once_each(Xs, Seen); false -> once_each(Xs, [X | Seen]) end.
+once_each([X | Xs], Seen) ->
+    case lists:member(X, Seen) of
+        true -> once_each(Xs, Seen);
+        false -> once_each(Xs, [X | Seen])
+    end.
