@@ -26,6 +26,8 @@ times() ->
 
 -spec sentence(module()) -> {atom(), string()} | none.
 sentence(ets) -> {ets, "a table is kept by a process, and each call is a message and its answer; a table outlives its owner until that process gets the message"};
+sentence(dets) -> {dets, "dets keeps its tables and files in memory, by a process; a run begins without files, and what a cut leaves of one isn't seen"};
+sentence(qlc) -> {qlc, "a query is evaluated in one piece, its generators one after the other"};
 sentence(Module) when Module =:= atomics; Module =:= counters; Module =:= persistent_term ->
     {cells, "shared cells are kept by a process; each operation is one piece, at one place between call and answer"};
 sentence(rand) -> {rand, "a number by chance is a race of two messages, so it is a choice of the schedule and no even chance"};

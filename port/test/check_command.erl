@@ -13,6 +13,7 @@ check() ->
     several_files(),
     by_default(),
     gaps(),
+    files(),
     looks(),
     late(),
     hidden(),
@@ -207,6 +208,15 @@ gaps() ->
     Refused("a number of a machine's library", ["run", File, "--root", "measure"], "^refused <0> .*: math:exp/1 is not translated"),
     Refused("a link that two change", ["run", File, "--root", "tied"], "^refused <0> .*: erlang:process_info/2 is not translated"),
     Refused("an answer to another request", ["run", File, "--root", "between"], "^refused <0> .*: gen:receive_response/3 is not translated").
+
+%% A race by a table of dets, whose requests are in the story as the source has them.
+-spec files() -> boolean().
+files() ->
+    {Answer, 1} = checks:command(["hunt", checks:folder("commands/files.erl")]),
+    checks:has("a table is read", "^[0-9]+ <[0-9]+> dets:lookup\\(jobs,n\\)  % files\\.erl:14 files:one/1: ", Answer),
+    checks:has("it is written", "^[0-9]+ <[0-9]+> dets:insert\\(jobs,\\[\\{n,1\\}\\]\\)  % files\\.erl:15 files:one/1: ", Answer),
+    checks:has("the race", "^crash <0> at files\\.erl:10 files:main/0: error \\{badmatch,\\[\\{n,1\\}\\]\\}$", Answer),
+    checks:expect("no service", nomatch, re:run(Answer, "port@|#Ref")).
 
 %% Each word of each command is among the completions of each shell.
 -spec completed() -> ok.
