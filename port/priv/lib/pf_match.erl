@@ -70,6 +70,7 @@ bound(_, Vs) -> Vs.
 
 -spec is_term(term(), list()) -> boolean().
 is_term(T, Vs) when is_atom(T) -> case number(T) of none -> true; N -> lists:member(N, Vs) end;
+is_term(F, _) when is_function(F) -> true;
 is_term([H | T], Vs) -> is_term(H, Vs) andalso is_term(T, Vs);
 is_term({'#map', L}, Vs) -> lists:all(fun({K, V}) -> is_term(K, Vs) andalso is_term(V, Vs) end, L);
 is_term({'#bin', _}, _) -> true;
@@ -180,6 +181,7 @@ term({binary_part, A, I, N}, X, B) -> binary:part(term(A, X, B), term(I, X, B), 
 term({element, I, A}, X, B) -> element(term(I, X, B), term(A, X, B));
 term({map_get, K, A}, X, B) -> maps:get(term(K, X, B), term(A, X, B));
 term({is_map_key, K, A}, X, B) -> maps:is_key(term(K, X, B), term(A, X, B));
+term(F, _, _) when is_function(F) -> F;
 term({Op, A}, X, B) -> op(Op, term(A, X, B));
 term({Op, A, C}, X, B) -> op(Op, term(A, X, B), term(C, X, B));
 term([H | T], X, B) -> [term(H, X, B) | term(T, X, B)];

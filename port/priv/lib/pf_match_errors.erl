@@ -57,6 +57,7 @@ of_term(T, Vs) when is_atom(T) ->
         none -> [];
         N -> [one("Variable $" ++ integer_to_list(N) ++ " is unbound.") || not lists:member(N, Vs)]
     end;
+of_term(F, _) when is_function(F) -> [];
 of_term([H | T], Vs) -> of_term(H, Vs) ++ of_term(T, Vs);
 of_term({'#map', L}, Vs) -> all(lists:reverse([V || {_, V} <- L]), Vs) ++ all(lists:reverse([K || {K, _} <- L]), Vs);
 of_term({'#bin', _}, _) -> [];

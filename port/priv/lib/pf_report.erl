@@ -137,15 +137,22 @@ location(_, _) -> "".
 -spec shown(term(), pos_integer(), term()) -> string().
 shown(T, Column, Depth) ->
     Text = case Depth of unlimited -> io_lib:write(T, p); D -> limited(T, D) end,
-    case is_tuple(T) orelse is_list(T) orelse is_map(T) orelse is_binary(T) of
+    case is_compound(T) of
         true when length(Text) > 60; length(Text) >= 80 - Column -> refuse();
         _ -> Text
     end.
+
+-spec is_compound(term()) -> boolean().
+is_compound({'#float', _}) -> false;
+is_compound(T) when is_function(T) -> false;
+is_compound(T) -> is_tuple(T) orelse is_list(T) orelse is_map(T) orelse is_binary(T).
 
 %% what is deeper is dots
 -spec limited(term(), integer()) -> string().
 limited([], _) -> "[]";
 limited(T, _) when T =:= {}; T =:= #{}; T =:= <<>> -> io_lib:write(T, p);
+limited({'#float', _} = T, _) -> io_lib:write(T, p);
+limited(T, _) when is_function(T) -> io_lib:write(T, p);
 limited([_ | _], 1) -> "[...]";
 limited(L, D) when is_list(L) ->
     case io_lib:printable_list(L) of

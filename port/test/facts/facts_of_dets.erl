@@ -28,9 +28,16 @@ closed() ->
     Me = self(),
     Ask = fun(F) -> {P, M} = spawn_monitor(fun() -> Me ! {self(), F()} end), receive {P, V} -> receive {'DOWN', M, process, P, _} -> V end end end,
     [Ask(fun() -> dets:close(T) end), Ask(fun() -> dets:lookup(T, 1) end), Ask(fun() -> {ok, T} = dets:open_file(T, []), dets:insert(T, {2, b}) end),
-     dets:close(T), lists:member(T, dets:all()), dets:lookup(T, 2), dets:close(T), lists:member(T, dets:all()), dets:close(T), dets:info(T), dets:info(T, size),
+     users(T, [Me, Me]), dets:close(T), lists:member(T, dets:all()), dets:lookup(T, 2), dets:close(T), lists:member(T, dets:all()), dets:close(T), dets:info(T), dets:info(T, size),
      t(fun() -> dets:lookup(T, 1) end), t(fun() -> dets:insert(T, {1, b}) end), t(fun() -> dets:first(T) end), t(fun() -> dets:sync(T) end),
      case dets:open_file(T, []) of {ok, T} -> {sorted(dets:match_object(T, '_')), dets:close(T)} end].
+
+%% who has ended isn't a user any more once its end has come to dets
+users(T, Users) ->
+    case dets:info(T, users) of
+        Users -> ok;
+        _ -> timer:sleep(1), users(T, Users)
+    end.
 
 contents() ->
     [{Type, contents(Type)} || Type <- [set, bag, duplicate_bag]].

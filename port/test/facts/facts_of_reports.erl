@@ -25,7 +25,7 @@ errors() ->
 
 depths() ->
     T = {a, [b, [c, {d, e}], f, g], #{k => {v, w}, l => m, n => o}, <<"a longer text">>, "text", h, i},
-    [t(fun() -> proc_lib:format([[{data, T}, {list, [1000, 2000, 3000, 4000, 5000]}, {bytes, <<0, 1, 2, 3, 4>>}], []], latin1, D) end) || D <- [1, 2, 3, 4, 5]]
+    [t(fun() -> proc_lib:format([[{data, T}, {half, {0.5}}, {list, [1000, 2000, 3000, 4000, 5000]}, {bytes, <<0, 1, 2, 3, 4>>}], []], latin1, D) end) || D <- [1, 2, 3, 4, 5]]
         ++ [t(fun() -> proc_lib:format([own({exit, {a, {b, {c, {d, e}}}}, []}), []], unicode, D) end) || D <- [2, 4, unlimited]].
 
 wrong() -> [t(fun() -> proc_lib:format(x) end), t(fun() -> proc_lib:format([a]) end), t(fun() -> proc_lib:format([[{error_info, x}], []]) end), t(fun() -> proc_lib:format([[{error_info, {other, x, []}}], []]) end),
