@@ -283,9 +283,9 @@ into_a_file() ->
     File = checks:room("log"),
     Program = filename:join([os:getenv("CHECKS"), "..", "pulsefarm-erl"]),
     Bank = checks:folder("../examples/bank.erl"),
-    os:cmd(lists:flatten(io_lib:format("bash -c '(echo before; ~ts check ~ts; echo between; ~ts check ~ts; echo behind) > ~ts 2> /dev/null'", [Program, Bank, Program, Bank, File]))),
+    os:cmd(lists:flatten(io_lib:format("bash -c '(echo before; ~ts check ~ts; echo between; ~ts check ~ts; echo after) > ~ts 2> /dev/null'", [Program, Bank, Program, Bank, File]))),
     {ok, Text} = file:read_file(File),
-    checks:expect("two commands into one file", <<"before\nok\nbetween\nok\nbehind\n">>, Text).
+    checks:expect("two commands into one file", <<"before\nok\nbetween\nok\nafter\n">>, Text).
 
 -spec refused() -> boolean().
 refused() ->
