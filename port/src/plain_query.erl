@@ -6,14 +6,16 @@
 %% @doc The forms of a source without that transform.
 -spec forms([term()]) -> [term()].
 forms(Forms) ->
-    case lists:any(fun is_transform/1, Forms) of
-        true -> [made(Form, 1) || Form <- Forms, not is_transform(Form)];
-        false -> Forms
+    case [without(Form) || Form <- Forms] of
+        Forms -> Forms;
+        Others -> [made(Form, 1) || Form <- Others]
     end.
 
--spec is_transform(term()) -> boolean().
-is_transform({attribute, _, compile, {parse_transform, qlc}}) -> true;
-is_transform(_) -> false.
+-spec without(term()) -> term().
+without({attribute, Line, compile, {parse_transform, qlc}}) -> {attribute, Line, compile, []};
+without({attribute, Line, compile, Options}) when is_list(Options) ->
+    {attribute, Line, compile, lists:delete({parse_transform, qlc}, Options)};
+without(Form) -> Form.
 
 %% A form whose queries are within so many others.
 -spec made(term(), pos_integer()) -> term().
