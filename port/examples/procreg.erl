@@ -16,7 +16,7 @@ reg(Name, Pid) ->
         _ -> {error, taken}
     end.
 -else.
-%% the table is written by the client itself; the server is only told of it
+%% the table is written by the client itself; the server is only informed of it
 reg(Name, Pid) ->
     case where(Name) of
         undefined ->

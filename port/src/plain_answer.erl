@@ -6,7 +6,7 @@
 
 -type asked() :: plain_words:asked().
 -type translation() :: plain_translation:translation().
-%% The places of a run, or that they can't be told.
+%% The places of a run, or that they can't be shown.
 -type reported() :: {ok, plain_replay:reported(), translation()} | unknown.
 
 %% @doc An answer, line by line.
@@ -52,14 +52,14 @@ starts_report(Line) -> re:run(Line, <<"^[0-9]+/[0-9]+ <">>) =/= nomatch.
 replayed(#{files := Files, options := Options}, #{roots := [Root | _]}, Events) ->
     plain_replay:places(Files, Options, atom_to_list(Root), Events).
 
-%% All events with their places where that was asked for, or where places can't be told; else the story.
+%% All events with their places where that was asked for, or where places can't be shown; else the story.
 -spec events([plain_report:event()], reported(), #{atom() => plain_translation:place()}, boolean()) -> [plain_json:line()].
 events(Events, unknown, Names, _) -> [event(Event, none, Names) || Event <- Events];
 events(Events, {ok, #{events := Known}, #{marks := Places}} = Reported, Names, Verbose) ->
     Marks = waited(Events, [place_of(Mark, Places) || Mark <- Known], #{}),
     case Verbose of
         true -> [event(Event, Place, Names) || {Event, Place} <- lists:zip(Events, Marks)];
-        false -> plain_story:tell(Events, Marks, {Reported, Names})
+        false -> plain_story:lines(Events, Marks, {Reported, Names})
     end.
 
 %% @doc The events of a story by their numbers, each in its words; or that its places can't be shown.
@@ -97,7 +97,7 @@ place_of(<<"'@", Rest/binary>>, Places) ->
 place_of(_, _) -> none.
 
 -spec processes([plain_report:event()], reported(), #{verbose := boolean()}) -> [plain_json:line()].
-processes(_, unknown, _) -> [{"the places of this run can't be told", [{places, false}]}];
+processes(_, unknown, _) -> [{"the places of this run can't be shown", [{places, false}]}];
 processes(Events, Reported, #{verbose := Verbose}) ->
     Pids = lists:usort([P || #{subject := {turn, P}} <- Events]),
     Roles = [{P, lists:flatten(io_lib:format("~ts", [role(P, Reported)]))} || P <- Pids],
@@ -209,7 +209,7 @@ with(Number, P, Reason, _, Events) ->
         _ -> {yes, lists:last(Known)}
     end.
 
-%% The arguments for which a function had no clause, where the run tells them.
+%% The arguments for which a function had no clause, where the run has them.
 -spec arguments(pos_integer(), reported(), map()) -> [binary()].
 arguments(Number, {ok, #{arguments := #{} = Known}, _}, Names) when is_map_key(Number, Known) -> [plain_words_back:line(maps:get(Number, Known), Names)];
 arguments(_, _, _) -> [].

@@ -1,10 +1,10 @@
-%% @doc A project as it stands in a folder: its applications, one in the folder itself or several in `apps', and the
-%% sources of what they depend on; their files, their options, and what their descriptions tell of them.
+%% @doc A project as it is in a folder: its applications, one in the folder itself or several in `apps', and the
+%% sources of what they depend on; their files, their options, and what their descriptions say of them.
 -module(plain_application).
 -export([read/1, needed/1, module_text/1]).
 -export_type([project/0]).
 
-%% What the description of an application tells.
+%% What the description of an application says.
 -type application() :: #{name := atom(), folder := file:filename(), mod := {module(), term()} | none,
                          env := [{atom(), term()}], needs := [atom()]}.
 -type project() :: #{own := [atom()], known := [application()], sources := [file:filename()],

@@ -24,7 +24,7 @@ failure(exit, Reason, plain) -> plain_trace:action(exit, [Reason]);
 failure(throw, Reason, plain) -> plain_trace:action(exit, [{tuple, [{tuple, [{atom, nocatch}, Reason]}, nil]}]);
 failure(Class, Reason, _) -> plain_trace:thrown({atom, Class}, Reason).
 
-%% @doc An environment in which a variable stands for a value.
+%% @doc An environment in which a variable is a value.
 -spec bound(plain_tree:variable(), plain_text:expression(), environment()) -> environment().
 bound(Variable, Value, Env) ->
     plain_pattern:known_shape(Variable, Value),

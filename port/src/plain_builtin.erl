@@ -131,8 +131,8 @@ setelement(Index, Tuple, Value, Env, Mode) ->
     Known = maps:get(Tuple, Shapes, maps:get(maps:get(Tuple, Env), Shapes, [])),
     case Index >= 1 andalso Index =< length(Known) of
         true ->
-            {Before, [_ | Behind]} = lists:split(Index - 1, Known),
-            [plain_body:returned({tuple, Before ++ [plain_value:value(Value, Env) | Behind]}, Mode)];
+            {Before, [_ | After]} = lists:split(Index - 1, Known),
+            [plain_body:returned({tuple, Before ++ [plain_value:value(Value, Env) | After]}, Mode)];
         false ->
             [plain_call:function(erlang, setelement, 3, [{int, Index} | plain_value:values([Tuple, Value], Env)], Mode)]
     end.
@@ -180,7 +180,7 @@ lacks(Function, Arity, Arguments) ->
         _ -> ok
     end.
 
-%% Notes on the encodings behind functions of erlang.
+%% Notes on the encodings of functions of erlang.
 -spec note(atom()) -> ok.
 note(Function) when Function =:= put; Function =:= get; Function =:= erase ->
     plain_refusal:note_once(dictionary, "process dictionaries are kept by one process, and each access is a message and its answer");
@@ -188,7 +188,7 @@ note(Function) when Function =:= send_after; Function =:= start_timer; Function 
                     Function =:= timestamp; Function =:= unique_integer; Function =:= read_timer ->
     plain_encodings:times();
 note(process_flag) -> plain_refusal:note_once(flags, "of the flags of a process only trap_exit has an effect");
-note(Function) when Function =:= nodes; Function =:= is_alive -> plain_refusal:note_once(nodes, "there is one node; nothing tells of others");
+note(Function) when Function =:= nodes; Function =:= is_alive -> plain_refusal:note_once(nodes, "there is one node; nothing is known of others");
 note(Function) when Function =:= garbage_collect; Function =:= yield; Function =:= display ->
     plain_refusal:note_once(machine, "garbage_collect, yield and display do nothing");
 note(Function) when Function =:= universaltime; Function =:= localtime; Function =:= date; Function =:= time; Function =:= now ->

@@ -1,7 +1,7 @@
 %% @doc Charts in the words of the source: the function that each process runs in its head, the place of each event in its title, and
 %% terms as the source has them.
 -module(plain_chart).
--export([tell/4, escaped/1]).
+-export([drawn/4, escaped/1]).
 
 -define(LONGEST_HEAD, 34).
 
@@ -9,8 +9,8 @@
 
 %% @doc A chart of pulsefarm, written anew. The report is that of the same run. Without --verbose it has the rows of a story: services have
 %% neither rows nor columns.
--spec tell(binary(), {[plain_report:event()], plain_answer:reported()}, plain_translation:translation(), boolean()) -> iodata().
-tell(Chart, {Events, Reported}, #{names := Names} = Translation, Verbose) ->
+-spec drawn(binary(), {[plain_report:event()], plain_answer:reported()}, plain_translation:translation(), boolean()) -> iodata().
+drawn(Chart, {Events, Reported}, #{names := Names} = Translation, Verbose) ->
     Lines = [iolist_to_binary(line(Line, Reported, Names)) || Line <- binary:split(Chart, <<"\n">>, [global, trim])],
     Shown = case Verbose of true -> unknown; false -> plain_answer:story(Events, Reported, Translation) end,
     [[Line, "\n"] || Line <- story(Lines, Events, Reported, Shown)].
@@ -21,8 +21,8 @@ story(Lines, _, _, unknown) -> Lines;
 story(Lines, Events, Reported, Shown) ->
     Services = [P || P <- lists:usort([P || #{subject := {turn, P}} <- Events]), is_service(plain_answer:role(P, Reported))],
     Hidden = plain_chart_rows:hidden(Events, maps:from_list([{Number, true} || {Number, _} <- Shown]), {Services, Lines}),
-    Told = maps:from_list(Shown),
-    plain_chart_rows:without([said(Line, Told) || Line <- Lines], Hidden, Services).
+    Labels = maps:from_list(Shown),
+    plain_chart_rows:without([said(Line, Labels) || Line <- Lines], Hidden, Services).
 
 -spec is_service(iodata() | unknown) -> boolean().
 is_service(unknown) -> false;
@@ -30,8 +30,8 @@ is_service(Role) -> lists:prefix("the service", lists:flatten(io_lib:format("~ts
 
 %% An event in the words of the story.
 -spec said(binary(), #{pos_integer() => binary()}) -> binary().
-said(<<"<g class=\"event", _/binary>> = Line, Told) ->
-    case maps:get(attribute(Line, <<"data-event">>), Told, none) of
+said(<<"<g class=\"event", _/binary>> = Line, Labels) ->
+    case maps:get(attribute(Line, <<"data-event">>), Labels, none) of
         none -> Line;
         Said ->
             Text = quoted(escaped(cut(Said, ?LONGEST_LABEL))),
@@ -90,7 +90,7 @@ escaped(Text) ->
     lists:foldl(fun({From, To}, Before) -> binary:replace(Before, From, To, [global]) end, Text,
                 [{<<"&">>, <<"&amp;">>}, {<<"<">>, <<"&lt;">>}, {<<">">>, <<"&gt;">>}, {<<"\"">>, <<"&quot;">>}]).
 
-%% A text that stands in the place of a match as it is.
+%% A text in the place of a match as it is.
 -spec quoted(binary()) -> iodata().
 quoted(Text) -> re:replace(Text, <<"[\\\\&]">>, <<"\\\\&">>, [global]).
 

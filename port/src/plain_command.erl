@@ -1,4 +1,4 @@
-%% @doc The commands: translate, then call pulsefarm and tell its answer.
+%% @doc The commands: translate, then call pulsefarm and report its answer.
 -module(plain_command).
 -export([run/1, complain/1, reported/3, refusals/1]).
 
@@ -26,7 +26,7 @@ one_root(Files, Options, Asked) ->
             translated(Asked, Translation)
     end.
 
-%% @doc Tells why something can't be translated.
+%% @doc Says why something can't be translated.
 -spec refusals([plain_translation:refusal()]) -> ok.
 refusals(Refusals) -> lists:foreach(fun({File, Line, Sentence}) -> complain(io_lib:format("~ts: ~ts~n", [plain_refusal:place(File, Line), Sentence])) end, Refusals).
 
@@ -95,7 +95,7 @@ run_of_chart(#{words := Given} = Asked, #{text := Text} = Translation) ->
         _ -> {[], unknown}
     end.
 
-%% @doc Tells what pulsefarm answered; its status.
+%% @doc Reports what pulsefarm answered; its status.
 -spec reported({binary(), 0..255} | missing, plain_words:asked(), plain_translation:translation()) -> 0..255.
 reported(missing, _, _) ->
     complain("pulsefarm-erl: the program pulsefarm is not on the path; sh install.sh puts it there, or PULSEFARM names it\n"),
@@ -104,7 +104,7 @@ reported({Text, Status}, #{command := Command} = Asked, _) when Command =:= chec
     plain_json:put([{Line, plain_json:of_line(Line)} || Line <- binary:split(Text, <<"\n">>, [global, trim])], Asked),
     Status;
 reported({Text, Status}, #{command := chart} = Asked, Translation) ->
-    plain_out:put(plain_chart:tell(Text, run_of_chart(Asked, Translation), Translation, maps:get(verbose, Asked, false))),
+    plain_out:put(plain_chart:drawn(Text, run_of_chart(Asked, Translation), Translation, maps:get(verbose, Asked, false))),
     Status;
 reported({Text, Status}, Asked, Translation) ->
     #{events := Events} = plain_answer:report(Text),

@@ -1,5 +1,5 @@
 %% @doc Generators of EUnit with some of their tests alone, or with their tests left empty, so that what only the others
-%% need isn't reached. What makes tests is followed where it stands as a term; tests that are made in another way stay.
+%% need isn't reached. What makes tests is followed where it is a term; tests that are made in another way stay.
 -module(plain_cut).
 -export([forms/2, is_test/1, is_generator/1]).
 -export_type([cuts/0, path/0]).
@@ -36,7 +36,7 @@ form({function, Line, Function, 0, Clauses} = Form, Module, Cuts) ->
     end;
 form(Form, _, _) -> Form.
 
-%% What a function answers stands at the end of each of its clauses.
+%% What a function answers is at the end of each of its clauses.
 -spec clauses([erl_parse:abstract_clause()], wanted()) -> [erl_parse:abstract_clause()].
 clauses(Clauses, Wanted) ->
     [{clause, Line, Patterns, Guard, lists:droplast(Body) ++ [tests(lists:last(Body), Wanted)]}
@@ -73,7 +73,7 @@ made({tuple, Line, [{Title, _, _}, _] = Elements}, Wanted) when Title =:= string
 made({cons, _, _, _} = List, Wanted) -> listed(List, fun made/2, Wanted);
 made(Tests, Wanted) -> tests(Tests, Wanted).
 
-%% The elements of a list that stands there: those that are wanted, with the atom `other' in the place of the others.
+%% The elements of a list in the source: those that are wanted, with the atom `other' in the place of the others.
 -spec listed(expr(), fun((expr(), wanted()) -> expr()), wanted()) -> expr().
 listed(List, Cut, all) -> each(List, 1, fun(Element, _) -> Cut(Element, all) end);
 listed(List, Cut, Wanted) ->

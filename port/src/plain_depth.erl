@@ -1,4 +1,4 @@
-%% @doc The profile allows a body 256 levels. What stands more than 60 constructs deep becomes a function of its own.
+%% @doc The profile allows a body 256 levels. What is more than 60 constructs deep becomes a function of its own.
 -module(plain_depth).
 -export([split/4]).
 
@@ -6,7 +6,7 @@
 -type keep() :: fun((atom(), arity(), iodata()) -> ok).
 -type place() :: {non_neg_integer(), [plain_text:expression()], atom(), keep()}.
 
-%% @doc A body in which nothing stands too deep; `Keep' takes the functions that come of it.
+%% @doc A body in which nothing is too deep; `Keep' takes the functions that come of it.
 -spec split(plain_text:body(), [plain_text:expression()], atom(), keep()) -> plain_text:body().
 split(Body, Bound, Name, Keep) -> body(Body, {0, Bound, Name, Keep}).
 

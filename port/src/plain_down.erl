@@ -1,4 +1,4 @@
-%% @doc `'DOWN'' of a monitor by name. The profile monitors pids alone, so where a program monitors names what stands in the place of the pid is
+%% @doc `'DOWN'' of a monitor by name. The profile monitors pids alone, so where a program monitors names what is in the place of the pid is
 %% asked for where such a message is received: {Name, Node} of a monitor by name, else the pid.
 -module(plain_down).
 -export([monitored/2, seen/1, clauses/2]).

@@ -1,4 +1,4 @@
-%% @doc Notes on the encodings that a source is seen to use: each is told once, with what it adds or loses.
+%% @doc Notes on the encodings that a source is seen to use: each is written once, with what it adds or loses.
 -module(plain_encodings).
 -export([note/3, times/0]).
 
@@ -10,7 +10,7 @@ note(application, _, _) ->
     lists:member(pf_application, plain_state:get(users))
         orelse plain_refusal:note_once(application, "no application has an environment here, so get_env answers the default; starting one does nothing"),
     ok;
-note(timer, tc, _) -> plain_refusal:note_once(measured, "timer:tc measures nothing, and tells 0");
+note(timer, tc, _) -> plain_refusal:note_once(measured, "timer:tc measures nothing, and answers 0");
 note(timer, _, _) -> times();
 note(Module, _, _) ->
     case sentence(Module) of
@@ -26,6 +26,8 @@ times() ->
 
 -spec sentence(module()) -> {atom(), string()} | none.
 sentence(ets) -> {ets, "a table is kept by a process, and each call is a message and its answer; a table outlives its owner until that process gets the message"};
+sentence(dets) -> {dets, "dets keeps its tables and files in memory, by a process; a run begins without files, and what a cut leaves of one isn't seen"};
+sentence(qlc) -> {qlc, "a query is evaluated in one piece, its generators one after the other"};
 sentence(Module) when Module =:= atomics; Module =:= counters; Module =:= persistent_term ->
     {cells, "shared cells are kept by a process; each operation is one piece, at one place between call and answer"};
 sentence(rand) -> {rand, "a number by chance is a race of two messages, so it is a choice of the schedule and no even chance"};
@@ -37,5 +39,5 @@ sentence(io_lib) -> {formats, "pids, references and funs are formatted without n
 sentence(string) -> {text, "a character is a code point, upper and lower case are those of ASCII, and a text is a flat list or a binary"};
 sentence(gen_statem) -> {statem, "gen_statem is a library after OTP 25, without hibernation, code change and change of the callback module"};
 sentence(supervisor) -> {supervisor, "supervisor is a library after OTP 25, without code change and auto_shutdown; its restarts are counted by the clock of the run"};
-sentence(net_kernel) -> {nodes, "there is one node; nothing tells of others"};
+sentence(net_kernel) -> {nodes, "there is one node; nothing is known of others"};
 sentence(_) -> none.

@@ -74,7 +74,7 @@ functions(File, #{options := #{includes := Includes, defines := Defines}}) ->
         {error, Reason} -> throw({refuse, File, 1, file:format_error(Reason)})
     end.
 
-%% Tests as they stand, and those of generators, which runs tell.
+%% Tests as they are, and those of generators, which runs list.
 -spec listed([{module(), atom()}], [file:filename()], file:filename(), asked()) -> [test()].
 listed(Functions, Files, Room, Asked) ->
     Generators = [listing(MF) || MF <- Functions, is_generator(MF)],
@@ -215,7 +215,7 @@ one(From, To, {#{text := Text} = All, Asked, Roots}, Root) ->
         {answer, {Said, _}} -> {refused, string:trim(Said)}
     end.
 
-%% A line for each test, told as soon as it is known.
+%% A line for each test, as soon as it is known.
 -spec line(result()) -> result().
 line({#{name := Name}, Result} = Whole) ->
     plain_out:put([Name, ": ", case Result of

@@ -17,7 +17,7 @@ write(Key) ->
         error:Reason:Stack -> failed(Reason, Stack)
     end.
 
-%% What can't be translated in the library is told at the call in the source that reaches it.
+%% What can't be translated in the library is reported at the call in the source that reaches it.
 -spec refused(plain_modules:kind(), term(), {file:filename(), plain_tree:line(), plain_refusal:sentence()}) -> ok.
 refused(Kind, {CallFile, CallLine, {function, Module, Function, Arity, _}}, {File, _, Sentence}) when Kind =/= user ->
     [Reason | _] = string:split(lists:flatten(Sentence), ";"),
@@ -25,7 +25,7 @@ refused(Kind, {CallFile, CallLine, {function, Module, Function, Arity, _}}, {Fil
                                                            [Module, Function, Arity, filename:basename(File), Reason]));
 refused(_, _, {File, Line, Sentence}) -> plain_refusal:record(File, Line, Sentence).
 
-%% An error of the translator itself is told as one, at the place where it came to it.
+%% An error of the translator itself is reported as one, at the place where it happened.
 -spec failed(term(), [tuple()]) -> ok.
 failed(Reason, Stack) ->
     [{Module, Function, _, _} | _] = [Frame || {Name, _, _, _} = Frame <- Stack, lists:prefix("plain_", atom_to_list(Name))],
@@ -117,7 +117,7 @@ named(Variables, Env) ->
         {Name, Known#{Variable => Name}}
     end, Env, Variables).
 
-%% The clauses of a function whose body is a case of its arguments, where the profile can tell them.
+%% The clauses of a function whose body is a case of its arguments, where the profile can decide them.
 -spec heads([plain_tree:variable()], plain_tree:tree(), environment(), plain_reach:mode()) -> {ok, [tuple()]} | no.
 heads(Variables, {'case', Variables, Clauses, _}, Env, Mode) ->
     Used = plain_tree:occurring([{Guard, Body} || {_, Guard, Body} <- Clauses]),

@@ -116,7 +116,7 @@ tagged(A, Tag) ->
     end,
     both({call, is_tuple, [A]}, both({op, '/=', A, {tuple, []}}, {op, '==', {call, element, [{int, 1}, A]}, Wanted})).
 
-%% Whether a value is a tuple, and none that stands for a map, a binary or a fun. In the library all its tuples are tuples.
+%% Whether a value is a tuple, and none that is a map, a binary or a fun. In the library all its tuples are tuples.
 -spec untagged(plain_text:expression()) -> plain_text:expression().
 untagged(A) ->
     case plain_state:get(kind) of

@@ -18,7 +18,7 @@
 -type searched() :: {found(), non_neg_integer(), whole | stopped}.
 -export_type([searched/0, within/0, found/0]).
 
-%% @doc Hunts for the least seed whose run fails the property, and tells it.
+%% @doc Hunts for the least seed whose run fails the property, and reports it.
 -spec hunt(asked(), translation()) -> 0..255.
 hunt(Asked, #{text := Text} = Translation) ->
     case within(Asked) of
@@ -60,7 +60,7 @@ halves(#{words := Words, options := #{library_defines := Own} = Options} = Asked
 within(#{words := Words}) ->
     case {seeds(plain_words:value("--seeds", Words, ?DEFAULT)), time(plain_words:value("--for", Words, none))} of
         {no, _} -> {no, "--seeds wants A..B, A below B"};
-        {_, no} -> {no, "--for wants a number with s, m or h behind it"};
+        {_, no} -> {no, "--for wants a number followed by s, m or h"};
         {{From, To}, none} -> {From, To, never};
         {{From, To}, Time} ->
             Last = case plain_words:value("--seeds", Words, none) of none -> 1 bsl 62; _ -> To end,
@@ -78,7 +78,7 @@ search({From, To, End}, File, Asked, Translation) ->
             Found
     end.
 
-%% @doc Tells why something is refused.
+%% @doc Says why something is refused.
 -spec complained(iodata()) -> 2.
 complained(Sentence) ->
     plain_command:complain(["pulsefarm-erl: ", Sentence, "\n"]),
@@ -155,7 +155,7 @@ with(_, Other) -> Other.
 crashing(From, To, File, Asked, Translation) -> judged("nocrash", From, To, File, Asked, Translation).
 
 %% What the farm finds may hold here: an orderly end is no crash, and a service that waits is no leak; or it is left out. The hunt goes on
-%% behind it.
+%% after it.
 -spec judged(string(), non_neg_integer(), pos_integer(), file:filename(), asked(), translation()) -> found().
 judged(_, From, To, _, _, _) when From >= To -> {none, []};
 judged(Property, From, To, File, Asked, Translation) ->

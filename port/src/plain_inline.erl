@@ -1,4 +1,4 @@
-%% @doc A value that is bound and used once, where nothing but values is evaluated between, stands where it is used. A binding costs two
+%% @doc A value that is bound and used once, where nothing but values is evaluated between, is written where it is used. A binding costs two
 %% steps of a run, and the order of evaluation stays.
 -module(plain_inline).
 -export([body/1]).

@@ -3,7 +3,7 @@
 -module(plain_json).
 -export([put/2, of_line/1, place/1, object/1]).
 
-%% The least number that a double can't tell from the next.
+%% The least number that a double doesn't hold apart from the next.
 -define(LEAST_LARGE, 9007199254740992).
 -type value() :: non_neg_integer() | boolean() | iodata() | {object, object()}.
 -type object() :: [{atom() | binary(), value()}].

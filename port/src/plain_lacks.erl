@@ -1,5 +1,5 @@
 %% @doc What a function of the library lacks: its clauses that end with {refused, Module, Function, Arity} take the arguments that it
-%% doesn't know. A call whose arguments are seen to come to such a clause is refused where it stands, as a function that isn't known is.
+%% doesn't know. A call whose arguments are seen to come to such a clause is refused at its place, as a function that isn't known is.
 -module(plain_lacks).
 -export([refuse/4]).
 

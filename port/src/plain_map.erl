@@ -5,7 +5,7 @@
 -type row() :: #{line := pos_integer(), name := string(), file := string() | none, source_line := non_neg_integer()}.
 -export_type([row/0]).
 
-%% @doc Functions, each with the line on which it begins; the first of them stands on line `First'.
+%% @doc Functions, each with the line on which it begins; the first of them is on line `First'.
 -spec number([{file:filename() | none, non_neg_integer(), string(), iodata()}], pos_integer()) -> {iodata(), [row()]}.
 number(Functions, First) ->
     {Texts, {Rows, _}} = lists:mapfoldl(fun({File, Line, Name, Text}, {Before, Number}) ->

@@ -1,4 +1,4 @@
-%% @doc Where a function stands: in a file that was given, in the library beside this program, or in OTP's own source.
+%% @doc Where a function is: in a file that was given, in the library beside this program, or in OTP's own source.
 -module(plain_modules).
 -export([give/1, compiled/1, find/3, exported/2, hidden/3, has/2, of_otp/1, file/1, library/0, in_library/1]).
 

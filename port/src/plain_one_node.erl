@@ -92,17 +92,17 @@ with_names(true, Node, #{label := Label}, #{name := Before, named := Named, edge
 %% Whether there is an order with these pairs: who has nobody before goes first, again and again, until nobody is left.
 -spec is_ordered([{pos_integer(), pos_integer()}]) -> boolean().
 is_ordered(Edges) ->
-    Behind = lists:foldl(fun({A, B}, Known) -> Known#{A => [B | maps:get(A, Known, [])]} end, #{}, Edges),
+    After = lists:foldl(fun({A, B}, Known) -> Known#{A => [B | maps:get(A, Known, [])]} end, #{}, Edges),
     Waits = lists:foldl(fun({_, B}, Known) -> Known#{B => maps:get(B, Known, 0) + 1} end, #{}, Edges),
-    gone([A || A <- maps:keys(Behind), not maps:is_key(A, Waits)], Behind, Waits).
+    gone([A || A <- maps:keys(After), not maps:is_key(A, Waits)], After, Waits).
 
 -spec gone([pos_integer()], #{pos_integer() => [pos_integer()]}, #{pos_integer() => pos_integer()}) -> boolean().
 gone([], _, Waits) -> map_size(Waits) =:= 0;
-gone([Node | Rest], Behind, Waits) ->
+gone([Node | Rest], After, Waits) ->
     {Free, Left} = lists:foldl(fun(Next, {Found, Known}) ->
         case Known of
             #{Next := 1} -> {[Next | Found], maps:remove(Next, Known)};
             #{Next := Number} -> {Found, Known#{Next := Number - 1}}
         end
-    end, {Rest, Waits}, maps:get(Node, Behind, [])),
-    gone(Free, Behind, Left).
+    end, {Rest, Waits}, maps:get(Node, After, [])),
+    gone(Free, After, Left).

@@ -2,7 +2,7 @@
 %% of what goes by names; but a process goes on as long as it may. So a report is read with fewer leaps from one process to another.
 %%
 %% The choices of that order are worked out from the labels: who may go at each event is counted, and where the count isn't that of the report
-%% nothing is told.
+%% nothing is reported.
 -module(plain_order).
 -export([fewer_switches/1, switches/1, effects/1]).
 
@@ -153,7 +153,7 @@ fewer(Channel, Channels) ->
         _ -> Channels
     end.
 
-%% An order in which each event stands after those that it depends on, and a process goes on as long as it may.
+%% An order in which each event comes after those that it depends on, and a process goes on as long as it may.
 -spec ordered(numbered(), effects()) -> [pos_integer()].
 ordered(Numbered, Effects) ->
     Numbers = lists:sort(maps:keys(Numbered)),

@@ -1,5 +1,5 @@
-%% @doc The standard output, written to the descriptor that was given, so that what is written there before and behind keeps its place; and
-%% which tells where it can't be written: Erlang's own takes a text and learns of a reader that has gone only later.
+%% @doc The standard output, written to the descriptor that was given, so that what is written there before and after keeps its place; and
+%% which says where it can't be written: Erlang's own takes a text and learns of a reader that has gone only later.
 -module(plain_out).
 -export([put/1, kept/1]).
 -compile({no_auto_import, [put/2, get/1]}).

@@ -82,7 +82,7 @@ built_again(Variable, {Written, {Env, Aliases}}) ->
 known_shape(Variable, {tuple, Elements}) -> plain_state:set_in(shapes, Variable, Elements);
 known_shape(_, _) -> ok.
 
-%% @doc Whether a pattern and guard of the profile tell this clause.
+%% @doc Whether a pattern and guard of the profile decide this clause.
 -spec is_plain(plain_tree:clause(), environment()) -> boolean().
 is_plain({Patterns, Guard, Body}, Env) ->
     Saved = {plain_state:get(names), plain_state:get(shapes)},

@@ -15,7 +15,7 @@ texts() ->
 -spec own_actions() -> [{atom(), arity()}].
 own_actions() -> [{'!', 2}, {whereis, 1}, {unregister, 1}, {link, 1}, {unlink, 1}, {exit, 1}].
 
-%% An action behind its mark.
+%% An action after its mark.
 -spec marked({atom(), arity()}) -> iodata().
 marked({'!', 2}) -> "send@m(P,A,B)->whereis(P),A!B.\n";
 marked({Spawn, 3}) when Spawn =:= spawn; Spawn =:= spawn_link; Spawn =:= spawn_monitor ->
@@ -134,4 +134,4 @@ atoms(Table, Mode) ->
         [Name, "(", From, ")->", Open, To, Close, ";\n"]
     end,
     Unknown = [[Name, "([_|_])->", action("exit", ["{refused,erlang,list_to_atom,1}"]), ";\n"] || Table =:= list_to_atom],
-    [[Clause(Atom) || Atom <- plain_state:keys(atoms), Atom =/= ''], Unknown, Name, "(_)->", plain_dispatch:failing(Mode, "badarg"), ".\n"].
+    [[Clause(Atom) || Atom <- plain_state:keys(atoms)], Unknown, Name, "(_)->", plain_dispatch:failing(Mode, "badarg"), ".\n"].

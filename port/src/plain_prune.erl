@@ -14,7 +14,7 @@ tree(Tree) ->
         Known -> pruned(Started, maps:merge(Known, plain_state:get(made)))
     end.
 
-%% A fun that is bound and used once, to start a process, stands in that call: so no other call can mean it.
+%% A fun that is bound and used once, to start a process, is written in that call: so no other call can mean it.
 -spec started(term()) -> term().
 started({lit, _, _} = Literal) -> Literal;
 started({'let', [Variable], {fn, Identity, [], Inner, Line}, Body}) ->

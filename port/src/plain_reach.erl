@@ -53,7 +53,7 @@ free_name(Number) ->
 letters(Number) when Number < 26 -> [$a + Number];
 letters(Number) -> letters(Number div 26 - 1) ++ [$a + Number rem 26].
 
-%% @doc The name before the number of what stands in a function.
+%% @doc The name before the number of what is in a function.
 -spec base(module(), atom()) -> atom().
 base(Module, Function) ->
     case Module =:= plain_state:get(main) of
@@ -184,7 +184,7 @@ spread({Arity, Mode}) ->
     ok.
 
 %% @doc The mode in which a fun is reached from a dispatcher. Funs of the library stay plain in the traced form, where their errors have no
-%% places of the source to tell.
+%% places of the source to show.
 -spec fun_mode(atom() | {module(), atom(), arity()}, mode()) -> mode().
 fun_mode(Key, traced) ->
     Kind = case Key of
@@ -213,7 +213,7 @@ remote_targets(Of, Wanted, Arity) ->
 -spec callable() -> [module()].
 callable() ->
     Users = plain_state:get(users),
-    [User || User <- Users, anything() orelse stands(User)]
+    [User || User <- Users, anything() orelse is_made(User)]
         ++ [Module || Module <- lists:usort(plain_state:keys(values) ++ plain_state:keys(tags)), not lists:member(Module, Users), exports(Module) =/= []].
 
 -spec exports(module()) -> [{atom(), arity()}].
@@ -223,22 +223,22 @@ exports(Module) ->
         false -> plain_modules:of_otp(Module)
     end.
 
--spec stands(atom()) -> boolean().
-stands(Atom) -> maps:is_key(Atom, plain_state:get(values)) orelse maps:is_key(Atom, plain_state:get(tags)).
+-spec is_made(atom()) -> boolean().
+is_made(Atom) -> maps:is_key(Atom, plain_state:get(values)) orelse maps:is_key(Atom, plain_state:get(tags)).
 
 %% Whether a function of a module that was given, or of the library, may be named by a value. In a large text the tags of messages name none,
 %% but for those that --calls names.
 -spec is_value(atom(), module()) -> boolean().
 is_value(Function, Module) ->
     Called = lists:member({Module, Function}, maps:get(calls, plain_state:get(options))),
-    Named = case plain_state:get(narrow) of true -> maps:is_key(Function, plain_state:get(values)); false -> stands(Function) end,
+    Named = case plain_state:get(narrow) of true -> maps:is_key(Function, plain_state:get(values)); false -> is_made(Function) end,
     Called orelse Named orelse (anything() andalso lists:member(Module, plain_state:get(users))).
 
 %% @doc The functions that are left out since their names stand in the sources as tags alone.
 -spec left_out() -> [{module(), atom()}].
 left_out() ->
     case plain_state:get(narrow) of
-        true -> lists:usort([{Module, Function} || Module <- callable(), {Function, _} <- exports(Module), not is_value(Function, Module), stands(Function)]);
+        true -> lists:usort([{Module, Function} || Module <- callable(), {Function, _} <- exports(Module), not is_value(Function, Module), is_made(Function)]);
         false -> []
     end.
 

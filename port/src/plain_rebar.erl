@@ -1,4 +1,4 @@
-%% @doc `rebar3 pulsefarm': the tests of a project, hunted as `pulsefarm-erl eunit' does. The words behind it are those
+%% @doc `rebar3 pulsefarm': the tests of a project, hunted as `pulsefarm-erl eunit' does. The words after it are those
 %% of that command.
 -module(plain_rebar).
 -export([init/1, do/1, format_error/1]).
@@ -6,7 +6,7 @@
 %% The words of pulsefarm-erl eunit that rebar3 lets through.
 -define(WORDS, [seeds, for, test, junit, strategy, weights, workers, limit, property, patience]).
 
-%% @doc Tells rebar3 of the provider.
+%% @doc Registers the provider with rebar3.
 -spec init(term()) -> {ok, term()}.
 init(State) ->
     Options = [{Word, undefined, atom_to_list(Word), string, "as pulsefarm-erl eunit has it"} || Word <- ?WORDS],

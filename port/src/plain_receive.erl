@@ -145,7 +145,7 @@ in_order({call, 'arm@', Arguments}, Waits, {v, _}, Mode) when Mode =/= plain ->
     end;
 in_order(Set, Waits, _, _) -> [Set | Waits].
 
-%% A clause that pattern and guard of the profile can't tell takes all that fits its pattern without maps and guard. What then fits
+%% A clause that pattern and guard of the profile don't decide takes all that fits its pattern without maps and guard. What then fits
 %% neither it nor a later clause should have stayed in the mailbox: the process ends with {refused, 'receive', Line}.
 -spec clauses([plain_tree:clause()], plain_text:body(), plain_tree:line(), environment(), mode()) -> [plain_text:clause()].
 clauses([{[Pattern], Guard, Body} = Clause | Rest], Ahead, Line, Env, Mode) ->
@@ -165,7 +165,7 @@ wide_clause({[Pattern], _, _} = Clause, Rest, Ahead, Line, Env, Mode) ->
     {[Written], Inside, Before, _} = plain_pattern:patterns([{alias, Message, Wide}], Env, [], {none, Message}),
     Full = lists:any(fun({[Other], Guard, _}) -> plain_tree:is_true(Guard) andalso plain_tree:wider(Other, Wide) end, Rest),
     Full orelse plain_refusal:note("a message that this receive should leave in the mailbox ends the process with {refused,'receive',~w}; "
-                                   "test it behind the receive, or receive such messages by a clause of their own", [Line]),
+                                   "test it after the receive, or receive such messages by a clause of their own", [Line]),
     Last = {[{v, {'_', plain_state:fresh()}}], {lit, true, Line},
             {call, {lit, prim, Line}, {lit, raw, Line}, [{lit, exit, Line}, {lit, {refused, 'receive', Line}, Line}], Line}},
     {Written, [], Ahead ++ Before ++ plain_case:held([Message], [Clause | Rest] ++ [Last || not Full], Line, Inside, Mode)}.

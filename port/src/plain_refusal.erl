@@ -1,4 +1,4 @@
-%% @doc What can't be translated, told with its place and a cure, and notes on what an encoding adds or loses.
+%% @doc What can't be translated, with its place and a cure, and notes on what an encoding adds or loses.
 -module(plain_refusal).
 -export([refuse/2, refuse/3, record/3, note/2, note_once/2, place/2, why/2]).
 
@@ -18,7 +18,7 @@ refuse(Format, Arguments) -> refuse(plain_state:get(line), Format, Arguments).
 record(File, Line, Sentence) ->
     plain_state:put(refusals, [{File, Line, lists:flatten(Sentence)} | plain_state:get(refusals)]).
 
-%% @doc A note on the place where the translation stands.
+%% @doc A note on the place where the translation is.
 -spec note(io:format(), [term()]) -> ok.
 note(Format, Arguments) ->
     Text = lists:flatten(io_lib:format("~ts: " ++ Format, [place(plain_state:get(file), plain_state:get(line)) | Arguments])),
@@ -54,7 +54,7 @@ why(erlang, F) when F =:= monitor; F =:= alias; F =:= unalias -> "with an alias 
 why(erlang, F) when F =:= phash2; F =:= phash; F =:= md5; F =:= crc32; F =:= adler32 -> "is a hash, and the profile has none; take the term itself as key";
 why(erlang, F) when F =:= pid_to_list; F =:= list_to_pid; F =:= ref_to_list; F =:= port_to_list -> "prints what has no fixed name; pass the term itself";
 why(Module, _) when Module =:= file; Module =:= gen_tcp; Module =:= gen_udp; Module =:= ssl; Module =:= inet; Module =:= os; Module =:= httpc;
-                    Module =:= filelib; Module =:= dets; Module =:= disk_log; Module =:= mnesia; Module =:= crypto; Module =:= init;
+                    Module =:= filelib; Module =:= disk_log; Module =:= mnesia; Module =:= crypto; Module =:= init;
                     Module =:= prim_file; Module =:= ssh; Module =:= file_sorter; Module =:= ram_file ->
     "speaks with the world outside; put a module of that name among the files, written with a process of your own";
 why(Module, _) when Module =:= code; Module =:= erl_eval; Module =:= erl_scan; Module =:= erl_parse; Module =:= compile; Module =:= epp ->
@@ -63,7 +63,7 @@ why(Module, _) when Module =:= io_lib; Module =:= unicode; Module =:= binary; Mo
     "makes or reads text or binaries, which is not translated; keep terms, or put a module of that name among the files";
 why(eunit, _) -> "runs tests of EUnit; pulsefarm-erl eunit FOLDER hunts each of them";
 why(math, _) -> "is what a machine's library makes of a number; name a module of that name, or count in integers";
-why(qlc, _) -> "makes queries at run time; take match_object or select of ets";
+why(qlc, _) -> "is a query that is made at run time; evaluate a handle of a table, or take match_object or select of ets";
 why(ets, _) -> "is not among the functions of ets that the library has (port/ENCODINGS.md); take insert, lookup, delete, match_object, select";
 why(sys, _) -> "looks into a server from outside, which is not translated; add a call to the server that answers it";
 why(Module, _) when Module =:= global; Module =:= rpc; Module =:= erpc; Module =:= net_adm; Module =:= net_kernel ->

@@ -1,6 +1,6 @@
-%% @doc Where a run was at each event: the run once more, in the traced form, by the choices of its report. The traced form tells a place
+%% @doc Where a run was at each event: the run once more, in the traced form, by the choices of its report. The traced form names a place
 %% before each action, so each such choice is taken twice. What comes is held against the report, event by event; where it differs in
-%% anything but places, nothing is told.
+%% anything but places, nothing is reported.
 -module(plain_replay).
 -export([places/4, steps/2, same/3]).
 
@@ -138,14 +138,14 @@ bare(Label) ->
     Empty = without_arguments(re:replace(Label, <<"\\['@[0-9]+'\\]">>, <<"[]">>, [global, {return, binary}])),
     re:replace(Empty, <<"{'#fun',([0-9]+),('[^']*'|[A-Za-z0-9_@]+)">>, <<"{'#fun',\\1,f">>, [global, {return, binary}]).
 
-%% A label without the stack traces that have arguments behind the place.
+%% A label without the stack traces that have arguments after the place.
 -spec without_arguments(binary()) -> binary().
 without_arguments(Label) ->
     case re:run(Label, <<"\\['@[0-9]+',">>, [{capture, first, index}]) of
         {match, [{At, Length}]} ->
             <<Before:At/binary, _:Length/binary, Rest/binary>> = Label,
             case plain_words_back:behind_term(Rest) of
-                {ok, <<"]", Behind/binary>>} -> <<Before/binary, "[]", (without_arguments(Behind))/binary>>;
+                {ok, <<"]", Later/binary>>} -> <<Before/binary, "[]", (without_arguments(Later))/binary>>;
                 _ -> Label
             end;
         nomatch -> Label

@@ -7,7 +7,7 @@
 -type report() :: #{events := [event()], rest := [binary()]}.
 -export_type([event/0, report/0, subject/0]).
 
-%% @doc A report by its lines: its events, and the lines behind them.
+%% @doc A report by its lines: its events, and the lines after them.
 -spec read([binary()]) -> report().
 read(Lines) ->
     {Events, Rest} = lists:splitwith(fun is_event/1, Lines),

@@ -4,7 +4,7 @@
 
 %% @doc All services, in the order in which they start. The clock comes first: its ticker is the first process that a root starts, and goes last.
 -spec all() -> [atom()].
-all() -> [pf_clock, pf_names, ets, pf_dictionary, rand, pf_cells, pf_leader, pf_ties].
+all() -> [pf_clock, pf_names, ets, pf_dets, pf_dictionary, rand, pf_cells, pf_leader, pf_ties].
 
 %% @doc Whether the pass before found one to be used.
 -spec any() -> boolean().

@@ -14,7 +14,7 @@
 -type kind() :: {binary(), boolean()}.
 -type place() :: {file:filename(), asked(), translation()}.
 
-%% @doc Shrinks what a hunt found, and tells it.
+%% @doc Shrinks what a hunt found, and reports it.
 -spec found(binary(), file:filename(), string(), asked(), translation()) -> 0..255.
 found(Text, File, Runs, Asked, Translation) ->
     #{events := Events} = plain_answer:report(Text),

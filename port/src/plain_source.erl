@@ -64,7 +64,9 @@ parsed(File, Defines) ->
     #{includes := Includes} = plain_state:get(options),
     Path = Includes ++ [filename:dirname(File), code:lib_dir(kernel) ++ "/include", code:lib_dir(stdlib) ++ "/include"],
     case epp:parse_file(File, [{includes, Path}, {macros, Defines}]) of
-        {ok, Forms} -> case lists:any(fun is_alive/1, Forms) of true -> Forms; false -> alive(Forms) end;
+        {ok, Read} ->
+            Forms = plain_query:forms(Read),
+            case lists:any(fun is_alive/1, Forms) of true -> Forms; false -> alive(Forms) end;
         {error, Reason} -> throw({refuse, File, 1, file:format_error(Reason)})
     end.
 

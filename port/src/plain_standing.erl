@@ -1,4 +1,4 @@
-%% @doc How the processes of a run stand at its end, told on standard error: those that the root left, and with `--explain' each.
+%% @doc Where the processes of a run are at its end, on standard error: those that the root left, and with `--explain' each.
 -module(plain_standing).
 -export([left/3, explain/3, lines/3]).
 
@@ -30,7 +30,7 @@ lines(Text, Asked, #{names := Names} = Translation) ->
     Hidden = case maps:get(verbose, Asked, false) of true -> []; false -> plain_verdict:services(Events) end,
     [[io_lib:format("<~w> ~ts", [P, role(P, Reported)]), status_of(P, Events, Reported, Names)] || P <- [0 | plain_verdict:spawned(Events)] -- Hidden, of_source(P, Reported, Asked)].
 
-%% Whether a process is told: the helpers of services aren't.
+%% Whether a process is shown: the helpers of services aren't.
 -spec of_source(non_neg_integer(), plain_answer:reported(), asked()) -> boolean().
 of_source(P, Reported, Asked) -> maps:get(verbose, Asked, false) orelse not lists:prefix("the service", lists:flatten(io_lib:format("~ts", [role(P, Reported)]))).
 

@@ -1,4 +1,4 @@
-%% @doc How processes begin in the traced form: a mark tells what each runs, and another that it returned.
+%% @doc How processes begin in the traced form: a mark says what each runs, and another that it returned.
 -module(plain_start).
 -export([texts/0, exports/0]).
 

@@ -1,5 +1,5 @@
 %% @doc What one translation knows so far: the modules that were read, the functions that are wanted, and where
-%% in which function it stands. It belongs to the process that translates, and a translation has a process of its own.
+%% in which function it is. It belongs to the process that translates, and a translation has a process of its own.
 -module(plain_state).
 -compile({no_auto_import, [get/1, put/2]}).
 -export([start/2, get/1, put/2, set_in/3, find_in/2, keys/1, fresh/0]).
@@ -28,7 +28,7 @@
   | counter | clock | marks       % the last number; whether a time is waited for; what the marks of a traced module say
   | short | short_names | last_name % whether names are short; those that are, and the number of the last
   | origin                        % of what is written: the call in a source that reached it, where that is known
-  | file | module | kind | base | function | line | mode % where the translation stands
+  | file | module | kind | base | function | line | mode % where the translation is
   | names | shapes.               % of the function that is written: names of variables, tuples that are known
 -export_type([key/0]).
 

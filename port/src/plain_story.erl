@@ -1,14 +1,14 @@
 %% @doc A run as a story: what the processes of the source do, each with the line of the source where it has one and the text of that line. The
-%% services of the translation, waits and deliveries are left out, and calls of servers and tables are told as such.
+%% services of the translation, waits and deliveries are left out, and calls of servers and tables are shown as such.
 -module(plain_story).
--export([tell/3]).
+-export([lines/3]).
 
 %% Where an event is in the source, or the first of several places where it may be.
 -type place() :: plain_translation:place() | {several, plain_translation:place()} | none.
 
 %% @doc The lines of a story, each with the number of its event.
--spec tell([plain_report:event()], [plain_translation:place() | none], {plain_answer:reported(), #{atom() => plain_translation:place()}}) -> [plain_json:line()].
-tell(Reports, Places, {Reported, Names}) ->
+-spec lines([plain_report:event()], [plain_translation:place() | none], {plain_answer:reported(), #{atom() => plain_translation:place()}}) -> [plain_json:line()].
+lines(Reports, Places, {Reported, Names}) ->
     Events = [with_tag(Event) || Event <- Reports],
     Pids = lists:usort([P || #{subject := {turn, P}} <- Events]),
     Services = [P || P <- Pids, is_service(plain_answer:role(P, Reported))],
@@ -17,7 +17,7 @@ tell(Reports, Places, {Reported, Names}) ->
             #{subject := {turn, P}, label := <<"receive ", _/binary>>} when is_map_key(P, Asking) -> {[], maps:remove(P, Asking)};
             _ -> {line(Number, Event, taken(Event, Place, Reported), Services, Names), asking(Event, Services, Asking)}
         end
-    end, #{}, without_looks([Told || {Report, {_, _, Place} = Told} <- lists:zip(Reports, lists:zip3(lists:seq(1, length(Events)), Events, Places)),
+    end, #{}, without_looks([Shown || {Report, {_, _, Place} = Shown} <- lists:zip(Reports, lists:zip3(lists:seq(1, length(Events)), Events, Places)),
                                      not is_dropped(Report, Place)], #{})),
     lists:append(Lines).
 
@@ -34,8 +34,8 @@ is_dropped(_, _) -> false.
 
 %% Who is asked for its mailbox takes all out and sends it to itself again. It begins by a reference to itself, whose
 %% second receipt is the end.
--spec without_looks([Told], #{non_neg_integer() => {binary(), 1 | 2}}) -> [Told].
-without_looks([{_, #{subject := {turn, P}, label := Label}, Place} = Told | Rest], Looks) ->
+-spec without_looks([Shown], #{non_neg_integer() => {binary(), 1 | 2}}) -> [Shown].
+without_looks([{_, #{subject := {turn, P}, label := Label}, Place} = Shown | Rest], Looks) ->
     Own = ["^send <", integer_to_list(P), "> (#Ref<[0-9]+>)$"],
     case {Looks, re:run(Label, Own, [{capture, [1], binary}])} of
         {#{P := {R, 1}}, _} when Label =:= <<"receive ", R/binary>> -> without_looks(Rest, Looks#{P := {R, 2}});
@@ -44,11 +44,11 @@ without_looks([{_, #{subject := {turn, P}, label := Label}, Place} = Told | Rest
         {_, {match, [R]}} when not (is_tuple(Place) andalso element(1, Place) =:= user) -> without_looks(Rest, Looks#{P => {R, 1}});
         _ ->
             case re:run(Label, "^(send <[0-9]+>|receive) {port@(look|seen),") of
-                nomatch -> [Told | without_looks(Rest, Looks)];
+                nomatch -> [Shown | without_looks(Rest, Looks)];
                 _ -> without_looks(Rest, Looks)
             end
     end;
-without_looks([Told | Rest], Looks) -> [Told | without_looks(Rest, Looks)];
+without_looks([Shown | Rest], Looks) -> [Shown | without_looks(Rest, Looks)];
 without_looks([], _) -> [].
 
 %% Where a server takes a message: at the clause of its callback. Where the message fits several, its line isn't shown.
@@ -131,9 +131,9 @@ pid(Pid) ->
         nomatch -> -1
     end.
 
-%% A question to the service that keeps the tables.
+%% A question to a service that keeps tables.
 -spec asked() -> binary().
-asked() -> <<"^send <[0-9]+> {ask,<[0-9]+>,#Ref<[0-9]+>,{([a-z_]+),(.*)}}$">>.
+asked() -> <<"^send <[0-9]+> {(ask|dets),<[0-9]+>,#Ref<[0-9]+>,{([a-z_]+),(.*)}}$">>.
 
 %% A label in the words of who wrote the source.
 -spec said(binary()) -> binary().
@@ -141,7 +141,7 @@ said(Label) ->
     lists:foldl(fun({From, To}, Before) -> re:replace(Before, From, To, [{return, binary}]) end, Label, asks() ++ servers() ++ actions()).
 
 -spec asks() -> [{binary(), binary()}].
-asks() -> [{asked(), <<"ets:\\1(\\2)">>}].
+asks() -> [{asked(), <<"\\1:\\2(\\3)">>}, {<<"^ask:">>, <<"ets:">>}].
 
 %% What goes between servers, their clients and who starts them.
 -spec servers() -> [{binary(), binary()}].

@@ -1,5 +1,5 @@
-%% @doc The traced form of a module, by which a run is told in the words of its source. It does what the plain one does, by the same
-%% choices, with two things more: before each action stands a look for a name that nobody has, which tells the place as an event
+%% @doc The traced form of a module, by which a run is reported in the words of its source. It does what the plain one does, by the same
+%% choices, with two things more: before each action is a look for a name that nobody has, which names the place as an event
 %% of its own; and an error carries its place as its stack trace. Where that is asked for, the error of a function that has no clause for its
 %% arguments carries them too.
 -module(plain_trace).
@@ -13,7 +13,7 @@ traced() -> maps:get(traced, plain_state:get(options)).
 -spec with_arguments() -> boolean().
 with_arguments() -> traced() andalso plain_state:get(kind) =:= user andalso maps:get(arguments, plain_state:get(options)).
 
-%% @doc The error of a function that has no clause for these arguments: behind the mark of its place stand the arguments.
+%% @doc The error of a function that has no clause for these arguments: after the mark of its place are the arguments.
 -spec no_clause([plain_text:expression()]) -> plain_text:expression().
 no_clause(Arguments) -> thrown({atom, error}, {atom, function_clause}, {cons, mark(), {cons, {tuple, Arguments}, nil}}).
 
@@ -67,7 +67,7 @@ mark(Kind) ->
     end,
     {atom, list_to_atom("@" ++ integer_to_list(Number))}.
 
-%% @doc What stands before a `receive'.
+%% @doc What comes before a `receive'.
 -spec marked(plain_text:body()) -> plain_text:body().
 marked(Body) ->
     case traced() of
@@ -152,7 +152,7 @@ raw_parts(Raw) ->
         {false, _} -> {Raw, nil}
     end.
 
-%% @doc The beginning of a process in the traced form: which fun it runs, told by a mark.
+%% @doc The beginning of a process in the traced form: which fun it runs, said by a mark.
 -spec begin_clause(atom(), [term()], plain_text:expression()) -> iodata().
 begin_clause(Name, Free, Mark) ->
     Variables = ["F" ++ integer_to_list(I) || I <- lists:seq(1, length(Free))],

@@ -151,7 +151,7 @@ written(Roots) ->
       marks => maps:from_list([{Number, Place} || {Place, Number} <- maps:to_list(plain_state:get(marks))]),
       names => names(), main => Main, atoms => plain_state:get(atom_places), exports => maps:from_list([{Module, plain_modules:exported(Module, user)} || Module <- plain_state:get(users)])}.
 
-%% What each name of the text stands for: a function of a module, or a fun in one.
+%% What each name of the text means: a function of a module, or a fun in one.
 -spec names() -> #{atom() => place()}.
 names() ->
     Functions = [{plain_reach:name(Module, Function, Arity), {kind(Module, Function, Arity), "", 0, {Module, Function, Arity}}}

@@ -32,7 +32,7 @@ occurring(Tree, Found) when is_tuple(Tree) -> occurring(tuple_to_list(Tree), Fou
 occurring([Head | Tail], Found) -> occurring(Tail, occurring(Head, Found));
 occurring(_, Found) -> Found.
 
-%% @doc The variables of an environment that occur, in a fixed order; a local function stands for those of its own.
+%% @doc The variables of an environment that occur, in a fixed order; a local function has those of its own.
 -spec free(term(), environment()) -> [tree()].
 free(Tree, Env) ->
     Found = sets:to_list(occurring(Tree)),
@@ -40,7 +40,7 @@ free(Tree, Env) ->
     Local = [element(2, maps:get(Function, Env)) || {lref, _} = Function <- Found, maps:is_key(Function, Env)],
     lists:usort(Own ++ lists:append(Local)).
 
-%% @doc Whether a tree is a value as it stands.
+%% @doc Whether a tree is a value as it is.
 -spec simple(tree()) -> boolean().
 simple({v, _}) -> true;
 simple({lit, _, _}) -> true;
@@ -56,7 +56,7 @@ simple(_) -> false.
 is_true({lit, true, _}) -> true;
 is_true(_) -> false.
 
-%% @doc Whether an atom stands somewhere as a literal.
+%% @doc Whether an atom is somewhere a literal.
 -spec mentions(atom(), term()) -> boolean().
 mentions(Atom, {lit, Atom, _}) -> true;
 mentions(Atom, Tree) when is_tuple(Tree) -> mentions(Atom, tuple_to_list(Tree));

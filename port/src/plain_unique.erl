@@ -17,7 +17,7 @@ line_of(Core) ->
         Line -> Line
     end.
 
-%% The line that Core tells, or 0.
+%% The line that Core has, or 0.
 -spec line_known(cerl:cerl()) -> plain_tree:line().
 line_known(Core) ->
     Annotations = cerl:get_ann(Core),

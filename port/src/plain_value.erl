@@ -123,7 +123,7 @@ lift(Name, Variables, Body, Line, Env, Whole) ->
             Free
     end.
 
-%% @doc A term that stands in a pattern: its atoms come from elsewhere.
+%% @doc A term in a pattern: its atoms come from elsewhere.
 -spec pattern(term(), plain_tree:line()) -> plain_text:expression().
 pattern(Term, Line) ->
     {Values, Tags, Made} = {plain_state:get(values), plain_state:get(tags), plain_state:get(made)},
@@ -133,7 +133,7 @@ pattern(Term, Line) ->
     plain_state:put(made, Made),
     Written.
 
-%% @doc A term that stands in the source.
+%% @doc A term in the source.
 -spec literal(term(), plain_tree:line()) -> plain_text:expression().
 literal({'$refused', Line, Sentence}, _) -> plain_refusal:refuse(Line, "~ts", [Sentence]);
 literal(Integer, Line) when is_integer(Integer), Integer > 16#7fffffffffffffff orelse Integer < -16#8000000000000000 ->
@@ -173,7 +173,7 @@ encoded(Tuple) when is_tuple(Tuple) -> list_to_tuple(encoded(tuple_to_list(Tuple
 encoded([Head | Tail]) -> [encoded(Head) | encoded(Tail)];
 encoded(Term) -> Term.
 
-%% A literal that is refused: the translation goes on behind it, so that what else is refused is told too. In the library it ends the function.
+%% A literal that is refused: the translation goes on after it, so that what else is refused is reported too. In the library it ends the function.
 -spec refused(plain_tree:line(), io:format(), [term()]) -> plain_text:expression().
 refused(Line, Format, Arguments) ->
     case plain_state:get(kind) of

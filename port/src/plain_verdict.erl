@@ -1,4 +1,4 @@
-%% @doc How a run is judged here. The farm has its own properties; those of plain Erlang are told from reports.
+%% @doc How a run is judged here. The farm has its own properties; those of plain Erlang are judged by reports.
 %%
 %% `sound' holds where the root returns and no process crashes. `supervised' holds where no process crashes, whatever becomes of the root. A
 %% crash is an end by an error, or by a reason other than normal, shutdown, {shutdown, _}, or killed by a supervisor. Where a process
@@ -57,7 +57,7 @@ services(Events) ->
     [binary_to_integer(P) || #{subject := {turn, _}, label := Label} <- Events,
                              {match, [P]} <- [re:run(Label, <<"^register port@[a-z]+ <([0-9]+)>">>, [{capture, [1], binary}])]].
 
-%% @doc The line of a report that tells the outcome.
+%% @doc The line of a report with the outcome.
 -spec outcome([binary()]) -> binary().
 outcome([Line | _]) -> Line;
 outcome([]) -> <<>>.

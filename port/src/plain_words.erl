@@ -43,9 +43,33 @@ complete({ok, #{command := Command, words := Words, out := Out, property := Prop
     case {[Word || Word <- Given, not lists:member(Word, of_command(Command))], together(Asked)} of
         {[Word | _], _} -> {refused, [atom_to_list(Command), " has no word ", Word, other(Word)]};
         {[], {no, Sentence}} -> {refused, Sentence};
-        {[], yes} -> {ok, Asked}
+        {[], yes} ->
+            case sensible(Asked) of
+                {no, Sentence} -> {refused, Sentence};
+                yes -> {ok, Asked}
+            end
     end;
 complete(Answer) -> Answer.
+
+%% Values that are refused before anything is translated.
+-spec sensible(asked()) -> yes | {no, iodata()}.
+sensible(#{words := Words, property := Property}) ->
+    Seeds = plain_hunt:seeds(value("--seeds", Words, "1")),
+    case {Seeds, plain_hunt:time(value("--for", Words, none)), is_property(Property)} of
+        {no, _, _} -> {no, "--seeds wants A..B, A below B"};
+        {_, no, _} -> {no, "--for wants a number followed by s, m or h"};
+        {_, _, false} ->
+            {no, ["there is no property ", Property,
+                  "; write sound, supervised, returns, true, nocrash, nodeadlock, withinlimit or never:PATTERN"]};
+        _ -> yes
+    end.
+
+%% What comes after `never:' is pulsefarm's to judge.
+-spec is_property(string() | none) -> boolean().
+is_property(none) -> true;
+is_property(Property) ->
+    plain_verdict:own(Property) orelse lists:prefix("never:", Property)
+        orelse lists:member(Property, ["returns", "true", "nocrash", "nodeadlock", "withinlimit"]).
 
 %% The words that a command has beside those of every translation. Each has its effect; what a command lacks is refused.
 -spec of_command(atom()) -> [string()].
@@ -104,12 +128,6 @@ together(#{command := hunt, words := Words, property := Property, options := #{r
     end;
 together(#{command := eunit, property := Property}) when Property =/= none, Property =/= "sound", Property =/= "supervised" ->
     {no, "eunit goes by --property sound, or supervised"};
-together(#{command := eunit, words := Words}) ->
-    case {plain_hunt:seeds(value("--seeds", Words, "1")), plain_hunt:time(value("--for", Words, none))} of
-        {no, _} -> {no, "--seeds wants A..B, A below B"};
-        {_, no} -> {no, "--for wants a number with s, m or h after it"};
-        _ -> yes
-    end;
 together(_) -> yes.
 
 -spec one_root(fun((string()) -> boolean()), boolean()) -> yes | {no, string()}.
@@ -293,7 +311,7 @@ help() ->
     "  --all-roots         of hunt: each exported function without arguments of the first file, with a line for each and one at the\n"
     "                      end; with --fail-fast none after the first that fails. Of a folder in the place of files the roots are\n"
     "                      main, race, and what ends with _race or _test in each of its files; with --all-roots all\n"
-    "  --explain           of run: how each process stands at the end, on standard error\n"
+    "  --explain           of run: where each process is at the end, on standard error\n"
     "  --calls M:F         says that a value names this function, where a text of over 24,576 bytes left it out\n"
     "  --lax               takes calls that aren't known; who calls one ends with {refused,Module,Function,Arity}\n"
     "\n"

@@ -12,14 +12,14 @@ scan(<<>>, _) -> [];
 scan(<<"{'#", _/binary>> = Text, Names) -> scan_term(Text, Names);
 scan(<<"[", _/binary>> = Text, Names) -> scan_term(Text, Names);
 scan(<<"'", Rest/binary>>, Names) ->
-    {Quoted, Behind} = quoted(Rest, <<>>),
-    [$', Quoted, $' | scan(Behind, Names)];
+    {Quoted, After} = quoted(Rest, <<>>),
+    [$', Quoted, $' | scan(After, Names)];
 scan(<<"port@", Rest/binary>>, Names) ->
-    {Service, Behind} = bare(Rest, <<>>),
-    [$<, Service, $> | scan(Behind, Names)];
+    {Service, After} = bare(Rest, <<>>),
+    [$<, Service, $> | scan(After, Names)];
 scan(<<C, _/binary>> = Text, Names) when C >= $a, C =< $z ->
-    {Word, Behind} = bare(Text, <<>>),
-    [Word | scan(Behind, Names)];
+    {Word, After} = bare(Text, <<>>),
+    [Word | scan(After, Names)];
 scan(<<C, Rest/binary>>, Names) -> [C | scan(Rest, Names)].
 
 %% A term where one is read here, and else its first byte as it is.
@@ -48,23 +48,23 @@ bare(Rest, Before) -> {Before, Rest}.
 term(<<"{", Rest/binary>>) -> several(Rest, $}, tuple, []);
 term(<<"[", Rest/binary>>) -> several(Rest, $], list, []);
 term(<<"'", Rest/binary>>) ->
-    {Quoted, Behind} = quoted(Rest, <<>>),
-    {ok, {atom, Quoted}, Behind};
+    {Quoted, After} = quoted(Rest, <<>>),
+    {ok, {atom, Quoted}, After};
 term(<<"#Ref", Rest/binary>>) ->
-    [Number, Behind] = binary:split(Rest, <<">">>),
-    {ok, {other, <<"#Ref", Number/binary, ">">>}, Behind};
+    [Number, After] = binary:split(Rest, <<">">>),
+    {ok, {other, <<"#Ref", Number/binary, ">">>}, After};
 term(<<"<", Rest/binary>>) ->
-    [Number, Behind] = binary:split(Rest, <<">">>),
-    {ok, {other, <<"<", Number/binary, ">">>}, Behind};
+    [Number, After] = binary:split(Rest, <<">">>),
+    {ok, {other, <<"<", Number/binary, ">">>}, After};
 term(<<"-", Rest/binary>>) ->
-    {Digits, Behind} = bare(Rest, <<>>),
-    {ok, {other, <<"-", Digits/binary>>}, Behind};
+    {Digits, After} = bare(Rest, <<>>),
+    {ok, {other, <<"-", Digits/binary>>}, After};
 term(<<C, _/binary>> = Text) when C >= $0, C =< $9 ->
-    {Digits, Behind} = bare(Text, <<>>),
-    {ok, {other, Digits}, Behind};
+    {Digits, After} = bare(Text, <<>>),
+    {ok, {other, Digits}, After};
 term(<<C, _/binary>> = Text) when C >= $a, C =< $z ->
-    {Word, Behind} = bare(Text, <<>>),
-    {ok, {atom, Word}, Behind};
+    {Word, After} = bare(Text, <<>>),
+    {ok, {atom, Word}, After};
 term(_) -> error.
 
 -spec several(binary(), char(), tuple | list, [term_read()]) -> {ok, term_read(), binary()} | error.
@@ -147,7 +147,7 @@ size(Text) ->
         _ -> 0
     end.
 
-%% @doc What stands behind the first term of a text.
+%% @doc What comes after the first term of a text.
 -spec behind_term(binary()) -> {ok, binary()} | error.
 behind_term(Text) ->
     case term(Text) of

@@ -1,5 +1,5 @@
 %% @doc Calls of OTP's modules, sampled from calls.txt: each within a try, so that errors are compared too, and where it raises nothing
-%% also as it is. Those that are known to differ stand in calls_that_differ.txt with the reason; each of them has to differ still.
+%% also as it is. Those that are known to differ are in calls_that_differ.txt with the reason; each of them has to differ still.
 -module(check_calls).
 -export([check/0]).
 
@@ -16,16 +16,16 @@ check() ->
     Calls = lists:sum([Number || {Number, _} <- Results]),
     Differing = lists:append([Functions || {_, Functions} <- Results]),
     checks:expect(io_lib:format("~w calls are 2,000 at least", [Calls]), Calls >= 2000),
-    [checks:expect(io_lib:format("~w differs, as calls_that_differ.txt tells", [Function]), lists:member(Function, Differing)) || {differs, Function, _} <- Different],
+    [checks:expect(io_lib:format("~w differs, as calls_that_differ.txt says", [Function]), lists:member(Function, Differing)) || {differs, Function, _} <- Different],
     [refused(Function, Call) || {refused, Function, Call, _} <- Different],
-    io:format("  ~w calls; ~w differ as told~n", [Calls, length(Differing)]).
+    io:format("  ~w calls; ~w differ as listed~n", [Calls, length(Differing)]).
 
 -spec module(module(), [{atom(), [atom()]}], map(), [tuple()]) -> {non_neg_integer(), [{module(), atom(), arity()}]}.
 module(Module, Functions, Kinds, Different) ->
     Refused = [Function || {refused, Function, _, _} <- Different],
     Calls = lists:append([calls(Module, Function, Arguments, Kinds) || {Function, Arguments} <- Functions, not lists:member({Module, Function, length(Arguments)}, Refused)]),
-    Told = [Function || {differs, Function, _} <- Different],
-    {length(Calls), lists:usort(lists:append([together(Module, Part, Told) || Part <- parts(Calls)]))}.
+    Listed = [Function || {differs, Function, _} <- Different],
+    {length(Calls), lists:usort(lists:append([together(Module, Part, Listed) || Part <- parts(Calls)]))}.
 
 -spec calls(module(), atom(), [atom()], map()) -> [{tuple(), string()}].
 calls(Module, Function, Arguments, Kinds) ->
@@ -44,9 +44,9 @@ parts(Calls) ->
     {Part, Rest} = lists:split(?TOGETHER, Calls),
     [Part | parts(Rest)].
 
-%% Several calls in one module; the functions of those that differ as told.
+%% Several calls in one module; the functions of those that differ as listed.
 -spec together(module(), [{tuple(), string()}], [tuple()]) -> [tuple()].
-together(Module, Calls, Told) ->
+together(Module, Calls, Listed) ->
     Name = lists:concat(["calls_", Module, "_", erlang:unique_integer([positive])]),
     File = checks:room(Name ++ ".erl"),
     Tried = ["main() -> {[", lists:join(",\n", ["c(fun() -> " ++ Call ++ " end)" || {_, Call} <- Calls]), "],\n["],
@@ -59,11 +59,11 @@ together(Module, Calls, Told) ->
     {_, Plain} = checks:value_on_erlang(File, main),
     case seen(File) of
         {ok, {SeenTried, SeenPlain}} ->
-            compared(Calls, Values, SeenTried, Told, "") ++ compared(Good, Plain, SeenPlain, Told, " as it is");
+            compared(Calls, Values, SeenTried, Listed, "") ++ compared(Good, Plain, SeenPlain, Listed, " as it is");
         {error, Why} when length(Calls) > 1 ->
             {A, B} = lists:split(length(Calls) div 2, Calls),
             _ = Why,
-            together(Module, A, Told) ++ together(Module, B, Told);
+            together(Module, A, Listed) ++ together(Module, B, Listed);
         {error, Why} ->
             checks:expect(element(2, hd(Calls)), taken, Why),
             []
@@ -87,8 +87,8 @@ term(Text) ->
     Term.
 
 -spec compared([{tuple(), string()}], [term()], [term()], [tuple()], string()) -> [tuple()].
-compared(Calls, Values, Seen, Told, How) ->
-    lists:append([compare(Function, Call ++ How, checks:normal(Value), Here, lists:member(Function, Told))
+compared(Calls, Values, Seen, Listed, How) ->
+    lists:append([compare(Function, Call ++ How, checks:normal(Value), Here, lists:member(Function, Listed))
                   || {{Function, Call}, {Value, Here}} <- lists:zip(Calls, lists:zip(Values, Seen))]).
 
 -spec compare(tuple(), string(), term(), term(), boolean()) -> [tuple()].

@@ -13,6 +13,7 @@ check() ->
     several_files(),
     by_default(),
     gaps(),
+    files(),
     looks(),
     late(),
     hidden(),
@@ -27,7 +28,7 @@ check() ->
     completed(),
     ok.
 
-%% One command finds the race of a program and tells it by a line that the file names.
+%% One command finds the race of a program and reports it by a line that the file names.
 -spec reported(file:filename()) -> boolean().
 reported(File) ->
     {ok, Text} = file:read_file(File),
@@ -189,7 +190,7 @@ by_default() ->
     {Timed, 0} = checks:command(["hunt", File, "--for", "1s"]),
     checks:has("for a time", "^stopped after [0-9]+ seeds\nno failure in [0-9]+ seeds$", Timed).
 
-%% Who comes to what the translator lacks is refused, whatever catches errors there, and never told as a failure of the program.
+%% Who comes to what the translator lacks is refused, whatever catches errors there, and never reported as a failure of the program.
 -spec gaps() -> boolean().
 gaps() ->
     File = checks:folder("commands/gap.erl"),
@@ -207,6 +208,15 @@ gaps() ->
     Refused("a number of a machine's library", ["run", File, "--root", "measure"], "^refused <0> .*: math:exp/1 is not translated"),
     Refused("a link that two change", ["run", File, "--root", "tied"], "^refused <0> .*: erlang:process_info/2 is not translated"),
     Refused("an answer to another request", ["run", File, "--root", "between"], "^refused <0> .*: gen:receive_response/3 is not translated").
+
+%% A race by a table of dets, whose requests are in the story as the source has them.
+-spec files() -> boolean().
+files() ->
+    {Answer, 1} = checks:command(["hunt", checks:folder("commands/files.erl")]),
+    checks:has("a table is read", "^[0-9]+ <[0-9]+> dets:lookup\\(jobs,n\\)  % files\\.erl:14 files:one/1: ", Answer),
+    checks:has("it is written", "^[0-9]+ <[0-9]+> dets:insert\\(jobs,\\[\\{n,1\\}\\]\\)  % files\\.erl:15 files:one/1: ", Answer),
+    checks:has("the race", "^crash <0> at files\\.erl:10 files:main/0: error \\{badmatch,\\[\\{n,1\\}\\]\\}$", Answer),
+    checks:expect("no service", nomatch, re:run(Answer, "port@|#Ref")).
 
 %% Each word of each command is among the completions of each shell.
 -spec completed() -> ok.
@@ -259,7 +269,7 @@ hidden() ->
     checks:has("functions that aren't exported", "^finished inside$", Answer),
     checks:has("the one that is started", "^crash <1> at hidden\\.erl:9 hidden:main/0: error undef$", Answer).
 
-%% A deadlock is told by the lines of the receives.
+%% A deadlock is reported by the lines of the receives.
 -spec waits() -> boolean().
 waits() ->
     {Answer, 1} = checks:command(["hunt", checks:folder("commands/waiting.erl")]),
@@ -267,15 +277,15 @@ waits() ->
     checks:has("a fun waits", "^waits <[12]> at waiting\\.erl:8 waiting:main/0$", Answer),
     checks:has("a function waits", "^waits <[12]> at waiting\\.erl:21 waiting:second/0$", Answer).
 
-%% What is written before and behind an answer in the same file keeps its place.
+%% What is written before and after an answer in the same file keeps its place.
 -spec into_a_file() -> boolean().
 into_a_file() ->
     File = checks:room("log"),
     Program = filename:join([os:getenv("CHECKS"), "..", "pulsefarm-erl"]),
     Bank = checks:folder("../examples/bank.erl"),
-    os:cmd(lists:flatten(io_lib:format("bash -c '(echo before; ~ts check ~ts; echo between; ~ts check ~ts; echo behind) > ~ts 2> /dev/null'", [Program, Bank, Program, Bank, File]))),
+    os:cmd(lists:flatten(io_lib:format("bash -c '(echo before; ~ts check ~ts; echo between; ~ts check ~ts; echo after) > ~ts 2> /dev/null'", [Program, Bank, Program, Bank, File]))),
     {ok, Text} = file:read_file(File),
-    checks:expect("two commands into one file", <<"before\nok\nbetween\nok\nbehind\n">>, Text).
+    checks:expect("two commands into one file", <<"before\nok\nbetween\nok\nafter\n">>, Text).
 
 -spec refused() -> boolean().
 refused() ->

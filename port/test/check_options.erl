@@ -1,4 +1,4 @@
-%% @doc The words of pulsefarm-erl that say what is hunted and how it is told: JSON, leaks, all roots, how processes stand, and the values that
+%% @doc The words of pulsefarm-erl that say what is hunted and how it is reported: JSON, leaks, all roots, where processes are, and the values that
 %% fit no clause.
 -module(check_options).
 -export([check/0]).
@@ -24,7 +24,7 @@ prints(Name, Words, Status, Expressions) ->
     [case re:run(Answer, Expression, [multiline]) of
         nomatch ->
             io:format("  ~ts~n", [lists:nthtail(max(0, length(Answer) - 600), Answer)]),
-            checks:expect([Name, " tells ", Expression], false);
+            checks:expect([Name, " has ", Expression], false);
         _ -> checks:expect(Name, true)
     end || Expression <- Expressions],
     Answer.
@@ -77,7 +77,7 @@ objects() ->
             checks:expect("a reader of JSON", "read\n", os:cmd(lists:flatten(Call)))
     end.
 
-%% Who is left by the root is told by the line where it waits; the services of the translation don't count.
+%% Who is left by the root is shown by the line where it waits; the services of the translation don't count.
 -spec leaks() -> string().
 leaks() ->
     File = command_file("leaks.erl"),
@@ -113,7 +113,7 @@ roots() ->
 first_that_fails() ->
     Answer = prints("to the first that fails", ["hunt", command_file("roots.erl"), "--all-roots", "--fail-fast", "--seeds", "0..20"], 1,
                    ["^roots\\.erl crashes: seed 0 fails: ", "^1 file, 1 root: 1 fails, 0 refused$"]),
-    checks:expect("nothing behind it", nomatch, re:run(Answer, "hangs|holds")).
+    checks:expect("nothing after it", nomatch, re:run(Answer, "hangs|holds")).
 
 %% The roots of a folder by their names: of each file, and of its folders; servers are none.
 -spec folder() -> string().
@@ -133,7 +133,7 @@ folder() ->
     prints("a folder without roots", ["hunt", checks:room("nothing")], 2, ["^pulsefarm-erl: the folder has no file with a root; "]),
     prints("a folder with a root", ["hunt", Folder, "--root", "main"], 2, ["^pulsefarm-erl: the roots of a folder are found by their names; name files with --root$"]).
 
-%% How each process stands at the end.
+%% Where each process is at the end.
 -spec explained() -> string().
 explained() ->
     prints("how processes stand", ["run", command_file("leaks.erl"), "--seed", "3", "--explain"], 0,

@@ -16,7 +16,7 @@ program(File, Defines) ->
     Options = (plain_translation:defaults())#{defines => Defines},
     {ok, Out, _} = checks:translate([File], Options),
     Unknown = [Seed || Seed <- lists:seq(1, ?SEEDS), not repeated(File, Options, Out, Seed)],
-    checks:expect([filename:basename(File), ": seeds whose places can't be told"], [], Unknown),
+    checks:expect([filename:basename(File), ": seeds whose places can't be shown"], [], Unknown),
     ok.
 
 -spec repeated(file:filename(), plain_translation:options(), file:filename(), non_neg_integer()) -> boolean().

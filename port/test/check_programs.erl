@@ -1,5 +1,5 @@
 %% @doc Programs with a race and fixed: the race is found, the fixed form holds, and each outcome of Erlang is among those of the farm.
-%% On Erlang a call of check_yield:yield/0 stands before each send and each remote call: it sleeps a little, yields or does nothing, by
+%% On Erlang a call of check_yield:yield/0 is before each send and each remote call: it sleeps a little, yields or does nothing, by
 %% chance, so that more than the usual order is seen.
 -module(check_programs).
 -export([check/0]).
@@ -79,7 +79,7 @@ yielding(Other) -> Other.
 -spec yield(term()) -> term().
 yield(L) -> {call, L, {remote, L, {atom, L, check_yield}, {atom, L, yield}}, []}.
 
-%% One run in a process of its own; what it started and left is ended behind it.
+%% One run in a process of its own; what it started and left is ended after it.
 -spec outcome(module()) -> string().
 outcome(Module) ->
     Before = processes(),

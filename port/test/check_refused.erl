@@ -1,4 +1,4 @@
-%% @doc Each construct that is refused: file, line and sentence are those that the file itself tells in lines `%% refused: LINE: SENTENCE'.
+%% @doc Each construct that is refused: file, line and sentence are those that the file itself has in lines `%% refused: LINE: SENTENCE'.
 -module(check_refused).
 -export([check/0]).
 

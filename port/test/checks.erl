@@ -1,5 +1,5 @@
 %% @doc The checks of this part that take more than a unit test: they run the translator in this node and call pulsefarm.
-%% Each check counts what passed and failed, and tells each failure on a line.
+%% Each check counts what passed and failed, and prints each failure on a line.
 -module(checks).
 -export([main/0, main/1, pass/1, expect/3, expect/2, has/3, folder/1, room/1, translate/2, translate/1, hunt/4, run/3, value_on_erlang/2, value_on_erlang/3, load/2, normal/1, last/1, bare/1, command/1, command/2]).
 

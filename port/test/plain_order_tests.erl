@@ -14,7 +14,7 @@ switches_test() -> ?assertEqual(4, plain_order:switches(run())).
 
 fewer_switches_test() -> ?assertEqual({ok, [0, 0, 0, 0, 0, 0, 0, 1, 0, 0]}, plain_order:fewer_switches(run())).
 
-%% Where the choices aren't those that the labels give nothing is told.
+%% Where the choices aren't those that the labels give nothing is reported.
 unknown_test() -> ?assertEqual(unknown, plain_order:fewer_switches(events([<<"0/1 <0> spawn <1>">>, <<"0/2 <1> wait">>]))).
 
 none_test() -> ?assertEqual(unknown, plain_order:fewer_switches([])).

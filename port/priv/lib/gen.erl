@@ -2,12 +2,7 @@
 %% requests that are answered later. Without several nodes, and without what is for debugging.
 -module(gen).
 -compile([export_all, nowarn_export_all]).
-%% LATE_ANSWERS is set where calls may time out: an answer that comes later has such a tag, and is dropped
--ifdef(LATE_ANSWERS).
--define(TAG(R), {'port@late', R}).
--else.
--define(TAG(R), R).
--endif.
+-include("pf_late.hrl").
 -spec start(module(), term(), term(), term(), term()) -> term().
 start(GenMod, Link, Mod, Args, Opts) -> begun(GenMod, Link, none, Mod, Args, Opts).
 
@@ -224,45 +219,23 @@ answered(R, V) -> demonitor(R, [flush]), {reply, R, V}.
 -spec filled(reference(), [reference()], pos_integer()) -> [reference()].
 filled(B, Rs, N) -> [B | Rs] ++ lists:duplicate(N - 1 - length(Rs), B).
 
+%% The first answer of some, by a guard that names them.
+-define(GOT(Among), {R, V} when Among -> answered(R, V); {'DOWN', R, process, P, Why} when Among -> {down, R, P, Why}).
+-define(EIGHT, R =:= A; R =:= B; R =:= C; R =:= D; R =:= E; R =:= F; R =:= G; R =:= H).
+-define(DOZENS, R =:= A; R =:= A1; R =:= A2; R =:= A3; R =:= A4; R =:= A5; R =:= A6; R =:= A7; R =:= A8; R =:= A9;
+        R =:= A10; R =:= A11; R =:= A12; R =:= A13; R =:= A14; R =:= A15; R =:= A16; R =:= A17;
+        R =:= A18; R =:= A19; R =:= A20; R =:= A21; R =:= A22; R =:= A23; R =:= A24; R =:= A25;
+        R =:= A26; R =:= A27; R =:= A28; R =:= A29; R =:= A30; R =:= A31).
+-define(ALL, A1, A2, A3, A4, A5, A6, A7, A8, A9, A10, A11, A12, A13, A14, A15, A16, A17, A18, A19, A20, A21,
+        A22, A23, A24, A25, A26, A27, A28, A29, A30, A31).
+
 -spec several(reference(), [reference()], term()) -> term().
-several(A, [B, C, D, E, F, G, H], infinity) ->
-    receive
-        {R, V} when R =:= A; R =:= B; R =:= C; R =:= D; R =:= E; R =:= F; R =:= G; R =:= H -> answered(R, V);
-        {'DOWN', R, process, P, Why} when R =:= A; R =:= B; R =:= C; R =:= D; R =:= E; R =:= F; R =:= G; R =:= H -> {down, R, P, Why}
-    end;
-several(A, [B, C, D, E, F, G, H], T) ->
-    receive
-        {R, V} when R =:= A; R =:= B; R =:= C; R =:= D; R =:= E; R =:= F; R =:= G; R =:= H -> answered(R, V);
-        {'DOWN', R, process, P, Why} when R =:= A; R =:= B; R =:= C; R =:= D; R =:= E; R =:= F; R =:= G; R =:= H -> {down, R, P, Why}
-    after T -> timeout
-    end.
+several(A, [B, C, D, E, F, G, H], infinity) -> receive ?GOT(?EIGHT) end;
+several(A, [B, C, D, E, F, G, H], T) -> receive ?GOT(?EIGHT) after T -> timeout end.
 
 -spec dozens(reference(), [reference()], term()) -> term().
-dozens(A, [A1, A2, A3, A4, A5, A6, A7, A8, A9, A10, A11, A12, A13, A14, A15, A16, A17, A18, A19, A20, A21, A22, A23,
-             A24, A25, A26, A27, A28, A29, A30, A31], infinity) ->
-    receive
-        {R, V} when R =:= A; R =:= A1; R =:= A2; R =:= A3; R =:= A4; R =:= A5; R =:= A6; R =:= A7; R =:= A8;
-             R =:= A9; R =:= A10; R =:= A11; R =:= A12; R =:= A13; R =:= A14; R =:= A15; R =:= A16; R =:= A17;
-             R =:= A18; R =:= A19; R =:= A20; R =:= A21; R =:= A22; R =:= A23; R =:= A24; R =:= A25; R =:= A26;
-             R =:= A27; R =:= A28; R =:= A29; R =:= A30; R =:= A31 -> answered(R, V);
-        {'DOWN', R, process, P, Why} when R =:= A; R =:= A1; R =:= A2; R =:= A3; R =:= A4; R =:= A5; R =:= A6;
-             R =:= A7; R =:= A8; R =:= A9; R =:= A10; R =:= A11; R =:= A12; R =:= A13; R =:= A14; R =:= A15;
-             R =:= A16; R =:= A17; R =:= A18; R =:= A19; R =:= A20; R =:= A21; R =:= A22; R =:= A23; R =:= A24;
-             R =:= A25; R =:= A26; R =:= A27; R =:= A28; R =:= A29; R =:= A30; R =:= A31 -> {down, R, P, Why}
-    end;
-dozens(A, [A1, A2, A3, A4, A5, A6, A7, A8, A9, A10, A11, A12, A13, A14, A15, A16, A17, A18, A19, A20, A21, A22, A23,
-             A24, A25, A26, A27, A28, A29, A30, A31], T) ->
-    receive
-        {R, V} when R =:= A; R =:= A1; R =:= A2; R =:= A3; R =:= A4; R =:= A5; R =:= A6; R =:= A7; R =:= A8;
-             R =:= A9; R =:= A10; R =:= A11; R =:= A12; R =:= A13; R =:= A14; R =:= A15; R =:= A16; R =:= A17;
-             R =:= A18; R =:= A19; R =:= A20; R =:= A21; R =:= A22; R =:= A23; R =:= A24; R =:= A25; R =:= A26;
-             R =:= A27; R =:= A28; R =:= A29; R =:= A30; R =:= A31 -> answered(R, V);
-        {'DOWN', R, process, P, Why} when R =:= A; R =:= A1; R =:= A2; R =:= A3; R =:= A4; R =:= A5; R =:= A6;
-             R =:= A7; R =:= A8; R =:= A9; R =:= A10; R =:= A11; R =:= A12; R =:= A13; R =:= A14; R =:= A15;
-             R =:= A16; R =:= A17; R =:= A18; R =:= A19; R =:= A20; R =:= A21; R =:= A22; R =:= A23; R =:= A24;
-             R =:= A25; R =:= A26; R =:= A27; R =:= A28; R =:= A29; R =:= A30; R =:= A31 -> {down, R, P, Why}
-    after T -> timeout
-    end.
+dozens(A, [?ALL], infinity) -> receive ?GOT(?DOZENS) end;
+dozens(A, [?ALL], T) -> receive ?GOT(?DOZENS) after T -> timeout end.
 
 %% The first answer to what was asked between these, of whomever.
 -spec many(reference(), reference(), term()) -> term().

@@ -1,4 +1,4 @@
-%% What is known of applications where nothing tells of any; the command eunit puts a module of this name in its place.
+%% What is known of applications where nothing is known of any; the command eunit puts a module of this name in its place.
 -module(pf_application).
 -compile([export_all, nowarn_export_all]).
 -spec own() -> term().

@@ -180,8 +180,8 @@ exactly(K) ->
 -spec decimals(K :: non_neg_integer(), non_neg_integer()) -> list().
 decimals(K, N) when N =< 18 ->
     I = pf_float:trunc({'#float', K}),
-    Behind = pf_float:round(pf_float:'*'(pf_float:'-'({'#float', K}, I), ten(N))),
-    integer_to_list(I + Behind div ten(N)) ++ fraction(N, Behind rem ten(N));
+    Fraction = pf_float:round(pf_float:'*'(pf_float:'-'({'#float', K}, I), ten(N))),
+    integer_to_list(I + Fraction div ten(N)) ++ fraction(N, Fraction rem ten(N));
 decimals(K, N) ->
     {E, _} = V = exactly(K),
     fixed(N, nearest(E + N, V)).

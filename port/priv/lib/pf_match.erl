@@ -51,8 +51,16 @@ is_spec(_) -> false.
 -spec is_clause(term()) -> boolean().
 is_clause({H, Gs, [E | Es]}) when is_list(Gs) ->
     Vs = bound(H, []),
-    lists:all(fun(T) -> is_term(T, Vs) end, Gs ++ [E | Es]);
+    is_pattern(H) andalso lists:all(fun(T) -> is_term(T, Vs) end, Gs ++ [E | Es]);
 is_clause(_) -> false.
+
+%% a key of a map is known
+-spec is_pattern(term()) -> boolean().
+is_pattern([P | Ps]) -> is_pattern(P) andalso is_pattern(Ps);
+is_pattern({'#map', L}) -> lists:all(fun({K, P}) -> K =/= '_' andalso number(K) =:= none andalso is_pattern(P) end, L);
+is_pattern({'#bin', _}) -> true;
+is_pattern(P) when is_tuple(P) -> is_pattern(tuple_to_list(P));
+is_pattern(_) -> true.
 
 -spec bound(term(), list()) -> list().
 bound(P, Vs) when is_atom(P) -> case number(P) of none -> Vs; N -> [N | Vs] end;
@@ -62,6 +70,7 @@ bound(_, Vs) -> Vs.
 
 -spec is_term(term(), list()) -> boolean().
 is_term(T, Vs) when is_atom(T) -> case number(T) of none -> true; N -> lists:member(N, Vs) end;
+is_term(F, _) when is_function(F) -> true;
 is_term([H | T], Vs) -> is_term(H, Vs) andalso is_term(T, Vs);
 is_term({'#map', L}, Vs) -> lists:all(fun({K, V}) -> is_term(K, Vs) andalso is_term(V, Vs) end, L);
 is_term({'#bin', _}, _) -> true;
@@ -70,11 +79,17 @@ is_term({T}, Vs) when is_tuple(T) -> is_term(tuple_to_list(T), Vs);
 is_term({const, _}, _) -> true;
 is_term({self}, _) -> true;
 is_term({node}, _) -> true;
-is_term({Op, A}, Vs) -> (one(Op) orelse several(Op)) andalso is_term(A, Vs);
-is_term({is_record, A, N, S}, Vs) -> is_term(A, Vs) andalso is_atom(N) andalso is_integer(S);
-is_term({Op, A, B}, Vs) -> (two(Op) orelse several(Op)) andalso is_term(A, Vs) andalso is_term(B, Vs);
-is_term(T, Vs) when is_tuple(T), tuple_size(T) > 0 -> several(element(1, T)) andalso is_term(tl(tuple_to_list(T)), Vs);
-is_term(T, _) -> T =/= {}.
+is_term(T, Vs) when is_tuple(T), tuple_size(T) > 1 ->
+    (several(element(1, T)) orelse takes(element(1, T), tuple_size(T) - 1)) andalso is_term(tl(tuple_to_list(T)), Vs);
+is_term(T, _) -> not is_tuple(T).
+
+-spec takes(term(), non_neg_integer()) -> boolean().
+takes(Op, 1) -> one(Op);
+takes(Op, 2) -> two(Op);
+takes(is_record, 3) -> true;
+takes(binary_part, 3) -> true;
+takes(node, 0) -> true;
+takes(_, _) -> false.
 
 %% the functions of a specification, by how many arguments they take
 -spec one(term()) -> boolean().
@@ -94,21 +109,18 @@ one(is_tuple) -> true;
 one(is_map) -> true;
 one(is_binary) -> true;
 one(is_function) -> true;
-one(is_boolean) -> true;
 one(abs) -> true;
 one(hd) -> true;
 one(tl) -> true;
 one(length) -> true;
 one(round) -> true;
 one(trunc) -> true;
+one(float) -> true;
 one(size) -> true;
-one(tuple_size) -> true;
 one(map_size) -> true;
 one(byte_size) -> true;
 one(bit_size) -> true;
 one(node) -> true;
-one(floor) -> true;
-one(ceil) -> true;
 one(_) -> false.
 
 -spec two(term()) -> boolean().
@@ -135,6 +147,7 @@ two('xor') -> true;
 two(element) -> true;
 two(map_get) -> true;
 two(is_map_key) -> true;
+two(binary_part) -> true;
 two(_) -> false.
 
 %% what takes as many as there are
@@ -162,10 +175,13 @@ term({'andalso', A, C}, X, B) -> case term(A, X, B) of true -> term(C, X, B); fa
 term({'orelse', A, C}, X, B) -> case term(A, X, B) of true -> true; false -> term(C, X, B) end;
 term({'and', A, C}, X, B) -> erlang:'and'(term(A, X, B), term(C, X, B));
 term({'or', A, C}, X, B) -> erlang:'or'(term(A, X, B), term(C, X, B));
-term({is_record, A, N, S}, X, B) -> is_named(term(A, X, B), N, S);
+term({is_record, A, N, S}, X, B) -> is_named(term(A, X, B), term(N, X, B), term(S, X, B));
+term({binary_part, A, P}, X, B) -> {I, N} = term(P, X, B), binary:part(term(A, X, B), I, N);
+term({binary_part, A, I, N}, X, B) -> binary:part(term(A, X, B), term(I, X, B), term(N, X, B));
 term({element, I, A}, X, B) -> element(term(I, X, B), term(A, X, B));
 term({map_get, K, A}, X, B) -> maps:get(term(K, X, B), term(A, X, B));
 term({is_map_key, K, A}, X, B) -> maps:is_key(term(K, X, B), term(A, X, B));
+term(F, _, _) when is_function(F) -> F;
 term({Op, A}, X, B) -> op(Op, term(A, X, B));
 term({Op, A, C}, X, B) -> op(Op, term(A, X, B), term(C, X, B));
 term([H | T], X, B) -> [term(H, X, B) | term(T, X, B)];
@@ -179,7 +195,8 @@ together(Op, [A | As]) -> {Op, A, together(Op, As)};
 together(_, []) -> error(badarg).
 
 -spec is_named(term(), term(), term()) -> boolean().
-is_named(T, N, S) -> is_tuple(T) andalso tuple_size(T) =:= S andalso element(1, T) =:= N.
+is_named(T, N, S) when is_atom(N), is_integer(S), S >= 0 ->
+    is_tuple(T) andalso tuple_size(T) =:= S andalso element(1, T) =:= N.
 
 -spec op(term(), term()) -> term().
 op('not', A) -> not A;
@@ -191,17 +208,14 @@ op(hd, A) -> hd(A);
 op(tl, A) -> tl(A);
 op(length, A) -> length(A);
 op(size, A) -> size(A);
-op(tuple_size, A) -> tuple_size(A);
 op(map_size, A) -> map_size(A);
 op(byte_size, A) -> byte_size(A);
 op(bit_size, A) -> bit_size(A);
 op(round, A) -> round(A);
 op(trunc, A) -> trunc(A);
-op(floor, A) -> floor(A);
-op(ceil, A) -> ceil(A);
+op(float, A) -> float(A);
 op(node, A) -> node(A);
 op(is_atom, A) -> is_atom(A);
-op(is_boolean, A) -> is_boolean(A);
 op(is_integer, A) -> is_integer(A);
 op(is_float, A) -> is_float(A);
 op(is_number, A) -> is_number(A);

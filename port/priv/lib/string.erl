@@ -56,8 +56,8 @@ parts([], _, _, Before) -> [lists:reverse(Before)];
 parts([C | Rest] = Characters, Pattern, Where, Before) ->
     case after_prefix(Characters, Pattern) of
         no -> parts(Rest, Pattern, Where, [C | Before]);
-        Behind when Where =:= all -> [lists:reverse(Before) | parts(Behind, Pattern, all, [])];
-        Behind -> [lists:reverse(Before), Behind]
+        After when Where =:= all -> [lists:reverse(Before) | parts(After, Pattern, all, [])];
+        After -> [lists:reverse(Before), After]
     end.
 
 -spec after_prefix(list(), list()) -> list() | no.
@@ -94,16 +94,16 @@ prefix(Text, Pattern) ->
     end.
 
 -spec slice(Text, non_neg_integer()) -> Text when Text :: list() | tuple().
-slice(Text, Start) -> as(Text, behind(Start, characters(Text))).
+slice(Text, Start) -> as(Text, dropped(Start, characters(Text))).
 
 -spec slice(Text, non_neg_integer(), non_neg_integer() | infinity) -> Text when Text :: list() | tuple().
 slice(Text, Start, infinity) -> slice(Text, Start);
-slice(Text, Start, Number) -> as(Text, lists:sublist(behind(Start, characters(Text)), Number)).
+slice(Text, Start, Number) -> as(Text, lists:sublist(dropped(Start, characters(Text)), Number)).
 
--spec behind(non_neg_integer(), list()) -> list().
-behind(0, Characters) -> Characters;
-behind(_, []) -> [];
-behind(N, [_ | Rest]) -> behind(N - 1, Rest).
+-spec dropped(non_neg_integer(), list()) -> list().
+dropped(0, Characters) -> Characters;
+dropped(_, []) -> [];
+dropped(N, [_ | Rest]) -> dropped(N - 1, Rest).
 
 -spec lexemes(Text, list()) -> [Text] when Text :: list() | tuple().
 lexemes(Text, Separators) -> [as(Text, Lexeme) || Lexeme <- lexemes(characters(Text), Separators, [])].

@@ -3,12 +3,7 @@
 %% never pass.
 -module(sys).
 -compile([export_all, nowarn_export_all]).
-%% LATE_ANSWERS is set where calls may time out: an answer that comes later has such a tag, and is dropped
--ifdef(LATE_ANSWERS).
--define(TAG(R), {'port@late', R}).
--else.
--define(TAG(R), R).
--endif.
+-include("pf_late.hrl").
 -spec get_state(term()) -> term().
 get_state(S) -> asked(S, get_state, {sys, get_state, [S]}).
 

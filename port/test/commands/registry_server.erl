@@ -1,4 +1,4 @@
-%% A server that is asked first and told then.
+%% A server that is asked first and informed then.
 -module(registry_server).
 -behaviour(gen_server).
 -export([start_link/0, take/1, init/1, handle_call/3, handle_cast/2]).

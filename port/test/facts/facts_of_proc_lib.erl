@@ -44,8 +44,15 @@ main() ->
          tried(fun() -> proc_lib:start_monitor(?MODULE, child, [k], 10, [{monitor, []}]) end), tried(fun() -> proc_lib:start(?MODULE, child, k) end)],
     [E1, E2] = [receive {'EXIT', _, O} -> O after 0 -> none end || _ <- [1, 2]],
     L = [proc_lib:start_link(?MODULE, boom, [b]), proc_lib:start(?MODULE, ghost, [g])],
-    [case X of {error, R} -> {error, tidy(R)}; X -> X end || X <- H ++ L] ++ [A, B, C, D, E, F, G, I, J, K, E1, E2,
+    [case X of {error, R} -> {error, tidy(R)}; X -> X end || X <- H ++ L] ++ [on_node(Me), A, B, C, D, E, F, G, I, J, K, E1, E2,
      tried(fun() -> proc_lib:init_ack(x) end), stopping()].
+on_node(Me) ->
+    Say = fun(N) -> fun() -> Me ! {on, N} end end,
+    Heard = fun(N) -> receive {on, N} -> N end end,
+    Ps = [proc_lib:spawn(node(), Say(1)), proc_lib:spawn(node(), ?MODULE, hi, [Me, 2]), proc_lib:spawn_link(node(), Say(3)), proc_lib:spawn_link(node(), ?MODULE, hi, [Me, 4]),
+          proc_lib:spawn_opt(node(), Say(5), [{priority, low}]), proc_lib:spawn_opt(node(), ?MODULE, hi, [Me, 6], [link])],
+    [receive {'EXIT', P, W} -> W end || P <- [lists:nth(I, Ps) || I <- [3, 4, 6]]] ++ [Heard(N) || N <- [1, 3, 5]] ++ [receive {hi, N} -> N end || N <- [2, 4, 6]]
+        ++ [tried(fun() -> proc_lib:spawn(1, Say(7)) end), tried(fun() -> proc_lib:spawn_link(node(), x) end), tried(fun() -> proc_lib:spawn_opt(1, m, f, [], []) end)].
 stopping() ->
     {ok, P, _} = proc_lib:start(?MODULE, child, [k]),
     Q = proc_lib:spawn(fun() -> receive {system, {A, R}, {terminate, W}} -> A ! {R, ok}, exit(W) end end),

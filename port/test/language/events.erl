@@ -1,4 +1,4 @@
-%% An event manager and its handlers: what they are told and asked, those that go, and one that fails.
+%% An event manager and its handlers: what they get and are asked, those that go, and one that fails.
 -module(events).
 -export([main/0, init/1, handle_event/2, handle_call/2, handle_info/2, terminate/2]).
 -behaviour(gen_event).

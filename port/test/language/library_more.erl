@@ -1,4 +1,4 @@
-%% Times, timers, starting by proc_lib, and what sys tells: the same as on Erlang.
+%% Times, timers, starting by proc_lib, and what sys answers: the same as on Erlang.
 -module(library_more).
 -export([main/0, child/1, failing/1, done/2, init/1, handle_call/3, handle_cast/2]).
 -behaviour(gen_server).

@@ -1,4 +1,4 @@
-%% Each encoding that adds or loses something is told once, at the first place where it is used.
+%% Each encoding that adds or loses something is written once, at the first place where it is used.
 -module(encodings).
 -export([main/0]).
 
@@ -23,6 +23,8 @@ main() ->
     _ = timer:tc(fun() -> ok end),
     true = register(me, self()),
     try register(me, self()) catch error:badarg:S -> {S, C, B, R} end,
+    _ = dets:all(),
+    _ = qlc:e([]),
     gen_server:call(me, x).
 %% note: 16: a binary is a list of its bytes here, with a tag; each byte is a node of the 4,096 that a value may have
 %% note: 6: a table is kept by a process, and each call is a message and its answer; a table outlives its owner until that process gets the message
@@ -39,9 +41,11 @@ main() ->
 %% note: 18: a monitor of a name is whereis and then a monitor of the pid: the name may pass to another between
 %% note: 19: no application has an environment here, so get_env answers the default; starting one does nothing
 %% note: 20: of the flags of a process only trap_exit has an effect
-%% note: 21: there is one node; nothing tells of others
+%% note: 21: there is one node; nothing is known of others
 %% note: 22: garbage_collect, yield and display do nothing
-%% note: 23: timer:tc measures nothing, and tells 0
+%% note: 23: timer:tc measures nothing, and answers 0
 %% note: 24: register within try goes through one process for all names, so that a refusal is a value
 %% note: 25: a stack trace is [] here
-%% note: 26: a call without a time of its own never times out; -D CALL_TIMEOUTS lets it
+%% note: 26: dets keeps its tables and files in memory, by a process; a run begins without files, and what a cut leaves of one isn't seen
+%% note: 27: a query is evaluated in one piece, its generators one after the other
+%% note: 28: a call without a time of its own never times out; -D CALL_TIMEOUTS lets it

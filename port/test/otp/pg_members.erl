@@ -1,4 +1,4 @@
-%% A member of a process group ends, and who is told of it by a monitor asks for the members.
+%% A member of a process group ends, and who learns of it by a monitor asks for the members.
 %% modules: kernel/src/pg.erl
 -module(pg_members).
 -export([main/0, race/0]).

@@ -2,6 +2,10 @@
 -export([main/0]).
 main() ->
     T = ets:new(t, []),
-    qlc:e(ets:table(T)).
-%% refused: 5: ets:table/1 is not among the functions of ets that the library has (port/ENCODINGS.md); take insert, lookup, delete, match_object, select
-%% refused: 5: qlc:e/1 makes queries at run time; take match_object or select of ets
+    Q = ets:table(T),
+    C = qlc:cursor(Q),
+    qlc:next_answers(C, 1),
+    qlc:info(Q).
+%% refused: 6: qlc:cursor/1 is a query that is made at run time; evaluate a handle of a table, or take match_object or select of ets
+%% refused: 7: qlc:next_answers/2 is a query that is made at run time; evaluate a handle of a table, or take match_object or select of ets
+%% refused: 8: qlc:info/1 is a query that is made at run time; evaluate a handle of a table, or take match_object or select of ets

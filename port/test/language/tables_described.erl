@@ -1,5 +1,5 @@
-%% What a table tells of itself, and a table that is given away.
--module(tables_told).
+%% What a table says of itself, and a table that is given away.
+-module(tables_described).
 -export([main/0]).
 
 main() ->
@@ -17,8 +17,8 @@ given(T) ->
     Me = self(),
     P = spawn(fun() -> receive {'ETS-TRANSFER', Table, From, Data} -> Me ! {From =:= Me, Data, ets:insert(Table, {c, 3}), ets:info(Table, owner) =:= self()} end, receive stop -> ok end end),
     true = ets:give_away(T, P, gift),
-    Told = receive {_, gift, _, _} = X -> X end,
+    Given = receive {_, gift, _, _} = X -> X end,
     R = monitor(process, P),
     P ! stop,
     receive {'DOWN', R, _, _, _} -> ok end,
-    {Told, try ets:insert(T, {d, 4}) catch error:badarg -> badarg end}.
+    {Given, try ets:insert(T, {d, 4}) catch error:badarg -> badarg end}.
