@@ -20,10 +20,13 @@ use Rattle.pf_farm_state.specs.Clients.{ClientView, empty_client, full_seat, Get
 use Rattle.pf_protocol.specs.Clients.{ClientLine, calls, awaits, client_line_at}
 use Rattle.pf_protocol.specs.Complete.{is_due}
 use Rattle.pf_protocol.proofs.Shorter.{client_line_shorter}
+use Rattle.pf_protocol.specs.Commands.{first_line}
+use Rattle.pf_wire.specs.Endings.{ReportsLine}
 use Rattle.pf_wire.specs.Steps.{AreRead, last_text}
+use Rattle.pf_wire.specs.declared.ending.RefusedLine.{RefusedLine}
 use Rattle.pf_wire.specs.declared.steps.TheConstants.{MOST_BYTES}
-use Rattle.pf_clients.specs.declared.client.FileEnd.{FileEnd}
-use Rattle.pf_clients.specs.declared.client.FileEnd.TheVariants.{Answered, NoCommand, NoMemory as OutOfMemory}
+use Rattle.pf_clients.specs.declared.end.FileEnd.{FileEnd}
+use Rattle.pf_clients.specs.declared.end.FileEnd.TheVariants.{Answered, NoCommand, NoMemory as OutOfMemory}
 use Rattle.pf_clients.specs.Faults.{ended_by}
 use Rattle.pf_clients.specs.Lines.{Line, logged, one_too_many, without_memory, waited, answer_in, asked_in, call_text}
 use Rattle.pf_clients.specs.Lines.{line_text, lines_text, Leaves, AnswersLine, CutsLine, AnswersFront, IsCut, CutsFront}
@@ -164,15 +167,21 @@ module _ (bytes : List ℕ) (s0 s : ClientView) (t0 t : List ℕ) (rest : List �
     text = and_then t [] (sym (append-nil t));
   }
 
-  pub ends_ill : (s' : ClientView) (t' : List ℕ) → ¬ (rest ≡ []) → AnswersFront rest n None s s' t t'
-      → AnswersBytes bytes s0 s' t0 t' NoCommand
-  ends_ill s' t' some h = record {
+  pub ends_ill : (s' : ClientView) (t' : List ℕ) (r : RefusedLine) → ¬ (rest ≡ []) → AnswersFront rest n None s s' t t'
+      → ReportsLine (Some r) n (first_line rest).text → AnswersBytes bytes s0 s' t0 t' (NoCommand r)
+  ends_ill s' t' r some h known = record {
     lines = f.lines;
     rest = rest;
     last = s;
     reported = last_text false n;
     answered = f.answered;
-    ends = (h.0, some, h.1, ap (last_text false) f.next);
+    ends = (
+      h.0,
+      some,
+      h.1,
+      ap (last_text false) f.next,
+      subst (λ (k : ℕ). ReportsLine (Some r) k (first_line rest).text) f.next known,
+    );
     text = and_then t' (last_text false n) h.2;
   }
 

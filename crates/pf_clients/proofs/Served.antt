@@ -15,7 +15,7 @@ use Rattle.pf_farm_state.specs.declared.client.ClosedSeat.{ClosedSeat}
 use Rattle.pf_farm_state.specs.declared.closing.Closing.{Closing}
 use Rattle.pf_wire.specs.declared.reported.WrittenAnswer.{WrittenAnswer}
 use Rattle.pf_clients.specs.declared.reported.ClientAnswers.{ClientAnswers}
-use Rattle.pf_clients.specs.declared.client.FileEnd.{FileEnd}
+use Rattle.pf_clients.specs.declared.end.FileEnd.{FileEnd}
 use Rattle.pf_clients.specs.Farms.{answers_of, client_text, ClientText, AreAnswered, FarmLeaves, FarmOf, FarmPrints}
 use Rattle.pf_clients.specs.Farms.{Prints, PrintsInPart}
 use Rattle.pf_clients.specs.Lines.{AnswersFile, IsNew, IsServed}

@@ -16,8 +16,8 @@ use Rattle.pf_farm_laws.specs.Reported.{AgreesWithHistories}
 use Rattle.pf_farm_state.specs.Clients.{all_receipts, closed_as, AreFull, AreLegal, AreTheCalls}
 use Rattle.pf_farm_state.specs.declared.client.ClosedSeat.{ClosedSeat}
 use Rattle.pf_farm_state.specs.declared.closing.Closing.{Closing}
-use Rattle.pf_clients.specs.declared.client.FileEnd.{FileEnd}
-use Rattle.pf_clients.specs.declared.client.FileEnd.TheVariants.{Answered, NoCommand, Unread, NoMemory as OutOfMemory}
+use Rattle.pf_clients.specs.declared.end.FileEnd.{FileEnd}
+use Rattle.pf_clients.specs.declared.end.FileEnd.TheVariants.{Answered, NoCommand, Unread, NoMemory as OutOfMemory}
 use Rattle.pf_clients.specs.declared.reported.ClientAnswers.{ClientAnswers}
 use Rattle.pf_clients.specs.Lines.{AnswersFile}
 use Rattle.pf_clients.specs.Texts.{reported_text}
@@ -38,7 +38,7 @@ client_text a = record { text = reported_text a.reported.items; ended = a.ended 
 -- why no file is printed after one that ended so, if none is
 abbrev pub stop_at : FileEnd → Option (OrNoMemory StreamFault)
 stop_at Answered = None
-stop_at NoCommand = None
+stop_at (NoCommand r) = None
 stop_at (Unread e) = Some (Fault (Read e))
 stop_at OutOfMemory = Some NoMemory
 
@@ -61,7 +61,7 @@ printed (c ∷ cs) = c.text ++ unless (stop_at c.ended) (printed cs)
 
 -- the status: 2 if a line was no command, and else 0
 abbrev pub status_at : FileEnd → (others : ℕ) → ℕ
-status_at NoCommand n = 2
+status_at (NoCommand r) n = 2
 status_at Answered n = n
 status_at (Unread e) n = n
 status_at OutOfMemory n = n

@@ -15,10 +15,12 @@ use Rattle.pf_book.specs.declared.reply.Reply as reply_code
 use Rattle.pf_book.specs.View.{view_of_reply}
 use Rattle.pf_farm_state.specs.Clients.{ClientReplies, ClientView, empty_client, full_seat, with_receipt}
 use Rattle.pf_protocol.specs.Clients.{ClientLine, calls, awaits, client_line_at}
+use Rattle.pf_protocol.specs.Commands.{first_line}
+use Rattle.pf_wire.specs.Endings.{ReportsLine}
 use Rattle.pf_wire.specs.Steps.{AreRead, last_text}
 use Rattle.pf_wire.specs.declared.reported.WrittenAnswer as wire
-use Rattle.pf_clients.specs.declared.client.FileEnd.{FileEnd}
-use Rattle.pf_clients.specs.declared.client.FileEnd.TheVariants.{Answered, NoCommand, Unread, NoMemory as OutOfMemory}
+use Rattle.pf_clients.specs.declared.end.FileEnd.{FileEnd}
+use Rattle.pf_clients.specs.declared.end.FileEnd.TheVariants.{Answered, NoCommand, Unread, NoMemory as OutOfMemory}
 use Rattle.pf_clients.specs.Texts.{reported_text}
 
 -- ---- one line
@@ -106,12 +108,12 @@ AnswersLines q bytes s (l ∷ ls) rest s' =
     × AnswersLines q after k ls rest s'
 
 -- how a file ends after so many lines, of which this rest is left, and what is answered of the end: nothing is left; or
--- what is left begins with no command, and that is answered; or the file can't be read, and none of its lines was; or
--- memory ran out
+-- what is left begins with no command, and that is answered and known; or the file can't be read, and none of its lines
+-- was; or memory ran out
 abbrev pub EndsAt : FileEnd → (lines : ℕ) → (rest : List ℕ) → (was is : ClientView) → (reported : List ℕ) → Type 0
 EndsAt Answered n rest s s' t = (rest ≡ []) × (s' ≡ s) × (t ≡ [])
-EndsAt NoCommand n rest s s' t = (client_line_at s.project rest ≡ None) × ¬ (rest ≡ []) × (s' ≡ s)
-    × (t ≡ last_text false (n + 1))
+EndsAt (NoCommand r) n rest s s' t = (client_line_at s.project rest ≡ None) × ¬ (rest ≡ []) × (s' ≡ s)
+    × (t ≡ last_text false (n + 1)) × ReportsLine (Some r) (n + 1) (first_line rest).text
 EndsAt (Unread e) n rest s s' t = (n ≡ 0) × (s' ≡ s) × (t ≡ [])
 EndsAt OutOfMemory n rest s s' t = IsCut rest s s' × (t ≡ [])
 

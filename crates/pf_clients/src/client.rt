@@ -15,6 +15,7 @@ ghost use Rattle.pf_clients.specs.Lines.{answer_in, call_text, AnswersBytes, Ans
 ghost use Rattle.pf_clients.specs.Lines.{CutsLine, IsNew, IsServed};
 ghost use Rattle.pf_clients.specs.Texts.{reported_text, EndsInText};
 
+use crate::end::FileEnd;
 use crate::watch::Watch;
 use pf_book::Reply;
 use pf_errors::{NoMemory, OrNoMemory};
@@ -24,28 +25,15 @@ use pf_pool::Response;
 use pf_protocol::{ClientLine, NoCommand, is_due, read_client_line};
 use pf_request::Call;
 use pf_streams::{Counted, StreamFault};
-use pf_wire::{MOST_BYTES, Requester, WrittenAnswer, put_no_command, put_outcome};
+use pf_wire::{MOST_BYTES, RefusedLine, Requester, WrittenAnswer, put_no_command, put_outcome};
 use std::alloc::Global;
-use std::io::{Error, Read};
+use std::io::Read;
 use std::marker::Brand;
 use std::sync::Wait;
 use std::sync::ledger::{Blank, Ledger};
 
 /// How long a text of several replies gets, in bytes, before another is begun.
 const MOST_TEXT: usize = 65_536;
-
-/// How the lines of a file ended.
-#[derive(Drop)]
-pub(crate) enum FileEnd {
-    /// All were answered.
-    Answered,
-    /// One was no command, and none after it was read.
-    NoCommand,
-    /// The file can't be read any more.
-    Unread(Error),
-    /// Memory ran out.
-    NoMemory,
-}
 
 /// How a file ended that can't be read, or for which memory ran out.
 fn stopped(stop: OrNoMemory<StreamFault>) -> FileEnd
@@ -162,6 +150,7 @@ impl<N: FarmNames, R: Read + Drop> Client<N, R> {
             self.new.seat self.new.reported.items self.new.ended }
     {
         self.ended = self.answer_file(alloc, rt, floor, watch);
+        watch.ended(self.seat.project(), &self.ended);
     }
 
     /// Answers the lines of its file, if it has one.
@@ -206,7 +195,7 @@ impl<N: FarmNames, R: Read + Drop> Client<N, R> {
                 Err(NoMemory) => return FileEnd::NoMemory,
             };
             let Some(after) = follows else {
-                return FileEnd::NoCommand;
+                return FileEnd::NoCommand(RefusedLine::of(alloc, number, rest));
             };
             rest = after;
             number += 1;

@@ -2,10 +2,12 @@
 #![tactic(auto)]
 
 mod client;
+mod end;
 mod reported;
 mod run;
 mod start;
 mod watch;
 
+pub use end::FileEnd;
 pub use run::run_farm;
 pub use watch::Watch;

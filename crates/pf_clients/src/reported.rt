@@ -7,7 +7,7 @@ ghost use Rattle.pf_clients.specs.Farms.{client_text, status_at, stop_at, Prints
 ghost use Rattle.pf_clients.specs.Faults.{CountsFault};
 ghost use Rattle.pf_clients.specs.Texts.{reported_text};
 
-use crate::client::FileEnd;
+use crate::end::FileEnd;
 use pf_errors::OrNoMemory;
 use pf_streams::{Counted, StreamFault};
 use pf_wire::{Gathered, WrittenAnswer};
@@ -50,7 +50,7 @@ fn next_status(status: u8, ended: FileEnd) -> Result<u8, OrNoMemory<StreamFault>
 {
     match ended {
         FileEnd::Answered => Ok(status),
-        FileEnd::NoCommand => Ok(2),
+        FileEnd::NoCommand(_) => Ok(2),
         FileEnd::Unread(error) => Err(OrNoMemory::Fault(StreamFault::Read(error))),
         FileEnd::NoMemory => Err(OrNoMemory::NoMemory),
     }

@@ -11,7 +11,8 @@ ghost use Rattle.pf_clients.specs.Pairs.{EachTwo};
 ghost use Rattle.pf_farm.specs.Farms.{opened_farm};
 ghost use Rattle.pf_farm.specs.Seats.{AllIdle, IsRing};
 
-use crate::client::{Client, FileEnd};
+use crate::client::Client;
+use crate::end::FileEnd;
 use crate::reported::{ClientAnswers, write_all};
 use crate::start::FarmStart;
 use crate::watch::Watch;

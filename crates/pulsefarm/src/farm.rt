@@ -90,7 +90,7 @@ where
         claims: NewRegister::new(alloc)?,
         receipts: NewRegister::new(alloc)?,
     };
-    let watch = FarmWatch::new(rt, alloc, host.stderr, files.len(), args.summary)?;
+    let watch = FarmWatch::new(rt, alloc, host.stderr, &args.files, args.summary)?;
     let answered = run_by::<Brand, R, W, M>(rt, args.workers, blanks, files, &watch, writer);
     let status = match answered {
         Ok(status) => status,
@@ -102,12 +102,6 @@ where
         Err(stop) => return Err(stop),
     };
     watch.end();
-    if status == REFUSED {
-        say(
-            rt,
-            "a line of a file is no command there: those before it were answered, and nothing after it was read",
-        );
-    }
     Ok(status)
 }
 

@@ -4,7 +4,7 @@ use Rattle.std.specs.Vec.Iter.{into_iter_items}
 use Rattle.pf_farm_state.specs.Clients.{empty_client}
 use Rattle.pf_farm.specs.Farms.{opened_farm}
 use Rattle.pf_clients.specs.declared.client.Client.{Client}
-use Rattle.pf_clients.specs.declared.client.FileEnd.TheVariants.{Answered}
+use Rattle.pf_clients.specs.declared.end.FileEnd.TheVariants.{Answered}
 use Rattle.pf_clients.specs.Pairs.{EachTwo}
 use Rattle.pf_clients.proofs.Pairs.{nothing_left, two_more}
 use Rattle.pf_clients.proofs.Served.{all_new}

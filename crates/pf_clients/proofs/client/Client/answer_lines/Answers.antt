@@ -44,8 +44,8 @@ returns-in_default g c =
     let due = sym c.is_due.ensures ∙ c.lines-test.true in
     ends_ill c.args.bytes.now was.seat l.self.seat (reported_text was.reported.items)
     (reported_text l.self.reported.items) l.rest.now
-    l.number l.invariant.so_far is.seat (reported_text is.reported.items)
-    (some_rest l.rest.now due) (rw c.in_default.is at c.in-Ok.ensures.answered)
+    l.number l.invariant.so_far is.seat (reported_text is.reported.items) c.of.result
+    (some_rest l.rest.now due) (rw c.in_default.is at c.in-Ok.ensures.answered) c.of.ensures
 
 pub returns-in-Err : goal.returns-in-Err
 returns-in-Err g c =
