@@ -72,11 +72,12 @@ pub record HuntArgs : Type 0 where
   pub workers : Option ℕ
   pub sought : HuntGoal
 
--- a farm is asked for: of n workers, and of the clients whose files these are, that of project 1 first; and whether
--- what each worker did is reported
+-- a farm is asked for: of n workers, and of the clients whose files these are, that of project 1 first; in which folder
+-- replies are written, if one is named; and whether what each worker did is reported
 pub record FarmArgs : Type 0 where
   pub workers : ℕ
   pub files : List Text
+  pub replies : Option Text
   pub summary : Bool
 
 abbrev pub request_by : (root property : Text) → RequestKind → (limit : ℕ) → Request
@@ -405,15 +406,17 @@ explore_of rows =
 abbrev pub as_files : List Text → Option (List Text)
 as_files files = if nat_le 1 (length files) && nat_le (length files) 64 then Some files else None
 
-abbrev pub farm_asked : (workers : Option ℕ) → (files : Option (List Text)) → (summary : Bool) → Option FarmArgs
-farm_asked (Some workers) (Some files) summary = Some (record { workers = workers; files = files; summary = summary })
-farm_asked _ _ summary = None
+abbrev pub farm_asked : (workers : Option ℕ) → (files : Option (List Text)) → (replies : Option Text)
+    → (summary : Bool) → Option FarmArgs
+farm_asked (Some workers) (Some files) replies summary =
+    Some (record { workers = workers; files = files; replies = replies; summary = summary })
+farm_asked _ _ replies summary = None
 
 abbrev pub farm_of : List Row → Option FarmArgs
 farm_of rows =
     farm_asked (option_and_then as_workers (option_number (codes "workers") rows))
     (option_and_then as_files (all_of (codes "files") rows))
-    (is_given (first_of (codes "summary") rows))
+    (first_of (codes "replies") rows) (is_given (first_of (codes "summary") rows))
 
 -- whether more is to be explained
 abbrev pub explain_of : List Row → Bool
@@ -553,7 +556,13 @@ view_of_explore_args a =
     }
 
 abbrev pub view_of_farm_args : farm_code.FarmArgs → FarmArgs
-view_of_farm_args a = record { workers = a.workers; files = map (λ s. s.now) a.files.items; summary = a.summary }
+view_of_farm_args a =
+    record {
+      workers = a.workers;
+      files = map (λ s. s.now) a.files.items;
+      replies = option_map (λ s. s.now) a.replies;
+      summary = a.summary;
+    }
 
 abbrev pub view_of_args : args_code.Args → CommandWork
 view_of_args (Run a) = run (view_of_run_args a)

@@ -142,10 +142,11 @@ check_app = with_rule (with_rule (with_rule (new_app (codes "check")) file_rule)
 abbrev pub steps_app : App
 steps_app = with_rule (new_app (codes "steps")) file_rule
 
--- farm FILE.. --workers N [--summary]
+-- farm FILE.. --workers N [--replies DIR] [--summary]
 abbrev pub farm_app : App
-farm_app = with_rule (with_rule (with_rule (new_app (codes "farm")) files_rule) (required_rule (codes "workers")))
-    (flag_rule (codes "summary"))
+farm_app =
+    with_rule (with_rule (with_rule (with_rule (new_app (codes "farm")) files_rule) (required_rule (codes "workers")))
+    (option_rule (codes "replies"))) (flag_rule (codes "summary"))
 
 -- ---- the command line
 

@@ -192,6 +192,8 @@ pub struct FarmArgs<'a> {
     pub workers: u32,
     /// The files of the clients, from 1 to 64: that of project 1, that of project 2 and so on.
     pub files: Vec<&'a str>,
+    /// The folder of the files that replies are written to; they are kept and printed where there is none.
+    pub replies: Option<&'a str>,
     /// Whether what each worker did is reported at the end.
     pub summary: bool,
     ghost some_workers: { (1 ≤ workers) × (workers ≤ 64) },

@@ -487,10 +487,12 @@ pub(crate) fn farm_command<'a>(alloc: Global) -> Result<Command<'a>, AllocError>
         "Runs a farm of workers, with a client for each file, and prints what each client is answered";
     let clients = "Files of the clients' lines, from 1 to 64; the first is that of project 1";
     let workers = "Threads that work, from 1 to 64";
+    let replies = "Writes the replies to client K to the file DIR/K, each as soon as it is there";
     let summary = "Reports at the end what each worker did";
     let farm = bare(alloc, "farm", about)
         .arg(files(alloc, clients))?
         .arg(required(alloc, "workers", "N", workers))?
+        .arg(option(alloc, "replies", "DIR", replies))?
         .arg(flag(alloc, "summary", summary))?;
     Ok(farm)
 }

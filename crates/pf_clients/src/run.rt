@@ -1,17 +1,19 @@
 //! A farm of workers and clients, from its opening to its end.
 
-ghost use Rattle.std.specs.Prelude.{◌≡◌, ◌<◌, ◌≤◌, [], map, All, IfErr, IfOk, OnOk, Some, length, vec_capacity};
+ghost use Rattle.std.specs.Prelude.{◌≡◌, ◌<◌, ◌≤◌, [], map, All, IfErr, IfOk, OnErr, OnOk, Some, length, vec_capacity};
 ghost use Rattle.std.specs.Prelude.{vec_len};
 ghost use Rattle.std.specs.Bool.{OnTrue};
 ghost use Rattle.pf_farm_state.specs.Clients.{empty_client};
 ghost use Rattle.pf_clients.specs.Farms.{answers_of, FarmLeaves, FarmPrints};
+ghost use Rattle.pf_clients.specs.Streams.{input_of, writers_of};
 ghost use Rattle.pf_clients.specs.Faults.{CountsFault};
 ghost use Rattle.pf_clients.specs.Lines.{IsNew, IsServed};
 ghost use Rattle.pf_clients.specs.Pairs.{EachTwo};
 ghost use Rattle.pf_farm.specs.Farms.{opened_farm};
 ghost use Rattle.pf_farm.specs.Seats.{AllIdle, IsRing};
 
-use crate::client::{Client, FileEnd};
+use crate::client::Client;
+use crate::end::FileEnd;
 use crate::reported::{ClientAnswers, write_all};
 use crate::start::FarmStart;
 use crate::watch::Watch;
@@ -27,12 +29,29 @@ use std::sync::ledger::Ledger;
 use std::thread::{Threads, for_each_mut, join_mut};
 use std::time::Clock;
 
+/// What a client is given: its file, and what its replies are written to, if they aren't kept.
+#[derive(Drop)]
+pub struct ClientStreams<R, W> {
+    pub file: R,
+    pub replies: Option<W>,
+}
+
+/// What a farm leaves: how what it kept was printed, and the writers of its clients, in their order.
+#[derive(Drop)]
+pub struct FarmEnd<W> {
+    /// 2 if a line was no command or a reply can't be written, and else 0.
+    pub status: Result<u8, OrNoMemory<StreamFault>>,
+    pub replies: Vec<Option<W>>,
+}
+
 /// Has so many workers and a client for each file work on one farm, file k, counted from 1, being that of project k,
-/// each in a thread of its own; then writes what each client was answered, file by file. Gives the status: 2 if a line
-/// was no command, after which that file isn't read any further, and else 0.
+/// each in a thread of its own; each answer goes to its client's writer before the client's next line is done, or is
+/// kept where it has none. Then writes what was kept, file by file. A line that is no command ends its file, and so
+/// does a reply that can't be written. No farm begins where memory runs out first.
 pub fn run_farm<
     N: FarmNames + Send + Sync,
     R: Read + Send + Drop,
+    V: Write + Send + Drop,
     W: Write,
     M: Ledger,
     T: Threads + Wait + Clock + Sync,
@@ -43,10 +62,10 @@ pub fn run_farm<
     keys: RandomState,
     blanks: Blanks,
     workers: usize,
-    files: Vec<R>,
+    files: Vec<ClientStreams<R, V>>,
     gate: &G,
     writer: &mut Counted<W, M>,
-) -> Result<u8, OrNoMemory<StreamFault>>
+) -> Result<FarmEnd<V>, NoMemory>
     requires opened { (blanks.opened.name ≡ N.opened) × (blanks.opened.parts ≡ N.workers) }
     requires ended { (blanks.ended.name ≡ N.ended) × (blanks.ended.parts ≡ N.workers) }
     requires calls { (blanks.calls.name ≡ N.calls) × (blanks.calls.parts ≡ N.seats) }
@@ -55,19 +74,24 @@ pub fn run_farm<
     requires workers { (0 < workers) × (workers < N.workers) }
     requires seats { MOST_SEATS < N.seats }
     requires files { (0 < vec_len files) × (vec_len files ≤ MOST_SEATS) }
-    ensures answered { IfOk result (λ status. FarmPrints (map R.remaining files.items) status
-        (W.contents writer.old.inner) (W.contents writer.new.inner)) }
-    ensures fault { IfErr result (λ e. FarmLeaves (map R.remaining files.items) e
+    ensures answered { IfOk result (λ end. IfOk end.status (λ status. FarmPrints
+        (map (input_of R.remaining V.contents) files.items) (map (writers_of V.contents) end.replies.items) status
+        (W.contents writer.old.inner) (W.contents writer.new.inner))) }
+    ensures fault { IfOk result (λ end. IfErr end.status (λ e. FarmLeaves
+        (map (input_of R.remaining V.contents) files.items) (map (writers_of V.contents) end.replies.items) e
         (W.contents writer.old.inner) (W.contents writer.new.inner)
-        writer.old.failures.total writer.new.failures.total) }
-    ensures kept { OnOk result (writer.new.failures.total ≡ writer.old.failures.total) }
-    ensures counted { IfErr result (λ e. CountsFault e writer.old.failures.total writer.new.failures.total) }
+        writer.old.failures.total writer.new.failures.total)) }
+    ensures kept { IfOk result (λ end. OnOk end.status (writer.new.failures.total ≡ writer.old.failures.total)) }
+    ensures counted { IfOk result (λ end. IfErr end.status (λ e.
+        CountsFault e writer.old.failures.total writer.new.failures.total)) }
+    ensures none { OnErr result (writer.new ≡ writer.old) }
 {
     let (mut farm, mut seats) = Farm::<N>::open(alloc, keys, blanks, workers)?;
     let mut clients = seated(alloc, &mut farm, files)?;
     let room = ClientSeats {
         seats: Vec::with_capacity(alloc, clients.len())?,
         answers: Vec::with_capacity(alloc, clients.len())?,
+        replies: Vec::with_capacity(alloc, clients.len())?,
     };
     let floor = farm.floor();
     let start = FarmStart::new();
@@ -76,33 +100,38 @@ pub fn run_farm<
     let ClientSeats {
         seats: reported,
         answers,
+        replies,
     } = parted(clients, room);
     let closing = farm.close(reported, seats);
     closing.look_up();
     if !begun {
         let error = Error::new(ErrorKind::Other, "no thread can be started");
-        return Err(OrNoMemory::Fault(StreamFault::Read(error)));
+        let status = Err(OrNoMemory::Fault(StreamFault::Read(error)));
+        return Ok(FarmEnd { status, replies });
     }
-    write_all(alloc, answers, writer)
+    let status = write_all(alloc, answers, writer);
+    Ok(FarmEnd { status, replies })
 }
 
 /// A client with a seat for each file.
-fn seated<N: FarmNames, R: Drop>(
+fn seated<N: FarmNames, R: Drop, V: Drop>(
     alloc: Global,
     farm: &mut Farm<N>,
-    files: Vec<R>,
-) -> Result<Vec<Client<N, R>>, NoMemory>
+    files: Vec<ClientStreams<R, V>>,
+) -> Result<Vec<Client<N, R, V>>, NoMemory>
     requires none { farm.old.given ≡ 0 }
     requires files { vec_len files ≤ MOST_SEATS }
     ensures clients { IfOk result (λ v. vec_len v ≡ vec_len files) }
     ensures seated { IfOk result (λ v. EachTwo (λ k f c.
-        (c.seat ≡ empty_client k) × (c.file ≡ Some f) × (c.reported.items ≡ [])) 1 files.items v.items) }
+        (c.seat ≡ empty_client k) × (c.file ≡ Some f.file) × (c.replies ≡ f.replies)
+        × (c.reported.items ≡ [])) 1 files.items v.items) }
     ensures new { IfOk result (λ v. All (λ c. IsNew c.seat c.reported.items) v.items) }
     ensures given { IfOk result (λ v. farm.new ≡ opened_farm farm.old.workers (vec_len files)) }
 {
     let mut clients = Vec::new(alloc);
     let mut project = 0;
-    'files: for file in files {
+    'files: for streams in files {
+        let ClientStreams { file, replies } = streams;
         project += 1;
         let seat = match farm.seat(alloc, project) {
             Ok(seat) => seat,
@@ -112,6 +141,7 @@ fn seated<N: FarmNames, R: Drop>(
         clients.push(Client {
             seat,
             file: Some(file),
+            replies,
             reported: Vec::new(alloc),
             ended: FileEnd::Answered,
         })?;
@@ -125,6 +155,7 @@ fn serve<
     'a,
     N: FarmNames + Send + Sync,
     R: Read + Send + Drop,
+    V: Write + Send + Drop,
     T: Threads + Wait + Clock + Sync,
     G: Gate + Watch + Sync,
 >(
@@ -133,15 +164,15 @@ fn serve<
     floor: &'a Floor<N>,
     gate: &'a G,
     start: &'a FarmStart,
-    clients: &'a mut [Client<N, R>],
+    clients: &'a mut [Client<N, R, V>],
     seats: &'a mut [WorkSeat<N>],
 ) -> bool
     requires some { (0 < length clients.old) × (0 < length seats.old) }
     requires new { All (λ c. IsNew c.seat c.reported.items) clients.old }
     requires idle { AllIdle seats.old }
     ensures clients { length clients.new ≡ length clients.old }
-    ensures served { OnTrue result (EachTwo (λ k c d. IsServed R.remaining c.file c.seat.project
-        d.seat d.reported.items d.ended) 1 clients.old clients.new) }
+    ensures served { OnTrue result (EachTwo (λ k c d. IsServed R.remaining V.contents c.file c.replies
+        d.replies c.seat.project d.seat d.reported.items d.ended) 1 clients.old clients.new) }
     ensures seats { length seats.new ≡ length seats.old }
     ensures ring { IsRing seats.old → IsRing seats.new }
     ensures idle { AllIdle seats.new }
@@ -155,8 +186,8 @@ fn serve<
     let mut answer = || -> bool
         requires { (0 < length clients.now) × All (λ c. IsNew c.seat c.reported.items) clients.now }
         ensures len { length clients.exit.now ≡ length clients.entry.now }
-        ensures served { OnTrue result (EachTwo (λ k c d. IsServed R.remaining c.file c.seat.project
-            d.seat d.reported.items d.ended) 1 clients.entry.now clients.exit.now) }
+        ensures served { OnTrue result (EachTwo (λ k c d. IsServed R.remaining V.contents c.file c.replies
+            d.replies c.seat.project d.seat d.reported.items d.ended) 1 clients.entry.now clients.exit.now) }
     { answer_all(alloc, rt, floor, gate, start, clients) };
     join_mut(rt, &mut work, &mut answer).1
 }
@@ -185,6 +216,7 @@ fn farm_out<N: FarmNames + Send + Sync, T: Threads + Wait + Sync, G: Gate + Sync
 fn answer_all<
     N: FarmNames + Send + Sync,
     R: Read + Send + Drop,
+    V: Write + Send + Drop,
     T: Threads + Wait + Clock + Sync,
     G: Watch + Sync,
 >(
@@ -193,13 +225,13 @@ fn answer_all<
     floor: &Floor<N>,
     watch: &G,
     start: &FarmStart,
-    clients: &mut [Client<N, R>],
+    clients: &mut [Client<N, R, V>],
 ) -> bool
     requires some { 0 < length clients.old }
     requires new { All (λ c. IsNew c.seat c.reported.items) clients.old }
     ensures len { length clients.new ≡ length clients.old }
-    ensures served { OnTrue result (EachTwo (λ k c d. IsServed R.remaining c.file c.seat.project
-        d.seat d.reported.items d.ended) 1 clients.old clients.new) }
+    ensures served { OnTrue result (EachTwo (λ k c d. IsServed R.remaining V.contents c.file c.replies
+        d.replies c.seat.project d.seat d.reported.items d.ended) 1 clients.old clients.new) }
 {
     let begun = start.wait(rt);
     if begun {
@@ -213,19 +245,21 @@ fn answer_all<
 fn answer_each<
     N: FarmNames + Send + Sync,
     R: Read + Send + Drop,
+    V: Write + Send + Drop,
     T: Threads + Wait + Sync,
     G: Watch + Sync,
->(alloc: Global, rt: &T, floor: &Floor<N>, watch: &G, clients: &mut [Client<N, R>])
+>(alloc: Global, rt: &T, floor: &Floor<N>, watch: &G, clients: &mut [Client<N, R, V>])
     requires some { 0 < length clients.old }
     requires new { All (λ c. IsNew c.seat c.reported.items) clients.old }
     ensures len { length clients.new ≡ length clients.old }
-    ensures served { EachTwo (λ k c d. IsServed R.remaining c.file c.seat.project
-        d.seat d.reported.items d.ended) 1 clients.old clients.new }
+    ensures served { EachTwo (λ k c d. IsServed R.remaining V.contents c.file c.replies
+        d.replies c.seat.project d.seat d.reported.items d.ended) 1 clients.old clients.new }
 {
     let count = clients.len();
-    let work_one = move |_: usize, client: &mut Client<N, R>|
+    let work_one = move |_: usize, client: &mut Client<N, R, V>|
         requires { IsNew client.now.seat client.now.reported.items }
-        ensures { IsServed R.remaining client.entry.now.file client.entry.now.seat.project
+        ensures { IsServed R.remaining V.contents client.entry.now.file client.entry.now.replies
+            client.exit.now.replies client.entry.now.seat.project
             client.exit.now.seat client.exit.now.reported.items client.exit.now.ended }
     { client.work(alloc, rt, floor, watch) };
     for_each_mut(rt, clients, count, &work_one);
@@ -238,35 +272,48 @@ fn notify_work<N: FarmNames, G: Watch>(seats: &[WorkSeat<N>], watch: &G) {
     }
 }
 
-/// The seats of clients, and what these were answered.
+/// The seats of clients, what was kept of their answers, and the writers of the others.
 #[derive(Drop)]
-struct ClientSeats<N: FarmNames> {
+struct ClientSeats<N: FarmNames, V> {
     seats: Vec<ClientSeat<N>>,
     answers: Vec<ClientAnswers>,
+    replies: Vec<Option<V>>,
 }
 
-/// The clients' seats apart from what they were answered, in room that was made before.
-fn parted<N: FarmNames, R: Drop>(clients: Vec<Client<N, R>>, room: ClientSeats<N>) -> ClientSeats<N>
-    requires none { (room.seats.items ≡ []) × (room.answers.items ≡ []) }
+/// The clients' seats apart from what was kept of their answers and from their writers, in room that was made before.
+fn parted<N: FarmNames, R: Drop, V: Drop>(
+    clients: Vec<Client<N, R, V>>,
+    room: ClientSeats<N, V>,
+) -> ClientSeats<N, V>
+    requires none { (room.seats.items ≡ []) × (room.answers.items ≡ []) × (room.replies.items ≡ []) }
     requires seats { vec_len clients ≤ vec_capacity room.seats }
     requires answers { vec_len clients ≤ vec_capacity room.answers }
+    requires replies { vec_len clients ≤ vec_capacity room.replies }
     ensures len { vec_len result.seats ≡ vec_len clients }
     ensures seats { result.seats.items ≡ map (λ c. c.seat) clients.items }
     ensures answers { result.answers.items ≡ map (λ c. answers_of c.reported c.ended) clients.items }
+    ensures replies { result.replies.items ≡ map (λ c. c.replies) clients.items }
 {
     let ClientSeats {
         mut seats,
         mut answers,
+        replies: mut writers,
     } = room;
     'clients: for client in clients {
         let Client {
             seat,
             file: _,
+            replies,
             reported,
             ended,
         } = client;
         seats.push_reserved(seat);
         answers.push_reserved(ClientAnswers { reported, ended });
+        writers.push_reserved(replies);
     }
-    ClientSeats { seats, answers }
+    ClientSeats {
+        seats,
+        answers,
+        replies: writers,
+    }
 }

@@ -1,21 +1,24 @@
 //! `farm`: a client for each file, and workers, on one running farm.
 
-ghost use Rattle.std.specs.Prelude.{◌≡◌, ◌<◌, ◌≤◌, IfOk, IfNone, IfSome, Some, map, vec_len};
+ghost use Rattle.std.specs.Prelude.{◌≡◌, ◌<◌, ◌≤◌, IfOk, IfNone, IfSome, Some, map, option_map, vec_len};
+ghost use Rattle.std.specs.String.{string_bytes};
 ghost use Rattle.pf_cli.specs.Args.{view_of_farm_args};
-ghost use Rattle.pulsefarm.specs.Program.{path_of, AreOpened, FarmAnswers, FarmEnds, FarmIsDone, HasReason, LacksFile};
+ghost use Rattle.pf_clients.specs.Streams.{input_of};
+ghost use Rattle.pulsefarm.specs.Farms.{path_of, reply_path, AreJoined, AreOpened, FarmAnswers, FarmEnds, FarmIsDone};
+ghost use Rattle.pulsefarm.specs.Farms.{HasReason, LacksFile, LacksReplies};
 
 use crate::opening::Opens;
 use crate::watch::FarmWatch;
 use pf_cli::FarmArgs;
 use pf_cli_messages::{REFUSED, end, failed, say};
-use pf_clients::run_farm;
+use pf_clients::{ClientStreams, run_farm};
 use pf_errors::{NoMemory, OrNoMemory};
 use pf_farm::{Blanks, MOST_SEATS};
 use pf_farm_accounts::{FarmNames, NewRegister};
 use pf_files::AnsweredRoot;
 use pf_streams::{Counted, StreamFault};
 use pf_words::random_keys;
-use std::alloc::AllocGlobal;
+use std::alloc::{AllocGlobal, Global};
 use std::io::{self, Stderr, Write};
 use std::marker::Brand;
 use std::random::RandomSource;
@@ -48,7 +51,7 @@ pub fn farm<R, W: Write, M: Ledger>(
 where
     R: Opens + Print + Eprint + AllocGlobal + RandomSource + Clock + Threads + Wait + Sync,
     R::File: Send + Drop,
-    ensures { FarmIsDone R.opens R.File.remaining (view_of_farm_args args.now).files
+    ensures { FarmIsDone R.opens R.makes R.File.remaining R.File.contents (view_of_farm_args args.now)
         (W.contents writer.old.inner) (W.contents writer.new.inner)
         writer.old.failures.total writer.new.failures.total result }
 {
@@ -65,11 +68,11 @@ fn answer<R, W: Write, M: Ledger>(
 where
     R: Opens + Print + Eprint + AllocGlobal + RandomSource + Clock + Threads + Wait + Sync,
     R::File: Send + Drop,
-    ensures answers { FarmAnswers R.opens R.File.remaining (view_of_farm_args args.now).files
+    ensures answers { FarmAnswers R.opens R.makes R.File.remaining R.File.contents (view_of_farm_args args.now)
         (W.contents writer.old.inner) (W.contents writer.new.inner)
         writer.old.failures.total writer.new.failures.total result }
-    ensures reason { IfOk result (HasReason R.opens R.File.remaining host.has_stack R.refuses
-        (view_of_farm_args args.now).files (W.contents writer.old.inner) (W.contents writer.new.inner)
+    ensures reason { IfOk result (HasReason R.opens R.makes R.File.remaining R.File.contents
+        host.has_stack R.refuses R.bars (view_of_farm_args args.now) (W.contents writer.old.inner) (W.contents writer.new.inner)
         writer.old.failures.total writer.new.failures.total) }
 {
     if !host.has_stack {
@@ -82,6 +85,9 @@ where
     let Some(files) = opened(rt, &args.files)? else {
         return Ok(REFUSED);
     };
+    let Some(streams) = joined(rt, args.replies, files)? else {
+        return Ok(REFUSED);
+    };
     let alloc = rt.alloc();
     let blanks = Blanks {
         opened: Blank::new(WORKER_PARTS),
@@ -90,8 +96,8 @@ where
         claims: NewRegister::new(alloc)?,
         receipts: NewRegister::new(alloc)?,
     };
-    let watch = FarmWatch::new(rt, alloc, host.stderr, files.len(), args.summary)?;
-    let answered = run_by::<Brand, R, W, M>(rt, args.workers, blanks, files, &watch, writer);
+    let watch = FarmWatch::new(rt, alloc, host.stderr, &args.files, args.summary)?;
+    let answered = run_by::<Brand, R, W, M>(rt, args.workers, blanks, streams, &watch, writer);
     let status = match answered {
         Ok(status) => status,
         Err(OrNoMemory::Fault(StreamFault::Read(error))) => {
@@ -102,12 +108,6 @@ where
         Err(stop) => return Err(stop),
     };
     watch.end();
-    if status == REFUSED {
-        say(
-            rt,
-            "a line of a file is no command there: those before it were answered, and nothing after it was read",
-        );
-    }
     Ok(status)
 }
 
@@ -149,12 +149,57 @@ where
     Ok(Some(files))
 }
 
+/// The path of the replies to the client of this number in a folder.
+fn reply_path(alloc: Global, folder: &str, number: u64) -> Result<String, NoMemory>
+    ensures { IfOk result (λ path. string_bytes path ≡ reply_path folder.now number) }
+{
+    Ok(format!(in alloc; "{folder}/{number}")?)
+}
+
+/// The files of the clients, each with the file that is made for its replies in the folder, where one is named; none, if
+/// one can't be made, which is said then.
+fn joined<R>(
+    rt: &R,
+    folder: Option<&str>,
+    files: Vec<R::File>,
+) -> Result<Option<Vec<ClientStreams<R::File, R::File>>>, NoMemory>
+where
+    R: Opens + Print + Eprint + AllocGlobal,
+    ensures streams { IfOk result (λ all. IfSome all (λ v.
+        AreJoined R.makes (option_map (λ s. s.now) folder) 1 files.items v.items)) }
+    ensures none { IfOk result (λ all. IfNone all (LacksReplies R.bars (option_map (λ s. s.now) folder))) }
+{
+    let mut streams = Vec::new(rt.alloc());
+    let mut number: u64 = 0;
+    'files: for file in files {
+        number += 1;
+        let replies = match folder {
+            None => None,
+            Some(folder) => {
+                let path = reply_path(rt.alloc(), folder, number)?;
+                match rt.make_path(&path) {
+                    Ok(made) => Some(made),
+                    Err(error) if error.kind() == io::ErrorKind::OutOfMemory => {
+                        return Err(NoMemory);
+                    }
+                    Err(error) => {
+                        failed(rt, Some(&path), &StreamFault::Read(error));
+                        return Ok(None);
+                    }
+                }
+            }
+        };
+        streams.push(ClientStreams { file, replies })?;
+    }
+    Ok(Some(streams))
+}
+
 /// Runs a farm over these files.
 fn run_by<N: FarmNames + Send + Sync, R, W: Write, M: Ledger>(
     rt: &R,
     workers: u32,
     blanks: Blanks,
-    files: Vec<R::File>,
+    files: Vec<ClientStreams<R::File, R::File>>,
     watch: &FarmWatch<R>,
     writer: &mut Counted<W, M>,
 ) -> AnsweredRoot
@@ -169,12 +214,12 @@ where
     requires workers { (0 < workers) × (workers < N.workers) }
     requires seats { MOST_SEATS < N.seats }
     requires files { (0 < vec_len files) × (vec_len files ≤ MOST_SEATS) }
-    ensures { FarmEnds (map R.File.remaining files.items)
+    ensures { FarmEnds (map (input_of R.File.remaining R.File.contents) files.items)
         (W.contents writer.old.inner) (W.contents writer.new.inner)
         writer.old.failures.total writer.new.failures.total result }
 {
     let keys = random_keys(rt)?;
-    run_farm::<N, R::File, W, M, R, FarmWatch<R>>(
+    let end = run_farm::<N, R::File, R::File, W, M, R, FarmWatch<R>>(
         rt.alloc(),
         rt,
         keys,
@@ -183,5 +228,6 @@ where
         files,
         watch,
         writer,
-    )
+    )?;
+    end.status
 }

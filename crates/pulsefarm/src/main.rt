@@ -70,7 +70,7 @@ fn obeyed<R, I: Read, W: Write, L: Ledger, M: Ledger>(
 where
     R: Opens + Print + Eprint + AllocGlobal + RandomSource + Clock + Threads + Wait + Sync,
     R::File: Send + Drop,
-    ensures { Does R.opens R.File.remaining (map (λ w. w.now) words.now)
+    ensures { Does R.opens R.makes R.File.remaining R.File.contents (map (λ w. w.now) words.now)
         (streams (I.remaining reader.old.inner) (W.contents writer.old.inner)
         reader.old.failures.total writer.old.failures.total)
         (streams (I.remaining reader.new.inner) (W.contents writer.new.inner)
@@ -103,7 +103,7 @@ where
         + Wait
         + Sync,
     R::File: Send + Drop,
-    ensures { DoesGiven R.opens R.File.remaining R.gives
+    ensures { DoesGiven R.opens R.makes R.File.remaining R.File.contents R.gives
         (streams (I.remaining reader.old.inner) (W.contents writer.old.inner)
         reader.old.failures.total writer.old.failures.total)
         (streams (I.remaining reader.new.inner) (W.contents writer.new.inner)
@@ -143,7 +143,7 @@ where
     requires write_parts { writes.parts ≡ M.parts }
     requires some_writes { 0 < writes.parts }
     ensures { (after : Streams)
-        × DoesGiven R.opens R.File.remaining R.gives (streams (I.remaining stdin) (W.contents stdout) 0 0)
+        × DoesGiven R.opens R.makes R.File.remaining R.File.contents R.gives (streams (I.remaining stdin) (W.contents stdout) 0 0)
         after result }
 {
     let mut reader = Counted::<I, L>::new(stdin, reads);
@@ -172,7 +172,7 @@ where
         + Sync,
     R::File: Send + Drop,
     ensures { (after : Streams)
-        × DoesGiven R.opens R.File.remaining R.gives (streams (I.remaining stdin) (W.contents stdout) 0 0)
+        × DoesGiven R.opens R.makes R.File.remaining R.File.contents R.gives (streams (I.remaining stdin) (W.contents stdout) 0 0)
         after result }
 {
     let inner = stdout;
@@ -197,7 +197,7 @@ where
         + Wait
         + Sync,
     R::File: Send + Drop,
-    ensures { IsStatus R.opens R.File.remaining R.gives result }
+    ensures { IsStatus R.opens R.makes R.File.remaining R.File.contents R.gives result }
 {
     match try_all(
         rt,
