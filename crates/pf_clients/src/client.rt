@@ -101,13 +101,15 @@ impl<N: FarmNames, R: Read + Drop, W: Write> Client<N, R, W> {
         let mut input = Input::new(alloc);
         let mut number: u64 = 1;
         let mut is_over = false;
-        'lines: while !is_over || input.is_due(true) {
+        'lines: loop {
             if input.is_due(is_over) {
                 match self.answer_next(alloc, rt, floor, watch, number, &input.bytes) {
                     Ok(rest) => input.keep(rest),
                     Err(end) => return end,
                 }
                 number += 1;
+            } else if is_over {
+                return FileEnd::Answered;
             } else {
                 match input.take_piece(&mut reader, &mut piece) {
                     Ok(ends) => is_over = ends,
@@ -115,7 +117,6 @@ impl<N: FarmNames, R: Read + Drop, W: Write> Client<N, R, W> {
                 }
             }
         }
-        FileEnd::Answered
     }
 
     /// Answers the line of this number, which is first; gives what follows it, or how the file ends there.

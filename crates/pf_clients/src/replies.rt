@@ -30,10 +30,7 @@ fn joins(all: &[WrittenAnswer], reported: &WrittenAnswer) -> bool
 }
 
 /// Adds an answer, to the last text where it may join that.
-pub(crate) fn add(
-    all: &mut Vec<WrittenAnswer>,
-    reported: WrittenAnswer,
-) -> Result<(), NoMemory>
+pub(crate) fn add(all: &mut Vec<WrittenAnswer>, reported: WrittenAnswer) -> Result<(), NoMemory>
     ensures added { OnOk result (reported_text all.new.items ≡ reported_text all.old.items ++ whole_text reported) }
     ensures err { OnErr result (reported_text all.new.items ≡ reported_text all.old.items) }
 {

@@ -12,18 +12,21 @@ use Rattle.pf_clients.proofs.run.answer_each.Goals as goal
 
 pub for_each_mut-requires-send-T : goal.for_each_mut-requires-send-T
 for_each_mut-requires-send-T g c κs within = param_send 1
-    (arg _ no (Client.the_row (param 0 g.row.N) (param 1 g.row.R) g.N.FarmNames))
-    (arg_send _ no _ (client_send (param 0 g.row.N) (param 1 g.row.R) g.N.FarmNames c.type_bounds.send-R))
+    (arg _ no (Client.the_row (param 0 g.row.N) (param 1 g.row.R) (param 2 g.row.V) g.N.FarmNames))
+    (arg_send _ no _ (client_send (param 0 g.row.N) (param 1 g.row.R) (param 2 g.row.V) g.N.FarmNames
+    c.type_bounds.send-R c.type_bounds.send-V))
 
 pub for_each_mut-requires-sync-F : goal.for_each_mut-requires-sync-F
 for_each_mut-requires-sync-F g c κs within =
-    closure_sync _ _ _ 2 _ _ _ _ _ c.type_bounds.sync-T (floor_sync (param 0 g.row.N) g.N.FarmNames)
+    closure_sync _ _ _ 3 _ _ _ _ _ c.type_bounds.sync-T (floor_sync (param 0 g.row.N) g.N.FarmNames)
     c.type_bounds.sync-G
 
 pub returns-clause-served : goal.returns-clause-served
 returns-clause-served g c =
-    let P : declared.Client g.row.N.Denot g.row.R.Denot → declared.Client g.row.N.Denot g.row.R.Denot → Type 0 =
-    λ x y. IsServed g.R.Read.remaining x.file x.seat.project y.seat y.reported.items y.ended in
+    let T : Type 0 = declared.Client g.row.N.Denot g.row.R.Denot g.row.V.Denot in
+    let P : T → T → Type 0 =
+    λ x y. IsServed g.R.Read.remaining g.V.Write.contents x.file x.replies y.replies x.seat.project y.seat
+    y.reported.items y.ended in
     let old = c.args.clients.now in
     let new = c.for_each_mut.new.s in
     let len : length new ≡ length old = search rules in

@@ -5,6 +5,7 @@ use Rattle.pf_clients.specs.declared.client.Client.{Client}
 use Rattle.pf_clients.specs.Farms.{client_text}
 use Rattle.pf_clients.specs.Lines.{IsServed}
 use Rattle.pf_clients.specs.Pairs.{EachTwo}
+use Rattle.pf_clients.specs.Streams.{input_of, writers_of}
 use Rattle.pf_clients.proofs.Lines.{not_false}
 use Rattle.pf_clients.proofs.Printed.{at_true}
 use Rattle.pf_clients.proofs.Served.{farm_answered, farm_leaves, farm_prints}
@@ -34,49 +35,57 @@ close-closing-requires-clause-idle g c =
 
 pub returns-clause-answered : goal.returns-clause-answered
 returns-clause-answered g c =
-    let T : Type 0 = Client g.row.N.Denot g.row.R.Denot in
+    let T : Type 0 = Client g.row.N.Denot g.row.R.Denot g.row.V.Denot in
     let remaining = g.R.Read.remaining in
+    let contents = g.V.Write.contents in
     let vec = c.in_ok-clients.clients in
     let now = c.serve-begun.new.clients in
     let len : length now ≡ vec.len = search rules in
     let lent : c.deref_mut.result.now ≡ vec.items = c.deref_mut.ensures.value in
     let begun : c.serve-begun.result ≡ true = first_of (assumption c.if-not-begun.false, search (rules, not_false)) in
-    let Served : T → T → Type 0 = λ x y. IsServed remaining x.file x.seat.project y.seat y.reported.items y.ended in
+    let Served : T → T → Type 0 = λ x y. IsServed remaining contents x.file x.replies y.replies
+    x.seat.project y.seat y.reported.items y.ended in
     let served : EachTwo (λ k. Served) 1 vec.items now = subst (λ cs. EachTwo (λ k. Served) 1 cs now) lent
     (at_true c.serve-begun.result begun c.serve-begun.ensures.served) in
     let close = c.close-closing.ensures in
-    let farm = farm_answered (λ (x : T). x.seat) (λ (x : T). x.file) (λ (x : T). x.reported)
-    (λ (x : T). x.ended) remaining
+    let farm = farm_answered remaining contents (λ (x : T). x.seat) (λ (x : T). x.file) (λ (x : T). x.replies)
+    (λ (x : T). x.reported) (λ (x : T). x.ended)
     c.args.files.items vec.items now
     (take vec.len (now ++ drop (length now) vec.items)) c.close-closing.result c.parted-reported.result.seats.items
-    c.parted-reported.result.answers.items c.in_ok-clients.ensures.seated served
-    (whole vec.len now vec.items len) c.parted-reported.ensures.seats c.parted-reported.ensures.answers close.seats
+    c.parted-reported.result.answers.items c.parted-reported.result.replies.items c.in_ok-clients.ensures.seated served
+    (whole vec.len now vec.items len) c.parted-reported.ensures.seats c.parted-reported.ensures.answers
+    c.parted-reported.ensures.replies close.seats
     close.receipts c.look_up.ensures close.full close.ended close.reported in
-    farm_prints (map remaining c.args.files.items) (map client_text c.parted-reported.result.answers.items) farm
+    farm_prints (map (input_of remaining contents) c.args.files.items)
+    (map (writers_of contents) c.parted-reported.result.replies.items) (map client_text c.parted-reported.result.answers.items) farm
     (g.W.Write.contents c.args.writer.now.inner)
-    (g.W.Write.contents c.write_all.new.writer.inner) c.write_all.result c.write_all.ensures.printed
+    (g.W.Write.contents c.write_all-status.new.writer.inner) c.write_all-status.result c.write_all-status.ensures.printed
 
 pub returns-clause-fault : goal.returns-clause-fault
 returns-clause-fault g c =
-    let T : Type 0 = Client g.row.N.Denot g.row.R.Denot in
+    let T : Type 0 = Client g.row.N.Denot g.row.R.Denot g.row.V.Denot in
     let remaining = g.R.Read.remaining in
+    let contents = g.V.Write.contents in
     let vec = c.in_ok-clients.clients in
     let now = c.serve-begun.new.clients in
     let len : length now ≡ vec.len = search rules in
     let lent : c.deref_mut.result.now ≡ vec.items = c.deref_mut.ensures.value in
     let begun : c.serve-begun.result ≡ true = first_of (assumption c.if-not-begun.false, search (rules, not_false)) in
-    let Served : T → T → Type 0 = λ x y. IsServed remaining x.file x.seat.project y.seat y.reported.items y.ended in
+    let Served : T → T → Type 0 = λ x y. IsServed remaining contents x.file x.replies y.replies
+    x.seat.project y.seat y.reported.items y.ended in
     let served : EachTwo (λ k. Served) 1 vec.items now = subst (λ cs. EachTwo (λ k. Served) 1 cs now) lent
     (at_true c.serve-begun.result begun c.serve-begun.ensures.served) in
     let close = c.close-closing.ensures in
-    let farm = farm_answered (λ (x : T). x.seat) (λ (x : T). x.file) (λ (x : T). x.reported)
-    (λ (x : T). x.ended) remaining
+    let farm = farm_answered remaining contents (λ (x : T). x.seat) (λ (x : T). x.file) (λ (x : T). x.replies)
+    (λ (x : T). x.reported) (λ (x : T). x.ended)
     c.args.files.items vec.items now
     (take vec.len (now ++ drop (length now) vec.items)) c.close-closing.result c.parted-reported.result.seats.items
-    c.parted-reported.result.answers.items c.in_ok-clients.ensures.seated served
-    (whole vec.len now vec.items len) c.parted-reported.ensures.seats c.parted-reported.ensures.answers close.seats
+    c.parted-reported.result.answers.items c.parted-reported.result.replies.items c.in_ok-clients.ensures.seated served
+    (whole vec.len now vec.items len) c.parted-reported.ensures.seats c.parted-reported.ensures.answers
+    c.parted-reported.ensures.replies close.seats
     close.receipts c.look_up.ensures close.full close.ended close.reported in
-    farm_leaves (map remaining c.args.files.items) (map client_text c.parted-reported.result.answers.items) farm
+    farm_leaves (map (input_of remaining contents) c.args.files.items)
+    (map (writers_of contents) c.parted-reported.result.replies.items) (map client_text c.parted-reported.result.answers.items) farm
     (g.W.Write.contents c.args.writer.now.inner)
-    (g.W.Write.contents c.write_all.new.writer.inner) c.args.writer.now.failures.total
-    c.write_all.new.writer.failures.total c.write_all.result c.write_all.ensures.in_part
+    (g.W.Write.contents c.write_all-status.new.writer.inner) c.args.writer.now.failures.total
+    c.write_all-status.new.writer.failures.total c.write_all-status.result c.write_all-status.ensures.in_part

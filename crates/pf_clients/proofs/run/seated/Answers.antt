@@ -1,10 +1,11 @@
-use Rattle.std.proofs.Common.{rules, ◌≡◌, ℕ, ◌+◌, ◌∷◌, [], ◌++◌, Some, length, refl, sym, ap, ◌∙◌, subst, arith}
+use Rattle.std.proofs.Common.{rules, ◌≡◌, ℕ, ◌+◌, ◌∷◌, [], ◌++◌, None, Some, length, refl, sym, ap, ◌∙◌, subst, arith}
 use Rattle.std.proofs.Common.{append-nil, append_assoc, length-append}
 use Rattle.std.specs.Vec.Iter.{into_iter_items}
 use Rattle.pf_farm_state.specs.Clients.{empty_client}
 use Rattle.pf_farm.specs.Farms.{opened_farm}
 use Rattle.pf_clients.specs.declared.client.Client.{Client}
-use Rattle.pf_clients.specs.declared.client.FileEnd.TheVariants.{Answered}
+use Rattle.pf_clients.specs.declared.run.ClientStreams.{ClientStreams}
+use Rattle.pf_clients.specs.declared.end.FileEnd.TheVariants.{Answered}
 use Rattle.pf_clients.specs.Pairs.{EachTwo}
 use Rattle.pf_clients.proofs.Pairs.{nothing_left, two_more}
 use Rattle.pf_clients.proofs.Served.{all_new}
@@ -12,12 +13,13 @@ use Rattle.pf_clients.proofs.run.seated.Goals as goal
 
 pub files-init : goal.files-init
 files-init g c =
-    let P : ℕ → g.row.R.Denot → Client g.row.N.Denot g.row.R.Denot
-    → Type 0 = λ k f x. (x.seat ≡ empty_client k) × (x.file ≡ Some f) × (x.reported.items ≡ []) in
+    let P : ℕ → ClientStreams g.row.R.Denot g.row.V.Denot → Client g.row.N.Denot g.row.R.Denot g.row.V.Denot
+    → Type 0 = λ k f x. (x.seat ≡ empty_client k) × (x.file ≡ Some f.file) × (x.replies ≡ f.replies)
+    × (x.reported.items ≡ []) in
     record {
       seated = subst (λ cs. EachTwo P 1 [] cs) (sym c.new-clients.ensures.items) (tt {0});
       clients = c.new-clients.ensures.len;
-      rest = sym c.into_iter-file-iterator.ensures.into_iter_gives.0;
+      rest = sym c.into_iter-streams-iterator.ensures.into_iter_gives.0;
       rest_len = search rules;
       project = refl;
       farm = ap (opened_farm c.args.farm.now.workers) c.requires.none;
@@ -25,23 +27,25 @@ files-init g c =
 
 pub files-preserved : goal.files-preserved
 files-preserved g c =
-    let P : ℕ → g.row.R.Denot → Client g.row.N.Denot g.row.R.Denot
-    → Type 0 = λ k f x. (x.seat ≡ empty_client k) × (x.file ≡ Some f) × (x.reported.items ≡ []) in
+    let P : ℕ → ClientStreams g.row.R.Denot g.row.V.Denot → Client g.row.N.Denot g.row.R.Denot g.row.V.Denot
+    → Type 0 = λ k f x. (x.seat ≡ empty_client k) × (x.file ≡ Some f.file) × (x.replies ≡ f.replies)
+    × (x.reported.items ≡ []) in
     let l = c.files in
-    let x = c.in-Some.file in
-    let client : Client g.row.N.Denot g.row.R.Denot = record {
+    let x = c.in-Some.streams in
+    let client : Client g.row.N.Denot g.row.R.Denot g.row.V.Denot = record {
       seat = c.in-Ok.seat;
-      file = Some x;
+      file = Some x.file;
+      replies = x.replies;
       reported = c.new.result;
       ended = Answered;
     } in
     let left = into_iter_items c.next.new.self in
-    let steps : into_iter_items l.file-iterator ≡ x ∷ left = c.in-Some.ensures.steps.0 in
+    let steps : into_iter_items l.streams-iterator ≡ x ∷ left = c.in-Some.ensures.steps.0 in
     let more = length-append l.yielded (x ∷ []) in
     let place : l.project + 1 ≡ 1 + length l.yielded = omega (arith, l.invariant.project) in
     let count : length l.yielded + 1 ≡ length (l.yielded ++ x ∷ []) = omega (arith, more) in
     let one : P (1 + length l.yielded) x client =
-    (c.in-Ok.ensures.seat.0 ∙ ap empty_client place, refl, c.new.ensures.items) in
+    (c.in-Ok.ensures.seat.0 ∙ ap empty_client place, refl, refl, c.new.ensures.items) in
     record {
       seated = subst (λ cs. EachTwo P 1 (l.yielded ++ x ∷ []) cs) (sym c.in_ok-push.ensures.items)
           (two_more P 1 l.yielded l.clients.items x client l.invariant.seated one);
@@ -55,16 +59,18 @@ files-preserved g c =
 
 pub returns-clause-seated : goal.returns-clause-seated
 returns-clause-seated g c =
-    let P : ℕ → g.row.R.Denot → Client g.row.N.Denot g.row.R.Denot
-    → Type 0 = λ k f x. (x.seat ≡ empty_client k) × (x.file ≡ Some f) × (x.reported.items ≡ []) in
+    let P : ℕ → ClientStreams g.row.R.Denot g.row.V.Denot → Client g.row.N.Denot g.row.R.Denot g.row.V.Denot
+    → Type 0 = λ k f x. (x.seat ≡ empty_client k) × (x.file ≡ Some f.file) × (x.replies ≡ f.replies)
+    × (x.reported.items ≡ []) in
     let l = c.files in
-    let left : length (into_iter_items l.file-iterator) ≡ 0 = sym l.file-iterator.rest.ok.0
+    let left : length (into_iter_items l.streams-iterator) ≡ 0 = sym l.streams-iterator.rest.ok.0
     ∙ c.in-None.ensures.steps.0 in
-    let all = l.invariant.rest ∙ ap (λ t. l.yielded ++ t) (nothing_left (into_iter_items l.file-iterator) left)
+    let all = l.invariant.rest ∙ ap (λ t. l.yielded ++ t) (nothing_left (into_iter_items l.streams-iterator) left)
     ∙ append-nil l.yielded in
     subst (λ fs. EachTwo P 1 fs l.clients.items) (sym all) l.invariant.seated
 
 pub returns-clause-new : goal.returns-clause-new
-returns-clause-new g c = let l = c.files in all_new (λ k. k.seat) (λ k. k.file) (λ k. k.reported)
+returns-clause-new g c = let l = c.files in all_new (λ f. None) (λ w. None) (λ k. k.seat) (λ k. k.file)
+    (λ k. k.replies) (λ k. k.reported)
     (λ k. k.ended) 1 l.yielded
     l.clients.items l.invariant.seated

@@ -4,7 +4,7 @@ use Rattle.pf_world.specs.Steps.{client_calls}
 use Rattle.pf_world.specs.Reported.{step_text}
 use Rattle.pf_pool.specs.Responses.{response_in}
 use Rattle.pf_clients.proofs.Lines.{outcome_of_call}
-use Rattle.pf_clients.proofs.client.text_of.Goals as goal
+use Rattle.pf_clients.proofs.line.text_of.Goals as goal
 
 -- the text of an outcome of a client's step is the same for each call
 pub returns : goal.returns

@@ -1,7 +1,7 @@
 use Rattle.std.proofs.Common.{◌≡◌, None, sym, ◌∙◌}
 use Rattle.pf_clients.specs.Texts.{EndsInText}
 use Rattle.pf_clients.proofs.Printed.{none_if_none, none_if_not_some, on_true}
-use Rattle.pf_clients.proofs.client.joins.Goals as goal
+use Rattle.pf_clients.proofs.replies.joins.Goals as goal
 
 pub returns-then-is_none : goal.returns-then-is_none
 returns-then-is_none c =

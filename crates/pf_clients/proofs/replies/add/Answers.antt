@@ -5,7 +5,7 @@ use Rattle.pf_wire.proofs.Adding.{at_err}
 use Rattle.pf_wire.specs.Whole.{whole_text, with_report}
 use Rattle.pf_clients.specs.Texts.{EndsInText, reported_text}
 use Rattle.pf_clients.proofs.Printed.{at_true, joined_text, longer_last, some_last, none_in, reported_more}
-use Rattle.pf_clients.proofs.client.add.Goals as goal
+use Rattle.pf_clients.proofs.replies.add.Goals as goal
 
 pub overflow_sub-last : goal.overflow_sub-last
 overflow_sub-last c =
