@@ -64,7 +64,7 @@ _pulsefarm() {
       ;;
     shrink) own=($job $schedule '--runs[most runs]:runs: ' $format) ;;
     check) own=('--explain[say how to fix a refusal]' $format) ;;
-    farm) own=('--workers[threads]:threads: ' '--summary[report what each worker did]') ;;
+    farm) own=('--workers[threads]:threads: ' '--replies[folder of the replies]:folder:_files -/' '--summary[report what each worker did]') ;;
   esac
   _arguments $own '(-h --help)'{-h,--help}'[print help]' '*:file:_files'
 }
