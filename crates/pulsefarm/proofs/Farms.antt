@@ -9,7 +9,10 @@ use Rattle.pf_errors.specs.declared.fault.OrNoMemory.{OrNoMemory}
 use Rattle.pf_streams.specs.declared.stream.StreamFault.{StreamFault}
 use Rattle.pf_cli_messages.specs.Texts.{HasStatus, IsFailure}
 use Rattle.pf_words.specs.Words.{End}
-use Rattle.pulsefarm.specs.Program.{is_input, path_of, AreOpened, FarmEnds, FarmIsDone, HasReason, LacksFile}
+use Rattle.pf_cli.specs.Args.{FarmArgs}
+use Rattle.pf_clients.specs.declared.run.ClientStreams.{ClientStreams}
+use Rattle.pulsefarm.specs.Farms.{is_input, path_of, AreJoined, AreOpened, AreRepliesOf, FarmIsDone, FarmRuns}
+use Rattle.pulsefarm.specs.Farms.{HasReason, LacksFile}
 
 -- the status of a fault is that of what fails
 pub of_fault : (r : End) (given : ℕ) → IsErr r → HasStatus r given → IsFailure given
@@ -74,26 +77,47 @@ input_at f xs i d b r lt one same =
     ∙ (input_more (map f (take i xs)) (f (get_or xs i d)) b same
     ∙ ap (λ ws. list_any is_input ws) (sym (map_more f xs i d lt)))
 
-module _ {F : Type 0} (opens : (path : List ℕ) → F → Type 0) (remaining : F → Option (List ℕ)) where
-  -- a farm that was run over its files
-  pub run_over : (s : Bool) (refuses : (path : List ℕ) → Type 0) (ws : List (List ℕ)) (fs : List F)
-      (w0 w1 : Option (List ℕ)) (n0 n1 : ℕ) (r end : End) → AreOpened opens ws fs → r ≡ end
-      → FarmEnds (map remaining fs) w0 w1 n0 n1 r → (status : ℕ) → HasStatus end status
-      → HasReason opens remaining s refuses ws w0 w1 n0 n1 status
-  run_over s refuses ws fs w0 w1 n0 n1 r end opened is ends status has =
-      inr (inr (fs, end, opened, subst (FarmEnds (map remaining fs) w0 w1 n0 n1) is ends, has))
+-- one more file has the file of its replies
+pub joined_more : {F : Type 0} (makes : (path : List ℕ) → F → Type 0) (folder : Option (List ℕ)) (k : ℕ) (fs : List F)
+    (ss : List (ClientStreams F F)) (f : F) (s : ClientStreams F F) → AreJoined makes folder k fs ss → s.file ≡ f
+    → AreRepliesOf makes folder (k + length fs) s.replies → AreJoined makes folder k (fs ++ f ∷ []) (ss ++ s ∷ [])
+joined_more makes folder k [] [] f s all same one =
+    ((same, subst (λ (n : ℕ). AreRepliesOf makes folder n s.replies) (omega arith) one), tt)
+joined_more makes folder k [] (t ∷ ss) f s all same one = absurd all
+joined_more makes folder k (g ∷ fs) [] f s all same one = absurd all
+joined_more makes folder k (g ∷ fs) (t ∷ ss) f s all same one = (
+  all.0,
+  joined_more makes folder (suc k) fs ss f s all.1 same
+      (subst (λ (n : ℕ). AreRepliesOf makes folder n s.replies) (omega arith) one),
+)
 
-  -- a farm of the files of these words that a fault ended is done, with a status of what fails
-  pub ended_by : (ws : List (List ℕ)) (fs : List F) (w0 w1 : Option (List ℕ)) (n0 n1 : ℕ) (r : End)
-      (e : OrNoMemory StreamFault) → AreOpened opens ws fs
-      → r ≡ Err e → FarmEnds (map remaining fs) w0 w1 n0 n1 r → (given : ℕ) → IsFailure given
-      → FarmIsDone opens remaining ws w0 w1 n0 n1 given
-  ended_by ws fs w0 w1 n0 n1 r e opened is ends given fails =
-      inr (fs, Err e, opened, subst (FarmEnds (map remaining fs) w0 w1 n0 n1) is ends, fails)
+pub joined_count : {F : Type 0} (makes : (path : List ℕ) → F → Type 0) (folder : Option (List ℕ)) (k : ℕ)
+    (fs : List F) (ss : List (ClientStreams F F)) → AreJoined makes folder k fs ss → length ss ≡ length fs
+joined_count makes folder k [] [] all = refl
+joined_count makes folder k [] (s ∷ ss) all = absurd all
+joined_count makes folder k (f ∷ fs) [] all = absurd all
+joined_count makes folder k (f ∷ fs) (s ∷ ss) all = ap suc (joined_count makes folder (suc k) fs ss all.1)
+
+module _ {F : Type 0} (opens makes : (path : List ℕ) → F → Type 0) (remaining contents : F → Option (List ℕ)) where
+  -- a farm that was run
+  pub run_over : (s : Bool) (refuses bars : (path : List ℕ) → Type 0) (args : FarmArgs) (w0 w1 : Option (List ℕ))
+      (n0 n1 : ℕ) (r end : End) → r ≡ end → FarmRuns opens makes remaining contents args w0 w1 n0 n1 r
+      → (status : ℕ) → HasStatus end status
+      → HasReason opens makes remaining contents s refuses bars args w0 w1 n0 n1 status
+  run_over s refuses bars args w0 w1 n0 n1 r end is runs status has =
+      inr (inr (inr (end, subst (FarmRuns opens makes remaining contents args w0 w1 n0 n1) is runs, has)))
+
+  -- a farm that a fault ended is done, with a status of what fails
+  pub ended_by : (args : FarmArgs) (w0 w1 : Option (List ℕ)) (n0 n1 : ℕ) (r : End) (e : OrNoMemory StreamFault)
+      → r ≡ Err e → FarmRuns opens makes remaining contents args w0 w1 n0 n1 r → (given : ℕ) → IsFailure given
+      → FarmIsDone opens makes remaining contents args w0 w1 n0 n1 given
+  ended_by args w0 w1 n0 n1 r e is runs given fails =
+      inr (Err e, subst (FarmRuns opens makes remaining contents args w0 w1 n0 n1) is runs, fails)
 
   -- one that is done from where nothing had gone out is done from the beginning
-  pub from_beginning : (ws : List (List ℕ)) (w w0 w1 : Option (List ℕ)) (k n0 n1 given : ℕ) → w ≡ w0 → k ≡ n0
-      → FarmIsDone opens remaining ws w w1 k n1 given → FarmIsDone opens remaining ws w0 w1 n0 n1 given
-  from_beginning ws w w0 w1 k n0 n1 given written failed done =
-      subst (λ i. FarmIsDone opens remaining ws w0 w1 i n1 given) failed
-      (subst (λ (x : Option (List ℕ)). FarmIsDone opens remaining ws x w1 k n1 given) written done)
+  pub from_beginning : (args : FarmArgs) (w w0 w1 : Option (List ℕ)) (k n0 n1 given : ℕ) → w ≡ w0 → k ≡ n0
+      → FarmIsDone opens makes remaining contents args w w1 k n1 given
+      → FarmIsDone opens makes remaining contents args w0 w1 n0 n1 given
+  from_beginning args w w0 w1 k n0 n1 given written failed done =
+      subst (λ i. FarmIsDone opens makes remaining contents args w0 w1 i n1 given) failed
+      (subst (λ (x : Option (List ℕ)). FarmIsDone opens makes remaining contents args x w1 k n1 given) written done)

@@ -1,9 +1,11 @@
 -- What a farm that words ask for does, between its files and the standard output.
-use Rattle.std.specs.Prelude.{◌≡◌, ◌⊎◌, ◌<◌, ⊤, ℕ, suc, Bool, true, false, List, [], ◌∷◌, ◌++◌, map, codes}
+use Rattle.std.specs.Prelude.{◌≡◌, ◌⊎◌, ⊤, ℕ, suc, Bool, true, false, List, [], ◌∷◌, ◌++◌, map, codes}
 use Rattle.std.specs.Prelude.{if◌then◌else◌, Option, Some, None, Ok, Err}
 use Rattle.std.specs.Fmt.{decimal}
 use Rattle.std.specs.List.{list_any}
 use Rattle.std.specs.Str.{bytes_eq}
+use Rattle.pf_errors.specs.declared.fault.OrNoMemory.{OrNoMemory}
+use Rattle.pf_errors.specs.declared.fault.OrNoMemory.TheVariants.{Fault, NoMemory}
 use Rattle.pf_cli.specs.Args.{FarmArgs}
 use Rattle.pf_cli_messages.specs.Texts.{HasStatus, IsFailure}
 use Rattle.pf_clients.specs.Farms.{ClientInput, FarmLeaves, FarmPrints}
@@ -66,7 +68,13 @@ AreJoined makes folder k _ _ = ⊥
 -- a folder is named, and at the path of the replies to a client no file may be made
 abbrev pub LacksReplies : (bars : (path : List ℕ) → Type 0) → (folder : Option (List ℕ)) → Type 0
 LacksReplies bars None = ⊥
-LacksReplies bars (Some folder) = (k : ℕ) × (0 < k) × bars (reply_path folder k)
+LacksReplies bars (Some folder) = (k : ℕ) × bars (reply_path folder k)
+
+-- why a client has no file of replies, unless memory ran out
+abbrev pub IsBarred : {X : Type 0} → (bars : (path : List ℕ) → Type 0) → (folder : Option (List ℕ)) → OrNoMemory X
+    → Type 0
+IsBarred bars folder (Fault x) = LacksReplies bars folder
+IsBarred bars folder NoMemory = ⊤
 
 -- F is what files are to the system, which says which of them a path may open or make, what each still holds and what
 -- was written to it

@@ -1,11 +1,11 @@
 //! `farm`: a client for each file, and workers, on one running farm.
 
-ghost use Rattle.std.specs.Prelude.{◌≡◌, ◌<◌, ◌≤◌, IfOk, IfNone, IfSome, Some, map, option_map, vec_len};
+ghost use Rattle.std.specs.Prelude.{◌≡◌, ◌<◌, ◌≤◌, IfErr, IfOk, IfNone, IfSome, Some, map, option_map, vec_len};
 ghost use Rattle.std.specs.String.{string_bytes};
 ghost use Rattle.pf_cli.specs.Args.{view_of_farm_args};
 ghost use Rattle.pf_clients.specs.Streams.{input_of};
-ghost use Rattle.pulsefarm.specs.Farms.{path_of, reply_path, AreJoined, AreOpened, FarmAnswers, FarmEnds, FarmIsDone};
-ghost use Rattle.pulsefarm.specs.Farms.{HasReason, LacksFile, LacksReplies};
+ghost use Rattle.pulsefarm.specs.Farms.{path_of, reply_path, AreJoined, AreOpened, AreRepliesOf, IsBarred};
+ghost use Rattle.pulsefarm.specs.Farms.{FarmAnswers, FarmEnds, FarmIsDone, HasReason, LacksFile, LacksReplies};
 
 use crate::opening::Opens;
 use crate::watch::FarmWatch;
@@ -156,8 +156,37 @@ fn reply_path(alloc: Global, folder: &str, number: u64) -> Result<String, NoMemo
     Ok(format!(in alloc; "{folder}/{number}")?)
 }
 
-/// The files of the clients, each with the file that is made for its replies in the folder, where one is named; none, if
-/// one can't be made, which is said then.
+/// No file can be made for the replies to a client.
+#[derive(Clone, Copy)]
+struct NoReplies;
+
+/// The file that is made for the replies to the client of this number in the folder, where one is named. If none can
+/// be made, that is said.
+fn replies_of<R>(
+    rt: &R,
+    folder: Option<&str>,
+    number: u64,
+) -> Result<Option<R::File>, OrNoMemory<NoReplies>>
+where
+    R: Opens + Print + Eprint + AllocGlobal,
+    ensures made { IfOk result (λ file. AreRepliesOf R.makes (option_map (λ s. s.now) folder) number file) }
+    ensures barred { IfErr result (λ e. IsBarred R.bars (option_map (λ s. s.now) folder) e) }
+{
+    let Some(folder) = folder else {
+        return Ok(None);
+    };
+    let path = reply_path(rt.alloc(), folder, number)?;
+    match rt.make_path(&path) {
+        Ok(file) => Ok(Some(file)),
+        Err(error) if error.kind() == io::ErrorKind::OutOfMemory => Err(OrNoMemory::NoMemory),
+        Err(error) => {
+            failed(rt, Some(&path), &StreamFault::Read(error));
+            Err(OrNoMemory::Fault(NoReplies))
+        }
+    }
+}
+
+/// The files of the clients, each with the file of its replies; none, if one of these can't be made.
 fn joined<R>(
     rt: &R,
     folder: Option<&str>,
@@ -173,21 +202,10 @@ where
     let mut number: u64 = 0;
     'files: for file in files {
         number += 1;
-        let replies = match folder {
-            None => None,
-            Some(folder) => {
-                let path = reply_path(rt.alloc(), folder, number)?;
-                match rt.make_path(&path) {
-                    Ok(made) => Some(made),
-                    Err(error) if error.kind() == io::ErrorKind::OutOfMemory => {
-                        return Err(NoMemory);
-                    }
-                    Err(error) => {
-                        failed(rt, Some(&path), &StreamFault::Read(error));
-                        return Ok(None);
-                    }
-                }
-            }
+        let replies = match replies_of(rt, folder, number) {
+            Ok(replies) => replies,
+            Err(OrNoMemory::Fault(NoReplies)) => return Ok(None),
+            Err(OrNoMemory::NoMemory) => return Err(NoMemory),
         };
         streams.push(ClientStreams { file, replies })?;
     }

@@ -5,7 +5,7 @@ use Rattle.pulsefarm.proofs.answer_words.Goals as goal
 
 pub returns : goal.returns
 returns g c =
-    for_given g.R.Opens.opens g.R.File.Read.remaining g.R.GivesWords.gives
+    for_given g.R.Opens.opens g.R.Opens.makes g.R.File.Read.remaining g.R.File.Write.contents g.R.GivesWords.gives
     (map (λ s. string_bytes s) c.deref.result.now) _ _ _ c.obeyed.result
     (subst (λ ws. g.R.GivesWords.gives (map (λ s. string_bytes s) ws)) (sym c.deref.ensures.value)
     c.in_ok-given.ensures)

@@ -1,6 +1,6 @@
 use Rattle.std.proofs.Common.{◌+◌, ◌∷◌, [], ◌++◌, ◌∙◌, inl, inr, map, take, sym, subst}
 use Rattle.std.proofs.lemmas.List.{map_more}
-use Rattle.pulsefarm.specs.Program.{AreOpened}
+use Rattle.pulsefarm.specs.Farms.{AreOpened}
 use Rattle.pulsefarm.proofs.Farms.{input_at, lacks_at, opened_more}
 use Rattle.pulsefarm.proofs.farm.opened.Goals as goal
 

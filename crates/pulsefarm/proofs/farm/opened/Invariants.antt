@@ -1,6 +1,6 @@
 use Rattle.std.proofs.Common.{◌≡◌, map, take}
 use Rattle.std.specs.List.{list_any}
-use Rattle.pulsefarm.specs.Program.{is_input, AreOpened}
+use Rattle.pulsefarm.specs.Farms.{is_input, AreOpened}
 use Rattle.pulsefarm.proofs.farm.opened.Given as goal
 
 -- the files of the words so far are opened, and it is known whether one of these words names the standard input
