@@ -80,7 +80,8 @@ due_stays true q bs more due f =
 
 -- the line in front is the same, with more after what follows it
 pub line_stays : (over : Bool) (q : ℕ) (bs more : List ℕ) (m : ClientLine) (rest : List ℕ) → is_due over bs ≡ true
-    → MayFollow over more → client_line_at q bs ≡ Some (m, rest) → client_line_at q (bs ++ more) ≡ Some (m, rest ++ more)
+    → MayFollow over more → client_line_at q bs ≡ Some (m, rest)
+    → client_line_at q (bs ++ more) ≡ Some (m, rest ++ more)
 line_stays over q bs more m rest due f at = due_stays over q bs more due f ∙ ap (and_more more) at
 
 -- no command stays none

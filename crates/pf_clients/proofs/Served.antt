@@ -64,7 +64,7 @@ module _ {F V C : Type 0} (remaining : F → Option (List ℕ)) (contents : V �
   client_answered k f c d s seated served same =
       let q : (seat c).project ≡ k = ap (λ (x : ClientView). x.project) seated.0 in
       let one : AnswersClient remaining contents f.file (replies c) (replies d) (seat c).project (seat d)
-          (reported d).items (ended d) =
+      (reported d).items (ended d) =
       subst (λ o. IsServed remaining contents o (replies c) (replies d) (seat c).project (seat d) (reported d).items
       (ended d)) seated.1 served in
       let P : ℕ × ClientView → Type 0 = λ x. AnswersFile x.0 (remaining f.file) x.1 one.0 (ended d) in (

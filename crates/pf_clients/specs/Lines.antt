@@ -110,9 +110,9 @@ abbrev pub LosesFront : (number : ℕ) → (rest : List ℕ) → (was is : Clien
 LosesFront k rest s s' t = (text : List ℕ) × (lost : List ℕ) × (text ≡ t ++ lost)
     × (((after : List ℕ) × AnswersFront rest after s s' text) ⊎ RefusesFront rest k s s' text)
 
--- how a file ends at the line of this number, where this rest is left, and what is answered of the end: nothing is left;
--- or what is left begins with no command, and that is answered and known; or no more of the file can be read; or an
--- answer can't be written; or memory ran out
+-- how a file ends at the line of this number, where this rest is left, and what is answered of the end: nothing is
+-- left; or what is left begins with no command, and that is answered and known; or no more of the file can be read; or
+-- an answer can't be written; or memory ran out
 abbrev pub EndsAt : FileEnd → (number : ℕ) → (rest : List ℕ) → (was is : ClientView) → (reported : List ℕ) → Type 0
 EndsAt Answered k rest s s' t = (rest ≡ []) × (s' ≡ s) × (t ≡ [])
 EndsAt (NoCommand r) k rest s s' t = RefusesFront rest k s s' t × ¬ (rest ≡ [])
@@ -121,8 +121,8 @@ EndsAt (Unread e) k rest s s' t = (s' ≡ s) × (t ≡ [])
 EndsAt (Unwritten e) k rest s s' t = LosesFront k rest s s' t × ¬ (rest ≡ [])
 EndsAt OutOfMemory k rest s s' t = IsCut rest s s' × (t ≡ [])
 
--- AnswersBytes bytes s s' text ended: the lines of a client's file were answered in order up to an end, and this is what
--- the client was answered
+-- AnswersBytes bytes s s' text ended: the lines of a client's file were answered in order up to an end, and this is
+-- what the client was answered
 pub record AnswersBytes (bytes : List ℕ) (was is : ClientView) (text : List ℕ) (ended : FileEnd) : Type 0 where
   pub lines : List Line
   pub rest : List ℕ

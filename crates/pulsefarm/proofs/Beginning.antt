@@ -8,7 +8,8 @@ use Rattle.pulsefarm.specs.Words.{words_of}
 module _ {F : Type 0} (opens makes : (path : List ℕ) → F → Type 0) (remaining contents : F → Option (List ℕ)) where
   module _ (gives : List (List ℕ) → Type 0) (x y x' y' : Option (List ℕ)) (m n m' n' : ℕ) (after : Streams)
       (r : Result ℕ NoMemory) where
-    pub from_equal : x ≡ x' → y ≡ y' → m ≡ m' → n ≡ n' → DoesGiven opens makes remaining contents gives (streams x y m n) after r
+    pub from_equal : x ≡ x' → y ≡ y' → m ≡ m' → n ≡ n'
+        → DoesGiven opens makes remaining contents gives (streams x y m n) after r
         → DoesGiven opens makes remaining contents gives (streams x' y' m' n') after r
     from_equal e f g h done =
         subst (λ (it : Option (List ℕ)). DoesGiven opens makes remaining contents gives (streams it y' m' n') after r) e

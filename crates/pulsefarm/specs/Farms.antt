@@ -13,8 +13,8 @@ use Rattle.pf_clients.specs.Streams.{input_of}
 use Rattle.pf_clients.specs.declared.run.ClientStreams.{ClientStreams}
 use Rattle.pf_words.specs.Words.{End}
 
--- a farm of clients that were given this ended, and left their writers so: what it kept of its clients was written; or a
--- stream failed or memory ran out, before the farm began or after
+-- a farm of clients that were given this ended: what it kept of its clients was written; or a stream failed or memory
+-- ran out, before the farm began or after
 abbrev pub FarmEnds : List ClientInput → (written_old written_new : Option (List ℕ))
     → (failed_old failed_new : ℕ) → End → Type 0
 FarmEnds inputs w0 w1 n0 n1 (Ok status) =

@@ -72,7 +72,8 @@ where
         (W.contents writer.old.inner) (W.contents writer.new.inner)
         writer.old.failures.total writer.new.failures.total result }
     ensures reason { IfOk result (HasReason R.opens R.makes R.File.remaining R.File.contents
-        host.has_stack R.refuses R.bars (view_of_farm_args args.now) (W.contents writer.old.inner) (W.contents writer.new.inner)
+        host.has_stack R.refuses R.bars (view_of_farm_args args.now)
+        (W.contents writer.old.inner) (W.contents writer.new.inner)
         writer.old.failures.total writer.new.failures.total) }
 {
     if !host.has_stack {

@@ -10,4 +10,5 @@ returns g c =
     let remaining = g.R.File.Read.remaining in
     let contents = g.R.File.Write.contents in
     inr
-    (c.in-Farm.args, done.0, from_beginning opens makes remaining contents _ _ _ _ _ _ _ _ done.1.0 done.1.1 c.farm.ensures)
+    (c.in-Farm.args, done.0, from_beginning opens makes remaining contents _ _ _ _ _ _ _ _ done.1.0 done.1.1
+    c.farm.ensures)

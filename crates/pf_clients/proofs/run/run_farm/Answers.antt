@@ -57,9 +57,11 @@ returns-clause-answered g c =
     c.parted-reported.ensures.replies close.seats
     close.receipts c.look_up.ensures close.full close.ended close.reported in
     farm_prints (map (input_of remaining contents) c.args.files.items)
-    (map (writers_of contents) c.parted-reported.result.replies.items) (map client_text c.parted-reported.result.answers.items) farm
+    (map (writers_of contents) c.parted-reported.result.replies.items)
+    (map client_text c.parted-reported.result.answers.items) farm
     (g.W.Write.contents c.args.writer.now.inner)
-    (g.W.Write.contents c.write_all-status.new.writer.inner) c.write_all-status.result c.write_all-status.ensures.printed
+    (g.W.Write.contents c.write_all-status.new.writer.inner) c.write_all-status.result
+    c.write_all-status.ensures.printed
 
 pub returns-clause-fault : goal.returns-clause-fault
 returns-clause-fault g c =
@@ -85,7 +87,8 @@ returns-clause-fault g c =
     c.parted-reported.ensures.replies close.seats
     close.receipts c.look_up.ensures close.full close.ended close.reported in
     farm_leaves (map (input_of remaining contents) c.args.files.items)
-    (map (writers_of contents) c.parted-reported.result.replies.items) (map client_text c.parted-reported.result.answers.items) farm
+    (map (writers_of contents) c.parted-reported.result.replies.items)
+    (map client_text c.parted-reported.result.answers.items) farm
     (g.W.Write.contents c.args.writer.now.inner)
     (g.W.Write.contents c.write_all-status.new.writer.inner) c.args.writer.now.failures.total
     c.write_all-status.new.writer.failures.total c.write_all-status.result c.write_all-status.ensures.in_part
