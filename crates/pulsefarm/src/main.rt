@@ -143,7 +143,8 @@ where
     requires write_parts { writes.parts ≡ M.parts }
     requires some_writes { 0 < writes.parts }
     ensures { (after : Streams)
-        × DoesGiven R.opens R.makes R.File.remaining R.File.contents R.gives (streams (I.remaining stdin) (W.contents stdout) 0 0)
+        × DoesGiven R.opens R.makes R.File.remaining R.File.contents R.gives
+        (streams (I.remaining stdin) (W.contents stdout) 0 0)
         after result }
 {
     let mut reader = Counted::<I, L>::new(stdin, reads);
@@ -172,7 +173,8 @@ where
         + Sync,
     R::File: Send + Drop,
     ensures { (after : Streams)
-        × DoesGiven R.opens R.makes R.File.remaining R.File.contents R.gives (streams (I.remaining stdin) (W.contents stdout) 0 0)
+        × DoesGiven R.opens R.makes R.File.remaining R.File.contents R.gives
+        (streams (I.remaining stdin) (W.contents stdout) 0 0)
         after result }
 {
     let inner = stdout;
