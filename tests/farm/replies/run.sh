@@ -196,17 +196,20 @@ is_ended() {
   for p in 1 2; do
     begin "$p" senders.erl
     for t in $(seq 2000); do
-      printf 'order %s 1 main true seed:%s 2000\nawait %s %s\nfetch %s %s\n' "$p" "$t" "$p" "$t" "$p" "$t"
+      printf 'order %s 1 main true seed:%s 2000\nawait %s %s\nfetch %s %s\ndrop %s %s\n' \
+        "$p" "$t" "$p" "$t" "$p" "$t" "$p" "$t"
     done >> "c$p"
     names="$names c$p"
     alone "$p" > "wanted$p"
   done
+  early=0
   for moment in $(seq 20); do
     fresh
+    enough=$(($(wc -c < wanted1) * moment / 25))
     # shellcheck disable=SC2086
     "$program" farm --workers 2 --replies r $names > out 2> err < /dev/null &
     farm=$!
-    sleep "$(awk -v m="$moment" 'BEGIN { print 0.02 + m * 0.015 }')"
+    until [ -s r/1 ] && [ "$(wc -c < r/1)" -ge "$enough" ]; do :; done
     kill -TERM "$farm" 2> /dev/null
     wait "$farm" 2> /dev/null
     whole=0
@@ -221,7 +224,10 @@ is_ended() {
       [ "$size" = 0 ] || [ "$(tail -c 1 "r/$p" | od -An -c | tr -d ' ')" = '\n' ] || whole=1
     done
     note "ended at moment $moment" "$whole"
+    [ "$(wc -c < r/1)" -lt "$(wc -c < wanted1)" ] && early=$((early + 1))
   done
+  [ "$early" -ge 10 ]
+  note "$early of 20 were ended early" $?
 }
 
 as_alone
