@@ -1,12 +1,20 @@
--- The outcome and the verdict of a run by a seed.
-use Rattle.std.specs.Prelude.{ℕ}
+-- How the run of a job by a seed is judged.
+use Rattle.std.specs.Prelude.{◌≡◌, ℕ, List}
+use Rattle.std.specs.List.{list_any}
 use Rattle.pf_model.specs.Meaning.{Job, Report}
+use Rattle.pf_model.specs.Properties.{Property}
 use Rattle.pf_sched.specs.Judging.{IsJudged}
-use Rattle.pf_sched.specs.declared.whole.Judged.{Judged}
 use Rattle.pf_strategy.specs.Strategies.{MeansBySeed}
 use Rattle.pf_strategy.specs.declared.strategy.Strategy.{Strategy}
+use Rattle.pf_hunt.specs.Hunts.{fails_by}
+use Rattle.pf_hunt.specs.declared.judged.JudgedSeed.{JudgedSeed}
 
--- this outcome, this verdict and this number of processes that still wait are those of the report that a job means by a
--- seed and a strategy
-abbrev pub JudgesBySeed : Strategy → Job → (seed : ℕ) → Judged → Type 0
-JudgesBySeed w j s v = (r : Report) × MeansBySeed w j s r × IsJudged r v
+-- a report's outcome and verdict are these, and so many processes still wait; and one of further properties fails of
+-- its run, or none
+pub record IsJudgedBy (further : List Property) (r : Report) (v : JudgedSeed) : Type 0 where
+  pub judged : IsJudged r v.judged
+  pub further : v.fails_further ≡ list_any (fails_by r) further
+
+-- of the report that a job means by a seed and a strategy all this is so
+abbrev pub JudgesBySeed : Strategy → (further : List Property) → Job → (seed : ℕ) → JudgedSeed → Type 0
+JudgesBySeed w ps j s v = (r : Report) × MeansBySeed w j s r × IsJudgedBy ps r v

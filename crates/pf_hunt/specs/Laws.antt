@@ -1,15 +1,19 @@
 -- The laws of hunts.
-use Rattle.std.specs.Prelude.{◌≡◌, ◌≤◌, ◌-◌, ◌↔◌, ℕ, Bool, List, Option, true}
+use Rattle.std.specs.Prelude.{◌≡◌, ◌≤◌, ◌-◌, ◌↔◌, ℕ, List, Option, Some, false, true, slice_get}
 use Rattle.pf_model.specs.Meaning.{Job, Report}
 use Rattle.pf_strategy.specs.declared.strategy.Strategy.{Strategy}
-use Rattle.pf_hunt.specs.Hunts.{FirstFailing, FirstLeaking, Tallies}
+use Rattle.pf_model.specs.Properties.{Property}
+use Rattle.pf_strategy.specs.Strategies.{MeansBySeed}
+use Rattle.pf_hunt.specs.Causes.{cause_of}
+use Rattle.pf_hunt.specs.Hunts.{Failures, FirstFailing, FirstLeaking, Tallies}
 use Rattle.pf_hunt.specs.Rows.{OutcomeRow, seeds_counted, is_like, rows_joined}
+use Rattle.pf_hunt.specs.declared.cause.FailureCause.TheVariants.{Further}
 
 -- seeds have one answer only
 abbrev pub OneFirst : Type 0
 OneFirst =
-    (leaks : Bool) (w : Strategy) (j : Job) (a b : ℕ) (x y : Option (ℕ × Report)) → FirstFailing leaks w j a b x
-    → FirstFailing leaks w j a b y → x ≡ y
+    (f : Failures) (w : Strategy) (j : Job) (a b : ℕ) (x y : Option (ℕ × Report)) → FirstFailing f w j a b x
+    → FirstFailing f w j a b y → x ≡ y
 
 abbrev pub OneLeak : Type 0
 OneLeak = (w : Strategy) (j : Job) (a b : ℕ) (x y : Option (ℕ × ℕ)) → FirstLeaking w j a b x
@@ -33,3 +37,10 @@ abbrev pub PartsAreTheWhole : Type 0
 PartsAreTheWhole =
     (w : Strategy) (j : Job) (a c b : ℕ) (xs ys : List OutcomeRow) → a ≤ c → c ≤ b → Tallies w j a c xs
     → Tallies w j c b ys → Tallies w j a b (rows_joined xs ys)
+
+-- a run that fails by a further property is that of the job with this property by the same seed, and there it fails
+abbrev pub FailureRepeats : Type 0
+FailureRepeats =
+    (w : Strategy) (j : Job) (s : ℕ) (r : Report) (ps : List Property) (i : ℕ) (p : Property) → MeansBySeed w j s r
+    → cause_of ps r ≡ Further i → slice_get ps i ≡ Some p
+    → MeansBySeed w (record j { property = p }) s (record r { verdict = Some false })

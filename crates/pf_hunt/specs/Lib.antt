@@ -1,4 +1,5 @@
 pub mod Hunts
+pub mod Causes
 pub mod Judging
 pub mod Rows
 pub mod Hashes

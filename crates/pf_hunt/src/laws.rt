@@ -1,6 +1,7 @@
 //! Laws of the definitions: functions with empty bodies, whose contracts are the laws.
 
-ghost use Rattle.pf_hunt.specs.Laws.{EachIsCounted, LikeIsSame, OneFirst, OneLeak, OneTally, PartsAreTheWhole};
+ghost use Rattle.pf_hunt.specs.Laws.{EachIsCounted, FailureRepeats, LikeIsSame, OneFirst, OneLeak, OneTally};
+ghost use Rattle.pf_hunt.specs.Laws.{PartsAreTheWhole};
 
 /// Seeds have one least that fails.
 pub fn one_first()
@@ -30,4 +31,9 @@ pub fn like_is_same()
 /// The rows of two parts, one after the other, are those of the whole.
 pub fn parts_are_the_whole()
     ensures { PartsAreTheWhole }
+{}
+
+/// The failure of a further property is that of the job with this property, by the same seed.
+pub fn failure_repeats()
+    ensures { FailureRepeats }
 {}

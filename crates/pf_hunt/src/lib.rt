@@ -3,8 +3,10 @@
 #![tactic(auto)]
 
 mod blocks;
+mod cause;
 mod failure;
 mod hash;
+mod judged;
 pub mod laws;
 mod leak;
 mod observer;
@@ -19,6 +21,7 @@ mod tally;
 mod workers;
 
 pub use blocks::{first_failing, tally_all};
+pub use cause::{FailureCause, cause_of};
 pub use failure::{FailingSeed, Searched, first_in};
 pub use hash::HashedOutcome;
 pub use leak::Leak;

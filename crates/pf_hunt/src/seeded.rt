@@ -1,18 +1,22 @@
 //! The run of a job by a seed.
 
-ghost use Rattle.std.specs.Prelude.{◌≡◌, All, IfOk};
+ghost use Rattle.std.specs.Prelude.{◌≡◌, [], All, IfOk, map};
 ghost use Rattle.pf_model.specs.Reports.{view_of_report};
 ghost use Rattle.pf_strategy.specs.Strategies.{MeansBySeed};
+ghost use Rattle.pf_property.specs.Views.{property_of};
 ghost use Rattle.pf_hunt.specs.Judging.{JudgesBySeed};
 
+use crate::judged::{JudgedSeed, judged_by};
 use pf_errors::NoMemory;
 use pf_model::report::Report;
-use pf_sched::{Job, Judged, Scratch, judged_run, report_of_run};
+use pf_property::Property;
+use pf_sched::{Job, Scratch, judged_run, report_of_run};
 use pf_strategy::{SeedChoice, Strategy};
 use std::alloc::Global;
 
 /// What is the same for all seeds of a hunt: the job in whose place their runs go, of whose own choices the weights
-/// alone play a part; how a seed chooses; and whether one fails too whose root returned while processes still waited.
+/// alone play a part; how a seed chooses; and what makes a run fail beside the job's property: one of further
+/// properties, and, if leaks are failures too, that processes still wait though the root returned.
 #[derive(Drop)]
 pub struct Hunt {
     pub job: Job,
@@ -20,6 +24,7 @@ pub struct Hunt {
     /// holders of one module. Where there are fewer, the others share that of the first.
     pub others: Vec<Job>,
     pub strategy: Strategy,
+    pub further: Vec<Property>,
     pub leaks: bool,
     ghost alike: { All (λ j. j ≡ job) others.items },
 }
@@ -60,18 +65,54 @@ pub fn run_by_seed(
     )
 }
 
-/// The outcome and the verdict of that report, and how many processes still wait though its root returned. No event is
-/// kept. The run is that of this worker, counted from 0.
+/// How the run by a seed of a job without further properties is judged. No event is kept.
+fn judged_alone(
+    alloc: Global,
+    job: &Job,
+    by: SeedChoice,
+    scratch: &mut Scratch,
+) -> Result<JudgedSeed, NoMemory>
+    ensures { IfOk result (λ v. JudgesBySeed by.strategy [] job.now.asked by.seed v) }
+{
+    let judged = judged_run(alloc, job, Some(by), scratch)?;
+    Ok(JudgedSeed {
+        judged,
+        fails_further: false,
+    })
+}
+
+/// The same with further properties, all of which judge the events of the one run.
+fn judged_by_all(
+    alloc: Global,
+    job: &Job,
+    by: SeedChoice,
+    further: &[Property],
+    scratch: &mut Scratch,
+) -> Result<JudgedSeed, NoMemory>
+    ensures { IfOk result (λ v. JudgesBySeed by.strategy (map property_of further.now) job.now.asked by.seed v) }
+{
+    let report = report_of_run(alloc, job, Some(by), scratch)?;
+    Ok(judged_by(report, further))
+}
+
+/// How the run by a seed is judged, and how many processes still wait though its root returned. It is made once, by
+/// this worker, counted from 0.
 pub(crate) fn judged_by_seed(
     alloc: Global,
     hunt: &Hunt,
     worker: u64,
     scratch: &mut Scratch,
     seed: u64,
-) -> Result<Judged, NoMemory>
-    ensures { IfOk result (λ v. JudgesBySeed hunt.now.strategy hunt.now.job.asked seed v) }
+) -> Result<JudgedSeed, NoMemory>
+    ensures { IfOk result (λ v.
+        JudgesBySeed hunt.now.strategy (map property_of hunt.now.further.items) hunt.now.job.asked seed v) }
 {
     let job = hunt.job_of(worker);
     let strategy = hunt.strategy;
-    judged_run(alloc, job, Some(SeedChoice { seed, strategy }), scratch)
+    let by = SeedChoice { seed, strategy };
+    if hunt.further.is_empty() {
+        judged_alone(alloc, job, by, scratch)
+    } else {
+        judged_by_all(alloc, job, by, &hunt.further, scratch)
+    }
 }
