@@ -13,7 +13,7 @@ use Rattle.pf_model.specs.declared.report.Report as code
 use Rattle.pf_check.specs.Module.{ReadModule}
 use Rattle.pf_check.specs.Reading.{IsModuleOf}
 use Rattle.pf_request.specs.Job.{Job}
-use Rattle.pf_hunt.specs.Hunts.{FirstFailing, SearchedTo, Tallies}
+use Rattle.pf_hunt.specs.Hunts.{FirstFailing, SearchedTo, Tallies, only_leaks}
 use Rattle.pf_hunt.specs.Notices.{Notice, SearchNotices, TallyNotices}
 use Rattle.pf_hunt.specs.Rows as rows
 use Rattle.pf_hunt.specs.Views.{row_of, rows_in}
@@ -55,14 +55,14 @@ module _ (h : HuntArgs) (bytes : List ℕ) (j : Job) (ns : List Notice) where
 
   -- what was found is the least of all seeds
   pub least_of_all : (m : Bool) (c : ℕ) (f : ℕ × Report) → m ≡ may_stop h
-      → FirstFailing h.leaks h.strategy j.asked h.seeds.0 c (Some f)
+      → FirstFailing (only_leaks h.leaks) h.strategy j.asked h.seeds.0 c (Some f)
       → SearchNotices h.strategy j.asked m h.seeds.0 h.seeds.1 c (Some f) ns → IsLeastFailure h j ns h.seeds.1 (Some f)
   least_of_all m c f may least reported =
       let e = over_where_found m h.seeds.0 h.seeds.1 c f reported.0 reported.2 in
       let stops = subst (λ b. SearchNotices h.strategy j.asked b h.seeds.0 h.seeds.1 c (Some f) ns) may reported in
       subst (λ b. IsLeastFailure h j ns b (Some f)) e (least, stops)
 
-  pub none_so_far : (m : Bool) (c : ℕ) → m ≡ may_stop h → FirstFailing h.leaks h.strategy j.asked h.seeds.0 c None
+  pub none_so_far : (m : Bool) (c : ℕ) → m ≡ may_stop h → FirstFailing (only_leaks h.leaks) h.strategy j.asked h.seeds.0 c None
       → SearchNotices h.strategy j.asked m h.seeds.0 h.seeds.1 c None ns → IsLeastFailure h j ns c None
   none_so_far m c may none reported = (
     none,

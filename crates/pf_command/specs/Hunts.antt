@@ -18,7 +18,7 @@ use Rattle.pf_sched.specs.Asked.{Asks}
 use Rattle.pf_strategy.specs.declared.strategy.Sampling.{Sampling}
 use Rattle.pf_strategy.specs.declared.strategy.Sampling.TheVariants.{Uniform, Priorities}
 use Rattle.pf_strategy.specs.declared.strategy.Strategy.{Strategy}
-use Rattle.pf_hunt.specs.Hunts.{FirstFailing, SearchedTo, Tallies}
+use Rattle.pf_hunt.specs.Hunts.{FirstFailing, SearchedTo, Tallies, only_leaks}
 use Rattle.pf_hunt.specs.Notices.{Notice, SearchNotices, TallyNotices}
 use Rattle.pf_hunt.specs.Rows.{OutcomeRow}
 use Rattle.pf_cli.specs.Args.{HuntArgs, RunArgs}
@@ -108,7 +108,7 @@ rows_status rows = if list_any (λ x. is_failure x.verdict) rows then 1 else 0
 -- the hunt receives these notices
 abbrev pub IsLeastFailure : HuntArgs → Job → List Notice → (c : ℕ) → Option (ℕ × Report) → Type 0
 IsLeastFailure h j ns c x =
-    FirstFailing h.leaks h.strategy j.asked h.seeds.0 c x × SearchNotices h.strategy j.asked (may_stop h) h.seeds.0
+    FirstFailing (only_leaks h.leaks) h.strategy j.asked h.seeds.0 c x × SearchNotices h.strategy j.asked (may_stop h) h.seeds.0
     h.seeds.1 c x ns
 
 -- PrintsSought h bytes j notices sought text status: what is reported of the runs of a job by the seeds, by what is

@@ -238,6 +238,7 @@ pub(crate) fn seek_failure<'a, T: Threads + Sync, S: HuntObserver>(
         job,
         others,
         strategy: args.strategy,
+        further: Vec::new(alloc),
         leaks: args.leaks,
     };
     let may_stop = may_stop(args);
@@ -308,6 +309,7 @@ pub(crate) fn seek_outcomes<T: Threads + Sync, S: HuntObserver>(
         job,
         others,
         strategy: args.strategy,
+        further: Vec::new(alloc),
         leaks: false,
     };
     let may_stop = may_stop(args);

@@ -54,6 +54,7 @@ fn answer_job<P: Pace>(
             sampling: Sampling::Priorities,
             last: asked.last,
         },
+        further: Vec::new(alloc),
         leaks: false,
     };
     let explored = explored_of(alloc, &hunt, asked, pace)?;

@@ -8,3 +8,6 @@ pub mod Finding
 pub mod Crossing
 pub mod Stopping
 pub mod Hearing
+pub mod Repeating
+pub mod Mapped
+pub mod Texts

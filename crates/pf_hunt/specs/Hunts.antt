@@ -34,9 +34,13 @@ pub record Failures : Type 0 where
   pub further : List Property
   pub leaks : Bool
 
--- nothing else does
+-- no further property
+abbrev pub only_leaks : (leaks : Bool) → Failures
+only_leaks leaks = record { further = []; leaks = leaks }
+
+-- nothing else
 abbrev pub property_alone : Failures
-property_alone = record { further = []; leaks = false }
+property_alone = only_leaks false
 
 -- of the run of a report this property fails
 abbrev pub fails_by : Report → Property → Bool

@@ -1,5 +1,6 @@
 pub mod Hunts
 pub mod Causes
+pub mod Further
 pub mod Judging
 pub mod Rows
 pub mod Hashes

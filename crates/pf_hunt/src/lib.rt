@@ -5,6 +5,7 @@
 mod blocks;
 mod cause;
 mod failure;
+mod further;
 mod hash;
 mod judged;
 pub mod laws;
@@ -23,6 +24,7 @@ mod workers;
 pub use blocks::{first_failing, tally_all};
 pub use cause::{FailureCause, cause_of};
 pub use failure::{FailingSeed, Searched, first_in};
+pub use further::further_properties;
 pub use hash::HashedOutcome;
 pub use leak::Leak;
 pub use observer::HuntObserver;

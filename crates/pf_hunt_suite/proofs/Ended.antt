@@ -1,9 +1,10 @@
 -- How far the hunt of a root is, of whose seeds something is known.
-use Rattle.std.proofs.Common.{◌≡◌, ◌≤◌, ◌<◌, ◌-◌, ℕ, Bool, true, Option, Some, None, refl, sym, subst, arith}
+use Rattle.std.proofs.Common.{◌≡◌, ◌≤◌, ◌<◌, ◌-◌, ℕ, Bool, true, Option, Some, None, refl, sym, ap, ◌∙◌, subst, arith}
 use Rattle.std.specs.Prelude.{Result, Ok, Err, OnErr, IfSome, is_some}
 use Rattle.pf_model.specs.Meaning.{Report}
 use Rattle.pf_sched.specs.Asked.{Asks}
-use Rattle.pf_hunt.specs.Hunts.{FirstFailing, NoneIs, SearchedTo, fails, less_far, to_end}
+use Rattle.pf_hunt.specs.Hunts.{FirstFailing, NoneIs, SearchedTo, fails, less_far, only_leaks, to_end}
+use Rattle.pf_hunt.specs.Views.{failures_of}
 use Rattle.pf_hunt.specs.declared.seeded.Hunt.{Hunt}
 use Rattle.pf_hunt.proofs.Firsts.{in_first, in_second, none_of}
 use Rattle.pf_hunt_suite.specs.Ends.{IsLeastOfRoot, hunted, none_fails, request_for, stopped}
@@ -26,26 +27,26 @@ so_if_some (Some n) P c is p = subst P (sym is) p
 module _ (h : RootHunt) (o : OpenRoot) (known : IsOpen h o) where
   -- what is known of the seeds from the next on is known of all
   pub of_all : (c : ℕ) (x : Option (ℕ × Report))
-      → FirstFailing o.hunt.leaks o.hunt.strategy o.hunt.job.asked o.next c x
+      → FirstFailing (failures_of o.hunt) o.hunt.strategy o.hunt.job.asked o.next c x
       → IsLeastOfRoot (asked_of h) o.hunt.job c x
   of_all c x found =
       let a = asked_of h in
       let j = o.hunt.job.asked in
-      in_second (fails a.leaks) a.strategy j a.seeds.0 o.next c x known.from
-      (none_of (fails a.leaks) a.strategy j a.seeds.0 o.next known.none)
-      (subst (λ b. FirstFailing b a.strategy j o.next c x) known.leaks
-      (subst (λ w. FirstFailing o.hunt.leaks w j o.next c x) known.strategy found))
+      in_second (fails (only_leaks a.leaks)) a.strategy j a.seeds.0 o.next c x known.from
+      (none_of (fails (only_leaks a.leaks)) a.strategy j a.seeds.0 o.next known.none)
+      (subst (λ f. FirstFailing f a.strategy j o.next c x) known.failures
+      (subst (λ w. FirstFailing (failures_of o.hunt) w j o.next c x) known.strategy found))
 
   pub ends_failing : (c s : ℕ) (r : Report) → c ≤ (asked_of h).seeds.1
-      → FirstFailing o.hunt.leaks o.hunt.strategy o.hunt.job.asked o.next c (Some (s, r)) → Ends h (Fails s)
+      → FirstFailing (failures_of o.hunt) o.hunt.strategy o.hunt.job.asked o.next c (Some (s, r)) → Ends h (Fails s)
   ends_failing c s r within found =
       let a = asked_of h in
       hunted o.hunt.job (Fails s) known.asked (ends.fails s r
-      (in_first (fails a.leaks) a.strategy o.hunt.job.asked a.seeds.0 c a.seeds.1 (s, r) within
+      (in_first (fails (only_leaks a.leaks)) a.strategy o.hunt.job.asked a.seeds.0 c a.seeds.1 (s, r) within
       (of_all c (Some (s, r)) found)))
 
   pub ends_whole : (c : ℕ) → c ≡ (asked_of h).seeds.1
-      → FirstFailing o.hunt.leaks o.hunt.strategy o.hunt.job.asked o.next c None
+      → FirstFailing (failures_of o.hunt) o.hunt.strategy o.hunt.job.asked o.next c None
       → Ends h (NoFailure ((asked_of h).seeds.1 - (asked_of h).seeds.0))
   ends_whole c e found =
       let a = asked_of h in
@@ -61,7 +62,7 @@ module _ (h : RootHunt) (o : OpenRoot) (known : IsOpen h o) where
   -- it goes on from another seed
   pub still_open : (q : OpenRoot) (c : ℕ) → q.hunted ≡ o.hunted → q.hunt ≡ o.hunt → q.next ≡ c → o.next < c
       → c < (asked_of h).seeds.1
-      → FirstFailing o.hunt.leaks o.hunt.strategy o.hunt.job.asked o.next c None → IsOpen h q
+      → FirstFailing (failures_of o.hunt) o.hunt.strategy o.hunt.job.asked o.next c None → IsOpen h q
   still_open q c same hunt next past before found =
       let a = asked_of h in
       let least = of_all c None found in
@@ -70,7 +71,7 @@ module _ (h : RootHunt) (o : OpenRoot) (known : IsOpen h o) where
         asked = subst (λ (k : Hunt). Asks h.«module».now a.edition (request_for a h.root.now) (Ok k.job)) (sym hunt)
             known.asked;
         strategy = cc;
-        leaks = cc;
+        failures = ap failures_of hunt ∙ known.failures;
         from = omega (arith, known.from, past, next);
         left = omega (arith, before, next);
         none = subst (λ (k : Hunt). IsLeastOfRoot a k.job q.next None) (sym hunt)

@@ -6,7 +6,7 @@ use Rattle.pf_check.specs.Module.{ReadModule}
 use Rattle.pf_request.specs.Request.{Request}
 use Rattle.pf_request.specs.Job.{Job}
 use Rattle.pf_sched.specs.Asked.{Asks}
-use Rattle.pf_hunt.specs.Hunts.{FirstFailing}
+use Rattle.pf_hunt.specs.Hunts.{FirstFailing, only_leaks}
 use Rattle.pf_cli.specs.Args.{HuntArgs}
 use Rattle.pf_hunt_suite.specs.declared.end.RootEnd.{RootEnd}
 use Rattle.pf_hunt_suite.specs.declared.end.RootEnd.TheVariants.{Fails, NoFailure, Stopped, Refused}
@@ -18,7 +18,7 @@ request_for h root = record h.request { root = root }
 -- of the seeds of a hunt from its first to before an end the least by which a job fails, where leaks may be failures,
 -- with the report of its run; or none
 abbrev pub IsLeastOfRoot : HuntArgs → Job → (end : ℕ) → Option (ℕ × Report) → Type 0
-IsLeastOfRoot h j end = FirstFailing h.leaks h.strategy j.asked h.seeds.0 end
+IsLeastOfRoot h j end = FirstFailing (only_leaks h.leaks) h.strategy j.asked h.seeds.0 end
 
 -- JobEnds h j e: the hunt over the seeds of a job ends so
 pub data JobEnds (h : HuntArgs) (j : Job) : RootEnd → Type 0 where

@@ -52,6 +52,7 @@ fn open_job<'a>(alloc: Global, hunted: RootHunt<'a>, job: Job) -> Result<RootSta
         job,
         others,
         strategy: args.strategy,
+        further: Vec::new(alloc),
         leaks: args.leaks,
     };
     let next = args.first;

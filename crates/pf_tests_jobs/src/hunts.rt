@@ -58,6 +58,7 @@ fn hunt_in(
             sampling,
             last: None,
         },
+        further: Vec::new(alloc),
         leaks,
     })
 }

@@ -1,5 +1,5 @@
 use Rattle.std.proofs.Common.{◌≡◌, ◌-◌, refl, subst, arith}
-use Rattle.pf_hunt.specs.Hunts.{fails, none_is}
+use Rattle.pf_hunt.specs.Hunts.{fails, none_is, only_leaks}
 use Rattle.pf_hunt.proofs.Firsts.{no_seeds}
 use Rattle.pf_hunt_suite.specs.Ends.{JobEnds, hunted, none_fails}
 use Rattle.pf_hunt_suite.specs.Stages.{asked_of, goes_on, over}
@@ -9,7 +9,7 @@ use Rattle.pf_hunt_suite.proofs.stage.open_job.Goals as goal
 pub returns-then-args : goal.returns-then-args
 returns-then-args c =
     let h = asked_of c.args.hunted in
-    let none = no_seeds (fails h.leaks) h.strategy c.args.job.asked h.seeds.0 h.seeds.1
+    let none = no_seeds (fails (only_leaks h.leaks)) h.strategy c.args.job.asked h.seeds.0 h.seeds.1
     (omega (arith, c.if-args.true)) in
     let e : h.seeds.1 - h.seeds.0 ≡ 0 = omega (arith, c.if-args.true) in
     over (NoFailure 0) (hunted c.args.job (NoFailure 0) c.requires
@@ -22,8 +22,8 @@ returns c =
       hunted = refl;
       asked = c.requires;
       strategy = refl;
-      leaks = refl;
+      failures = refl;
       from = omega arith;
       left = omega (arith, c.if-args.false);
-      none = none_is (no_seeds (fails h.leaks) h.strategy c.args.job.asked h.seeds.0 h.seeds.0 (omega arith));
+      none = none_is (no_seeds (fails (only_leaks h.leaks)) h.strategy c.args.job.asked h.seeds.0 h.seeds.0 (omega arith));
     })
