@@ -62,7 +62,8 @@ module _ (h : HuntArgs) (bytes : List ℕ) (j : Job) (ns : List Notice) where
       let stops = subst (λ b. SearchNotices h.strategy j.asked b h.seeds.0 h.seeds.1 c (Some f) ns) may reported in
       subst (λ b. IsLeastFailure h j ns b (Some f)) e (least, stops)
 
-  pub none_so_far : (m : Bool) (c : ℕ) → m ≡ may_stop h → FirstFailing (only_leaks h.leaks) h.strategy j.asked h.seeds.0 c None
+  pub none_so_far : (m : Bool) (c : ℕ) → m ≡ may_stop h → FirstFailing
+    (only_leaks h.leaks) h.strategy j.asked h.seeds.0 c None
       → SearchNotices h.strategy j.asked m h.seeds.0 h.seeds.1 c None ns → IsLeastFailure h j ns c None
   none_so_far m c may none reported = (
     none,

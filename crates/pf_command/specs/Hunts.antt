@@ -108,7 +108,8 @@ rows_status rows = if list_any (λ x. is_failure x.verdict) rows then 1 else 0
 -- the hunt receives these notices
 abbrev pub IsLeastFailure : HuntArgs → Job → List Notice → (c : ℕ) → Option (ℕ × Report) → Type 0
 IsLeastFailure h j ns c x =
-    FirstFailing (only_leaks h.leaks) h.strategy j.asked h.seeds.0 c x × SearchNotices h.strategy j.asked (may_stop h) h.seeds.0
+    FirstFailing (only_leaks h.leaks) h.strategy j.asked h.seeds.0 c x × SearchNotices h.strategy j.asked
+    (may_stop h) h.seeds.0
     h.seeds.1 c x ns
 
 -- PrintsSought h bytes j notices sought text status: what is reported of the runs of a job by the seeds, by what is

@@ -15,7 +15,8 @@ returns-in-Some-clause-stage c h known found past within =
     let end = c.args.searched.now.end in
     let f = c.in-Some.failure in
     over (Fails f.seed) (ends_failing h o known end f.seed (view_of_report f.report) within
-    (subst (λ x. FirstFailing (failures_of o.hunt) o.hunt.strategy o.hunt.job.asked o.next end (option_map failure_of x))
+    (subst (λ x. FirstFailing (failures_of o.hunt) o.hunt.strategy o.hunt.job.asked o.next end
+    (option_map failure_of x))
     c.in-Some.is found))
 
 pub returns-in-None-clause-stage : goal.returns-in-None-clause-stage
@@ -24,7 +25,8 @@ returns-in-None-clause-stage c h known found past within =
     let end = c.args.searched.now.end in
     goes_on _ (still_open h o known _ end refl refl refl past
     (subst (λ (k : _). end < (asked_of k).seeds.1) known.hunted c.if-next-args.true)
-    (subst (λ x. FirstFailing (failures_of o.hunt) o.hunt.strategy o.hunt.job.asked o.next end (option_map failure_of x))
+    (subst (λ x. FirstFailing (failures_of o.hunt) o.hunt.strategy o.hunt.job.asked o.next end
+    (option_map failure_of x))
     c.in-None.is found))
 
 pub returns-in-None-2-clause-stage : goal.returns-in-None-2-clause-stage
@@ -34,5 +36,6 @@ returns-in-None-2-clause-stage c h known found past within =
     let same : o.hunted.args.now.end ≡ h.args.now.end = ap (λ (k : RootHunt). k.args.now.end) known.hunted in
     rw (c.saturating_sub.ensures, known.hunted)
     (over _ (ends_whole h o known end (omega (arith, within, c.if-next-args.false, same))
-    (subst (λ x. FirstFailing (failures_of o.hunt) o.hunt.strategy o.hunt.job.asked o.next end (option_map failure_of x))
+    (subst (λ x. FirstFailing (failures_of o.hunt) o.hunt.strategy o.hunt.job.asked o.next end
+    (option_map failure_of x))
     c.in-None-2.is found)))
