@@ -15,7 +15,7 @@ use Rattle.pf_cli.specs.Span.{time_named}
 use Rattle.pf_cli.specs.Form.{format_named}
 use Rattle.pf_cli.specs.Pids.{pid_named}
 use Rattle.pf_cli.specs.Explore.{ExploreArgs, ExploreReach, budget_named, deviations_named, explore_reach, runs_named}
-use Rattle.pf_cli.specs.Reach.{HuntScope, clashes, more_named, names_given, reach_asked, roots_named}
+use Rattle.pf_cli.specs.Reach.{HuntScope, clashes, further_named, more_named, names_given, reach_asked, roots_named}
 use Rattle.pf_request.specs.Request as requests
 use Rattle.pf_request.specs.Request.{Request, RequestKind}
 use Rattle.pf_request.specs.View.{view_of_request}
@@ -63,6 +63,7 @@ pub record HuntArgs : Type 0 where
   pub more : List Text
   pub roots : Roots
   pub fail_fast : Bool
+  pub further : List Text
   pub leaks : Bool
   pub request : Request
   pub edition : ℕ
@@ -309,6 +310,7 @@ hunt_by reach root property choices strategy bounds seeds time workers sought =
       more = reach.more;
       roots = reach.roots;
       fail_fast = reach.fail_fast;
+      further = reach.further;
       leaks = reach.leaks;
       request = request_by root property (requests.run choices) bounds.0;
       edition = bounds.1;
@@ -349,17 +351,23 @@ strategy_in rows =
 abbrev pub source_names : List Row → List Text
 source_names rows = names_given (all_of (codes "file") rows)
 
+-- the properties that are named
+abbrev pub property_names : List Row → List Text
+property_names rows = names_given (all_of (codes "property") rows)
+
 abbrev pub reach_in : List Row → Option HuntScope
 reach_in rows =
     reach_asked (more_named (source_names rows))
     (roots_named (is_given (first_of (codes "all-roots") rows)) (first_of (codes "root") rows))
-    (is_given (first_of (codes "fail-fast") rows)) (is_given (first_of (codes "leaks") rows))
+    (is_given (first_of (codes "fail-fast") rows))
+    (further_named (is_given (first_of (codes "all") rows)) (property_names rows))
+    (is_given (first_of (codes "leaks") rows))
 
 -- whether there are words that exclude each other
 abbrev pub clashes_in : List Row → Bool
 clashes_in rows =
     clashes (is_given (first_of (codes "all-roots") rows)) (is_given (first_of (codes "leaks") rows))
-    (nat_lt 1 (length (source_names rows)))
+    (nat_lt 1 (length (source_names rows))) (nat_lt 1 (length (property_names rows)))
     (is_given (first_of (codes "all") rows)) (first_of (codes "root") rows) (first_of (codes "shrink") rows)
 
 -- what a hunt's words ask for where they go together
@@ -529,6 +537,7 @@ view_of_hunt_args a =
       more = map (λ s. s.now) a.more.items;
       roots = a.roots;
       fail_fast = a.fail_fast;
+      further = map (λ s. s.now) a.further.items;
       leaks = a.leaks;
       request = view_of_request a.request;
       edition = edition_number a.edition;

@@ -123,6 +123,8 @@ pub struct HuntArgs<'a> {
     pub roots: Roots,
     /// Whether nothing is hunted after the first root that fails.
     pub fail_fast: bool,
+    /// The properties after that of the request, in the order of the words: a run fails too by one of these.
+    pub further: Vec<&'a str>,
     /// Whether a seed also fails if its root returned while processes still wait.
     pub leaks: bool,
     pub request: Request,

@@ -11,9 +11,9 @@ ghost use Rattle.pf_cli.specs.declared.args.HuntGoal.TheVariants as goals;
 ghost use Rattle.pf_command.specs.Answers.{AnswersRun, atom_names_of, run_args};
 ghost use Rattle.pf_cli_messages.specs.Explained.{AsksOf};
 ghost use Rattle.pf_check.specs.Reading.{IsModuleOf};
-ghost use Rattle.pf_command.specs.Hunts.{HuntAsksFor, IsHunted, IsNotHunted, MayShrink, OfEach, PrintsSought};
+ghost use Rattle.pf_command.specs.Hunts.{HuntAsksFor, IsHunted, IsNotHunted, MayHunt, MayShrink, OfEach, PrintsSought};
 ghost use Rattle.pf_command.specs.Printed.{PrintsAs};
-ghost use Rattle.pf_command.specs.Hunts.{front_text, none_text, row_text, shrinking_of, strategy_text};
+ghost use Rattle.pf_command.specs.Hunts.{front_text, none_text, properties_of, row_text, shrinking_of, strategy_text};
 
 use crate::answer::{Output, refused_at, refused_by_code};
 use crate::answers::Answer;
@@ -24,30 +24,33 @@ use crate::seeds::{put_none, put_rows, put_strategy, rows_status};
 use crate::stopping::{may_stop, put_front};
 use pf_check::{ReadModule, ReadSource};
 use pf_cli::{HuntArgs, HuntGoal};
-use pf_errors::{NoMemory, OrNoMemory};
+use pf_errors::{Code, NoMemory, OrNoMemory};
 use pf_hunt::{
-    Hunt, HuntObserver, HuntRange, Searched, Tally, first_failing, other_jobs, tally_all,
+    Hunt, HuntObserver, HuntRange, Searched, Tally, first_failing, further_properties, other_jobs,
+    tally_all,
 };
+use pf_property::Property;
 use pf_request::{Request, RequestKind, ShortBytes};
 use pf_sched::{Job, JobRefusal, Observer};
 use std::alloc::Global;
 use std::sync::Arc;
 use std::thread::Threads;
 
-/// The shrinking of a schedule that a hunt finds.
+/// The shrinking of a schedule that a hunt finds, by which a property fails.
 fn shrinking(
     alloc: Global,
     args: &HuntArgs,
+    property: &[u8],
     schedule: Vec<u32>,
     runs: u32,
 ) -> Result<Request, NoMemory>
     ensures { IfOk result (λ r. run_args r args.now.edition
-        ≡ shrinking_of (view_of_hunt_args args.now) schedule.items runs) }
+        ≡ shrinking_of (view_of_hunt_args args.now) property.now schedule.items runs) }
 {
     let HuntArgs { request, .. } = args;
     Ok(Request {
         root: ShortBytes::from_slice(alloc, request.root.as_slice())?,
-        property: ShortBytes::from_slice(alloc, request.property.as_slice())?,
+        property: ShortBytes::from_slice(alloc, property)?,
         kind: RequestKind::Shrink {
             schedule: Arc::new(alloc, schedule)?,
             runs,
@@ -64,10 +67,13 @@ fn try_shrinking(
     runs: u32,
 ) -> Result<Job, OrNoMemory<JobRefusal>>
     ensures { MatchResult result
-        (λ job. AsksOf (shrinking_of (view_of_hunt_args args.now) [] runs) «module».now (Ok job))
-        (IsRefusal (AsksOf (shrinking_of (view_of_hunt_args args.now) [] runs) «module».now)) }
+        (λ job. AsksOf (shrinking_of (view_of_hunt_args args.now) (view_of_hunt_args args.now).request.property [] runs) «module».now
+        (Ok job))
+        (IsRefusal (AsksOf (shrinking_of (view_of_hunt_args args.now)
+        (view_of_hunt_args args.now).request.property [] runs) «module».now)) }
 {
-    let request = shrinking(alloc, args, Vec::new(alloc), runs)?;
+    let property = args.request.property.as_slice();
+    let request = shrinking(alloc, args, property, Vec::new(alloc), runs)?;
     Job::new(alloc, module.share()?, &request, args.edition.number())
 }
 
@@ -129,7 +135,7 @@ fn job_of(
     module: &ReadModule,
 ) -> Result<Job, OrNoMemory<JobRefusal>>
     ensures { MatchResult result
-        (λ job. HuntAsksFor (view_of_hunt_args args.now) (view_of_hunt_args args.now).sought «module».now (Ok job))
+        (λ job. MayHunt (view_of_hunt_args args.now) «module».now job)
         (IsRefusal (HuntAsksFor (view_of_hunt_args args.now) (view_of_hunt_args args.now).sought «module».now)) }
 {
     may_seek(alloc, args, module)?;
@@ -140,7 +146,22 @@ fn job_of(
 #[derive(Drop)]
 pub(crate) struct HuntedJob {
     pub job: Job,
+    /// The properties by which a run fails too.
+    pub further: Vec<Property>,
     pub module: ReadModule,
+}
+
+/// The answer of what is refused by a code.
+fn refused_as(alloc: Global, refusal: OrNoMemory<Code>) -> OrNoMemory<Output>
+    ensures { IsRefusedAs refusal result }
+{
+    match refusal {
+        OrNoMemory::NoMemory => OrNoMemory::NoMemory,
+        OrNoMemory::Fault(code) => match refused_by_code(alloc, code) {
+            Ok(answer) => OrNoMemory::Fault(answer),
+            Err(NoMemory) => OrNoMemory::NoMemory,
+        },
+    }
 }
 
 /// What is hunted of a module; or the answer, if that is refused.
@@ -152,13 +173,20 @@ fn hunted_in(
     ensures { (bytes : List ℕ) → IsModuleOf bytes «module» → MatchResult result
         (IsHunted (view_of_hunt_args args.now) bytes) (IsNotHunted (view_of_hunt_args args.now) bytes) }
 {
-    match job_of(alloc, args, &module) {
-        Ok(job) => Ok(HuntedJob { job, module }),
+    let job = match job_of(alloc, args, &module) {
+        Ok(job) => job,
+        Err(OrNoMemory::NoMemory) => return Err(OrNoMemory::NoMemory),
         Err(OrNoMemory::Fault(refusal)) => {
-            let answer = refused_by_code(alloc, refusal.code())?;
-            Err(OrNoMemory::Fault(answer))
+            return Err(refused_as(alloc, OrNoMemory::Fault(refusal.code())));
         }
-        Err(OrNoMemory::NoMemory) => Err(OrNoMemory::NoMemory),
+    };
+    match further_properties(alloc, &module, &args.further) {
+        Ok(further) => Ok(HuntedJob {
+            job,
+            further,
+            module,
+        }),
+        Err(refusal) => Err(refused_as(alloc, refusal)),
     }
 }
 
@@ -191,19 +219,20 @@ fn write_none(alloc: Global, args: &HuntArgs, end: u64) -> Result<Output, NoMemo
     Ok(Output { text, status: 0 })
 }
 
-/// What the shrinking of a schedule that a hunt finds is answered with.
+/// What the shrinking of a schedule that a hunt finds is answered with, by which a property fails.
 pub(crate) fn shrink(
     alloc: Global,
     args: &HuntArgs,
+    property: &[u8],
     module: ReadModule,
     schedule: Vec<u32>,
     runs: u32,
     observer: &mut impl Observer,
 ) -> Result<Output, NoMemory>
     ensures { IfOk result (λ a. (bytes : List ℕ) → IsModuleOf bytes «module»
-        → AnswersRun (shrinking_of (view_of_hunt_args args.now) schedule.items runs) bytes a.text.items a.status) }
+        → AnswersRun (shrinking_of (view_of_hunt_args args.now) property.now schedule.items runs) bytes a.text.items a.status) }
 {
-    let request = shrinking(alloc, args, schedule, runs)?;
+    let request = shrinking(alloc, args, property, schedule, runs)?;
     output_of_module(alloc, &request, args.edition, module, observer)
 }
 
@@ -222,11 +251,16 @@ pub(crate) fn seek_failure<'a, T: Threads + Sync, S: HuntObserver>(
     seeds: &mut S,
 ) -> Result<Answer<'a>, NoMemory>
     ensures { IfOk result (λ x. HearsSome S.Heard seeds.old (OfEach hunted.«module»
-        (λ bytes. PrintsAs (view_of_hunt_args asked.now.args.now) bytes hunted.job (goals.Failure runs) x))
+        (λ bytes. PrintsAs (view_of_hunt_args asked.now.args.now) bytes hunted.job (properties_of hunted)
+        (goals.Failure runs) x))
         seeds.new) }
 {
     let HuntRequest { args, workers } = *asked;
-    let HuntedJob { job, module } = hunted;
+    let HuntedJob {
+        job,
+        further,
+        module,
+    } = hunted;
     let others = other_jobs(
         alloc,
         &job,
@@ -238,7 +272,7 @@ pub(crate) fn seek_failure<'a, T: Threads + Sync, S: HuntObserver>(
         job,
         others,
         strategy: args.strategy,
-        further: Vec::new(alloc),
+        further,
         leaks: args.leaks,
     };
     let may_stop = may_stop(args);
@@ -255,7 +289,7 @@ pub(crate) fn seek_failure<'a, T: Threads + Sync, S: HuntObserver>(
     };
     Ok(Answer::Found(FailingRun {
         args,
-        job: hunt.job,
+        hunt,
         module,
         failure,
         runs,
@@ -293,11 +327,11 @@ pub(crate) fn seek_outcomes<T: Threads + Sync, S: HuntObserver>(
     seeds: &mut S,
 ) -> Result<Output, NoMemory>
     ensures { IfOk result (λ a. HearsSome S.Heard seeds.old (λ ns. (bytes : List ℕ)
-        → PrintsSought (view_of_hunt_args asked.now.args.now) bytes hunted.job ns goals.Outcomes
+        → PrintsSought (view_of_hunt_args asked.now.args.now) bytes hunted.job (properties_of hunted) ns goals.Outcomes
         a.text.items a.status) seeds.new) }
 {
     let HuntRequest { args, workers } = *asked;
-    let HuntedJob { job, module } = hunted;
+    let HuntedJob { job, module, .. } = hunted;
     let others = other_jobs(
         alloc,
         &job,

@@ -11,7 +11,7 @@ use pf_model::report::Report;
 use pf_property::Property;
 
 /// Why a run fails.
-#[derive(Drop, Clone, Copy)]
+#[derive(Drop, Clone, Copy, Debug, PartialEq, Eq)]
 pub enum FailureCause {
     /// The property of its job fails.
     Property,

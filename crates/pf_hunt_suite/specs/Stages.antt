@@ -3,8 +3,9 @@ use Rattle.std.specs.Prelude.{◌≡◌, ◌≤◌, ◌<◌, ℕ, Bool, true, �
 use Rattle.std.specs.Prelude.{None, Ok}
 use Rattle.pf_model.specs.Meaning.{Report}
 use Rattle.pf_sched.specs.Asked.{Asks}
-use Rattle.pf_hunt.specs.Hunts.{FirstFailing, only_leaks}
-use Rattle.pf_hunt.specs.Views.{failures_of}
+use Rattle.pf_hunt.specs.Further.{AreProperties}
+use Rattle.pf_hunt.specs.Hunts.{FirstFailing}
+use Rattle.pf_hunt.specs.Views.{failures_of, further_of}
 use Rattle.pf_hunt.specs.Notices.{Notice, SearchNotices}
 use Rattle.pf_cli.specs.Args.{HuntArgs, view_of_hunt_args}
 use Rattle.pf_hunt_suite.specs.Ends.{IsLeastOfRoot, RootEnds, request_for}
@@ -27,10 +28,11 @@ pub record IsOpen (h : RootHunt) (o : OpenRoot) : Type 0 where
   pub hunted : o.hunted ≡ h
   pub asked : Asks h.«module».now (asked_of h).edition (request_for (asked_of h) h.root.now) (Ok o.hunt.job)
   pub strategy : o.hunt.strategy ≡ (asked_of h).strategy
-  pub failures : failures_of o.hunt ≡ only_leaks (asked_of h).leaks
+  pub properties : AreProperties h.«module».now.code.atoms (asked_of h).further (further_of o.hunt)
+  pub leaks : o.hunt.leaks ≡ (asked_of h).leaks
   pub from : (asked_of h).seeds.0 ≤ o.next
   pub left : o.next < (asked_of h).seeds.1
-  pub none : IsLeastOfRoot (asked_of h) o.hunt.job o.next None
+  pub none : IsLeastOfRoot (asked_of h) (further_of o.hunt) o.hunt.job o.next None
 
 -- IsStageOf h s: the hunt of a root is so far, or it is over
 pub data IsStageOf (h : RootHunt) : RootStage → Type 0 where

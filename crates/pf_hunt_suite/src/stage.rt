@@ -13,7 +13,8 @@ ghost use Rattle.pf_hunt_suite.specs.Stages.{part_end};
 use crate::end::RootEnd;
 use crate::hunt::{RootHunt, job_for, request_for};
 use pf_errors::{NoMemory, OrNoMemory};
-use pf_hunt::{Hunt, HuntObserver, HuntRange, Searched, first_failing, other_jobs};
+use pf_hunt::{Hunt, HuntObserver, HuntRange, Searched};
+use pf_hunt::{cause_of, first_failing, further_properties, other_jobs};
 use pf_sched::Job;
 use std::alloc::Global;
 use std::thread::Threads;
@@ -42,6 +43,11 @@ fn open_job<'a>(alloc: Global, hunted: RootHunt<'a>, job: Job) -> Result<RootSta
     ensures { IfOk result (IsStageOf hunted.entry) }
 {
     let RootHunt { args, workers, .. } = hunted;
+    let further = match further_properties(alloc, hunted.module, &args.further) {
+        Ok(further) => further,
+        Err(OrNoMemory::Fault(code)) => return Ok(RootStage::Over(RootEnd::Refused(code))),
+        Err(OrNoMemory::NoMemory) => return Err(NoMemory),
+    };
     if args.end <= args.first {
         return Ok(RootStage::Over(RootEnd::NoFailure { seeds: 0 }));
     }
@@ -52,7 +58,7 @@ fn open_job<'a>(alloc: Global, hunted: RootHunt<'a>, job: Job) -> Result<RootSta
         job,
         others,
         strategy: args.strategy,
-        further: Vec::new(alloc),
+        further,
         leaks: args.leaks,
     };
     let next = args.first;
@@ -95,7 +101,10 @@ impl<'a> OpenRoot<'a> {
         let OpenRoot { hunted, hunt, .. } = self;
         let (next, args) = (searched.end, hunted.args);
         match &searched.failure {
-            Some(failure) => RootStage::Over(RootEnd::Fails { seed: failure.seed }),
+            Some(failure) => RootStage::Over(RootEnd::Fails {
+                seed: failure.seed,
+                cause: cause_of(&failure.report, &hunt.further),
+            }),
             None if next < args.end => RootStage::Open(OpenRoot { hunted, hunt, next }),
             None => RootStage::Over(RootEnd::NoFailure {
                 seeds: args.end.saturating_sub(args.first),
