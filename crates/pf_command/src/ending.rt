@@ -306,7 +306,7 @@ pub(crate) fn print_found<W: Write, M: Ledger>(
         failure,
         runs,
     } = found;
-    let cause = cause_of(&failure.report, &hunt.further);
+    let cause = cause_of(&failure.report, hunt.further.as_slice());
     print_seed(args.strategy, named_property(args, cause), &failure, writer)?;
     match runs {
         Some(runs) => {

@@ -180,7 +180,7 @@ fn hunted_in(
             return Err(refused_as(alloc, OrNoMemory::Fault(refusal.code())));
         }
     };
-    match further_properties(alloc, &module, &args.further) {
+    match further_properties(alloc, &module, args.further.as_slice()) {
         Ok(further) => Ok(HuntedJob {
             job,
             further,

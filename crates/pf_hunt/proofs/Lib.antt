@@ -11,3 +11,5 @@ pub mod Hearing
 pub mod Repeating
 pub mod Mapped
 pub mod Texts
+pub mod Counted
+pub mod Few

@@ -3,6 +3,7 @@
 ghost use Rattle.std.specs.Prelude.{◌≡◌, map};
 ghost use Rattle.std.specs.List.{list_any};
 ghost use Rattle.pf_model.specs.Reports.{view_of_report};
+ghost use Rattle.pf_model.specs.Shrinking.{is_failure};
 ghost use Rattle.pf_property.specs.Views.{property_of};
 ghost use Rattle.pf_hunt.specs.Causes as causes;
 ghost use Rattle.pf_hunt.specs.Hunts as hunts;
@@ -21,14 +22,18 @@ pub enum FailureCause {
     Leak,
 }
 
+/// Whether a property failed.
+fn is_failure(verdict: Option<bool>) -> bool
+    ensures { result ≡ is_failure verdict }
+{
+    matches!(verdict, Some(false))
+}
+
 /// Whether a property fails of the run of a report.
 fn fails_by(report: &Report, property: &Property) -> bool
     ensures { result ≡ hunts.fails_by (view_of_report report.now) (property_of property.now) }
 {
-    matches!(
-        property.verdict(&report.events, &report.outcome),
-        Some(false)
-    )
+    is_failure(property.verdict(report.events.as_slice(), &report.outcome))
 }
 
 /// Whether one of these properties does. It takes no memory.
@@ -58,7 +63,7 @@ fn first_failed(report: &Report, properties: &[Property]) -> Option<usize>
 pub fn cause_of(report: &Report, further: &[Property]) -> FailureCause
     ensures { result ≡ causes.cause_of (map property_of further.now) (view_of_report report.now) }
 {
-    if matches!(report.verdict, Some(false)) {
+    if is_failure(report.verdict) {
         return FailureCause::Property;
     }
     match first_failed(report, further) {

@@ -3,7 +3,7 @@
 ghost use Rattle.std.specs.Prelude.{◌≡◌, ◌≤◌, length, map};
 ghost use Rattle.std.specs.List.{count_by};
 ghost use Rattle.pf_model.specs.Reports.{label_of, view_of_report};
-ghost use Rattle.pf_property.specs.Views.{property_of};
+ghost use Rattle.pf_property.specs.Views.{labels_of, property_of};
 ghost use Rattle.pf_sched.specs.Waiting as spec;
 ghost use Rattle.pf_hunt.specs.Judging.{IsJudgedBy};
 
@@ -69,7 +69,7 @@ fn ends_in(events: &[Event]) -> u64
 /// that ended.
 fn living_after(events: &[Event]) -> u32
     requires { length events.now ≤ 100000 }
-    ensures { result ≡ spec.living (map (λ e. label_of e.label) events.now) }
+    ensures { result ≡ spec.living (labels_of events.now) }
 {
     let living = (begins_in(events) + 1).saturating_sub(ends_in(events));
     living as u32
@@ -81,7 +81,7 @@ fn waiting_in(report: &Report) -> u32
     ensures { result ≡ spec.waiting_in (view_of_report report.now) }
 {
     match report.outcome {
-        Outcome::Finished(_) => living_after(&report.events),
+        Outcome::Finished(_) => living_after(report.events.as_slice()),
         _ => 0,
     }
 }

@@ -91,6 +91,8 @@ fn judged_by_all(
 ) -> Result<JudgedSeed, NoMemory>
     ensures { IfOk result (λ v. JudgesBySeed by.strategy (map property_of further.now) job.now.asked by.seed v) }
 {
+    // No run has more events than its limit.
+    let _limit = job.limit();
     let report = report_of_run(alloc, job, Some(by), scratch)?;
     Ok(judged_by(report, further))
 }
@@ -113,6 +115,6 @@ pub(crate) fn judged_by_seed(
     if hunt.further.is_empty() {
         judged_alone(alloc, job, by, scratch)
     } else {
-        judged_by_all(alloc, job, by, &hunt.further, scratch)
+        judged_by_all(alloc, job, by, hunt.further.as_slice(), scratch)
     }
 }

@@ -43,7 +43,7 @@ fn open_job<'a>(alloc: Global, hunted: RootHunt<'a>, job: Job) -> Result<RootSta
     ensures { IfOk result (IsStageOf hunted.entry) }
 {
     let RootHunt { args, workers, .. } = hunted;
-    let further = match further_properties(alloc, hunted.module, &args.further) {
+    let further = match further_properties(alloc, hunted.module, args.further.as_slice()) {
         Ok(further) => further,
         Err(OrNoMemory::Fault(code)) => return Ok(RootStage::Over(RootEnd::Refused(code))),
         Err(OrNoMemory::NoMemory) => return Err(NoMemory),
@@ -103,7 +103,7 @@ impl<'a> OpenRoot<'a> {
         match &searched.failure {
             Some(failure) => RootStage::Over(RootEnd::Fails {
                 seed: failure.seed,
-                cause: cause_of(&failure.report, &hunt.further),
+                cause: cause_of(&failure.report, hunt.further.as_slice()),
             }),
             None if next < args.end => RootStage::Open(OpenRoot { hunted, hunt, next }),
             None => RootStage::Over(RootEnd::NoFailure {
