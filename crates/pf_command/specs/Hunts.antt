@@ -120,10 +120,14 @@ abbrev pub failed_text : (named : Option (List ℕ)) → List ℕ
 failed_text None = []
 failed_text (Some property) = codes "fails " ++ property ++ codes "\n"
 
--- a seed, the property that fails, the strategy and the choices of the run, each on a line
+-- a seed, and the property that fails, each on a line
+abbrev pub seed_lines : (seed : ℕ) → (named : Option (List ℕ)) → List ℕ
+seed_lines seed named = codes "seed " ++ decimal seed ++ codes "\n" ++ failed_text named
+
+-- after them the strategy and the choices of the run
 abbrev pub seed_text : (seed : ℕ) → (named : Option (List ℕ)) → Strategy → (choices : List ℕ) → List ℕ
 seed_text seed named strategy choices =
-    codes "seed " ++ decimal seed ++ codes "\n" ++ failed_text named ++ strategy_text strategy ++ codes "schedule "
+    seed_lines seed named ++ strategy_text strategy ++ codes "schedule "
     ++ schedule_text choices ++ codes "\n"
 
 abbrev pub verdict_text : Option Bool → List ℕ

@@ -15,7 +15,8 @@ ghost use Rattle.pf_command.specs.Answers.{AnswersRun};
 ghost use Rattle.pf_check.specs.Reading.{IsModuleOf};
 ghost use Rattle.pf_command.specs.Hunts.{IsLeastFailure, PrintsReport, PrintsShrinking, PrintsSought};
 ghost use Rattle.pf_command.specs.Hunts as hunts;
-ghost use Rattle.pf_command.specs.Hunts.{choices_of, failed_text, reported_by, seed_text, shrinking_of, strategy_text};
+ghost use Rattle.pf_command.specs.Hunts.{choices_of, failed_text, reported_by, seed_lines, seed_text};
+ghost use Rattle.pf_command.specs.Hunts.{shrinking_of, strategy_text};
 ghost use Rattle.pf_command.specs.Streams.{PrintsAnswer};
 ghost use Rattle.pf_command.specs.Waiting.{Adds, after_commas};
 
@@ -180,6 +181,24 @@ fn add_failed<W: Write, M: Ledger>(
     add(waiting, b"\n", writer)
 }
 
+/// Adds the line of a seed and that of the property that fails.
+fn add_front<W: Write, M: Ledger>(
+    waiting: &mut OutputBuffer,
+    seed: u64,
+    property: Option<&[u8]>,
+    writer: &mut Counted<W, M>,
+) -> Result<(), StreamFault>
+    ensures added { OnOk result (Adds waiting.old.items (seed_lines seed (option_map (λ s. s.now) property.entry))
+        waiting.new.items (W.contents writer.old.inner) (W.contents writer.new.inner)) }
+    ensures kept { OnOk result (writer.new.failures.total ≡ writer.old.failures.total) }
+    ensures front { OnErr result (AppendsFront (W.contents writer.old.inner) (W.contents writer.new.inner)
+        (waiting.old.items ++ seed_lines seed (option_map (λ s. s.now) property.entry))) }
+    ensures counted { IfErr result (λ e. CountsWrite e writer.old.failures.total writer.new.failures.total) }
+{
+    add_seed(waiting, seed, writer)?;
+    add_failed(waiting, property, writer)
+}
+
 /// Writes the seed of a run that fails, the property that does, if it is named, the strategy and the choices, each on a
 /// line. It takes no memory.
 fn print_seed<W: Write, M: Ledger>(
@@ -197,8 +216,7 @@ fn print_seed<W: Write, M: Ledger>(
     ensures counted { IfErr result (λ e. CountsWrite e writer.old.failures.total writer.new.failures.total) }
 {
     let mut waiting = OutputBuffer::new();
-    add_seed(&mut waiting, failure.seed, writer)?;
-    add_failed(&mut waiting, property, writer)?;
+    add_front(&mut waiting, failure.seed, property, writer)?;
     add(&mut waiting, strategy_line(strategy), writer)?;
     add(&mut waiting, b"schedule ", writer)?;
     add_choices(&mut waiting, &failure.report.events, writer)?;

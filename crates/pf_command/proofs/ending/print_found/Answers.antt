@@ -13,11 +13,12 @@ pub returns-in_err-print_seed : goal.returns-in_err-print_seed
 returns-in_err-print_seed g c bytes ns of least =
     let h = view_of_hunt_args c.args.found.args.now in
     let f = c.args.found in
+    let ps = further_of f.hunt in
     let s = f.failure.seed in
     let r = view_of_report f.failure.report in
     let head = seed_text s h.strategy (choices_of r) in
-    let m = may_be_reported h bytes f.job ns s r f.runs least in
-    printed_fault (PrintsSought h bytes f.job ns (Failure f.runs)) _ _ _ _ c.from_residual.result
+    let m = may_be_reported h bytes f.hunt.job ps ns s r f.runs least in
+    printed_fault (PrintsSought h bytes f.hunt.job ps ns (Failure f.runs)) _ _ _ _ c.from_residual.result
     c.in_err-print_seed.field-0.0 c.from_residual.ensures (
       head ++ m.0,
       m.1,
@@ -30,18 +31,19 @@ pub returns-in-Some : goal.returns-in-Some
 returns-in-Some g c bytes ns of least =
     let h = view_of_hunt_args c.args.found.args.now in
     let f = c.args.found in
+    let ps = further_of f.hunt in
     let s = f.failure.seed in
     let r = view_of_report f.failure.report in
     let printed =
     prints_after (PrintsShrinking h bytes r c.in-Some.runs)
-    (PrintsSought h bytes f.job ns (Failure (Some c.in-Some.runs)))
+    (PrintsSought h bytes f.hunt.job ps ns (Failure (Some c.in-Some.runs)))
     (seed_text s h.strategy (choices_of r)) _ _ _ _ _ _
     c.print_shrunk.result c.in_ok-print_seed.ensures.written c.in_ok-print_seed.ensures.kept
-    (λ t k reports. prints_shrinking h bytes f.job ns s r c.in-Some.runs t k least reports)
+    (λ t k reports. prints_shrinking h bytes f.hunt.job ps ns s r c.in-Some.runs t k least reports)
     (c.print_shrunk.ensures bytes of) in
     subst
     (λ o.
-    PrintsAnswer (PrintsSought h bytes f.job ns (Failure o)) (g.W.Write.contents c.args.writer.now.inner)
+    PrintsAnswer (PrintsSought h bytes f.hunt.job ps ns (Failure o)) (g.W.Write.contents c.args.writer.now.inner)
     (g.W.Write.contents c.print_shrunk.new.writer.inner)
     c.args.writer.now.failures.total c.print_shrunk.new.writer.failures.total c.print_shrunk.result)
     (sym c.in-Some.is) printed
@@ -50,16 +52,17 @@ pub returns : goal.returns
 returns g c bytes ns of least =
     let h = view_of_hunt_args c.args.found.args.now in
     let f = c.args.found in
+    let ps = further_of f.hunt in
     let s = f.failure.seed in
     let r = view_of_report f.failure.report in
     let printed =
-    prints_after (PrintsReport f.job r) (PrintsSought h bytes f.job ns (Failure None))
+    prints_after (PrintsReport f.hunt.job r) (PrintsSought h bytes f.hunt.job ps ns (Failure None))
     (seed_text s h.strategy (choices_of r)) _ _ _ _ _ _
     c.print_failure.result c.in_ok-print_seed.ensures.written c.in_ok-print_seed.ensures.kept
-    (λ t k reports. prints_report h bytes f.job ns s r t k least reports) c.print_failure.ensures in
+    (λ t k reports. prints_report h bytes f.hunt.job ps ns s r t k least reports) c.print_failure.ensures in
     subst
     (λ o.
-    PrintsAnswer (PrintsSought h bytes f.job ns (Failure o)) (g.W.Write.contents c.args.writer.now.inner)
+    PrintsAnswer (PrintsSought h bytes f.hunt.job ps ns (Failure o)) (g.W.Write.contents c.args.writer.now.inner)
     (g.W.Write.contents c.print_failure.new.writer.inner)
     c.args.writer.now.failures.total c.print_failure.new.writer.failures.total c.print_failure.result)
     (sym c.in-None.is) printed
