@@ -18,5 +18,5 @@ further_cause (Some i) = cause.Further i
 
 -- why the run of a report fails: its job's property does; or else the first that does of these further ones; or else
 -- processes still wait
-abbrev pub cause_of : (further : List Property) → Report → FailureCause
+abbrev pub cause_of : List Property → Report → FailureCause
 cause_of ps r = if is_failure r.verdict then cause.Property else further_cause (first_failed ps r)

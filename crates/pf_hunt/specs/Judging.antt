@@ -11,10 +11,10 @@ use Rattle.pf_hunt.specs.declared.judged.JudgedSeed.{JudgedSeed}
 
 -- a report's outcome and verdict are these, and so many processes still wait; and one of further properties fails of
 -- its run, or none
-pub record IsJudgedBy (further : List Property) (r : Report) (v : JudgedSeed) : Type 0 where
+pub record IsJudgedBy (ps : List Property) (r : Report) (v : JudgedSeed) : Type 0 where
   pub judged : IsJudged r v.judged
-  pub further : v.fails_further ≡ list_any (fails_by r) further
+  pub further : v.fails_further ≡ list_any (fails_by r) ps
 
 -- of the report that a job means by a seed and a strategy all this is so
-abbrev pub JudgesBySeed : Strategy → (further : List Property) → Job → (seed : ℕ) → JudgedSeed → Type 0
+abbrev pub JudgesBySeed : Strategy → List Property → Job → (seed : ℕ) → JudgedSeed → Type 0
 JudgesBySeed w ps j s v = (r : Report) × MeansBySeed w j s r × IsJudgedBy ps r v
