@@ -1,8 +1,9 @@
 //! The least seed whose run fails.
 
-ghost use Rattle.std.specs.Prelude.{◌≡◌, IfOk};
+ghost use Rattle.std.specs.Prelude.{◌≡◌, List, IfOk};
 ghost use Rattle.pf_model.specs.Meaning.{Report as ReportOf};
-ghost use Rattle.pf_hunt.specs.Hunts.{Failures, fails};
+ghost use Rattle.pf_model.specs.Properties.{Property};
+ghost use Rattle.pf_hunt.specs.Hunts.{fails};
 ghost use Rattle.pf_hunt.specs.Judging.{IsJudgedBy};
 ghost use Rattle.pf_hunt.specs.Known.{FindsFailure};
 
@@ -33,7 +34,8 @@ pub struct Searched {
 /// Whether a run fails: its property does, or a further one; or, if leaks are failures too, processes still wait though
 /// its root returned.
 fn fails(leaks: bool, seed: &JudgedSeed) -> bool
-    ensures { (f : Failures) (r : ReportOf) → f.leaks ≡ leaks → IsJudgedBy f.further r seed.now → result ≡ fails f r }
+    ensures { (ps : List Property) (r : ReportOf) → IsJudgedBy ps r seed.now
+        → result ≡ fails (record { further = ps; leaks = leaks }) r }
 {
     let judged = &seed.judged;
     matches!(judged.verdict, Some(false)) || seed.fails_further || (leaks && judged.waiting > 0)

@@ -3,7 +3,7 @@ use Rattle.std.specs.Prelude.{option_map}
 use Rattle.pf_model.specs.Reports.{view_of_report}
 use Rattle.pf_strategy.proofs.Meant.{one_report}
 use Rattle.pf_hunt.specs.Hunts.{FirstLeaking, fails, first, none_is}
-use Rattle.pf_hunt.specs.Views.{failures_of, leak_of}
+use Rattle.pf_hunt.specs.Views.{failures_of, further_of, leak_of}
 use Rattle.pf_hunt.proofs.Firsts.{no_seeds, one_more}
 use Rattle.pf_hunt.proofs.Leaking.{leaks_there, no_leak}
 use Rattle.pf_hunt.proofs.failure.first_in.Goals as goal
@@ -26,7 +26,7 @@ loop-seed-preserved c =
     let judged = c.in_ok-judged.ensures in
     record {
       none = one_more (fails (failures_of h)) h.strategy j c.args.from at.seed judged.0 at.invariant.none judged.1
-          (sym (c.if-fails.ensures (failures_of h) judged.0 refl judged.2));
+          (sym (c.if-fails.ensures (further_of h) judged.0 judged.2));
       leak =
           c.earlier-leak.ensures h.strategy j c.args.from at.seed (at.seed + 1) (omega (arith, at.auto.seed))
           (omega arith) at.invariant.leak
@@ -46,7 +46,7 @@ returns-then-fails c =
     record {
       failure =
           first at.seed r (omega (arith, at.auto.seed)) (omega (arith, c.loop-seed-test.true)) c.in_ok-report.ensures
-          (ap (fails (failures_of h)) same ∙ sym (c.if-fails.ensures (failures_of h) judged.0 refl judged.2)) at.invariant.none;
+          (ap (fails (failures_of h)) same ∙ sym (c.if-fails.ensures (further_of h) judged.0 judged.2)) at.invariant.none;
       leak =
           subst (λ n. FirstLeaking h.strategy j c.args.from n (option_map leak_of c.earlier-leak.result)) past
           (c.earlier-leak.ensures h.strategy j c.args.from at.seed (at.seed + 1) (omega (arith, at.auto.seed))
