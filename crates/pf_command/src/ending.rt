@@ -149,6 +149,16 @@ fn failed_property<'a>(args: &'a HuntArgs, cause: FailureCause) -> Option<&'a [u
     }
 }
 
+/// The property that a schedule is shrunk by: the one that fails, or else the first.
+fn shrunk_property<'a>(args: &'a HuntArgs, cause: FailureCause) -> &'a [u8]
+    ensures { result.now ≡ hunts.shrunk_property (view_of_hunt_args args.now) cause }
+{
+    match failed_property(args, cause) {
+        Some(property) => property,
+        None => args.request.property.as_slice(),
+    }
+}
+
 /// The property that is named as the one that fails: where a hunt looks for several.
 pub fn named_property<'a>(args: &'a HuntArgs, cause: FailureCause) -> Option<&'a [u8]>
     ensures { option_map (λ s. s.now) result ≡ hunts.named_property (view_of_hunt_args args.now) cause }
@@ -329,10 +339,7 @@ pub(crate) fn print_found<W: Write, M: Ledger>(
     match runs {
         Some(runs) => {
             let report = &failure.report;
-            let property = match failed_property(args, cause) {
-                Some(property) => property,
-                None => args.request.property.as_slice(),
-            };
+            let property = shrunk_property(args, cause);
             let run = RunToShrink {
                 module,
                 property,

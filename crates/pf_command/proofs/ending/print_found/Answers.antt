@@ -14,9 +14,10 @@ returns-in_err-print_seed g c bytes ns of least =
     let h = view_of_hunt_args c.args.found.args.now in
     let f = c.args.found in
     let ps = further_of f.hunt in
+    let named = named_property h (cause_of ps (view_of_report f.failure.report)) in
     let s = f.failure.seed in
     let r = view_of_report f.failure.report in
-    let head = seed_text s h.strategy (choices_of r) in
+    let head = seed_text s named h.strategy (choices_of r) in
     let m = may_be_reported h bytes f.hunt.job ps ns s r f.runs least in
     printed_fault (PrintsSought h bytes f.hunt.job ps ns (Failure f.runs)) _ _ _ _ c.from_residual.result
     c.in_err-print_seed.field-0.0 c.from_residual.ensures (
@@ -32,12 +33,13 @@ returns-in-Some g c bytes ns of least =
     let h = view_of_hunt_args c.args.found.args.now in
     let f = c.args.found in
     let ps = further_of f.hunt in
+    let named = named_property h (cause_of ps (view_of_report f.failure.report)) in
     let s = f.failure.seed in
     let r = view_of_report f.failure.report in
     let printed =
     prints_after (PrintsShrinking h bytes r c.in-Some.runs)
     (PrintsSought h bytes f.hunt.job ps ns (Failure (Some c.in-Some.runs)))
-    (seed_text s h.strategy (choices_of r)) _ _ _ _ _ _
+    (seed_text s named h.strategy (choices_of r)) _ _ _ _ _ _
     c.print_shrunk.result c.in_ok-print_seed.ensures.written c.in_ok-print_seed.ensures.kept
     (λ t k reports. prints_shrinking h bytes f.hunt.job ps ns s r c.in-Some.runs t k least reports)
     (c.print_shrunk.ensures bytes of) in
@@ -53,11 +55,12 @@ returns g c bytes ns of least =
     let h = view_of_hunt_args c.args.found.args.now in
     let f = c.args.found in
     let ps = further_of f.hunt in
+    let named = named_property h (cause_of ps (view_of_report f.failure.report)) in
     let s = f.failure.seed in
     let r = view_of_report f.failure.report in
     let printed =
     prints_after (PrintsReport f.hunt.job r) (PrintsSought h bytes f.hunt.job ps ns (Failure None))
-    (seed_text s h.strategy (choices_of r)) _ _ _ _ _ _
+    (seed_text s named h.strategy (choices_of r)) _ _ _ _ _ _
     c.print_failure.result c.in_ok-print_seed.ensures.written c.in_ok-print_seed.ensures.kept
     (λ t k reports. prints_report h bytes f.hunt.job ps ns s r t k least reports) c.print_failure.ensures in
     subst
