@@ -89,7 +89,7 @@ fn waiting_in(report: &Report) -> u32
 /// What a report, whose events are few, says but for these, and whether one of further properties fails of its run.
 pub(crate) fn judged_by(report: Report, further: &[Property]) -> JudgedSeed
     requires { length report.events.items ≤ 100000 }
-    ensures { IsJudgedBy (map property_of further.now) (view_of_report report.entry) result }
+    ensures { IsJudgedBy (map property_of further.now) (view_of_report report) result }
 {
     let fails_further = fails_one(&report, further);
     let waiting = waiting_in(&report);
