@@ -204,10 +204,7 @@ where
         writer: &mut Counted<W, M>,
     ) -> SuiteStep {
         self.suite.ends.push(SuiteCounts::Root(end))?;
-        put_now(
-            &self.line_of(place, end)?,
-            writer,
-        )?;
+        put_now(&self.line_of(place, end)?, writer)?;
         // The line was written: nothing more is said where memory runs out now.
         let _said = self.say_more(place, end, leak);
         if self.args.fail_fast && matches!(end, RootEnd::Fails { .. }) {

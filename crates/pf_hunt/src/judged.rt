@@ -94,7 +94,9 @@ pub(crate) fn judged_by(report: Report, further: &[Property]) -> JudgedSeed
     let fails_further = fails_one(&report, further);
     let waiting = waiting_in(&report);
     let Report {
-        outcome, verdict, ..
+        outcome,
+        verdict,
+        ..
     } = report;
     let judged = Judged {
         outcome,

@@ -13,8 +13,10 @@ ghost use Rattle.pf_hunt_suite.specs.Stages.{part_end};
 use crate::end::RootEnd;
 use crate::hunt::{RootHunt, job_for, request_for};
 use pf_errors::{NoMemory, OrNoMemory};
-use pf_hunt::{Hunt, HuntObserver, HuntRange, Searched};
-use pf_hunt::{cause_of, first_failing, further_properties, other_jobs};
+use pf_hunt::{
+    Hunt, HuntObserver, HuntRange, Searched, cause_of, first_failing, further_properties,
+    other_jobs,
+};
 use pf_sched::Job;
 use std::alloc::Global;
 use std::thread::Threads;
