@@ -7,7 +7,8 @@ ghost use Rattle.pf_cli.specs.Commands.{bare_app, bounded_app, chart_app, check_
 ghost use Rattle.pf_cli.specs.Commands.{explored_app, exploring_app, farm_app, file_rule, files_rule, finding_app};
 ghost use Rattle.pf_cli.specs.Commands.{flag_rule, format_rule, hunt_app, judged_app, many_rule, one_file_app};
 ghost use Rattle.pf_cli.specs.Commands.{one_run_app, option_rule, pulsefarm, reaching_app, reporting_app};
-ghost use Rattle.pf_cli.specs.Commands.{repeated_rule, required_rule, rooted_app, run_app, runs_app, seeded_app, shrink_app};
+ghost use Rattle.pf_cli.specs.Commands.{repeated_rule, required_rule, rooted_app};
+ghost use Rattle.pf_cli.specs.Commands.{run_app, runs_app, seeded_app, shrink_app};
 ghost use Rattle.pf_cli.specs.Commands.{shrinking_app, steps_app, wanted_rule, weighted_app};
 
 use clap::{Arg, ArgAction, Command};

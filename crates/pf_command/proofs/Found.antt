@@ -60,13 +60,15 @@ module _ (h : HuntArgs) (bytes : List ℕ) (j : Job) (ps : List Property) (ns : 
   -- what was found is the least of all seeds
   pub least_of_all : (m : Bool) (c : ℕ) (f : ℕ × Report) → m ≡ may_stop h
       → FirstFailing (failures_by h ps) h.strategy j.asked h.seeds.0 c (Some f)
-      → SearchNotices h.strategy j.asked m h.seeds.0 h.seeds.1 c (Some f) ns → IsLeastFailure h j ps ns h.seeds.1 (Some f)
+      → SearchNotices h.strategy j.asked m h.seeds.0 h.seeds.1 c (Some f) ns → IsLeastFailure h j ps ns h.seeds.1
+      (Some f)
   least_of_all m c f may least reported =
       let e = over_where_found m h.seeds.0 h.seeds.1 c f reported.0 reported.2 in
       let stops = subst (λ b. SearchNotices h.strategy j.asked b h.seeds.0 h.seeds.1 c (Some f) ns) may reported in
       subst (λ b. IsLeastFailure h j ps ns b (Some f)) e (least, stops)
 
-  pub none_so_far : (m : Bool) (c : ℕ) → m ≡ may_stop h → FirstFailing (failures_by h ps) h.strategy j.asked h.seeds.0 c None
+  pub none_so_far : (m : Bool) (c : ℕ) → m ≡ may_stop h → FirstFailing
+    (failures_by h ps) h.strategy j.asked h.seeds.0 c None
       → SearchNotices h.strategy j.asked m h.seeds.0 h.seeds.1 c None ns → IsLeastFailure h j ps ns c None
   none_so_far m c may none reported = (
     none,
@@ -75,7 +77,8 @@ module _ (h : HuntArgs) (bytes : List ℕ) (j : Job) (ps : List Property) (ns : 
   )
 
   -- after the seed and the choices of a run that fails comes its report, or what it was cut to
-  pub prints_report : (s : ℕ) (r : Report) (text : List ℕ) (status : ℕ) → IsLeastFailure h j ps ns h.seeds.1 (Some (s, r))
+  pub prints_report : (s : ℕ) (r : Report) (text : List ℕ) (status : ℕ) → IsLeastFailure h j ps ns h.seeds.1 (Some
+    (s, r))
       → PrintsReport j (reported_by (cause_of ps r) r) text status → PrintsSought h bytes j ps ns (Failure None)
       (seed_text s (named_property h (cause_of ps r)) h.strategy (choices_of r) ++ text) status
   prints_report s r text status least (inl is) = rw (is.0, is.1) (seed_fails s r least)
@@ -85,7 +88,8 @@ module _ (h : HuntArgs) (bytes : List ℕ) (j : Job) (ps : List Property) (ns : 
   pub prints_shrinking : (s : ℕ) (r : Report) (runs : ℕ) (text : List ℕ) (status : ℕ)
       → IsLeastFailure h j ps ns h.seeds.1 (Some (s, r))
       → PrintsShrinking h (shrunk_property h (cause_of ps r)) bytes r runs text status
-      → PrintsSought h bytes j ps ns (Failure (Some runs)) (seed_text s (named_property h (cause_of ps r)) h.strategy (choices_of r) ++ text) status
+      → PrintsSought h bytes j ps ns (Failure (Some runs)) (seed_text s (named_property h
+      (cause_of ps r)) h.strategy (choices_of r) ++ text) status
   prints_shrinking s r runs text status least (inl answers) = seed_shrunk s r runs text status least answers
   prints_shrinking s r runs text status least (inr is) = rw (is.0, is.1) (seed_alone s r runs least)
 
@@ -93,7 +97,8 @@ module _ (h : HuntArgs) (bytes : List ℕ) (j : Job) (ps : List Property) (ns : 
   pub may_be_reported : (s : ℕ) (r : Report) (runs : Option ℕ) → IsLeastFailure h j ps ns h.seeds.1 (Some (s, r))
       → (text : List ℕ) × (status : ℕ) × PrintsSought h bytes j ps ns (Failure runs)
       (seed_text s (named_property h (cause_of ps r)) h.strategy (choices_of r) ++ text) status
-  may_be_reported s r None least = (report_text (atom_names_of j) (reported_by (cause_of ps r) r), 1, seed_fails s r least)
+  may_be_reported s r None least = (report_text (atom_names_of j) (reported_by
+    (cause_of ps r) r), 1, seed_fails s r least)
   may_be_reported s r (Some runs) least = (no_memory_report, 2, seed_alone s r runs least)
 
   pub prints_rows : (c : ℕ) (xs : List rows.OutcomeRow) (a : Output) → SearchedTo (may_stop h) h.seeds.0 h.seeds.1 c
@@ -111,7 +116,8 @@ module _ (h : HuntArgs) (bytes : List ℕ) (m : ReadModule) (j : Job) (ps : List
   pub ends_as : (x : Answer) → PrintsAs h bytes j ps sought x ns → HuntEndsAs h h.sought bytes x ns
   ends_as x reports = (
     reports.0,
-    λ t s say. hunted m j ps ns t s of asks are (subst (λ g. PrintsSought h bytes j ps ns g t s) same (reports.1 t s say)),
+    λ t s say. hunted m j ps ns t s of asks are (subst (λ g. PrintsSought h bytes j ps ns g t s) same
+    (reports.1 t s say)),
   )
 
   -- and so of an answer

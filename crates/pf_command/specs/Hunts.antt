@@ -1,5 +1,6 @@
 -- What a source is answered with whose runs by many seeds are asked for: the text that is written and the status.
-use Rattle.std.specs.Prelude.{◌≡◌, ◌⊎◌, ℕ, ◌-◌, ◌==◌, Bool, true, false, if◌then◌else◌, is_some, List, [], ◌∷◌, ◌++◌, map, slice_get}
+use Rattle.std.specs.Prelude.{◌≡◌, ◌⊎◌, ℕ, ◌-◌, ◌==◌, Bool, true, false}
+use Rattle.std.specs.Prelude.{if◌then◌else◌, is_some, List, [], ◌∷◌, ◌++◌, map, slice_get}
 use Rattle.std.specs.Prelude.{flat_map, codes, Option, None, Some, Result, Ok, Err}
 use Rattle.std.specs.List.{list_any}
 use Rattle.std.specs.Fmt.{decimal}
@@ -34,7 +35,8 @@ use Rattle.pf_cli.specs.declared.args.HuntGoal.TheVariants.{Failure, Outcomes}
 use Rattle.pf_command.specs.declared.answer.Output.{Output}
 use Rattle.pf_command.specs.declared.seek.HuntedJob.{HuntedJob}
 use Rattle.pf_errors.specs.Codes.{code_text}
-use Rattle.pf_command.specs.Answers.{AnswersRun, AnswersBy, IsNoMemory, Refuses, cut_text, atom_names_of, no_memory_report}
+use Rattle.pf_command.specs.Answers.{AnswersRun, AnswersBy, IsNoMemory}
+use Rattle.pf_command.specs.Answers.{Refuses, cut_text, atom_names_of, no_memory_report}
 use Rattle.pf_cli_messages.specs.Explained.{AsksOf}
 use Rattle.pf_check.specs.Reading.{IsModuleOf}
 
@@ -73,9 +75,11 @@ abbrev pub MayHunt : HuntArgs → ReadModule → Job → Type 0
 MayHunt h m j = MayShrink h h.sought m × Asks m h.edition h.request (Ok j)
 
 -- HuntAsksFor h sought m x: the run in whose place those by the seeds go is this job, or what is asked for is refused
--- for this: first the shrinking of the empty schedule, if one is to be shrunk, then the run, and then a further property
+-- for this: first the shrinking of the empty schedule, if one is to be shrunk, then the run, and then a further
+    property
 pub data HuntAsksFor (h : HuntArgs) : HuntGoal → ReadModule → Result Job Code → Type 0 where
-  shrinking_refused : (runs : ℕ) (m : ReadModule) (code : Code) → AsksOf (shrinking_of h h.request.property [] runs) m (Err code)
+  shrinking_refused : (runs : ℕ) (m : ReadModule) (code : Code) → AsksOf
+    (shrinking_of h h.request.property [] runs) m (Err code)
       → HuntAsksFor h (Failure (Some runs)) m (Err code)
   run_refused : (sought : HuntGoal) (m : ReadModule) (code : Code) → MayShrink h sought m
       → Asks m h.edition h.request (Err code)
@@ -159,20 +163,24 @@ failures_by h ps = record { further = ps; leaks = h.leaks }
 -- the hunt receives these notices
 abbrev pub IsLeastFailure : HuntArgs → Job → List Property → List Notice → (c : ℕ) → Option (ℕ × Report) → Type 0
 IsLeastFailure h j ps ns c x =
-    FirstFailing (failures_by h ps) h.strategy j.asked h.seeds.0 c x × SearchNotices h.strategy j.asked (may_stop h) h.seeds.0
+    FirstFailing (failures_by h ps) h.strategy j.asked h.seeds.0 c x × SearchNotices h.strategy j.asked
+    (may_stop h) h.seeds.0
     h.seeds.1 c x ns
 
 -- PrintsSought h bytes j ps notices sought text status: what is reported of the runs of a job by the seeds, with these
 -- further properties, by what is sought, if the source has these bytes and the observer receives these notices
-pub data PrintsSought (h : HuntArgs) (bytes : List ℕ) (j : Job) (ps : List Property) (ns : List Notice) : HuntGoal → List ℕ → ℕ
+pub data PrintsSought (h : HuntArgs) (bytes : List ℕ) (j : Job) (ps : List Property)
+    (ns : List Notice) : HuntGoal → List ℕ → ℕ
     → Type 0 where
   -- no run fails of the seeds that it reached
-  none_fails : (runs : Option ℕ) (c : ℕ) → SearchedTo (may_stop h) h.seeds.0 h.seeds.1 c → IsLeastFailure h j ps ns c None
+  none_fails : (runs : Option ℕ) (c : ℕ) → SearchedTo (may_stop h) h.seeds.0 h.seeds.1 c → IsLeastFailure h j ps ns
+    c None
       → PrintsSought h bytes j ps ns (Failure runs) (front_text h c ++ none_text (c - h.seeds.0)) 0
   -- the least seed whose run fails, the choices of that run, and its report
   seed_fails : (s : ℕ) (r : Report) → IsLeastFailure h j ps ns h.seeds.1 (Some (s, r))
       → PrintsSought h bytes j ps ns (Failure None)
-      (seed_text s (named_property h (cause_of ps r)) h.strategy (choices_of r) ++ report_text (atom_names_of j) (reported_by (cause_of ps r) r)) 1
+      (seed_text s (named_property h (cause_of ps r)) h.strategy (choices_of r) ++ report_text (atom_names_of j)
+      (reported_by (cause_of ps r) r)) 1
   -- or, if memory ran out within the report, the lines of its first events that were written by then, and that it did
   seed_cut : (s : ℕ) (r : Report) (es rest : List Event) → IsLeastFailure h j ps ns h.seeds.1 (Some (s, r))
       → r.events ≡ es ++ rest
@@ -182,10 +190,12 @@ pub data PrintsSought (h : HuntArgs) (bytes : List ℕ) (j : Job) (ps : List Pro
   seed_shrunk : (s : ℕ) (r : Report) (runs : ℕ) (text : List ℕ) (status : ℕ)
       → IsLeastFailure h j ps ns h.seeds.1 (Some (s, r))
       → AnswersRun (shrinking_of h (shrunk_property h (cause_of ps r)) (choices_of r) runs) bytes text status
-      → PrintsSought h bytes j ps ns (Failure (Some runs)) (seed_text s (named_property h (cause_of ps r)) h.strategy (choices_of r) ++ text) status
+      → PrintsSought h bytes j ps ns (Failure (Some runs)) (seed_text s (named_property h
+      (cause_of ps r)) h.strategy (choices_of r) ++ text) status
   -- or, if memory ran out within the shrinking, that it did
   seed_alone : (s : ℕ) (r : Report) (runs : ℕ) → IsLeastFailure h j ps ns h.seeds.1 (Some (s, r))
-      → PrintsSought h bytes j ps ns (Failure (Some runs)) (seed_text s (named_property h (cause_of ps r)) h.strategy (choices_of r) ++ no_memory_report) 2
+      → PrintsSought h bytes j ps ns (Failure (Some runs)) (seed_text s (named_property h
+      (cause_of ps r)) h.strategy (choices_of r) ++ no_memory_report) 2
   -- the strategy, and each outcome that is met by the seeds that it reached
   tallied : (c : ℕ) (rows : List OutcomeRow) → SearchedTo (may_stop h) h.seeds.0 h.seeds.1 c
       → Tallies h.strategy j.asked h.seeds.0 c rows

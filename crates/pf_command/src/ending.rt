@@ -218,7 +218,8 @@ fn print_seed<W: Write, M: Ledger>(
     writer: &mut Counted<W, M>,
 ) -> Result<(), StreamFault>
     ensures written { OnOk result (Appends (W.contents writer.old.inner) (W.contents writer.new.inner)
-        (seed_text failure.now.seed (option_map (λ s. s.now) property.entry) strategy (choices_of (view_of_report failure.now.report)))) }
+        (seed_text failure.now.seed (option_map (λ s. s.now) property.entry) strategy (choices_of
+        (view_of_report failure.now.report)))) }
     ensures kept { OnOk result (writer.new.failures.total ≡ writer.old.failures.total) }
     ensures front { OnErr result (AppendsFront (W.contents writer.old.inner) (W.contents writer.new.inner)
         (seed_text failure.now.seed (option_map (λ s. s.now) property.entry) strategy
@@ -302,7 +303,8 @@ fn print_shrunk<W: Write, M: Ledger>(
 ) -> Result<u8, StreamFault>
     ensures { (bytes : List ℕ) → IsModuleOf bytes run.entry.«module»
         → PrintsAnswer (PrintsShrinking (view_of_hunt_args args.now) run.entry.property.now bytes
-        (view_of_report run.entry.report.now) run.entry.runs) (W.contents writer.old.inner) (W.contents writer.new.inner)
+        (view_of_report run.entry.report.now) run.entry.runs) (W.contents writer.old.inner)
+        (W.contents writer.new.inner)
         writer.old.failures.total writer.new.failures.total result }
 {
     match shrink_report(alloc, args, run, observer) {

@@ -67,7 +67,8 @@ fn try_shrinking(
     runs: u32,
 ) -> Result<Job, OrNoMemory<JobRefusal>>
     ensures { MatchResult result
-        (λ job. AsksOf (shrinking_of (view_of_hunt_args args.now) (view_of_hunt_args args.now).request.property [] runs) «module».now
+        (λ job. AsksOf (shrinking_of (view_of_hunt_args args.now)
+        (view_of_hunt_args args.now).request.property [] runs) «module».now
         (Ok job))
         (IsRefusal (AsksOf (shrinking_of (view_of_hunt_args args.now)
         (view_of_hunt_args args.now).request.property [] runs) «module».now)) }
@@ -230,7 +231,8 @@ pub(crate) fn shrink(
     observer: &mut impl Observer,
 ) -> Result<Output, NoMemory>
     ensures { IfOk result (λ a. (bytes : List ℕ) → IsModuleOf bytes «module»
-        → AnswersRun (shrinking_of (view_of_hunt_args args.now) property.now schedule.items runs) bytes a.text.items a.status) }
+        → AnswersRun (shrinking_of (view_of_hunt_args args.now) property.now schedule.items runs) bytes
+        a.text.items a.status) }
 {
     let request = shrinking(alloc, args, property, schedule, runs)?;
     output_of_module(alloc, &request, args.edition, module, observer)

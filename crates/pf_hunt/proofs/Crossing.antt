@@ -71,7 +71,8 @@ team_send = recorded_send (Team.the_field).row _ _ (Team.the_type).to_one team_f
 
 -- what is hunted is shared
 pub hunt_field_sync : IsSync (Hunt.the_field).row
-hunt_field_sync = search (sched.job_sync, property.property_sync, heap.crosses, strategy.the_field_sync, sendable) depth 30
+hunt_field_sync = search (sched.job_sync, property.property_sync, heap.crosses, strategy.the_field_sync, sendable)
+    depth 30
 
 pub hunt_sync : IsSync Hunt.the_row
 hunt_sync = recorded_sync (Hunt.the_field).row _ _ (Hunt.the_type).to_one hunt_field_sync

@@ -99,5 +99,6 @@ module _ (h : Hunt) where
       → FindsFailure h a b (searched x l e)
       → NoneIs (fails (failures_of h)) h.strategy h.job.asked a b × FirstLeaking h.strategy h.job.asked a b
       (option_map leak_of l)
-  none_fails_in a b None l e none found = (none_of (fails (failures_of h)) h.strategy h.job.asked a b found.failure, found.leak)
+  none_fails_in a b None l e none found = (none_of (fails (failures_of h)) h.strategy h.job.asked a b
+    found.failure, found.leak)
   none_fails_in a b (Some f) l e none found = absurd (cc)

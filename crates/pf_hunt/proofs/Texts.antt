@@ -6,7 +6,8 @@ use Rattle.pf_property.specs.Texts.{ReadsProperty}
 use Rattle.pf_hunt.specs.Further.{AreProperties}
 
 -- one text more
-pub one_text_more : (atoms ts : List (List ℕ)) (ps : List Property) (t : List ℕ) (p : Property) → AreProperties atoms ts ps
+pub one_text_more : (atoms ts : List (List ℕ)) (ps : List Property) (t : List ℕ)
+    (p : Property) → AreProperties atoms ts ps
     → ReadsProperty atoms t p → AreProperties atoms (ts ++ t ∷ []) (ps ++ p ∷ [])
 one_text_more atoms [] [] t p all read = (read, tt)
 one_text_more atoms [] (q ∷ qs) t p all read = absurd all

@@ -18,7 +18,8 @@ returns-clause-added g c =
     let seed = codes "seed " ++ decimal c.args.seed ++ codes "\n" in
     let failed = failed_text (option_map (λ s. s.now) c.args.property) in
     on_ok_weaker c.add_failed.result
-    (λ k. adds_both c.args.waiting.now.items seed c.add_seed.new.waiting.items failed c.add_failed.new.waiting.items _ _ _
+    (λ k. adds_both c.args.waiting.now.items seed c.add_seed.new.waiting.items failed
+    c.add_failed.new.waiting.items _ _ _
     c.in_ok-add_seed.ensures.added k) c.add_failed.ensures.added
 
 pub returns-clause-front : goal.returns-clause-front

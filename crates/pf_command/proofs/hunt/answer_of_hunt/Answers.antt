@@ -24,7 +24,8 @@ returns-in-Failure g c =
     (λ e. HearsSome heard old (OfEach x.module (λ bytes. PrintsAs h bytes x.job (properties_of x) sought e)) new)
     (λ e. HearsSome heard old (HuntEndsAs h h.sought bytes e) new)
     (λ e.
-    hears_weaker heard (OfEach x.module (λ bytes. PrintsAs h bytes x.job (properties_of x) sought e)) (HuntEndsAs h h.sought bytes e) old
+    hears_weaker heard (OfEach x.module (λ bytes. PrintsAs h bytes x.job (properties_of x) sought e))
+    (HuntEndsAs h h.sought bytes e) old
     new
     (λ ns reports. ends_as h bytes x.module x.job (properties_of x) ns sought (sym c.in-Failure.is) known.0 known.1
     known.2 e
@@ -40,7 +41,8 @@ returns-in_ok-answer-in-Outcomes g c =
     let answer = c.in_ok-answer-in-Outcomes.answer in
     let heard = c.in_ok-answer-in-Outcomes.ensures in (
       heard.0,
-      answered_as h bytes x.module x.job (properties_of x) heard.0 Outcomes (sym c.in-Outcomes.is) known.0 known.1 known.2
+      answered_as h bytes x.module x.job (properties_of x) heard.0 Outcomes
+      (sym c.in-Outcomes.is) known.0 known.1 known.2
           answer (heard.1 bytes),
       heard.2,
     )

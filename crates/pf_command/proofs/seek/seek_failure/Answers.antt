@@ -18,7 +18,8 @@ returns g c =
     let end = found.field-0.end in
     let may = c.may_stop-may_stop in
     let heard = found.ensures.heard in
-    let known = subst (λ f. FirstFailing (failures_by h ps) args.strategy j.asked args.first end (option_map failure_of f))
+    let known = subst (λ f. FirstFailing (failures_by h ps) args.strategy j.asked args.first end
+    (option_map failure_of f))
     c.in-Some.is found.ensures.known.failure in
     let reported = subst (λ f. SearchNotices args.strategy j.asked may.result args.first args.end end
     (option_map failure_of f) heard.0) c.in-Some.is heard.1 in (
@@ -44,7 +45,8 @@ returns-in_default g c =
     let end = found.field-0.end in
     let may = c.may_stop-may_stop in
     let heard = found.ensures.heard in
-    let none = subst (λ f. FirstFailing (failures_by h ps) args.strategy j.asked args.first end (option_map failure_of f))
+    let none = subst (λ f. FirstFailing (failures_by h ps) args.strategy j.asked args.first end
+    (option_map failure_of f))
     c.in_default.is found.ensures.known.failure in
     let reported = subst (λ f. SearchNotices args.strategy j.asked may.result args.first args.end end
     (option_map failure_of f) heard.0) c.in_default.is heard.1 in
@@ -54,7 +56,8 @@ returns-in_default g c =
       (λ bytes of. (
         tt,
         λ t s say. rw (say.0 ∙ is.0, say.1 ∙ is.1)
-            (none_fails c.args.runs end reach (none_so_far h bytes j ps heard.0 may.result end may.ensures none reported)),
+            (none_fails c.args.runs end reach (none_so_far h bytes j ps heard.0 may.result end may.ensures none
+            reported)),
       )),
       heard.2,
     )

@@ -30,7 +30,8 @@ returns g c =
     (λ a. (a.text.items ≡ front_text h end ++ strategy_text h.strategy
     ++ flat_map (λ x. row_text (atom_names_of j) (row_of x)) rows)
     × (a.status ≡ (if list_any (λ x. is_failure x.verdict) rows then 1 else 0)))
-    (λ a. HearsSome heard old (λ ns. (bytes : List ℕ) → PrintsSought h bytes j ps ns Outcomes a.text.items a.status) new)
+    (λ a. HearsSome heard old (λ ns. (bytes : List ℕ) → PrintsSought h bytes j ps ns Outcomes a.text.items
+    a.status) new)
     (λ a is.
     hears_weaker heard (TallyNotices h.strategy j.asked may.result h.seeds.0 h.seeds.1 end)
     (λ ns. (bytes : List ℕ) → PrintsSought h bytes j ps ns Outcomes a.text.items a.status) old new

@@ -8,5 +8,6 @@ returns c =
     let h = c.args.hunt.now in
     let found = c.in_ok-failure.field-0.failure in
     of_found h.strategy.last h.job.asked found
-    (failing_seed h.job.asked c.args.from c.args.end (failures_of h) h.strategy (option_map failure_of found) c.requires.alone
+    (failing_seed h.job.asked c.args.from c.args.end (failures_of h) h.strategy
+    (option_map failure_of found) c.requires.alone
     c.in_ok-failure.ensures.failure)

@@ -58,7 +58,8 @@ returns-then-is_some-clause-reach g c = to_end
 pub returns-then-is_some-clause-heard : goal.returns-then-is_some-clause-heard
 returns-then-is_some-clause-heard g c =
     let h = c.args.hunt.now in
-    found_there g.O.HuntObserver.Heard c.args.range.may_stop c.args.range.first c.args.range.end (failures_of h) h.strategy
+    found_there g.O.HuntObserver.Heard c.args.range.may_stop c.args.range.first c.args.range.end
+    (failures_of h) h.strategy
     h.job.asked
     c.args.observer.now c.loop-at.observer
     c.progress.new.self c.loop-at.at c.block_end-next.result c.progress.result c.in_ok-block.block.failure

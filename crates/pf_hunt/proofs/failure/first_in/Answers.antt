@@ -46,7 +46,8 @@ returns-then-fails c =
     record {
       failure =
           first at.seed r (omega (arith, at.auto.seed)) (omega (arith, c.loop-seed-test.true)) c.in_ok-report.ensures
-          (ap (fails (failures_of h)) same ∙ sym (c.if-fails.ensures (further_of h) judged.0 judged.2)) at.invariant.none;
+          (ap (fails (failures_of h)) same ∙ sym (c.if-fails.ensures
+          (further_of h) judged.0 judged.2)) at.invariant.none;
       leak =
           subst (λ n. FirstLeaking h.strategy j c.args.from n (option_map leak_of c.earlier-leak.result)) past
           (c.earlier-leak.ensures h.strategy j c.args.from at.seed (at.seed + 1) (omega (arith, at.auto.seed))

@@ -8,4 +8,5 @@ judged_run-judged-requires c none = absurd cc
 pub returns : goal.returns
 returns c =
     let judged = c.in_ok-judged.ensures in
-    (judged.0, means_by_seed c.args.by c.args.job.now.asked judged.0 judged.1, record { judged = judged.2; further = refl })
+    (judged.0, means_by_seed c.args.by c.args.job.now.asked judged.0 judged.1, record { judged = judged.2; further
+    = refl })

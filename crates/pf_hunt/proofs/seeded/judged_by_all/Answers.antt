@@ -11,7 +11,8 @@ report_of_run-report-requires c none = absurd cc
 pub judged_by-requires : goal.judged_by-requires
 judged_by-requires c =
     let r = c.in_ok-report.report in
-    let few = few_events c.args.by c.args.job.now (view_of_report r) c.limit-_limit.ensures.valid c.in_ok-report.ensures in
+    let few = few_events c.args.by c.args.job.now (view_of_report r) c.limit-_limit.ensures.valid
+    c.in_ok-report.ensures in
     let same = length-map r.events.items view_of_event in
     omega (arith, few, same)
 

@@ -25,5 +25,6 @@ returns c =
       failures = refl;
       from = omega arith;
       left = omega (arith, c.if-args.false);
-      none = none_is (no_seeds (fails (only_leaks h.leaks)) h.strategy c.args.job.asked h.seeds.0 h.seeds.0 (omega arith));
+      none = none_is (no_seeds (fails (only_leaks h.leaks)) h.strategy c.args.job.asked h.seeds.0 h.seeds.0
+      (omega arith));
     })

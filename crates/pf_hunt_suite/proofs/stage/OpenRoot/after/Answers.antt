@@ -22,7 +22,8 @@ returns-in-Some-clause-stage c h known found past within =
     subst (λ (k : FailureCause). IsStageOf h (Over (Fails f.seed k)))
     (sym (c.cause_of.ensures ∙ ap (λ ps. cause_of (map property_of ps) r) c.as_slice.ensures.value))
     (over (Fails f.seed (cause_of (further_of o.hunt) r)) (ends_failing h o known end f.seed r within
-    (subst (λ x. FirstFailing (failures_of o.hunt) o.hunt.strategy o.hunt.job.asked o.next end (option_map failure_of x))
+    (subst (λ x. FirstFailing (failures_of o.hunt) o.hunt.strategy o.hunt.job.asked o.next end
+    (option_map failure_of x))
     c.in-Some.is found)))
 
 pub returns-in-None-clause-stage : goal.returns-in-None-clause-stage
@@ -31,7 +32,8 @@ returns-in-None-clause-stage c h known found past within =
     let end = c.args.searched.now.end in
     goes_on _ (still_open h o known _ end refl refl refl past
     (subst (λ (k : _). end < (asked_of k).seeds.1) known.hunted c.if-next-args.true)
-    (subst (λ x. FirstFailing (failures_of o.hunt) o.hunt.strategy o.hunt.job.asked o.next end (option_map failure_of x))
+    (subst (λ x. FirstFailing (failures_of o.hunt) o.hunt.strategy o.hunt.job.asked o.next end
+    (option_map failure_of x))
     c.in-None.is found))
 
 pub returns-in-None-2-clause-stage : goal.returns-in-None-2-clause-stage
@@ -41,5 +43,6 @@ returns-in-None-2-clause-stage c h known found past within =
     let same : o.hunted.args.now.end ≡ h.args.now.end = ap (λ (k : RootHunt). k.args.now.end) known.hunted in
     rw (c.saturating_sub.ensures, known.hunted)
     (over _ (ends_whole h o known end (omega (arith, within, c.if-next-args.false, same))
-    (subst (λ x. FirstFailing (failures_of o.hunt) o.hunt.strategy o.hunt.job.asked o.next end (option_map failure_of x))
+    (subst (λ x. FirstFailing (failures_of o.hunt) o.hunt.strategy o.hunt.job.asked o.next end
+    (option_map failure_of x))
     c.in-None-2.is found)))
