@@ -1,3 +1,4 @@
 pub mod Scopes
 pub mod Evaluated
 pub mod Compiled
+pub mod CompiledView

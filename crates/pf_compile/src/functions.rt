@@ -23,7 +23,7 @@ use std::alloc::Global;
 pub struct Program {
     pub instructions: Vec<Instruction>,
     pub constants: Vec<Term>,
-    pub entries: Vec<u32>,
+    pub entries: Vec<usize>,
 }
 
 /// Adds clauses of a function on its arguments, which are in the first registers.
@@ -107,7 +107,7 @@ pub fn program_of(alloc: Global, code: &Module) -> Result<Program, OrNoMemory<No
     let mut index = 0;
     while let Some(function) = code.function(FunctionId(index)) {
         let entry = enter(&mut maker, code, function)?;
-        entries.push(entry)?;
+        entries.push(entry as usize)?;
         index = register_after(index, 1)?;
     }
     let Maker {

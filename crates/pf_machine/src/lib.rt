@@ -7,4 +7,5 @@ mod lowering;
 mod machine;
 
 pub use laws::{messages_arrive, status_stays};
+pub use lowering::lowered;
 pub use machine::{Machine, Turn};

@@ -11,7 +11,7 @@ use pf_terms::Term;
 use std::alloc::Global;
 
 /// The words of these terms, in order.
-pub(crate) fn lowered(alloc: Global, heap: &mut Heap, terms: &[Term]) -> Result<Vec<Word>, NoMemory>
+pub fn lowered(alloc: Global, heap: &mut Heap, terms: &[Term]) -> Result<Vec<Word>, NoMemory>
     ensures made { IfOk result (λ v. word_values heap.new v.items ≡ values_of terms.now) }
     ensures words { IfOk result (λ v. All (IsWordOf heap.new) v.items) }
     ensures keeps { Keeps heap.old heap.new }

@@ -2,7 +2,6 @@
 use Rattle.std.specs.Prelude.{◌≡◌, ◌<◌, ◌≤◌, ℕ, ◌+◌, true, List, [], ◌∷◌, ◌++◌, Option, Some, None, Result, Ok, length}
 use Rattle.std.specs.Prelude.{slice_get, if◌then◌else◌, ◌==◌}
 use Rattle.pf_terms.specs.declared.term.Term.{Term}
-use Rattle.pf_syntax.specs.Module.{Checked}
 use Rattle.pf_sorted.specs.Maps.{with_number}
 use Rattle.pf_model.specs.Context.{Frame, ProcessState}
 use Rattle.pf_model.specs.Runs.{can_go}
@@ -19,14 +18,14 @@ use Rattle.pf_model.specs.Reports.{label_of}
 use Rattle.pf_model.specs.declared.report.Label.{Label}
 use Rattle.pf_ties.specs.Ties.{AllTies, ties_opened, opened_watched}
 use Rattle.pf_ties.specs.Laws.{ties_of}
-use Rattle.pf_stepper.specs.MachineView.{MachineView, asking}
-use Rattle.pf_mailbox.specs.MailView.{MailView}
-use Rattle.pf_mailbox.specs.Tests.{IsAheadOf}
+use Rattle.pf_stepper.specs.MachineView.{asking}
+use Rattle.pf_inbox.specs.InboxView.{InboxView}
+use Rattle.pf_image.specs.ImageView.{ImageView, Grows}
 use Rattle.pf_stepper.specs.Turns.{answer_value}
 use Rattle.pf_stepper.specs.declared.act.Act.{Act as Asked}
 use Rattle.pf_stepper.specs.declared.act.Act.TheVariants as asked
-use Rattle.pf_system.specs.Slots.{LifeAsks, LifeRepresents}
-use Rattle.pf_system.specs.Processes.{RepresentsBut, IsLeftAt, Shown, module_in}
+use Rattle.pf_system.specs.Slots.{LifeRepresents}
+use Rattle.pf_system.specs.Processes.{RepresentsBut, IsLeftAt, Shown, basis_of, module_in}
 use Rattle.pf_system.specs.declared.slot.Life.{Life}
 use Rattle.pf_system.specs.declared.slot.Slot.{Slot}
 use Rattle.pf_system.specs.declared.shared.Shared.{Shared}
@@ -87,27 +86,21 @@ pub record ActedIn (c : Core) (x : Acted) (a : ℕ) (w : Processes) (r : ActAnsw
   pub channels : w'.shared.channels ≡ posted a x.left.sent
       (with_senders (length x.left.core.processes) w.shared.channels)
   pub answers : AnswersAct r x
-  pub basis : w'.basis ≡ w.basis
+  pub basis : basis_of w' ≡ basis_of w
 
 abbrev pub ActsIn : ℕ → Act → Processes → ActAnswer → Processes → Type 0
 ActsIn a act w r w' = (c : Core) → RepresentsBut w c a → ActedIn c (acted (module_in w) c a act) a w r w'
 
--- a slot stays as it was, but for its messages; what its mailbox was ready for it still is
+-- a slot stays as it was, but for its messages; where its mark was at the front it still is
 pub record KeepsLife (s s' : Slot) : Type 0 where
   pub life : s'.life ≡ s.life
-  pub ahead : (k : MachineView) → IsAheadOf k s.mailbox → IsAheadOf k s'.mailbox
+  pub mark : s.mailbox.mark ≡ 0 → s'.mailbox.mark ≡ 0
 
--- so does the slot of a process
-abbrev pub KeepsSlot : ℕ → Processes → Processes → Type 0
-KeepsSlot a w w' =
-    (s : Slot) → slice_get w.slots.items a ≡ Some s
-    → (s' : Slot) × (slice_get w'.slots.items a ≡ Some s') × KeepsLife s s'
-
--- the slot of a process that may be answered
-pub record IsAsking (a : ℕ) (w : Processes) : Type 0 where
-  pub slot : Slot
-  pub at : slice_get w.slots.items a ≡ Some slot
-  pub asks : LifeAsks slot.life
+-- so does the slot of a process, and the image grows
+pub record KeepsSlot (a : ℕ) (w w' : Processes) : Type 0 where
+  pub grows : Grows w.image w'.image
+  pub keeps : (s : Slot) → slice_get w.slots.items a ≡ Some s
+      → (s' : Slot) × (slice_get w'.slots.items a ≡ Some s') × KeepsLife s s'
 
 -- the action that process a asked for in these frames
 abbrev pub ShowsAct : ℕ → Act → Processes → Label → Processes → Type 0
@@ -131,18 +124,19 @@ abbrev pub home_function : Module → (home name arity : ℕ) → Option ℕ
 home_function m home name arity = if home == m.name then exported_as m name arity else None
 
 -- a process of this pid begins in a state in which it can go
-pub record LifeBegins (m : Checked) (own : ℕ) (s : ProcessState) (l : Life) : Type 0 where
-  pub is_there : (mail : MailView) → ((k : MachineView) → IsAheadOf k mail) → LifeRepresents m own l mail s
+pub record LifeBegins (x : ImageView) (own : ℕ) (s : ProcessState) (l : Life) : Type 0 where
+  pub is_there : (b : InboxView) → b.mark ≡ 0 → LifeRepresents x own l b s
   pub goes : can_go s ≡ true
 
 -- one process more, with no message, that can go, and then these ties
 pub record OpensWithTies (ties : AllTies) (w : Processes) (l : Life) (w' : Processes) : Type 0 where
   pub tied : w'.shared.ties ≡ ties
   pub channels : w'.shared.channels ≡ with_senders (length w.slots.items + 1) w.shared.channels
-  pub slots : (mail : MailView) × (mail.messages ≡ []) × ((k : MachineView) → IsAheadOf k mail)
-      × (w'.slots.items ≡ w.slots.items ++ record { life = l; mailbox = mail } ∷ [])
+  pub slots : (b : InboxView) × (b.messages ≡ []) × (b.mark ≡ 0)
+      × (w'.slots.items ≡ w.slots.items ++ record { life = l; mailbox = b } ∷ [])
   pub ready : w'.ready ≡ with_number (length w.slots.items) w.ready
-  pub basis : w'.basis ≡ w.basis
+  pub most : w'.most ≡ w.most
+  pub image : w'.image ≡ w.image
 
 -- the ties after it, by the bond of the new process to another
 abbrev pub opened_by : Bond → (other : ℕ) → AllTies → AllTies

@@ -8,14 +8,14 @@ use Rattle.pf_model.specs.Labels.{delivers}
 use Rattle.pf_model.specs.Reports.{suffix_of}
 use Rattle.pf_model.specs.declared.report.Label.{Label}
 use Rattle.pf_model.specs.declared.report.Suffix.{Suffix}
-use Rattle.pf_system.specs.Processes.{RepresentsCore, Done, Shown, view_of_processes}
+use Rattle.pf_system.specs.Processes.{RepresentsCore, Done, Shown, basis_of, view_of_processes}
 use Rattle.pf_system.specs.declared.processes.Processes.{Processes}
 
 -- a message arrived at a process that lives, and nothing else was changed
 pub record PlacesMessage (c : Core) (b : ℕ) (v : Value) (w w' : Processes) : Type 0 where
   pub is_there : RepresentsCore (view_of_processes w') (with_process c b (with_message (of c b) v))
   pub shared : w'.shared ≡ w.shared
-  pub basis : w'.basis ≡ w.basis
+  pub basis : basis_of w' ≡ basis_of w
 
 abbrev pub PlacesOf : ℕ → Value → Processes → Processes → Type 0
 PlacesOf b v w w' =

@@ -21,16 +21,24 @@ use Rattle.pf_system.specs.declared.slot.Slot.{Slot}
 use Rattle.pf_system.specs.declared.processes.Processes.{Processes}
 
 abbrev pub checked_in : Processes → Checked
-checked_in w = w.basis.module.value
+checked_in w = w.image.checked
 
 abbrev pub module_in : Processes → Module
 module_in w = module_of (checked_in w)
 
+-- what a run is based on: the checked module, and how many processes there may be
+pub record Basis : Type 0 where
+  pub checked : Checked
+  pub most : ℕ
+
+abbrev pub basis_of : Processes → Basis
+basis_of w = record { checked = checked_in w; most = w.most }
+
 abbrev pub view_of_processes : Processes → ProcessesView
 view_of_processes w =
     record {
-      checked = checked_in w;
-      most = w.basis.most;
+      image = w.image;
+      most = w.most;
       slots = w.slots.items;
       ties = w.shared.ties;
       channels = w.shared.channels;
@@ -47,7 +55,7 @@ pub record IsRoomy (w : ProcessesView) (c : Core) : Type 0 where
 
 -- the processes represent this core, with any channels, and those that can go are noted
 pub record RepresentsCore (w : ProcessesView) (c : Core) : Type 0 where
-  pub slots : SlotsRepresent w.checked zero w.slots (bodies_of c)
+  pub slots : SlotsRepresent w.image zero w.slots (bodies_of c)
   pub ties : ties_of c ≡ w.ties
   pub ready : w.ready ≡ pids_in_state can_go zero c.processes
   pub room : IsRoomy w c
@@ -55,8 +63,8 @@ pub record RepresentsCore (w : ProcessesView) (c : Core) : Type 0 where
 -- the same, but for the body of process a, which is in a slot of its own
 pub record RepresentsBut (w : Processes) (c : Core) (a : ℕ) : Type 0 where
   pub there : a < length w.slots.items
-  pub slots : (s : Slot) (b : Body) → SlotRepresents (checked_in w) a s b
-      → SlotsRepresent (checked_in w) zero (slice_set w.slots.items a s) (slice_set (bodies_of c) a b)
+  pub slots : (s : Slot) (b : Body) → SlotRepresents w.image a s b
+      → SlotsRepresent w.image zero (slice_set w.slots.items a s) (slice_set (bodies_of c) a b)
   pub ties : ties_of c ≡ w.shared.ties
   pub ready : w.ready ≡ pids_in_state can_go zero c.processes
   pub room : IsRoomy (view_of_processes w) c
@@ -74,7 +82,7 @@ pub record ProcessCanGo (a : ℕ) (w : Processes) : Type 0 where
 -- the machine of process a ran, and has this status over these messages
 pub record IsLeftAt (w : Processes) (a : ℕ) (x : MachineStatus) (s : Slot) : Type 0 where
   pub at : slice_get w.slots.items a ≡ Some s
-  pub leaves : SlotIsLeft (checked_in w) a x s
+  pub leaves : SlotIsLeft w.image a x s
 
 -- ---- what one step of an actor does
 
@@ -83,7 +91,7 @@ pub record IsLeftAt (w : Processes) (a : ℕ) (x : MachineStatus) (s : Slot) : T
 pub record Done (a : ℕ) (d : Left) (cs : Channels) (w w' : Processes) : Type 0 where
   pub is_there : RepresentsCore (view_of_processes w') d.core
   pub channels : w'.shared.channels ≡ posted a d.sent (with_senders (length d.core.processes) cs)
-  pub basis : w'.basis ≡ w.basis
+  pub basis : basis_of w' ≡ basis_of w
 
 pub record Shown (a : ℕ) (d : Deed) (cs : Channels) (w : Processes) (l : Label) (w' : Processes) : Type 0 where
   pub done : Done a d.left cs w w'
@@ -125,7 +133,7 @@ pub record IsShaped (a : ℕ) (w : Processes) : Type 0 where
   pub ties : length w.shared.ties.processes ≡ length w.slots.items
   pub rows : length w.slots.items ≤ length w.shared.channels
   pub few : length w.slots.items ≤ MOST_PROCESSES
-  pub within : w.basis.most ≤ MOST_PROCESSES
+  pub within : w.most ≤ MOST_PROCESSES
 
 abbrev pub IsShapedFor : Option ℕ → Processes → Type 0
 IsShapedFor None w = length w.shared.ties.processes ≡ length w.slots.items

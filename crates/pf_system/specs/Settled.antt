@@ -12,23 +12,16 @@ use Rattle.pf_stepper.specs.MachineView.{MachineStatus, goes}
 use Rattle.pf_stepper.specs.Moves.{MachineMoved}
 use Rattle.pf_stepper.specs.declared.machine.Move.{Move}
 use Rattle.pf_stepper.specs.declared.machine.Move.TheVariants as v
-use Rattle.pf_system.specs.Slots.{LifeAsks}
+use Rattle.pf_system.specs.Slots.{LifeIsOver}
 use Rattle.pf_system.specs.Processes.{RepresentsBut, IsLeftAt, Done, Shown, module_in}
 use Rattle.pf_system.specs.declared.slot.Slot.{Slot}
 use Rattle.pf_system.specs.declared.processes.Processes.{Processes}
 
-abbrev pub SlotAsksFor : Move → Slot → Type 0
-SlotAsksFor (v.Action act) s = LifeAsks s.life
-SlotAsksFor v.Pure s = Unit {0}
-SlotAsksFor (v.Take t) s = Unit {0}
-SlotAsksFor v.Wait s = Unit {0}
-SlotAsksFor (v.End r) s = Unit {0}
-
--- a process that asked for an action may be answered
-pub record CanSettle (a : ℕ) (move : Move) (w : Processes) : Type 0 where
+-- the words of a process' machine are of the heap
+pub record CanSettle (a : ℕ) (w : Processes) : Type 0 where
   pub slot : Slot
   pub at : slice_get w.slots.items a ≡ Some slot
-  pub asks : SlotAsksFor move slot
+  pub is_over : LifeIsOver w.image slot.life
 
 abbrev pub cut_in : Core → ℕ → ProcessState → Deed
 cut_in c a t = deed (leaving (with_state c a t) []) label.cut

@@ -17,7 +17,7 @@ use Rattle.pf_system.specs.declared.system.System.TheInside.{Inside}
 -- signals are those of the configuration
 pub record Represents (s : SystemView) (c : Configuration) : Type 0 where
   pub present : s.spent ≡ false
-  pub code : s.processes.checked ≡ s.checked
+  pub code : s.processes.image.checked ≡ s.checked
   pub core : RepresentsCore s.processes c.core
   pub channels : s.processes.channels ≡ c.channels
 

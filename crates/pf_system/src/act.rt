@@ -4,9 +4,10 @@ ghost use Rattle.std.specs.Prelude.{IfOk, OnOk};
 ghost use Rattle.pf_terms.specs.Term.{value_of};
 ghost use Rattle.pf_model.specs.Contraction.{send};
 ghost use Rattle.pf_stepper.specs.Acts.{act_of};
-ghost use Rattle.pf_system.specs.Acts.{ActsAs, ActsIn, IsAsking, IsBetween, IsMember, KeepsSlot, ShowsAct};
+ghost use Rattle.pf_system.specs.Acts.{ActsAs, ActsIn, IsBetween, IsMember, KeepsSlot, ShowsAct};
 ghost use Rattle.pf_system.specs.Acts.{answer};
 ghost use Rattle.pf_system.specs.Processes.{IsShaped};
+ghost use Rattle.pf_system.specs.Settled.{CanSettle};
 
 use crate::processes::Processes;
 use crate::shared::Shared;
@@ -120,12 +121,11 @@ impl Processes {
         shown: &mut Label,
     ) -> Result<(), NoMemory>
         requires shaped { IsShaped pid self.old }
-        requires asks { IsAsking pid self.old }
+        requires can { CanSettle pid self.old }
         ensures { OnOk result (ShowsAct pid (act_of act) self.old shown.new self.new) }
     {
         let value = self.do_act(alloc, pid, act, shown)?;
         let slot = &mut self.slots[pid as usize];
-        slot.answer(value);
-        Ok(())
+        slot.answer(alloc, &mut self.image, value)
     }
 }

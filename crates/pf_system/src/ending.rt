@@ -6,10 +6,9 @@ ghost use Rattle.pf_system.specs.Processes.{EndsProcess, IsShaped, RepresentsBut
 use crate::processes::Processes;
 use crate::slot::{Life, Slot};
 use pf_errors::NoMemory;
-use pf_mailbox::Mailbox;
+use pf_inbox::Inbox;
 use pf_terms::{AtomId, Term};
 use std::alloc::Global;
-use std::mem;
 
 impl Processes {
     /// A process ends, with the value that it returned or with a reason: its name is lost, and its last signals are
@@ -32,10 +31,9 @@ impl Processes {
         };
         let slot = Slot {
             life: Life::Ended(end),
-            mailbox: Mailbox::new(alloc),
+            mailbox: Inbox::new(alloc),
         };
-        let before = mem::replace(&mut self.slots[pid as usize], slot);
-        self.spare.keep(before);
+        self.slots[pid as usize] = slot;
         self.ready.remove(pid);
         self.shared.post(alloc, pid, signals)
     }

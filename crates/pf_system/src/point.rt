@@ -22,7 +22,10 @@ impl Slot {
             (λ x. IsPointOf code.now.tables (woken b.state) x.1) }
     {
         match &self.life {
-            Life::Lives { machine, waits: _ } => Some(machine.point()),
+            Life::Lives {
+                machine: _,
+                waits: _,
+            } => Some((code, Point::Nowhere)),
             Life::Ends(_) => Some((code, Point::Nowhere)),
             Life::Ended(_) => None,
         }
@@ -40,7 +43,7 @@ impl Processes {
             (λ x. IsPointOf (checked_in self.now).tables (woken (of c pid).state) x.1) }
     {
         match self.slots.get(pid as usize) {
-            Some(slot) => slot.point(&self.basis.module),
+            Some(slot) => slot.point(self.image.module()),
             None => None,
         }
     }

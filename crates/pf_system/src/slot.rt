@@ -7,13 +7,16 @@ ghost use Rattle.pf_model.specs.Runs.{can_go, is_waiting};
 ghost use Rattle.pf_model.specs.Turns.{with_answer};
 ghost use Rattle.pf_stepper.specs.MachineView.{asking, goes};
 ghost use Rattle.pf_stepper.specs.Turns.{answer_value};
+ghost use Rattle.pf_image.specs.ImageView.{Grows};
 ghost use Rattle.pf_system.specs.Bodies.{body_of, with_one_message};
-ghost use Rattle.pf_system.specs.Slots.{LifeAsks, RanInSlot, SlotCanGo, SlotIsLeft, SlotRepresents};
+ghost use Rattle.pf_system.specs.Slots.{LifeIsOver, RanInSlot, SlotCanGo, SlotIsLeft, SlotRepresents};
 
 use pf_errors::NoMemory;
-use pf_mailbox::Mailbox;
+use pf_image::Image;
+use pf_inbox::Inbox;
+use pf_machine::Machine;
 use pf_nodes::Pool;
-use pf_stepper::{Machine, Move};
+use pf_stepper::Move;
 use pf_terms::{Term, copy};
 use std::alloc::Global;
 use std::mem;
@@ -31,27 +34,33 @@ pub(crate) enum Life {
 #[derive(Drop)]
 pub(crate) struct Slot {
     pub(crate) life: Life,
-    pub(crate) mailbox: Mailbox,
+    pub(crate) mailbox: Inbox,
 }
 
 impl Slot {
-    /// All steps of the process up to and with its next action, message, wait or end, but no more than `left`: how many
-    /// they were, and in `did` the move that ended them.
+    /// All steps of the process of this pid up to and with its next action, message, wait or end, but no more than
+    /// `left`: how many they were, and in `did` the move that ended them.
     pub(crate) fn run(
         &mut self,
         alloc: Global,
+        own: u32,
+        image: &mut Image,
         pool: &mut Pool<Term>,
         left: u32,
         did: &mut Move,
     ) -> Result<u32, NoMemory>
-        requires can { SlotCanGo self.old }
+        requires can { SlotCanGo image.old self.old }
         requires left { 0 < left }
-        ensures { IfOk result (λ used. (m : _) (own : _) (b : _) → SlotRepresents m own self.old b
-            → can_go b.state ≡ true → RanInSlot m own left b did.new used self.new) }
+        ensures grows { Grows image.old image.new }
+        ensures over { OnOk result (LifeIsOver image.new self.new.life) }
+        ensures ran { IfOk result (λ used. (b : _) → SlotRepresents image.old own self.old b
+            → can_go b.state ≡ true → RanInSlot image.old own left b did.new used image.new self.new) }
     {
         match &mut self.life {
             Life::Lives { machine, waits: _ } => {
-                machine.run(alloc, &mut self.mailbox, pool, left, did)
+                let turn = image.run(alloc, own, machine, &mut self.mailbox, pool, left)?;
+                *did = turn.did;
+                Ok(turn.used)
             }
             Life::Ends(reason) => {
                 *did = Move::End(Err(copy(reason)?));
@@ -62,21 +71,28 @@ impl Slot {
     }
 
     /// The answer to the action that the process asked for.
-    pub(crate) fn answer(&mut self, answer: Result<Term, Term>)
-        requires { LifeAsks self.old.life }
-        ensures { (m : _) (own : _) (fs : _) → SlotIsLeft m own (asking fs) self.old
-            → SlotRepresents m own self.new
-            (body_of (with_answer fs (answer_value answer)) self.old.mailbox.messages) }
+    pub(crate) fn answer(
+        &mut self,
+        alloc: Global,
+        image: &mut Image,
+        answer: Result<Term, Term>,
+    ) -> Result<(), NoMemory>
+        requires { LifeIsOver image.old self.old.life }
+        ensures grows { Grows image.old image.new }
+        ensures answered { OnOk result ((own : _) (fs : _) → SlotIsLeft image.old own (asking fs) self.old
+            → SlotRepresents image.new own self.new
+            (body_of (with_answer fs (answer_value answer)) self.old.mailbox.messages)) }
     {
         if let Life::Lives { machine, waits: _ } = &mut self.life {
-            machine.answer(answer);
+            return image.answer(alloc, machine, answer);
         }
+        Ok(())
     }
 
     /// The process waits at a `receive`.
     pub(crate) fn wait(&mut self)
-        ensures { (m : _) (own : _) (t : _) → SlotIsLeft m own (goes (running t)) self.old
-            → SlotRepresents m own self.new (body_of (waiting t) self.old.mailbox.messages) }
+        ensures { (x : _) (own : _) (t : _) → SlotIsLeft x own (goes (running t)) self.old
+            → SlotRepresents x own self.new (body_of (waiting t) self.old.mailbox.messages) }
     {
         if let Life::Lives { machine: _, waits } = &mut self.life {
             *waits = true;
@@ -85,10 +101,10 @@ impl Slot {
 
     /// A message arrives, and the process goes on where it waited; returns whether it did.
     pub(crate) fn index(&mut self, pool: &mut Pool<Term>, message: Term) -> Result<bool, NoMemory>
-        ensures woken { IfOk result (λ w. (m : _) (own : _) (b : _) → SlotRepresents m own self.old b
+        ensures woken { IfOk result (λ w. (x : _) (own : _) (b : _) → SlotRepresents x own self.old b
             → w ≡ is_waiting b.state) }
-        ensures placed { OnOk result ((m : _) (own : _) (b : _) → SlotRepresents m own self.old b
-            → SlotRepresents m own self.new (with_one_message (value_of message) b)) }
+        ensures placed { OnOk result ((x : _) (own : _) (b : _) → SlotRepresents x own self.old b
+            → SlotRepresents x own self.new (with_one_message (value_of message) b)) }
     {
         self.mailbox.deliver(pool, message)?;
         if let Life::Lives { machine: _, waits } = &mut self.life {

@@ -9,26 +9,26 @@ ghost use Rattle.pf_model.specs.Contraction.{spawn};
 ghost use Rattle.pf_model.specs.declared.bond.Bond.TheVariants as bonds;
 ghost use Rattle.pf_model.specs.declared.limits.TheConstants.{MOST_PROCESSES};
 ghost use Rattle.pf_ties.specs.Ties.{ties_opened};
+ghost use Rattle.pf_image.specs.ImageView.{Grows};
 ghost use Rattle.pf_system.specs.Acts.{ActsIn, KeepsSlot, LifeBegins, OpensWithTies, OpensProcess, ReportsSpawn};
 ghost use Rattle.pf_system.specs.Acts.{answer};
 ghost use Rattle.pf_system.specs.Acts.{home_function};
 ghost use Rattle.pf_system.specs.Processes.{IsShaped, IsShapedFor};
+ghost use Rattle.pf_system.specs.Slots.{LifeIsOver};
 
 use crate::processes::Processes;
 use crate::shared::raising;
 use crate::slot::{Life, Slot};
-use crate::spare::Spare;
 use pf_errors::{NoMemory, OrNoMemory};
-use pf_mailbox::Mailbox;
+use pf_image::Image;
+use pf_inbox::Inbox;
 use pf_model::Bond;
 use pf_model::report::Label;
 use pf_ops::ending_reason;
-use pf_stepper::Machine;
 use pf_syntax::{FunctionId, Module};
 use pf_terms::{AtomId, List, Term, TooLarge, copy, tuple_of};
 use smallvec::SmallVec;
 use std::alloc::Global;
-use std::sync::Arc;
 
 /// The elements of a list, each shared.
 fn elements(alloc: Global, list: &List) -> Result<SmallVec<Term, 4>, NoMemory>
@@ -61,30 +61,23 @@ fn exported(code: &Module, home: AtomId, name: AtomId, arity: u32) -> Option<Fun
     }
 }
 
-/// How a process of this pid begins: at the call of its function, or about to end where there is no such function.
-#[inline(always)]
+/// How a process begins: at the call of its function, or about to end where there is no such function.
 fn begun(
     alloc: Global,
-    module: &Arc<Module>,
-    spare: &mut Spare,
-    pid: u32,
+    image: &mut Image,
     home: AtomId,
     name: AtomId,
     arguments: &List,
 ) -> Result<Life, NoMemory>
-    ensures { IfOk result (λ l. LifeBegins «module».now.value pid
-        (start_of (module_of «module».now.value) home.0 name.0 (elements_of arguments.now)) l) }
+    ensures grows { Grows image.old image.new }
+    ensures begun { IfOk result (λ l. (own : _) → LifeBegins image.new own
+        (start_of (module_of image.old.checked) home.0 name.0 (elements_of arguments.now)) l) }
+    ensures over { IfOk result (LifeIsOver image.new) }
 {
     let items = elements(alloc, arguments)?;
-    match exported(module, home, name, items.len() as u32) {
+    match exported(image.module(), home, name, items.len() as u32) {
         Some(function) => Ok(Life::Lives {
-            machine: Machine::new(
-                pid,
-                Arc::try_clone(module)?,
-                function,
-                items,
-                spare.room(alloc),
-            )?,
+            machine: image.begin(alloc, function, &items)?,
             waits: false,
         }),
         None => Ok(Life::Ends(ending_reason(alloc, &Term::Atom(AtomId::UNDEF))?)),
@@ -129,7 +122,7 @@ impl Processes {
         self.shared.open_to(alloc, pid)?;
         self.slots.push(Slot {
             life,
-            mailbox: Mailbox::new(alloc),
+            mailbox: Inbox::new(alloc),
         })?;
         self.ready.insert(pid)
     }
@@ -226,20 +219,10 @@ impl Processes {
         let Term::List(arguments) = arguments else {
             return Ok(raising(AtomId::BADARG, shown));
         };
-        if self.slots.len() >= self.basis.most as usize {
+        if self.slots.len() >= self.most as usize {
             return Ok(raising(AtomId::SYSTEM_LIMIT, shown));
         }
-        let new = self.slots.len() as u32;
-        let spare = &mut self.spare;
-        let life = begun(
-            alloc,
-            &self.basis.module,
-            spare,
-            new,
-            home,
-            name,
-            &arguments,
-        )?;
+        let life = begun(alloc, &mut self.image, home, name, &arguments)?;
         self.open_by(alloc, pid, bond, life, shown)
     }
 }

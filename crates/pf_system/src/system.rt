@@ -15,18 +15,19 @@ ghost use Rattle.pf_system.specs.Steps.{Begins, IsNoteOf, MayGo, Represents, Run
 ghost use Rattle.pf_system.specs.Steps.{noted_actors};
 
 use crate::enabled::Enabled;
-use crate::processes::{Basis, Processes};
+use crate::processes::Processes;
 use crate::shared::Shared;
 use crate::slot::Life;
 use crate::spare::Spare;
 use pf_channels::Channels;
+use pf_compile::CompiledModule;
 use pf_errors::NoMemory;
+use pf_image::Image;
 use pf_model::limits::most_processes;
 use pf_model::report::{Actor, Label, Outcome};
-use pf_stepper::{Machine, Point};
+use pf_stepper::Point;
 use pf_syntax::{FunctionId, Module};
 use pf_ties::Ties;
-use smallvec::SmallVec;
 use std::alloc::Global;
 use std::marker::Model;
 use std::mem;
@@ -65,35 +66,32 @@ impl System {
     /// way.
     pub fn new(
         alloc: Global,
-        module: &Arc<Module>,
+        compiled: &Arc<CompiledModule>,
         root: FunctionId,
         edition: u32,
     ) -> Result<System, NoMemory>
         requires { IsEdition edition }
-        ensures { IfOk result (Begins «module».now.value root.0 edition) }
+        ensures { IfOk result (Begins «compiled».now.value.checked root.0 edition) }
     {
-        System::new_in(alloc, module, root, edition, Spare::new(alloc))
+        System::new_in(alloc, compiled, root, edition, Spare::new(alloc))
     }
 
     /// The same, in what runs before left.
     pub fn new_in(
         alloc: Global,
-        module: &Arc<Module>,
+        compiled: &Arc<CompiledModule>,
         root: FunctionId,
         edition: u32,
         mut spare: Spare,
     ) -> Result<System, NoMemory>
         requires { IsEdition edition }
-        ensures { IfOk result (Begins «module».now.value root.0 edition) }
+        ensures { IfOk result (Begins «compiled».now.value.checked root.0 edition) }
     {
-        let shared = Arc::try_clone(module)?;
-        let room = spare.room(alloc);
-        let machine = Machine::new(0, shared, root, SmallVec::new(alloc), room)?;
+        let mut image = Image::new(alloc, compiled)?;
+        let machine = image.begin(alloc, root, &[])?;
         let mut processes = Processes {
-            basis: Basis {
-                module: Arc::try_clone(module)?,
-                most: most_processes(edition),
-            },
+            image,
+            most: most_processes(edition),
             slots: spare.take_slots(alloc),
             shared: Shared {
                 ties: Ties::new(alloc),
@@ -111,7 +109,7 @@ impl System {
             },
         )?;
         Ok(System {
-            module: Arc::try_clone(module)?,
+            module: Arc::try_clone(compiled.module())?,
             processes,
             steps: 0,
             spent: false,
@@ -267,7 +265,8 @@ impl System {
             spent: _,
         } = self;
         let Processes {
-            basis: _,
+            image: _,
+            most: _,
             slots,
             shared: _,
             ready,

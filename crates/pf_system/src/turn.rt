@@ -41,7 +41,14 @@ impl Processes {
     {
         let mut did = Move::Pure;
         let slot = &mut self.slots[pid as usize];
-        let used = slot.run(alloc, &mut self.spare.pool, left, &mut did)?;
+        let used = slot.run(
+            alloc,
+            pid,
+            &mut self.image,
+            &mut self.spare.pool,
+            left,
+            &mut did,
+        )?;
         self.settle(alloc, pid, did, shown)?;
         Ok(used)
     }
@@ -55,7 +62,7 @@ impl Processes {
         shown: &mut Label,
     ) -> Result<(), NoMemory>
         requires shaped { IsShaped pid self.old }
-        requires can { CanSettle pid did self.old }
+        requires can { CanSettle pid self.old }
         ensures { OnOk result (SettlesAs pid did self.old shown.new self.new) }
     {
         match did {

@@ -1,0 +1,3 @@
+pub mod ImageView
+pub mod Inner
+pub mod Machines
