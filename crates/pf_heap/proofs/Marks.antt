@@ -76,11 +76,11 @@ mark_above ms (word.Ref x) k r = refl
 mark_above ms (word.Pid p) k r = refl
 mark_above ms word.Nil k r = refl
 
-pub more_itself : (ms : List Bool) → IsMarkedMore ms ms
-more_itself ms = record { count = refl; marks = λ k m. m }
+pub unchanged : (ms : List Bool) → IsMarkedMore ms ms
+unchanged ms = record { count = refl; marks = λ k m. m }
 
-pub more_then : (ms ns os : List Bool) → IsMarkedMore ms ns → IsMarkedMore ns os → IsMarkedMore ms os
-more_then ms ns os a b = record { count = b.count ∙ a.count; marks = λ k m. b.marks k (a.marks k m) }
+pub more_on : (ms ns os : List Bool) → IsMarkedMore ms ns → IsMarkedMore ns os → IsMarkedMore ms os
+more_on ms ns os a b = record { count = b.count ∙ a.count; marks = λ k m. b.marks k (a.marks k m) }
 
 pub still_marked : (ms ns : List Bool) (w : Word) → IsMarkedMore ms ns → IsMarked ms w → IsMarked ns w
 still_marked ms ns (word.Tuple i) a m = a.marks i m
@@ -103,14 +103,14 @@ parts_still_marked ms ns (block ws) a m = all_still_marked ms ns ws a m
 
 pub marks_more : (ms : List Bool) (ws : List Word) → All (λ w. reach w ≤ length ms) ws
     → IsMarkedMore ms (with_marks ms ws)
-marks_more ms [] r = more_itself ms
+marks_more ms [] r = unchanged ms
 marks_more ms (w ∷ ws) r =
     let n = length ms in
     let here = All-head (λ (x : Word). reach x ≤ n) w ws r in
     let rest = All-tail (λ (x : Word). reach x ≤ n) w ws r in
     let ns = with_mark ms w in
     let there = subst (λ (m : ℕ). All (λ (x : Word). reach x ≤ m) ws) (sym (mark_count ms w)) rest in
-    more_then ms ns (with_marks ns ws) (mark_more ms w here) (marks_more ns ws there)
+    more_on ms ns (with_marks ns ws) (mark_more ms w here) (marks_more ns ws there)
 
 pub marks_here : (ms : List Bool) (ws : List Word) → All (λ w. reach w ≤ length ms) ws
     → All (IsMarked (with_marks ms ws)) ws
@@ -134,21 +134,21 @@ marks_above ms (w ∷ ws) n k le r =
 
 -- ---- the pass down
 
-pub closed_none : (h : List Cell) (n : ℕ) (ms : List Bool) → n ≡ length h → IsClosedFrom h n ms
-closed_none h n ms e k le lt m = absurd (omega arith)
+pub at_end : (h : List Cell) (n : ℕ) (ms : List Bool) → n ≡ length h → IsClosedFrom h n ms
+at_end h n ms e k le lt m = absurd (omega arith)
 
-pub closed_skip : (h : List Cell) (n : ℕ) (ms : List Bool) → IsClosedFrom h (n + 1) ms → get_or ms n false ≡ false
+pub skipped : (h : List Cell) (n : ℕ) (ms : List Bool) → IsClosedFrom h (n + 1) ms → get_or ms n false ≡ false
     → IsClosedFrom h n ms
-closed_skip h n ms c f k le lt m =
+skipped h n ms c f k le lt m =
     elim (cases_lt n k) [
       | inl above ↦ c k (omega arith) lt m
       | inr here ↦ let e : k ≡ n = omega arith in
           absurd (false≢true (sym f ∙ ap (λ (x : ℕ). get_or ms x false) (sym e) ∙ m))
     ]
 
-pub closed_step : (h : List Cell) (n : ℕ) (ms ns : List Bool) → IsClosedFrom h (n + 1) ms → IsMarkedMore ms ns
+pub passed : (h : List Cell) (n : ℕ) (ms ns : List Bool) → IsClosedFrom h (n + 1) ms → IsMarkedMore ms ns
     → ((k : ℕ) → n ≤ k → get_or ns k false ≡ get_or ms k false) → ArePartsMarked ns (cell_at h n) → IsClosedFrom h n ns
-closed_step h n ms ns c a same parts k le lt m =
+passed h n ms ns c a same parts k le lt m =
     elim (cases_lt n k) [
       | inl above ↦ parts_still_marked ms ns (cell_at h k) a (c k (omega arith) lt (sym (same k le) ∙ m))
       | inr here ↦ let e : n ≡ k = omega arith in subst (λ (x : ℕ). ArePartsMarked ns (cell_at h x)) e parts

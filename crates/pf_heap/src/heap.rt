@@ -12,6 +12,15 @@ use pf_errors::NoMemory;
 use pf_terms::{MOST_DEPTH, MOST_NODES};
 use std::alloc::Global;
 use std::marker::Model;
+use std::mem::size_of;
+
+/// How many bytes of room a heap without a cell keeps in each of its vectors. A run that built much had far more: its
+/// memory is given back, since most runs never need as much.
+const MOST: usize = 1024 * 1024;
+
+const MOST_ENTRIES: usize = MOST / size_of::<Entry>();
+
+const MOST_ITEMS: usize = MOST / size_of::<Word>();
 
 /// What a cell is made of: a first element and the list of the others, or the elements of a tuple by where they begin
 /// and how many there are.
@@ -64,6 +73,16 @@ impl Heap {
             entries: Vec::new(alloc),
             items: Vec::new(alloc),
         }
+    }
+
+    /// Takes all pairs and tuples away, as for another run. Their room stays, unless it is large.
+    pub fn clear(&mut self)
+        ensures { self.new ≡ [] }
+    {
+        self.entries.clear();
+        self.items.clear();
+        self.entries.shrink_to(MOST_ENTRIES);
+        self.items.shrink_to(MOST_ITEMS);
     }
 
     /// How many pairs and tuples there are.

@@ -52,8 +52,7 @@ impl Heap {
     }
 
     /// Marks the cells of the parts of a cell that is marked.
-    #[tactic(auto, using(crate::proofs::Marks::closed_step, crate::proofs::Marks::closed_skip,
-    crate::proofs::Marks::more_itself))]
+    #[tactic(auto, using(crate::proofs::Marks::passed, crate::proofs::Marks::skipped, crate::proofs::Marks::unchanged))]
     fn mark_below(&self, at: usize, marks: &mut [bool])
         requires at { at < length self.now }
         requires count { length marks.old ≡ length self.now }
@@ -69,8 +68,7 @@ impl Heap {
 
     /// Marks all that is reached from what is marked, from the last cell to the first: parts come before what they are
     /// part of.
-    #[tactic(auto, using(crate::proofs::Marks::closed_none, crate::proofs::Marks::more_then,
-    crate::proofs::Marks::more_itself))]
+    #[tactic(auto, using(crate::proofs::Marks::at_end, crate::proofs::Marks::more_on, crate::proofs::Marks::unchanged))]
     fn mark_reached(&self, marks: &mut [bool])
         requires { length marks.old ≡ length self.now }
         ensures closed { IsClosedFrom self.now 0 marks.new }

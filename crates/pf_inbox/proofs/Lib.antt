@@ -1,3 +1,4 @@
 pub mod Tested
 pub mod Selecting
 pub mod Receiving
+pub mod Flushing

@@ -3,6 +3,7 @@ use Rattle.std.specs.Prelude.{ℕ, List, [], ◌∷◌, ◌++◌, refl}
 use Rattle.std.specs.Coded.{Coded, code_by, coded×, coded_ℕ, coded_list}
 use Rattle.pf_terms.specs.Value.{Value}
 use Rattle.pf_terms.specs.Encoding.{coded_value}
+use Rattle.pf_model.specs.Flush.{flushed}
 
 -- the messages, the oldest first; how many of them the `receive` at which the process waits has tested; how many tests
 -- there were in all
@@ -25,6 +26,10 @@ delivered v b = record b { messages = b.messages ++ v ∷ [] }
 -- with the mark at the front
 abbrev pub unmarked : InboxView → InboxView
 unmarked b = record b { mark = 0 }
+
+-- without the oldest message about a reference
+abbrev pub flushed_of : (reference : ℕ) → InboxView → InboxView
+flushed_of r b = record b { messages = flushed r b.messages }
 
 abbrev pub coded_inbox_view : Coded InboxView
 coded_inbox_view =

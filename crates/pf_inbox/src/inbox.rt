@@ -1,14 +1,17 @@
 //! The messages of a process, and how far the `receive` at which it waits has tested them.
 
 ghost use Rattle.std.specs.Prelude.{◌≡◌, ◌-◌, ◌^◌, ◌<◌, ◌≤◌, ◌==◌, if◌then◌else◌, is_some, length, IfOk};
-ghost use Rattle.std.specs.Prelude.{IsOk, MatchOption, OnErr, OnOk};
+ghost use Rattle.std.specs.Prelude.{IsOk, MatchOption, OnErr, OnOk, ◌+◌, min};
+ghost use Rattle.std.specs.List.{list_any};
 ghost use Rattle.pf_terms.specs.Term.{value_of};
+ghost use Rattle.pf_model.specs.Flush.{reports_of};
 ghost use Rattle.pf_heap.specs.Heap.{Keeps};
 ghost use Rattle.pf_loop.specs.View.{AreWords};
-ghost use Rattle.pf_inbox.specs.InboxView.{delivered, empty, unmarked};
+ghost use Rattle.pf_inbox.specs.InboxView.{delivered, empty, flushed_of, unmarked};
 ghost use Rattle.pf_inbox.specs.Received.{AtEachReceive, Receives};
 ghost use Rattle.pf_inbox.specs.Tests.{FitsNoneBefore, TestsFromMark, TestsPassed, risen};
 
+use crate::flush::take_reported;
 use crate::search::search;
 use pf_errors::NoMemory;
 use pf_heap::Heap;
@@ -88,7 +91,8 @@ impl Inbox {
 
     /// Moves the mark to the front, as where the process reaches another `receive`.
     pub fn reset_mark(&mut self)
-        ensures { self.new ≡ unmarked self.old }
+        ensures unmarked { self.new ≡ unmarked self.old }
+        ensures before { (m : _) (own : _) (ks : _) → FitsNoneBefore m own ks self.new }
     {
         self.list.reset_mark();
     }
@@ -108,6 +112,26 @@ impl Inbox {
             Ok(()) => Ok(()),
             Err(_back) => Err(NoMemory),
         }
+    }
+
+    /// Takes out the oldest message about a reference, where there is one, and returns whether there was; the others
+    /// stay in order. No message counts as tested, and no memory is taken.
+    pub fn flush(&mut self, pool: &mut Pool<Term>, reference: u64) -> bool
+        requires { self.old.mark ≡ 0 }
+        ensures flushed { self.new ≡ flushed_of reference self.old }
+        ensures reported { result ≡ list_any (reports_of reference) self.old.messages }
+        ensures before { (m : _) (own : _) (ks : _) → FitsNoneBefore m own ks self.new }
+    {
+        take_reported(&mut self.list, pool, reference)
+    }
+
+    /// Drops all messages, as for another process. Their nodes go to the pool, or are freed once the pool is full.
+    pub fn clear(&mut self, pool: &mut Pool<Term>)
+        ensures emptied { self.new ≡ empty }
+        ensures pooled { pool.new ≡ min 1024 (pool.old + length self.old.messages) }
+    {
+        self.list.drain_into(pool);
+        self.tests = 0;
     }
 
     /// Takes the oldest message that some clause of the `receive` picks at which the process is, by the first such

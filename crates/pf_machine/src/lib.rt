@@ -5,7 +5,8 @@ mod laws;
 mod lifting;
 mod lowering;
 mod machine;
+mod reuse;
 
-pub use laws::{messages_arrive, status_stays};
+pub use laws::{messages_arrive, status_stays, turns_go_on};
 pub use lowering::lowered;
 pub use machine::{Machine, Turn};

@@ -47,7 +47,7 @@ pub struct Turn {
 }
 
 /// The place where a function begins.
-fn entry(setting: &Setting, function: FunctionId) -> usize
+pub(crate) fn entry(setting: &Setting, function: FunctionId) -> usize
     ensures { result ≡ code.entry setting.now.entries.now function.0 }
 {
     let at = function.0 as usize;

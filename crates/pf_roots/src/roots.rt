@@ -1,6 +1,6 @@
 //! The words that a process has, and others in place of them.
 
-ghost use Rattle.std.specs.Prelude.{◌≡◌, ◌++◌, ◌∷◌, [], OnOk};
+ghost use Rattle.std.specs.Prelude.{◌≡◌, ◌++◌, ◌∷◌, [], length, OnOk};
 ghost use Rattle.pf_roots.specs.Moved as moved;
 ghost use Rattle.pf_roots.specs.Moved.{IsMoved};
 
@@ -41,11 +41,10 @@ pub fn add_roots(process: &Process, roots: &mut Vec<Word>) -> Result<(), NoMemor
 }
 
 /// Puts the words that a collection gave for the registers of a process, and the one for its status, in their places.
-pub fn move_words(process: &mut Process, words: &[Word], last: Word) -> Result<(), NoMemory>
-    ensures { OnOk result (IsMoved process.old words.now last process.new) }
+pub fn move_words(process: &mut Process, words: &[Word], last: Word)
+    requires { length words.now ≡ length process.old.machine.stack.words.items }
+    ensures { IsMoved process.old words.now last process.new }
 {
-    process.machine.stack.words.clear();
-    process.machine.stack.words.extend_from_slice(words)?;
+    process.machine.stack.words.copy_from_slice(words);
     process.status = with_word(process.status, last);
-    Ok(())
 }
