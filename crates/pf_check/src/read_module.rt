@@ -6,6 +6,7 @@ ghost use Rattle.pf_model.specs.Module.{module_of};
 ghost use Rattle.pf_check.specs.Reading.{IsReadAs};
 
 use crate::{Source, read};
+use pf_compile::CompiledModule;
 use pf_errors::{NoMemory, OrNoMemory, SourceRefusal};
 use pf_syntax::Module;
 use std::alloc::Global;
@@ -16,7 +17,7 @@ use std::sync::Arc;
 #[derive(Drop)]
 pub struct ReadModule {
     source: Source,
-    module: Arc<Module>,
+    compiled: Arc<CompiledModule>,
 }
 
 impl Model for ReadModule {
@@ -30,20 +31,23 @@ impl Model for ReadModule {
 
     ghost coded = { coded_read_module };
 
-    ghost view = { λ s. record { source = s.source; code = module_of (arc_value s.module) } };
+    ghost view = { λ s. record { source = s.source; code = module_of (arc_value s.compiled).checked } };
 
-    ghost invariant = { λ s. Reads s.source (accepted_as (arc_value s.module)) };
+    ghost invariant = { λ s. Reads s.source (accepted_as (arc_value s.compiled).checked) };
 }
 
 impl ReadModule {
     /// A module with its source.
-    pub(crate) fn of(source: &Source, module: Arc<Module>) -> Result<ReadModule, NoMemory>
-        requires { Reads source.now (accepted_as «module».value) }
+    pub(crate) fn of(
+        source: &Source,
+        compiled: Arc<CompiledModule>,
+    ) -> Result<ReadModule, NoMemory>
+        requires { Reads source.now (accepted_as «compiled».value.checked) }
         ensures { IfOk result (λ s. (s.source ≡ source.now) × IsReadAs source.now s) }
     {
         Ok(ReadModule {
             source: source.share()?,
-            module,
+            compiled,
         })
     }
 
@@ -55,14 +59,28 @@ impl ReadModule {
         let Ok(module) = Arc::new(alloc, read(alloc, source.bytes())?) else {
             return Err(OrNoMemory::NoMemory);
         };
-        Ok(ReadModule::of(source, module)?)
+        let Ok(code) = CompiledModule::new(alloc, module) else {
+            return Err(OrNoMemory::NoMemory);
+        };
+        let Ok(compiled) = Arc::new(alloc, code) else {
+            return Err(OrNoMemory::NoMemory);
+        };
+        Ok(ReadModule::of(source, compiled)?)
+    }
+
+    /// The module with its code, which runs are of.
+    pub fn compiled(&self) -> &Arc<CompiledModule>
+        ensures code { module_of result.now.value.checked ≡ self.now.code }
+        ensures read { Reads self.now.source (accepted_as result.now.value.checked) }
+    {
+        &self.compiled
     }
 
     pub fn module(&self) -> &Arc<Module>
         ensures code { module_of result.now.value ≡ self.now.code }
         ensures read { Reads self.now.source (accepted_as result.now.value) }
     {
-        &self.module
+        self.compiled.module()
     }
 
     pub fn source(&self) -> &Source
@@ -91,7 +109,7 @@ impl ReadModule {
     {
         Ok(ReadModule {
             source: self.source.share()?,
-            module: Arc::try_clone(&self.module)?,
+            compiled: Arc::try_clone(&self.compiled)?,
         })
     }
 }

@@ -70,7 +70,7 @@ fn explain_known(alloc: Global, run: &KnownRun, source: &[u8]) -> Result<Vec<u8>
     requires { IsEdition run.now.edition }
     ensures { IfOk result (λ text. ReportsRun run.now source.now text.items) }
 {
-    let places = Positions::new(alloc, run.module, source)?;
+    let places = Positions::new(alloc, run.module.module(), source)?;
     let standings = standings(alloc, run)?;
     lines_of(alloc, run, &places, standings.as_slice())
 }
@@ -87,7 +87,7 @@ fn explain_job(alloc: Global, args: &RunArgs, job: &Job, source: &[u8]) -> Resul
     };
     let report = report_by(alloc, args, job)?;
     let run = KnownRun {
-        module,
+        module: job.compiled(),
         root,
         edition: job.edition(),
         limit: job.limit(),

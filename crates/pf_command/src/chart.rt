@@ -43,7 +43,7 @@ fn names_of(
         return Ok(Vec::new(alloc));
     };
     let run = KnownRun {
-        module,
+        module: job.compiled(),
         root,
         edition: job.edition(),
         limit: job.limit(),

@@ -12,7 +12,7 @@ use Rattle.pf_process_status.specs.declared.known.KnownRun.{KnownRun}
 
 -- the module of a run: with its tables, and as the definition has it
 abbrev pub checked_of : KnownRun → Checked
-checked_of k = k.module.now.value
+checked_of k = k.module.now.value.checked
 
 abbrev pub module_of_run : KnownRun → Module
 module_of_run k = module_of (checked_of k)

@@ -105,13 +105,13 @@ IsTextBefore front so text = (back : List ℕ) × so back × (text ≡ front ++ 
 abbrev pub IsFateText : KnownRun → List (Option Position) → ProcessFate → List ℕ → Type 0
 IsFateText k places fate.Normal text = text ≡ codes " ended normally"
 IsFateText k places (fate.Failed n x) text =
-    IsTextBefore (codes " failed" ++ reason_text k.module.now.value.atoms (slice_get (events_of k) n))
-    (IsPointText k.module.now.value places (or_nowhere x)) text
+    IsTextBefore (codes " failed" ++ reason_text k.module.now.value.checked.atoms (slice_get (events_of k) n))
+    (IsPointText k.module.now.value.checked places (or_nowhere x)) text
 IsFateText k places (fate.Killed a) text = text ≡ codes " was ended by an exit signal of " ++ pid_text a
 IsFateText k places (fate.Waits x) text = IsTextBefore (codes " waits at a receive")
-    (IsPointText k.module.now.value places x) text
+    (IsPointText k.module.now.value.checked places x) text
 IsFateText k places (fate.Goes x) text = IsTextBefore (codes " could go on")
-    (IsPointText k.module.now.value places x) text
+    (IsPointText k.module.now.value.checked places x) text
 
 -- ---- lines
 
@@ -122,7 +122,7 @@ begun_text m (Some f) = codes " " ++ function_text m f.0
 -- a process: its pid, in whose call it began, and its status
 abbrev pub IsLine : KnownRun → List (Option Position) → ProcessStatus → List ℕ → Type 0
 IsLine k places x text =
-    IsTextBefore (pid_text x.pid ++ begun_text k.module.now.value x.begun) (IsFateText k places x.fate) text
+    IsTextBefore (pid_text x.pid ++ begun_text k.module.now.value.checked x.begun) (IsFateText k places x.fate) text
 
 -- ---- names
 
@@ -133,7 +133,7 @@ name_text m (Some f) = function_text m f.0
 -- by pid the names of the functions in whose calls the processes began, an empty one where none is given
 abbrev pub AreNames : KnownRun → Configuration → List (List ℕ) → Type 0
 AreNames k d names = (bs : List Begun) × AreBegun k d bs
-    × (names ≡ map (λ b. name_text k.module.now.value b.function) bs)
+    × (names ≡ map (λ b. name_text k.module.now.value.checked b.function) bs)
 
 -- a text that is so was put after others
 abbrev pub Puts : (old new : List ℕ) → (so : List ℕ → Type 0) → Type 0

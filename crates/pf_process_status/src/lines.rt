@@ -131,14 +131,14 @@ fn put_point(
 /// Puts the reason with which the process of an event ended.
 fn put_reason(out: &mut Vec<u8>, run: &KnownRun, event: usize) -> Result<(), NoMemory>
     ensures { OnOk result (out.new.items ≡ out.old.items
-        ++ reason_text run.now.module.now.value.atoms (slice_get (events_of run.now) event)) }
+        ++ reason_text run.now.module.now.value.checked.atoms (slice_get (events_of run.now) event)) }
 {
     let Some(reported) = run.events.get(event) else {
         return Ok(());
     };
     if let Label::Ends(reason) = &reported.label {
         put(out, b" with ")?;
-        put_term(out, run.module.atoms(), reason)?;
+        put_term(out, run.module.module().atoms(), reason)?;
     }
     Ok(())
 }
@@ -152,7 +152,7 @@ fn put_fate(
 ) -> Result<(), NoMemory>
     ensures { OnOk result (Puts out.old.items out.new.items (IsFateText run.now places.now fate)) }
 {
-    let module = run.module;
+    let module = run.module.module();
     match fate {
         ProcessFate::Normal => put(out, b" ended normally"),
         ProcessFate::Failed { event, point } => {
@@ -196,6 +196,6 @@ pub fn put_standing(
     ensures { OnOk result (Puts out.old.items out.new.items (IsLine run.now places.now standing.now)) }
 {
     put_pid(out, standing.pid)?;
-    put_begun(out, run.module, standing.begun)?;
+    put_begun(out, run.module.module(), standing.begun)?;
     put_fate(out, run, places, standing.fate)
 }

@@ -167,11 +167,11 @@ fn name_of(
 /// The names of the functions in whose calls processes of a run began; an empty one where there is none.
 fn names_of(alloc: Global, run: &KnownRun, begun: &[Begun]) -> Result<Vec<Vec<u8>>, NoMemory>
     ensures { IfOk result (λ v. map (λ name. name.items) v.items
-        ≡ map (λ b. name_text run.now.module.now.value b.function) begun.now) }
+        ≡ map (λ b. name_text run.now.module.now.value.checked b.function) begun.now) }
 {
     let mut names = Vec::new(alloc);
     for one in begun {
-        names.push(name_of(alloc, run.module, one.function)?)?;
+        names.push(name_of(alloc, run.module.module(), one.function)?)?;
     }
     Ok(names)
 }

@@ -54,7 +54,7 @@ impl Execution {
             → IfOk result (λ x. Executes job.now w [] x) }
     {
         Ok(Execution {
-            system: System::new_in(alloc, job.module(), job.root, job.edition(), spare)?,
+            system: System::new_in(alloc, job.compiled(), job.root, job.edition(), spare)?,
             chooser,
         })
     }

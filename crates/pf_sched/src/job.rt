@@ -13,6 +13,7 @@ ghost use Rattle.pf_sched.specs.Asked.{Asks, IsRefusal, IsValid, NoSuch};
 
 use crate::refusal::JobRefusal;
 use pf_check::ReadModule;
+use pf_compile::CompiledModule;
 use pf_errors::{NoMemory, OrNoMemory};
 use pf_property::Property;
 use pf_request::{Request, RequestKind};
@@ -107,6 +108,13 @@ impl Job {
             limit: request.limit,
             edition,
         })
+    }
+
+    /// The module that runs, with its code.
+    pub fn compiled(&self) -> &Arc<CompiledModule>
+        ensures { module_in result.now.value.checked ≡ self.now.asked.code }
+    {
+        self.module.compiled()
     }
 
     /// The module that runs.

@@ -10,6 +10,6 @@ returns c =
     (λ v reported d h. (
       c.in_ok-followed.followed.begun.items,
       (c.in_ok-followed.ensures d h).begun,
-      reported ∙ ap (map (λ b. name_text k.module.now.value b.function)) c.as_slice.ensures.value,
+      reported ∙ ap (map (λ b. name_text k.module.now.value.checked b.function)) c.as_slice.ensures.value,
     ))
     c.names_of.ensures
