@@ -29,7 +29,7 @@ HoldsConstants s = AreConstants s.heap s.constants.items (arc_value s.compiled).
 
 -- a machine of the process of this pid runs in the code of a module, which is sound for it
 pub record IsSettingOf (m : CompiledView) (own : ℕ) (ws : List Word) (s : Setting) : Type 0 where
-  pub own : s.own ≡ own
+  pub pid : s.own ≡ own
   pub constants : s.constants.now ≡ ws
   pub sound : IsSoundFor (module_of m.checked) m.code s.entries.now
   pub runs : (h : List Cell) → Have h ws 0 m.code.constants → IsCode h s (module_of m.checked) m.code s.entries.now

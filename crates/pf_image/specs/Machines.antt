@@ -1,5 +1,7 @@
 -- Which status a machine has over an image.
-use Rattle.std.specs.Prelude.{ℕ}
+use Rattle.std.specs.Prelude.{◌≡◌, ℕ, Some, slice_get}
+use Rattle.pf_syntax.specs.Tree.{Function}
+use Rattle.pf_syntax.specs.Module.{Checked}
 use Rattle.pf_model.specs.Module.{module_of}
 use Rattle.pf_model.specs.Context.{ProcessState}
 use Rattle.pf_stepper.specs.MachineView.{MachineStatus, goes}
@@ -9,6 +11,10 @@ use Rattle.pf_machine.specs.Statuses.{IsOver, IsAtStatus}
 use Rattle.pf_machine.specs.declared.machine.Machine.{Machine}
 use Rattle.pf_machine.specs.declared.machine.Turn.{Turn}
 use Rattle.pf_image.specs.ImageView.{ImageView, Grows}
+
+-- a module has a function of this number with so many arguments
+abbrev pub HasFunction : Checked → (i arity : ℕ) → Type 0
+HasFunction m i n = (f : Function) × (slice_get m.functions i ≡ Some f) × (f.arity ≡ n)
 
 -- the words of a machine are of the heap
 abbrev pub IsOverImage : ImageView → Machine → Type 0

@@ -1,9 +1,8 @@
 //! The image of a run.
 
-ghost use Rattle.std.specs.Prelude.{◌≡◌, ◌<◌, ℕ, List, IfOk, OnErr, OnOk, Some, [], length, map, slice_get};
+ghost use Rattle.std.specs.Prelude.{◌≡◌, ◌<◌, ℕ, List, IfOk, OnErr, OnOk, length, map};
 ghost use Rattle.pf_terms.specs.Term.{value_of, values_of};
-ghost use Rattle.pf_syntax.specs.Tree.{call, Function};
-ghost use Rattle.pf_model.specs.Module.{module_of};
+ghost use Rattle.pf_syntax.specs.Tree.{call};
 ghost use Rattle.pf_model.specs.Context.{literals, running, Frame, ProcessState};
 ghost use Rattle.pf_model.specs.Turns.{with_answer};
 ghost use Rattle.pf_stepper.specs.MachineView.{asking, goes};
@@ -11,7 +10,7 @@ ghost use Rattle.pf_stepper.specs.Turns.{answer_value};
 ghost use Rattle.pf_inbox.specs.InboxView.{InboxView};
 ghost use Rattle.pf_image.specs.ImageView.{Grows};
 ghost use Rattle.pf_image.specs.Inner.{AreConstants, IsSettingOf};
-ghost use Rattle.pf_image.specs.Machines.{IsMachineAt, IsOverImage, RanInImage};
+ghost use Rattle.pf_image.specs.Machines.{HasFunction, IsMachineAt, IsOverImage, RanInImage};
 
 use pf_compile::CompiledModule;
 use pf_errors::NoMemory;
@@ -38,7 +37,13 @@ impl Model for Image {
     ghost use Rattle.pf_image.specs.ImageView.{ImageView};
     ghost use Rattle.pf_image.specs.Inner.{image_of, HoldsConstants};
 
+    ghost use Rattle.std.specs.Coded.{codes};
+    ghost use Rattle.pf_terms.specs.Encoding.{coded_value};
+    ghost use Rattle.pf_syntax.specs.Module.{coded_checked};
+
     ghost Value = { ImageView };
+
+    ghost coded = { Prim.hlevel (codes, coded_checked, coded_value) };
 
     ghost view = { image_of };
 
@@ -104,11 +109,10 @@ impl Image {
         function: FunctionId,
         arguments: &[Term],
     ) -> Result<Machine, NoMemory>
+        requires { HasFunction self.old.checked function.0 (length arguments.now) }
         ensures grows { Grows self.old self.new }
         ensures over { IfOk result (IsOverImage self.new) }
-        ensures begins { IfOk result (λ k. (own : ℕ) (f : Function) (b : InboxView)
-            → slice_get (module_of self.old.checked).functions function.0 ≡ Some f
-            → f.arity ≡ length arguments.now → b.mark ≡ 0 → IsMachineAt self.new own
+        ensures begins { IfOk result (λ k. (own : ℕ) (b : InboxView) → b.mark ≡ 0 → IsMachineAt self.new own
             (goes (running (call function.0 (literals (values_of arguments.now))))) k b) }
     {
         let setting = setting(alloc, &self.compiled, self.constants.as_slice(), 0);

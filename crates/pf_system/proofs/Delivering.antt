@@ -24,7 +24,7 @@ use Rattle.pf_ties.specs.Laws.{process_ties, ties_of, without_link, done_by}
 use Rattle.pf_ties.proofs.Followed.{follow_actions, follow_deliveries, at_map}
 use Rattle.pf_system.specs.Bodies.{process_body}
 use Rattle.pf_system.specs.Placed.{PlacesMessage, PlacesOf, SuffixShown}
-use Rattle.pf_system.specs.Processes.{RepresentsCore, IsShaped, Done, Shown, Delivered, view_of_processes}
+use Rattle.pf_system.specs.Processes.{RepresentsCore, IsShaped, Done, Shown, Delivered, view_of_processes, base_of, basis_in}
 use Rattle.pf_system.specs.declared.processes.Processes.{Processes}
 use Rattle.pf_system.proofs.Bodies.{set_length, set_twice}
 use Rattle.pf_system.proofs.Rows.{sent_length}
@@ -67,36 +67,36 @@ dropped_there w c b s l h e = record { done = done_so w w b (leaving c []) h h.r
 -- one signal goes back
 pub replied : (w w' : Processes) (c : Core) (b to : ℕ) (s : Signal) → RepresentsCore (view_of_processes w) c
     → w'.slots.items ≡ w.slots.items
-    → w'.ready ≡ w.ready → w'.basis ≡ w.basis
+    → w'.ready ≡ w.ready → base_of w' ≡ base_of w
     → w'.shared.ties ≡ w.shared.ties → w'.shared.channels ≡ sent b to s w.shared.channels
     → Done b (leaving c ((to, s) ∷ [])) w.shared.channels w w'
 replied w w' c b to s h e r m t k =
     let n = sent_length b to s w.shared.channels in
     let q = ap length k in
-    done_so w w' b (leaving c ((to, s) ∷ [])) (rows_more w w' c e r m h (h.ties ∙ sym t) (omega arith)) h.room.rows k m
+    done_so w w' b (leaving c ((to, s) ∷ [])) (rows_more w w' c e r m h (h.ties ∙ sym t) (omega arith)) h.room.rows k (ap basis_in m)
 
 -- ---- a signal at a process that lives
 
 -- a message, after its ties were changed
 pub with_mail : (w w1 w' : Processes) (c : Core) (b : ℕ) (v : Value) → PlacesMessage c b v w1 w'
     → length c.processes ≤ length w.shared.channels
-    → w1.shared.channels ≡ w.shared.channels → w1.basis ≡ w.basis
+    → w1.shared.channels ≡ w.shared.channels → base_of w1 ≡ base_of w
     → Done b (leaving (with_process c b (with_message (of c b) v)) []) w.shared.channels w w'
 with_mail w w1 w' c b v h n e m =
     let k = set_length b c.processes (with_message (of c b) v) in
     done_so w w' b (leaving (with_process c b (with_message (of c b) v)) []) h.is_there (omega arith)
-    (ap (λ z. z.channels) h.shared ∙ e) (h.basis ∙ m)
+    (ap (λ z. z.channels) h.shared ∙ e) (h.basis ∙ ap basis_in m)
 
 -- ties alone
 pub tied_so : (w w' : Processes) (c : Core) (b : ℕ) (p : Process) → RepresentsCore (view_of_processes w) c
     → process_body p ≡ process_body (of c b)
-    → w'.slots.items ≡ w.slots.items → w'.ready ≡ w.ready → w'.basis ≡ w.basis
+    → w'.slots.items ≡ w.slots.items → w'.ready ≡ w.ready → base_of w' ≡ base_of w
     → ties_of (with_process c b p) ≡ w'.shared.ties → w'.shared.channels ≡ w.shared.channels
     → Done b (leaving (with_process c b p) []) w.shared.channels w w'
 tied_so w w' c b p h y e r m t k =
     let n = set_length b c.processes p in
     let q = h.room.rows in
-    done_so w w' b (leaving (with_process c b p) []) (tied w w' c e r m b p h y t k) (omega arith) k m
+    done_so w w' b (leaving (with_process c b p) []) (tied w w' c e r m b p h y t k) (omega arith) k (ap basis_in m)
 
 -- ---- down signals
 
@@ -109,7 +109,7 @@ forgets c b r = with_process c b (record (of c b) { active = without r (of c b).
 
 module _ (w w1 w' : Processes) (c : Core) (a b r : ℕ) (v : Value) (x : Suffix)
     (h : RepresentsCore (view_of_processes w) c)
-    (slots : w1.slots.items ≡ w.slots.items) (ready : w1.ready ≡ w.ready) (basis : w1.basis ≡ w.basis)
+    (slots : w1.slots.items ≡ w.slots.items) (ready : w1.ready ≡ w.ready) (basis : base_of w1 ≡ base_of w)
     (changed : w1.shared.ties ≡ ties.demonitored w.shared.ties b r)
     (rows : w1.shared.channels ≡ w.shared.channels) where
   active_here : (t : Bool) → t ≡ is_some (got r (ties.of w.shared.ties b).active) → is_some (got r (of c b).active) ≡ t
@@ -127,7 +127,7 @@ module _ (w w1 w' : Processes) (c : Core) (a b r : ℕ) (v : Value) (x : Suffix)
       subst (λ z. SuffixShown b (signal.down r v) z w x w1) (sym d)
       (record {
         done = done_so w w1 b (leaving c []) (rows_more w w1 c slots ready basis h t (omega arith))
-            h.room.rows rows basis;
+            h.room.rows rows (ap basis_in basis);
         label = ap (delivers (signal.down r v)) q;
       })
 
@@ -173,7 +173,7 @@ module _ (w w1 w' : Processes) (c : Core) (a b r : ℕ) (v : Value) (x : Suffix)
 module _ (w w1 w' : Processes) (c : Core) (a b : ℕ) (by_link : Bool) (r : Value) (x : Suffix)
     (h : RepresentsCore (view_of_processes w) c)
     (l : b < length w.slots.items)
-    (slots : w1.slots.items ≡ w.slots.items) (ready : w1.ready ≡ w.ready) (basis : w1.basis ≡ w.basis)
+    (slots : w1.slots.items ≡ w.slots.items) (ready : w1.ready ≡ w.ready) (basis : base_of w1 ≡ base_of w)
     (changed : w1.shared.ties ≡ ties.exit_placed w.shared.ties a b by_link)
     (rows : w1.shared.channels ≡ w.shared.channels) where
   abbrev given : Bool → Core
@@ -223,7 +223,7 @@ module _ (w w1 w' : Processes) (c : Core) (a b : ℕ) (by_link : Bool) (r : Valu
       by_fate fates.drops e
       (record {
         done = subst (Done b (leaving (without_link c a b by_link) []) w.shared.channels w) (sym same)
-            (done_so w w1 b (leaving (without_link c a b by_link) []) unlinked_is_there rows_enough rows basis);
+            (done_so w w1 b (leaving (without_link c a b by_link) []) unlinked_is_there rows_enough rows (ap basis_in basis));
         label = ap (delivers (signal.exit by_link r)) q;
       })
 
@@ -250,7 +250,7 @@ module _ (w w1 w' : Processes) (c : Core) (a b : ℕ) (by_link : Bool) (r : Valu
           is_there = k.is_there;
           channels = k.channels ∙ ap (λ cs. posted b (ended_by (without_link c a b by_link) b (failed v)).sent
               (with_senders (length (ended_by (without_link c a b by_link) b (failed v)).core.processes) cs)) rows;
-          basis = k.basis ∙ basis;
+          basis = k.basis ∙ ap basis_in basis;
         };
         label = ap (delivers (signal.exit by_link r)) q;
       })
@@ -259,14 +259,14 @@ module _ (w w1 w' : Processes) (c : Core) (a b : ℕ) (by_link : Bool) (r : Valu
 
 pub delivered_so : (w w1 w' : Processes) (c : Core) (from to : ℕ) (s : Signal) (l : Label)
     → taken from to w.shared.channels ≡ Some (s, w1.shared.channels)
-    → w1.basis ≡ w.basis → Shown to (delivered c from to s) w1.shared.channels w1 l w' → Delivered c from to w l w'
+    → base_of w1 ≡ base_of w → Shown to (delivered c from to s) w1.shared.channels w1 l w' → Delivered c from to w l w'
 delivered_so w w1 w' c from to s l e m h =
     record {
       signal = s;
       others = w1.shared.channels;
       is_taken = e;
       shown = record {
-        done = record { is_there = h.done.is_there; channels = h.done.channels; basis = h.done.basis ∙ m };
+        done = record { is_there = h.done.is_there; channels = h.done.channels; basis = h.done.basis ∙ ap basis_in m };
         label = h.label;
       };
     }

@@ -15,13 +15,14 @@ use Rattle.pf_ties.specs.Laws.{ties_of}
 use Rattle.pf_ties.proofs.Followed.{none_changed}
 use Rattle.pf_system.specs.Bodies.{process_body, bodies_of}
 use Rattle.pf_system.specs.Slots.{SlotRepresents, SlotsRepresent}
-use Rattle.pf_system.specs.Processes.{RepresentsBut, checked_in, module_in}
+use Rattle.pf_system.specs.Processes.{RepresentsBut, base_of, basis_in, module_in}
 use Rattle.pf_system.specs.Acts.{ActAnswer, AnswersAct, CarriesOut, ActedIn, ActsIn, KeepsSlot, FlushesIn}
 use Rattle.pf_system.specs.declared.slot.Slot.{Slot}
 use Rattle.pf_system.specs.declared.processes.Processes.{Processes}
 use Rattle.pf_system.proofs.Acting.{given_none}
 use Rattle.pf_system.proofs.Bodies.{set_length, set_twice, bodies_changed}
 use Rattle.pf_system.proofs.Delivering.{at_set}
+use Rattle.pf_system.proofs.Growing.{same_grows}
 use Rattle.pf_system.proofs.Ready.{numbers_kept}
 use Rattle.pf_system.proofs.Rows.{posted_length}
 use Rattle.pf_system.proofs.Settling.{Keeps, acted_in, between, but_there, demonitor_keeps, one_body, posted_rows}
@@ -31,7 +32,7 @@ use Rattle.pf_system.proofs.Changed.{get_set, get_within}
 -- a message more or less is taken out of the slot of a process, and of the process
 flush_is_there : (n k : ℕ) (d : Core) (w w' : Processes) (s' : Slot) → w'.slots.items ≡ slice_set w.slots.items n s'
     → w'.shared ≡ w.shared → w'.ready ≡ w.ready
-    → w'.basis ≡ w.basis → RepresentsBut w d n → RepresentsBut w' (with_flushed d n k) n
+    → base_of w' ≡ base_of w → RepresentsBut w d n → RepresentsBut w' (with_flushed d n k) n
 flush_is_there n k d w w' s' e b r m h =
     let p : Process = record (of d n) { mailbox = flushed k (of d n).mailbox } in
     let i : length (with_process d n p).processes ≡ length d.processes = set_length n d.processes p in
@@ -44,10 +45,10 @@ flush_is_there n k d w w' s' e b r m h =
           ∙ set_twice n w.slots.items s' t in
           let o : slice_set (bodies_of (with_process d n p)) n x ≡ slice_set (bodies_of d) n x =
           ap (λ bs. slice_set bs n x) (bodies_changed d n p) ∙ set_twice n (bodies_of d) (process_body p) x in
-          let y = h.slots t x (subst (λ v. SlotRepresents v.module.value n t x) m z) in
-          subst (λ bs. SlotsRepresent (checked_in w') zero (slice_set w'.slots.items n t) bs) (sym o)
-          (subst (λ ss. SlotsRepresent (checked_in w') zero ss (slice_set (bodies_of d) n x)) (sym q)
-          (subst (λ v. SlotsRepresent v.module.value zero (slice_set w.slots.items n t) (slice_set (bodies_of d) n x))
+          let y = h.slots t x (subst (λ v. SlotRepresents v.image n t x) m z) in
+          subst (λ bs. SlotsRepresent w'.image zero (slice_set w'.slots.items n t) bs) (sym o)
+          (subst (λ ss. SlotsRepresent w'.image zero ss (slice_set (bodies_of d) n x)) (sym q)
+          (subst (λ v. SlotsRepresent v.image zero (slice_set w.slots.items n t) (slice_set (bodies_of d) n x))
           (sym m) y));
       room = record {
         rows = let v = subst (λ z. length d.processes ≤ length z.channels) (sym b) h.room.rows in omega arith;
@@ -59,15 +60,19 @@ flush_is_there n k d w w' s' e b r m h =
 
 -- the slot of a process, from which a message was taken, keeps its life
 pub keeps_flushed : (n k : ℕ) (w w' : Processes) (s s' : Slot) → slice_get w.slots.items n ≡ Some s
-    → w'.slots.items ≡ slice_set w.slots.items n s'
+    → w'.slots.items ≡ slice_set w.slots.items n s' → base_of w' ≡ base_of w
     → FlushesIn k s s' → KeepsSlot n w w'
-keeps_flushed n k w w' s s' at e f t h =
-    let y = slot_is s t (sym at ∙ h) in
-    let g = subst (λ z. FlushesIn k z s') y f in
-    (s', ap (λ z. slice_get z n) e ∙ get_set n w.slots.items s' (get_within n w.slots.items s at), g.keeps)
+keeps_flushed n k w w' s s' at e m f =
+    record {
+      grows = same_grows w w' m;
+      keeps = λ t h.
+          let y = slot_is s t (sym at ∙ h) in
+          let g = subst (λ z. FlushesIn k z s') y f in
+          (s', ap (λ z. slice_get z n) e ∙ get_set n w.slots.items s' (get_within n w.slots.items s at), g.keeps);
+    }
 
 module _ (n k : ℕ) (w w1 w' : Processes) (r : ActAnswer) (c : Core) (slots : w1.slots ≡ w.slots)
-    (ready : w1.ready ≡ w.ready) (basis : w1.basis ≡ w.basis)
+    (ready : w1.ready ≡ w.ready) (basis : base_of w1 ≡ base_of w)
     (but : RepresentsBut w c n) where
   -- the core before the flush
   abbrev middle : Core
@@ -82,7 +87,7 @@ module _ (n k : ℕ) (w w1 w' : Processes) (r : ActAnswer) (c : Core) (slots : w
 
   module _ (s s' : Slot) (at : slice_get w1.slots.items n ≡ Some s) (e : w'.slots.items ≡ slice_set w1.slots.items n s')
       (b : w'.shared ≡ w1.shared)
-      (r' : w'.ready ≡ w1.ready) (m : w'.basis ≡ w1.basis) (f : FlushesIn k s s') where
+      (r' : w'.ready ≡ w1.ready) (m : base_of w' ≡ base_of w1) (f : FlushesIn k s s') where
     abbrev asker : Process
     asker = record (of middle n) { mailbox = flushed k (of middle n).mailbox }
 
@@ -118,7 +123,7 @@ module _ (n k : ℕ) (w w1 w' : Processes) (r : ActAnswer) (c : Core) (slots : w
           channels = ap (λ z. z.channels) b ∙ posted_rows n x.left.core x.left.sent w.shared.channels w1.shared.channels
               (omega arith) g.channels;
           answers = g.answers;
-          basis = m ∙ basis;
+          basis = ap basis_in (m ∙ basis);
         }
 
 -- ---- the action

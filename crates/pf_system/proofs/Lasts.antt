@@ -6,7 +6,7 @@ use Rattle.pf_terms.specs.Value.{Value}
 use Rattle.pf_terms.specs.Term.{value_of}
 use Rattle.pf_terms.specs.declared.term.Term.{Term}
 use Rattle.pf_syntax.specs.Tree.{lit}
-use Rattle.pf_syntax.specs.Module.{Checked}
+use Rattle.pf_image.specs.ImageView.{ImageView}
 use Rattle.pf_model.specs.Context.{fill, ProcessState, running, waiting, ending, ended, returned, failed, asks, awaits}
 use Rattle.pf_model.specs.Context.{returns, at_value}
 use Rattle.pf_model.specs.Channels.{with_senders}
@@ -24,11 +24,11 @@ use Rattle.pf_stepper.specs.MachineView.{MachineStatus, goes, over}
 use Rattle.pf_stepper.specs.Moves.{MachineMoved, AskedFor, TookOne, WaitsOn}
 use Rattle.pf_stepper.specs.declared.act.Act.{Act as Asked}
 use Rattle.pf_stepper.specs.declared.machine.Move.TheVariants as v
-use Rattle.pf_mailbox.specs.MailView.{MailView}
+use Rattle.pf_inbox.specs.InboxView.{InboxView}
 use Rattle.pf_system.specs.Bodies.{body_of}
 use Rattle.pf_system.specs.Slots.{SlotIsLeft, SlotRepresents, IsMachineIn, end_of}
 use Rattle.pf_system.specs.Processes.{RepresentsCore, RepresentsBut, IsLeftAt, Done, Shown, EndsProcess}
-use Rattle.pf_system.specs.Processes.{checked_in, module_in, view_of_processes}
+use Rattle.pf_system.specs.Processes.{module_in, view_of_processes}
 use Rattle.pf_system.specs.Acts.{ShowsAct}
 use Rattle.pf_system.specs.Settled.{SettlesAs, LastStep, WaitsIn, cut_in}
 use Rattle.pf_system.specs.declared.slot.Life.{Life}
@@ -50,11 +50,11 @@ set_back n [] x e = absurd (cc)
 set_back zero (y ∷ xs) x e = let k : y ≡ x = cc in ap (λ z. z ∷ xs) k
 set_back (suc n) (y ∷ xs) x e = ap (λ z. y ∷ z) (set_back n xs x e)
 
-life_puts : (m : Checked) (own : ℕ) (t : ProcessState) (l : Life) (mail : MailView)
+life_puts : (m : ImageView) (own : ℕ) (t : ProcessState) (l : Life) (mail : InboxView)
     → SlotIsLeft m own (goes t) (slot_with l mail) → can_go t ≡ true
     → SlotRepresents m own (slot_with l mail) (body_of t mail.messages)
 life_puts m own t (life.Lives k w) mail h e =
-    record { state = (subst (λ z. IsMachineIn m own z k t) (sym h.1) (h.0, e), h.2); mailbox = refl }
+    record { state = subst (λ z. IsMachineIn m own z k mail t) (sym h.1) (h.0, e); mailbox = refl }
 life_puts m own t (life.Ends r) mail h e = absurd (not_over t h)
 life_puts m own t (life.Ended r) mail h e = absurd (not_over t h)
 
@@ -65,7 +65,7 @@ module _ (w : Processes) (c : Core) (a : ℕ) (x : MachineStatus) (s : Slot) (bu
       → RepresentsCore (view_of_processes w) (in_state c a t s.mailbox.messages)
   goes_in t e g =
       goes_again w w c a s t s.mailbox.messages but can g
-      (life_puts (checked_in w) a t s.life s.mailbox (subst (λ z. SlotIsLeft (checked_in w) a z s) e left.leaves) g)
+      (life_puts w.image a t s.life s.mailbox (subst (λ z. SlotIsLeft w.image a z s) e left.leaves) g)
       (set_back a w.slots.items s left.at, refl, refl) refl
 
   quiet_channels : (t : ProcessState) (vs : List Value)
@@ -118,7 +118,7 @@ module _ (w : Processes) (c : Core) (a : ℕ) (x : MachineStatus) (s : Slot) (bu
           shown = k c h.frames s but can (record {
             at = left.at;
             leaves =
-                subst (λ q. SlotIsLeft (checked_in w) a q s) h.is_there left.leaves;
+                subst (λ q. SlotIsLeft w.image a q s) h.is_there left.leaves;
           }) h.kept;
         }
     act_last l z (waiting tr) k h = absurd h.step
@@ -132,7 +132,7 @@ module _ (w : Processes) (c : Core) (a : ℕ) (x : MachineStatus) (s : Slot) (bu
         let g = k c tr s but can (record {
           at = left.at;
           leaves =
-              subst (λ z. SlotIsLeft (checked_in w) a z s) h.is_there left.leaves;
+              subst (λ z. SlotIsLeft w.image a z s) h.is_there left.leaves;
         }) h.kept in
         record {
           deed = received c a h.frames h.clauses None;

@@ -15,6 +15,7 @@ pub mod Delivering
 pub mod Receiving
 pub mod Flushes
 pub mod Going
+mod Growing
 pub mod Passing
 pub mod Beginning
 pub mod Systems

@@ -6,13 +6,13 @@ use Rattle.std.specs.Prelude.{Result, Ok, Err}
 use Rattle.pf_terms.specs.Term.{value_of}
 use Rattle.pf_terms.specs.Fixed.{undefined}
 use Rattle.pf_terms.specs.declared.term.Term.{Term}
-use Rattle.pf_syntax.specs.Module.{Checked}
+use Rattle.pf_image.specs.ImageView.{ImageView}
 use Rattle.pf_model.specs.Configuration.{Core, Process, of, process_at}
 use Rattle.pf_model.specs.Context.{ProcessState, running, waiting, ending, ended, failed}
 use Rattle.pf_model.specs.Meaning.{outcome_of_root}
 use Rattle.pf_model.specs.Properties as outcome
 use Rattle.pf_model.specs.Runs.{can_go, is_waiting, pids_in_state}
-use Rattle.pf_mailbox.specs.MailView.{MailView}
+use Rattle.pf_inbox.specs.InboxView.{InboxView}
 use Rattle.pf_system.specs.Bodies.{Body, bodies_of, process_body}
 use Rattle.pf_system.specs.Slots.{LifeRepresents, end_of}
 use Rattle.pf_system.specs.declared.slot.Life.{Life}
@@ -76,16 +76,16 @@ goes_on_still (ending r) ps e = refl
 goes_on_still (ended x) ps e = absurd cc
 
 -- nor has one that hasn't ended
-pub root_lives : (m : Checked) (own : ℕ) (l : Life) (mail : MailView) (s : ProcessState) (ps : List ℕ)
+pub root_lives : (m : ImageView) (own : ℕ) (l : Life) (mail : InboxView) (s : ProcessState) (ps : List ℕ)
     → ((e : Result Term Term) → l ≡ life.Ended e → ⊥) → LifeRepresents m own l mail s
     → outcome_of_root s ps ≡ outcome.deadlock ps
-root_lives m own (life.Lives k true) mail s ps n h = ap (λ z. outcome_of_root z ps) h.0.2
-root_lives m own (life.Lives k false) mail s ps n h = goes_on_still s ps h.0.1
+root_lives m own (life.Lives k true) mail s ps n h = ap (λ z. outcome_of_root z ps) h.2
+root_lives m own (life.Lives k false) mail s ps n h = goes_on_still s ps h.1
 root_lives m own (life.Ends r) mail s ps n h = ap (λ z. outcome_of_root z ps) h
 root_lives m own (life.Ended e) mail s ps n h = absurd (n e refl)
 
 -- the outcome of a root that ended
-module _ (m : Checked) (own : ℕ) (l : Life) (mail : MailView) (s : ProcessState) (e : Result Term Term) (t t' : Term)
+module _ (m : ImageView) (own : ℕ) (l : Life) (mail : InboxView) (s : ProcessState) (e : Result Term Term) (t t' : Term)
     (ps : List ℕ) (h : LifeRepresents m own l mail s) (is : l ≡ life.Ended e) (copied : value_of t' ≡ value_of t) where
   root_ended : outcome_of_root s ps ≡ outcome_of_root (ended (end_of e)) ps
   root_ended = ap (λ z. outcome_of_root z ps) (subst (λ z. LifeRepresents m own z mail s) is h)

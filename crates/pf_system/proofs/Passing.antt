@@ -64,7 +64,7 @@ module _ (m : Checked) (w w' : Processes) (k from to : ℕ) (l : Label) where
         passes = delivery from to h.signal h.others (ap (taken from to) (sym r.channels) ∙ h.is_taken);
         is_there = record {
           present = refl;
-          code = ap (λ z. z.module.value) h.shown.done.basis ∙ r.code;
+          code = ap (λ z. z.checked) h.shown.done.basis ∙ r.code;
           core = h.shown.done.is_there;
           channels = h.shown.done.channels;
         };

@@ -2,7 +2,7 @@
 use Rattle.std.proofs.Common.{◌≡◌, ℕ, zero, ◌+◌, ◌<◌, Bool, true, false, Some, if◌then◌else◌, refl, sym, ap, ◌∙◌, subst}
 use Rattle.std.proofs.Common.{arith, length, slice_set, slice_get}
 use Rattle.pf_terms.specs.Value.{Value}
-use Rattle.pf_syntax.specs.Module.{Checked}
+use Rattle.pf_image.specs.ImageView.{ImageView}
 use Rattle.pf_model.specs.Context.{ProcessState, running, waiting, ending, ended}
 use Rattle.pf_sorted.specs.Maps.{with_number}
 use Rattle.pf_model.specs.Configuration.{Process, Core, of, with_process, is_alive}
@@ -11,12 +11,13 @@ use Rattle.pf_model.specs.Runs.{can_go, is_waiting, pids_in_state}
 use Rattle.pf_ties.specs.Laws.{process_ties}
 use Rattle.pf_system.specs.Bodies.{Body, bodies_of, process_body, with_one_message}
 use Rattle.pf_system.specs.Slots.{SlotRepresents}
-use Rattle.pf_system.specs.Processes.{RepresentsCore, RepresentsBut, checked_in, view_of_processes}
+use Rattle.pf_system.specs.Processes.{RepresentsCore, RepresentsBut, base_of, basis_in, view_of_processes}
 use Rattle.pf_system.specs.declared.slot.Slot.{Slot}
 use Rattle.pf_system.specs.declared.processes.Processes.{Processes}
 use Rattle.pf_system.specs.Placed.{PlacesOf}
 use Rattle.pf_system.proofs.Ready.{numbers_kept}
-use Rattle.pf_system.proofs.Changed.{get_within, represent_set, body_at, slots_length, put_back, goes_now}
+use Rattle.pf_system.proofs.Growing.{represent_set}
+use Rattle.pf_system.proofs.Changed.{get_within, body_at, slots_length, put_back, goes_now}
 
 pub is_there_but : (w : Processes) (c : Core) (a : ℕ) → RepresentsCore (view_of_processes w) c
     → a < length w.slots.items → RepresentsBut w c a
@@ -27,8 +28,8 @@ is_there_but w c a h l =
       ready = h.ready;
       slots = λ s b k.
           let e : a ≡ zero + a = omega arith in
-          represent_set (checked_in w) zero a w.slots.items (bodies_of c) s b h.slots
-          (subst (λ j. SlotRepresents (checked_in w) j s b) e k);
+          represent_set w.image zero a w.slots.items (bodies_of c) s b h.slots
+          (subst (λ j. SlotRepresents w.image j s b) e k);
       room = h.room;
     }
 
@@ -65,20 +66,20 @@ module _ (w w' : Processes) (b : ℕ) (v : Value) (s s' : Slot) where
       (stays (of c b).state (sym e)))
 
   pub placed : (t : Bool) → slice_get w.slots.items b ≡ Some s
-      → ((m : Checked) (own : ℕ) (x : Body) → SlotRepresents m own s x
+      → ((m : ImageView) (own : ℕ) (x : Body) → SlotRepresents m own s x
       → SlotRepresents m own s' (with_one_message v x))
-      → ((m : Checked) (own : ℕ) (x : Body) → SlotRepresents m own s x → t ≡ is_waiting x.state)
-      → w'.slots.items ≡ slice_set w.slots.items b s' → w'.shared ≡ w.shared → w'.basis ≡ w.basis
+      → ((m : ImageView) (own : ℕ) (x : Body) → SlotRepresents m own s x → t ≡ is_waiting x.state)
+      → w'.slots.items ≡ slice_set w.slots.items b s' → w'.shared ≡ w.shared → base_of w' ≡ base_of w
       → w'.ready ≡ (if t then with_number b w.ready else w.ready) → PlacesOf b v w w'
   placed t at puts waits e k m r c h alive =
       let l = get_within b w.slots.items s at in
       let y = body_at w c b s h at in
-      let put = puts (checked_in w) b (process_body (of c b)) y in
+      let put = puts w.image b (process_body (of c b)) y in
       let n : b < length c.processes = omega (arith, slots_length w c h) in
-      let q : t ≡ is_waiting (of c b).state = waits (checked_in w) b (process_body (of c b)) y in
+      let q : t ≡ is_waiting (of c b).state = waits w.image b (process_body (of c b)) y in
       record {
         is_there = put_back w w' c b s' (with_message (of c b) v) (is_there_but w c b h l) put
             (message_ties (of c b) v) e k m (ready_so c t h n q r);
         shared = k;
-        basis = m;
+        basis = ap basis_in m;
       }

@@ -18,7 +18,7 @@ use Rattle.pf_ties.specs.Ties.{AllTies}
 use Rattle.pf_ties.specs.Laws.{ties_of}
 use Rattle.pf_system.specs.Bodies.{process_body}
 use Rattle.pf_system.specs.Placed.{PlacesOf, SuffixShown}
-use Rattle.pf_system.specs.Processes.{RepresentsCore, Shown, view_of_processes}
+use Rattle.pf_system.specs.Processes.{RepresentsCore, Shown, base_of, view_of_processes}
 use Rattle.pf_system.specs.declared.processes.Processes.{Processes}
 use Rattle.pf_system.proofs.Delivering.{dropped_there, replied, with_mail, tied_so}
 
@@ -43,7 +43,7 @@ drops_there w c a b (code.Exit l t) x y h = dropped_there w c b (signal.exit l (
 -- the ties and all else stay, and one signal goes back
 module _ (w w' : Processes) (c : Core) (a b : ℕ) (s reply : Program) (h : RepresentsCore (view_of_processes w) c)
     (slots : w'.slots.items ≡ w.slots.items) (ready : w'.ready ≡ w.ready)
-    (same : w'.basis ≡ w.basis) (ties : w'.shared.ties ≡ w.shared.ties)
+    (same : base_of w' ≡ base_of w) (ties : w'.shared.ties ≡ w.shared.ties)
     (goes : w'.shared.channels ≡ sent b a (signal_of reply) w.shared.channels) where
   pub link_answered : s ≡ code.Link → signal_of reply ≡ signal.exit true noproc
       → Shown b (at_ended c a (signal_of s)) w.shared.channels w (shows.Delivers s suffix.NoProcess) w'

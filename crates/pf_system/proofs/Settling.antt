@@ -16,19 +16,24 @@ use Rattle.pf_model.specs.Configuration.{Process, Core, of, with_process, with_s
 use Rattle.pf_model.specs.Actions.{Acted, acted, raising, given, only_if, as_pid, as_atom, receiver, linked_to}
 use Rattle.pf_model.specs.Actions.{unlinked_from, monitored, demonitored, flag_set, may_register, registered}
 use Rattle.pf_model.specs.Actions.{unregistered}
-use Rattle.pf_model.specs.Context.{ProcessState, running, waiting, ending, ended, failed}
+use Rattle.pf_model.specs.Context.{Frame, ProcessState, running, waiting, ending, ended, failed}
 use Rattle.pf_model.specs.Runs.{can_go}
 use Rattle.pf_model.specs.Turns.{with_answer}
 use Rattle.pf_model.specs.declared.limits.TheConstants.{MOST_PROCESSES}
 use Rattle.pf_ties.specs.Laws.{process_ties, ties_of}
 use Rattle.pf_stepper.specs.Acts.{act_of}
-use Rattle.pf_stepper.specs.MachineView.{MachineStatus, goes, asking}
+use Rattle.pf_stepper.specs.MachineView.{goes, asking}
 use Rattle.pf_stepper.specs.Turns.{answer_value}
 use Rattle.pf_stepper.specs.declared.act.Act.{Act as Asked}
 use Rattle.pf_stepper.specs.declared.act.Act.TheVariants as a
 use Rattle.pf_system.specs.Bodies.{Body, body_of, process_body, bodies_of}
-use Rattle.pf_system.specs.Slots.{SlotRepresents, SlotsRepresent, LifeIsLeft, SlotIsLeft}
-use Rattle.pf_system.specs.Processes.{RepresentsCore, RepresentsBut, checked_in, module_in, view_of_processes}
+use Rattle.pf_machine.specs.declared.machine.Machine.{Machine}
+use Rattle.pf_system.specs.Slots.{SlotRepresents, SlotsRepresent, LifeIsLeft, LifeIsOver, SlotIsLeft}
+use Rattle.pf_inbox.specs.InboxView.{InboxView}
+use Rattle.pf_image.specs.ImageView.{ImageView, Grows}
+use Rattle.pf_image.specs.Machines.{IsMachineAt}
+use Rattle.pf_image.proofs.Staying.{grows_itself}
+use Rattle.pf_system.specs.Processes.{RepresentsCore, RepresentsBut, base_of, basis_in, module_in, view_of_processes}
 use Rattle.pf_system.specs.Acts.{ActAnswer, AnswersAct, CarriesOut, ActsAs, ActedIn, ActsIn, IsBetween, KeepsLife}
 use Rattle.pf_system.specs.Acts.{KeepsSlot, ShowsAct}
 use Rattle.pf_system.specs.Settled.{WaitsIn}
@@ -39,8 +44,8 @@ use Rattle.pf_system.specs.declared.processes.Processes.{Processes}
 use Rattle.pf_system.proofs.Bodies.{bodies_same, length_of, set_length}
 use Rattle.pf_system.proofs.Ready.{numbers_alike, numbers_kept}
 use Rattle.pf_system.proofs.Rows.{enough_senders, posted_length}
-use Rattle.pf_system.proofs.Changed.{but_length, put_back, goes_no_more}
-use Rattle.pf_syntax.specs.Module.{Checked}
+use Rattle.pf_system.proofs.Changed.{but_length, put_back, put_grown, goes_no_more}
+use Rattle.pf_system.proofs.Growing.{basis_grows, left_stays, life_over_stays}
 
 -- ---- actions that make no process, and take no message out, keep all bodies
 
@@ -128,13 +133,15 @@ pub slot_is : (s t : Slot) → ◌≡◌ {A = Option Slot} (Some s) (Some t) →
 slot_is s t e = cc
 
 -- the slot of a process stays as it was
-pub keeps_slot : (n : ℕ) (w w' : Processes) → slice_get w'.slots.items n ≡ slice_get w.slots.items n → KeepsSlot n w w'
-keeps_slot n w w' e s h = (s, e ∙ h, record { life = refl; ahead = λ k z. z })
+pub keeps_slot : (n : ℕ) (w w' : Processes) → slice_get w'.slots.items n ≡ slice_get w.slots.items n
+    → Grows w.image w'.image → KeepsSlot n w w'
+keeps_slot n w w' e g =
+    record { grows = g; keeps = λ s h. (s, e ∙ h, record { life = refl; mark = λ z. z }) }
 
 -- nothing but ties and channels is changed
 pub between : (n : ℕ) (c d : Core) (w w' : Processes) → Keeps c d → ties_of d ≡ w'.shared.ties
     → length w.shared.channels ≤ length w'.shared.channels
-    → w'.slots ≡ w.slots → w'.ready ≡ w.ready → w'.basis ≡ w.basis → RepresentsBut w c n → RepresentsBut w' d n
+    → w'.slots ≡ w.slots → w'.ready ≡ w.ready → base_of w' ≡ base_of w → RepresentsBut w c n → RepresentsBut w' d n
 between n c d w w' e t y s q f k =
     let i : length d.processes ≡ length c.processes = length_of d ∙ ap length e.0 ∙ sym (length_of c) in
     let j = k.room.rows in
@@ -143,11 +150,11 @@ between n c d w w' e t y s q f k =
       ties = t;
       ready = q ∙ k.ready ∙ numbers_alike can_go zero c d (sym e.0);
       slots = λ x b z.
-          subst (λ bs. SlotsRepresent (checked_in w') zero (slice_set w'.slots.items n x) (slice_set bs n b)) (sym e.0)
-          (subst (λ v. SlotsRepresent (checked_in w') zero (slice_set v.items n x) (slice_set (bodies_of c) n b))
+          subst (λ bs. SlotsRepresent w'.image zero (slice_set w'.slots.items n x) (slice_set bs n b)) (sym e.0)
+          (subst (λ v. SlotsRepresent w'.image zero (slice_set v.items n x) (slice_set (bodies_of c) n b))
           (sym s)
-          (subst (λ v. SlotsRepresent v.module.value zero (slice_set w.slots.items n x) (slice_set (bodies_of c) n b))
-          (sym f) (k.slots x b (subst (λ v. SlotRepresents v.module.value n x b) f z))));
+          (subst (λ v. SlotsRepresent v.image zero (slice_set w.slots.items n x) (slice_set (bodies_of c) n b))
+          (sym f) (k.slots x b (subst (λ v. SlotRepresents v.image n x b) f z))));
       room = record {
         rows = omega arith;
         few = let v = k.room.few in omega arith;
@@ -167,7 +174,7 @@ same_size c d e = length_of d ∙ ap length e.0 ∙ sym (length_of c)
 
 pub acted_in : (n : ℕ) (c : Core) (x : Acted) (w w' : Processes) (r : ActAnswer) → Keeps c x.left.core
     → CarriesOut x n w.shared r w'.shared
-    → w'.slots ≡ w.slots → w'.ready ≡ w.ready → w'.basis ≡ w.basis → RepresentsBut w c n → ActedIn c x n w r w'
+    → w'.slots ≡ w.slots → w'.ready ≡ w.ready → base_of w' ≡ base_of w → RepresentsBut w c n → ActedIn c x n w r w'
 acted_in n c x w w' r e g s q f k =
     let d : Core = x.left.core in
     let y = one_body n d c e.0 in
@@ -182,18 +189,18 @@ acted_in n c x w w' r e g s q f k =
           ∙ m ∙ ap (λ z. z.mailbox) (sym y);
       channels = posted_rows n d x.left.sent w.shared.channels w'.shared.channels (omega arith) g.channels;
       answers = g.answers;
-      basis = f;
+      basis = ap basis_in f;
     }
 
 pub acts_between : (n : ℕ) (x : Asked) (w w' : Processes) (r : ActAnswer) → IsBetween x
     → ActsAs n (act_of x) w.shared r w'.shared
-    → w'.slots ≡ w.slots → w'.ready ≡ w.ready → w'.basis ≡ w.basis → ActsIn n (act_of x) w r w'
+    → w'.slots ≡ w.slots → w'.ready ≡ w.ready → base_of w' ≡ base_of w → ActsIn n (act_of x) w r w'
 acts_between n x w w' r b h s q f c k =
     acted_in n c (acted (module_in w) c n (act_of x)) w w' r (acted_keeps (module_in w) c n x b)
     (h (module_in w) c k.ties) s q f k
 
 pub sends_in : (n : ℕ) (v u : Value) (w w' : Processes) (r : ActAnswer) → ActsAs n (asked.send v u) w.shared r w'.shared
-    → w'.slots ≡ w.slots → w'.ready ≡ w.ready → w'.basis ≡ w.basis → ActsIn n (asked.send v u) w r w'
+    → w'.slots ≡ w.slots → w'.ready ≡ w.ready → base_of w' ≡ base_of w → ActsIn n (asked.send v u) w r w'
 sends_in n v u w w' r h s q f c k =
     acted_in n c (acted (module_in w) c n (asked.send v u)) w w' r (send_keeps (module_in w) c n v u)
     (h (module_in w) c k.ties) s q f k
@@ -236,11 +243,11 @@ in_state c n s vs = with_process c n (record (of c n) { state = s; mailbox = vs 
 
 module _ (w w' : Processes) (c : Core) (n : ℕ) (s' : Slot) (state : ProcessState) (mail : List Value) where
   abbrev Changes : Type 0
-  Changes = (w'.slots.items ≡ slice_set w.slots.items n s') × (w'.shared ≡ w.shared) × (w'.basis ≡ w.basis)
+  Changes = (w'.slots.items ≡ slice_set w.slots.items n s') × (w'.shared ≡ w.shared) × (base_of w' ≡ base_of w)
 
   -- a process that could go still can
   pub goes_again : RepresentsBut w c n → can_go (of c n).state ≡ true → can_go state ≡ true
-      → SlotRepresents (checked_in w) n s' (body_of state mail) → Changes → w'.ready ≡ w.ready
+      → SlotRepresents w.image n s' (body_of state mail) → Changes → w'.ready ≡ w.ready
       → RepresentsCore (view_of_processes w') (in_state c n state mail)
   goes_again h can g p e r =
       put_back w w' c n s' (record (of c n) { state = state; mailbox = mail }) h p
@@ -248,9 +255,20 @@ module _ (w w' : Processes) (c : Core) (n : ℕ) (s' : Slot) (state : ProcessSta
       (r ∙ h.ready ∙ sym (numbers_kept can_go zero c.processes n (record (of c n) { state = state; mailbox = mail })
       (g ∙ sym can)))
 
+  -- so it can in a larger image
+  pub goes_grown : RepresentsBut w c n → can_go (of c n).state ≡ true → can_go state ≡ true
+      → SlotRepresents w'.image n s' (body_of state mail) → w'.slots.items ≡ slice_set w.slots.items n s'
+      → w'.shared ≡ w.shared → Grows w.image w'.image → w'.most ≡ w.most → w'.ready ≡ w.ready
+      → RepresentsCore (view_of_processes w') (in_state c n state mail)
+  goes_grown h can g p e b grows m r =
+      put_grown w w' c n s' (record (of c n) { state = state; mailbox = mail }) h p
+      (ties_alive (of c n) state mail (alive_going state g ∙ sym (alive_going (of c n).state can))) e b grows m
+      (r ∙ h.ready ∙ sym (numbers_kept can_go zero c.processes n (record (of c n) { state = state; mailbox = mail })
+      (g ∙ sym can)))
+
   -- it can no longer go, but lives
   pub waits_now : RepresentsBut w c n → n < length c.processes → is_alive state ≡ is_alive (of c n).state
-      → can_go state ≡ false → SlotRepresents (checked_in w) n s' (body_of state mail)
+      → can_go state ≡ false → SlotRepresents w.image n s' (body_of state mail)
       → Changes → w'.ready ≡ without_number n w.ready → RepresentsCore (view_of_processes w') (in_state c n state mail)
   waits_now h l lives g p e r =
       put_back w w' c n s' (record (of c n) { state = state; mailbox = mail }) h p
@@ -269,52 +287,66 @@ none_sent w w' c d n e h b =
 
 -- ---- an action and its answer
 
--- the machine has the status that it had
-left_still : (m : Checked) (own : ℕ) (x : MachineStatus) (s s' : Slot) → KeepsLife s s' → SlotIsLeft m own x s
-    → SlotIsLeft m own x s'
-left_still m own x s s' k h = subst (λ l. LifeIsLeft m own x l s'.mailbox) (sym k.life) (by s.life h)
+-- a machine that asks still does, whatever messages come after the others or go
+asks_still : (x : ImageView) (own : ℕ) (fs : List Frame) (k : Machine) (b b' : InboxView)
+    → (b.mark ≡ 0 → b'.mark ≡ 0) → IsMachineAt x own (asking fs) k b → IsMachineAt x own (asking fs) k b'
+asks_still x own fs k b b' m h = record { over = h.over; at = (h.at.0, h.at.1, m h.at.2) }
+
+left_still : (x : ImageView) (own : ℕ) (fs : List Frame) (s s' : Slot) → KeepsLife s s' → SlotIsLeft x own (asking fs) s
+    → SlotIsLeft x own (asking fs) s'
+left_still x own fs s s' k h = subst (λ l. LifeIsLeft x own (asking fs) l s'.mailbox) (sym k.life) (by s.life h)
   where
-    by : (l : Life) → LifeIsLeft m own x l s.mailbox → LifeIsLeft m own x l s'.mailbox
-    by (life.Lives machine waits) h = (h.0, h.1, k.ahead machine h.2)
+    by : (l : Life) → LifeIsLeft x own (asking fs) l s.mailbox → LifeIsLeft x own (asking fs) l s'.mailbox
+    by (life.Lives machine waits) h = (asks_still x own fs machine s.mailbox s'.mailbox k.mark h.0, h.1)
     by (life.Ends r) h = h
     by (life.Ended e) h = h
 
+-- the words of the machine of a slot that was kept are of the heap
+pub kept_over : (n : ℕ) (w w1 : Processes) (s s1 : Slot) → KeepsSlot n w w1 → slice_get w.slots.items n ≡ Some s
+    → slice_get w1.slots.items n ≡ Some s1 → LifeIsOver w.image s.life → LifeIsOver w1.image s1.life
+kept_over n w w1 s s1 keeps at at1 h =
+    let k = keeps.keeps s at in
+    let same : k.0 ≡ s1 = slot_is k.0 s1 (sym k.1 ∙ at1) in
+    subst (λ z. LifeIsOver w1.image z) (sym k.2.life ∙ ap (λ z. z.life) same)
+    (life_over_stays w.image w1.image keeps.grows s.life h)
+
 pub shows_act : (n : ℕ) (x : Act) (w w1 w' : Processes) (r : ActAnswer) (s1 s' : Slot) → ActsIn n x w r w1
     → KeepsSlot n w w1 → slice_get w1.slots.items n ≡ Some s1
-    → ((m : Checked) (own : ℕ) (fs : _) → SlotIsLeft m own (asking fs) s1
-    → SlotRepresents m own s' (body_of (with_answer fs (answer_value r.value)) s1.mailbox.messages))
-    → w'.slots.items ≡ slice_set w1.slots.items n s' → w'.shared ≡ w1.shared → w'.ready ≡ w1.ready → w'.basis ≡ w1.basis
+    → ((own : ℕ) (fs : List Frame) → SlotIsLeft w1.image own (asking fs) s1
+    → SlotRepresents w'.image own s' (body_of (with_answer fs (answer_value r.value)) s1.mailbox.messages))
+    → w'.slots.items ≡ slice_set w1.slots.items n s' → w'.shared ≡ w1.shared → w'.ready ≡ w1.ready
+    → Grows w1.image w'.image → w'.most ≡ w1.most
     → ShowsAct n x w r.label w'
-shows_act n x w w1 w' r s1 s' h keeps at ans e b q f c fs s but can left mail =
+shows_act n x w w1 w' r s1 s' h keeps at ans e b q grows f c fs s but can left mail =
     let g = h c but in
     let v = acted (module_in w) c n x in
     let d = v.left.core in
-    let k = keeps s left.at in
+    let k = keeps.keeps s left.at in
     let same : k.0 ≡ s1 = slot_is k.0 s1 (sym k.1 ∙ at) in
     let state = with_answer fs v.answer in
     let own_mail : s1.mailbox.messages ≡ (of d n).mailbox = g.mail s s1 left.at at mail in
-    let there : SlotIsLeft (checked_in w1) n (asking fs) s1 =
-    subst (λ z. SlotIsLeft z.module.value n (asking fs) s1) (sym g.basis)
-    (subst (SlotIsLeft (checked_in w) n (asking fs)) same
-    (left_still (checked_in w) n (asking fs) s k.0 k.2 left.leaves)) in
-    let puts : SlotRepresents (checked_in w1) n s' (body_of state (of d n).mailbox) =
-    subst (λ vs. SlotRepresents (checked_in w1) n s' (body_of state vs)) own_mail
-    (subst (λ z. SlotRepresents (checked_in w1) n s' (body_of (with_answer fs z) s1.mailbox.messages)) g.answers.value
-    (ans (checked_in w1) n fs there)) in
+    let there : SlotIsLeft w1.image n (asking fs) s1 =
+    subst (SlotIsLeft w1.image n (asking fs)) same
+    (left_still w1.image n fs s k.0 k.2
+    (left_stays w.image w1.image keeps.grows n (asking fs) s.life s.mailbox left.leaves)) in
+    let puts : SlotRepresents w'.image n s' (body_of state (of d n).mailbox) =
+    subst (λ vs. SlotRepresents w'.image n s' (body_of state vs)) own_mail
+    (subst (λ z. SlotRepresents w'.image n s' (body_of (with_answer fs z) s1.mailbox.messages)) g.answers.value
+    (ans n fs there)) in
     let can' : can_go (of d n).state ≡ true = ap can_go g.state ∙ can in
     let i : length (with_state d n state).processes ≡ length d.processes = set_length n d.processes _ in
     record {
       done = record {
-        is_there = goes_again w1 w' d n s' state (of d n).mailbox g.is_there can' (answers_go fs v.answer) puts
-            (e, b, f) q;
+        is_there = goes_grown w1 w' d n s' state (of d n).mailbox g.is_there can' (answers_go fs v.answer) puts
+            e b grows f q;
         channels = ap (λ z. z.channels) b ∙ g.channels
             ∙ ap (λ z. posted n v.left.sent (with_senders z w.shared.channels)) (sym i);
-        basis = f ∙ g.basis;
+        basis = basis_grows w1 w' grows f ∙ g.basis;
       };
       label = g.answers.label;
     }
   where
-    answers_go : (fs : _) (r : Result Value Value) → can_go (with_answer fs r) ≡ true
+    answers_go : (fs : List Frame) (r : Result Value Value) → can_go (with_answer fs r) ≡ true
     answers_go fs (Ok y) = refl
     answers_go fs (Err y) = refl
 
@@ -324,20 +356,20 @@ pub but_there : (w : Processes) (c : Core) (n : ℕ) → RepresentsBut w c n →
 but_there w c n h = let e = but_length w c n h in let l = h.there in omega arith
 
 pub waits_in : (n : ℕ) (w w' : Processes) (s1 s' : Slot) → slice_get w.slots.items n ≡ Some s1
-    → ((m : Checked) (own : ℕ) (t : Tree) → SlotIsLeft m own (goes (running t)) s1
-    → SlotRepresents m own s' (body_of (waiting t) s1.mailbox.messages))
-    → w'.slots.items ≡ slice_set w.slots.items n s' → w'.shared ≡ w.shared → w'.basis ≡ w.basis
+    → ((x : ImageView) (own : ℕ) (t : Tree) → SlotIsLeft x own (goes (running t)) s1
+    → SlotRepresents x own s' (body_of (waiting t) s1.mailbox.messages))
+    → w'.slots.items ≡ slice_set w.slots.items n s' → w'.shared ≡ w.shared → base_of w' ≡ base_of w
     → w'.ready ≡ without_number n w.ready → WaitsIn n w w'
 waits_in n w w' s1 s' at ans e b f q c t s but can left mail =
     let same : s1 ≡ s = slot_is s1 s (sym at ∙ left.at) in
     let own_mail : s1.mailbox.messages ≡ (of c n).mailbox = ap (λ z. z.mailbox.messages) same ∙ mail in
-    let puts : SlotRepresents (checked_in w) n s' (body_of (waiting t) (of c n).mailbox) =
-    subst (λ vs. SlotRepresents (checked_in w) n s' (body_of (waiting t) vs)) own_mail
-    (ans (checked_in w) n t (subst (SlotIsLeft (checked_in w) n (goes (running t))) (sym same) left.leaves)) in
+    let puts : SlotRepresents w.image n s' (body_of (waiting t) (of c n).mailbox) =
+    subst (λ vs. SlotRepresents w.image n s' (body_of (waiting t) vs)) own_mail
+    (ans w.image n t (subst (SlotIsLeft w.image n (goes (running t))) (sym same) left.leaves)) in
     let i : length (with_state c n (waiting t)).processes ≡ length c.processes = set_length n c.processes _ in
     record {
       is_there = waits_now w w' c n s' (waiting t) (of c n).mailbox but (but_there w c n but)
           (sym (alive_going (of c n).state can)) refl puts (e, b, f) q;
       channels = none_sent w w' c (with_state c n (waiting t)) n i but b;
-      basis = f;
+      basis = ap basis_in f;
     }

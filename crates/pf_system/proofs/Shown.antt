@@ -15,7 +15,8 @@ use Rattle.pf_ties.specs.Laws.{ties_of}
 use Rattle.pf_ties.proofs.Followed.{follow_ends}
 use Rattle.pf_system.specs.Bodies.{body_of, bodies_of, process_body}
 use Rattle.pf_system.specs.Slots.{end_of, SlotRepresents, SlotsRepresent}
-use Rattle.pf_system.specs.Processes.{RepresentsCore, RepresentsBut, Done, EndsProcess, checked_in, view_of_processes}
+use Rattle.pf_system.specs.Processes.{RepresentsCore, RepresentsBut, Done, EndsProcess, base_of, basis_in, basis_of}
+use Rattle.pf_system.specs.Processes.{view_of_processes}
 use Rattle.pf_system.specs.declared.slot.Slot.{Slot}
 use Rattle.pf_system.specs.declared.processes.Processes.{Processes}
 use Rattle.pf_system.proofs.Bodies.{set_length, bodies_changed, bodies_same, ties_length}
@@ -26,7 +27,7 @@ use Rattle.pf_system.proofs.Changed.{goes_no_more}
 -- there are rows enough for what is sent
 pub done_so : (w w' : Processes) (a : ℕ) (d : Left) → RepresentsCore (view_of_processes w') d.core
     → length d.core.processes ≤ length w.shared.channels
-    → w'.shared.channels ≡ posted a d.sent w.shared.channels → w'.basis ≡ w.basis → Done a d w.shared.channels w w'
+    → w'.shared.channels ≡ posted a d.sent w.shared.channels → basis_of w' ≡ basis_of w → Done a d w.shared.channels w w'
 done_so w w' a d h n e m =
     record {
       is_there = h;
@@ -37,12 +38,12 @@ done_so w w' a d h n e m =
 
 -- processes of which nothing but ties and channels is changed
 module _ (w w' : Processes) (c : Core) (slots : w'.slots.items ≡ w.slots.items) (ready : w'.ready ≡ w.ready)
-    (basis : w'.basis ≡ w.basis) where
+    (basis : base_of w' ≡ base_of w) where
   kept_slots : RepresentsCore (view_of_processes w) c
-      → SlotsRepresent (checked_in w') zero w'.slots.items (bodies_of c)
+      → SlotsRepresent w'.image zero w'.slots.items (bodies_of c)
   kept_slots h =
-      subst (λ ss. SlotsRepresent (checked_in w') zero ss (bodies_of c)) (sym slots)
-      (subst (λ z. SlotsRepresent z.module.value zero w.slots.items (bodies_of c)) (sym basis) h.slots)
+      subst (λ ss. SlotsRepresent w'.image zero ss (bodies_of c)) (sym slots)
+      (subst (λ z. SlotsRepresent z.image zero w.slots.items (bodies_of c)) (sym basis) h.slots)
 
   pub rows_more : RepresentsCore (view_of_processes w) c → ties_of c ≡ w'.shared.ties
       → length w.shared.channels ≤ length w'.shared.channels
@@ -66,7 +67,7 @@ module _ (w w' : Processes) (c : Core) (slots : w'.slots.items ≡ w.slots.items
   tied b p h y t r =
       let n : length (with_process c b p).processes ≡ length c.processes = set_length b c.processes p in
       record {
-        slots = subst (λ bs. SlotsRepresent (checked_in w') zero w'.slots.items bs) (sym (bodies_same c b p y))
+        slots = subst (λ bs. SlotsRepresent w'.image zero w'.slots.items bs) (sym (bodies_same c b p y))
             (kept_slots h);
         ties = t;
         ready = ready ∙ h.ready ∙ sym (numbers_kept can_go zero c.processes b p (ap (λ z. can_go z.state) y));
@@ -83,7 +84,7 @@ module _ (w w' : Processes) (c : Core) (slots : w'.slots.items ≡ w.slots.items
 module _ (w w' : Processes) (a : ℕ) (e : Result Term Term) (s' : Slot) (ss : List (ℕ × Signal)) where
   pub ends_so : ((m : _) → SlotRepresents m a s' (body_of (ended (end_of e)) []))
       → w'.slots.items ≡ slice_set w.slots.items a s'
-      → w'.shared.ties ≡ ties.ended w.shared.ties a → w'.ready ≡ without_number a w.ready → w'.basis ≡ w.basis
+      → w'.shared.ties ≡ ties.ended w.shared.ties a → w'.ready ≡ without_number a w.ready → base_of w' ≡ base_of w
       → ss ≡ ties.last_signals_of (ties.of w.shared.ties a) (reason_of (end_of e))
       → w'.shared.channels ≡ posted a ss w.shared.channels
       → length w.slots.items ≡ length w.shared.ties.processes
@@ -102,11 +103,11 @@ module _ (w w' : Processes) (a : ℕ) (e : Result Term Term) (s' : Slot) (ss : L
       let long = ap length sent in
       done_so w w' a (ended_by c a x)
       (record {
-        slots = subst (λ bs. SlotsRepresent (checked_in w') zero w'.slots.items bs) (sym (bodies_changed c a p))
-            (subst (λ z. SlotsRepresent (checked_in w') zero z (slice_set (bodies_of c) a (process_body p))) (sym slots)
-            (subst (λ z. SlotsRepresent z.module.value zero (slice_set w.slots.items a s')
+        slots = subst (λ bs. SlotsRepresent w'.image zero w'.slots.items bs) (sym (bodies_changed c a p))
+            (subst (λ z. SlotsRepresent w'.image zero z (slice_set (bodies_of c) a (process_body p))) (sym slots)
+            (subst (λ z. SlotsRepresent z.image zero (slice_set w.slots.items a s')
             (slice_set (bodies_of c) a (process_body p))) (sym m)
-            (h.slots s' (process_body p) (is (checked_in w)))));
+            (h.slots s' (process_body p) (is w.image))));
         ties = follow_ends.ended c a x ∙ ap (λ z. ties.ended z a) h.ties ∙ sym t;
         ready = r ∙ ap (without_number a) h.ready ∙ sym (goes_no_more c a p size refl);
         room = record {
@@ -116,4 +117,4 @@ module _ (w w' : Processes) (a : ℕ) (e : Result Term Term) (s' : Slot) (ss : L
           within = subst (λ z. z.most ≤ MOST_PROCESSES) (sym m) h.room.within;
         };
       })
-      (omega arith) (sent ∙ ap (λ z. posted a z w.shared.channels) (sym all)) m
+      (omega arith) (sent ∙ ap (λ z. posted a z w.shared.channels) (sym all)) (ap basis_in m)

@@ -10,8 +10,8 @@ use Rattle.pf_model.specs.Contraction as asked
 use Rattle.pf_model.specs.declared.bond.Bond.{Bond}
 use Rattle.pf_model.specs.declared.bond.Bond.TheVariants.{Unbound, Linking, Watching}
 use Rattle.pf_model.specs.Channels.{with_senders}
-use Rattle.pf_model.specs.Configuration.{Process, Core, fresh, of, process_at, is_alive}
-use Rattle.pf_model.specs.Actions.{gives, raising, given, given_for, shown_for, as_atom, as_elements, linked_with}
+use Rattle.pf_model.specs.Configuration.{Process, Core, fresh, of, posted, process_at, is_alive}
+use Rattle.pf_model.specs.Actions.{Acted, gives, raising, given, given_for, shown_for, as_atom, as_elements, linked_with}
 use Rattle.pf_model.specs.Actions.{watching_with, after_spawn, spawned, start_of}
 use Rattle.pf_model.specs.Labels as label
 use Rattle.pf_model.specs.Context.{ProcessState}
@@ -24,16 +24,17 @@ use Rattle.pf_ties.proofs.Followed.{follow_actions}
 use Rattle.pf_stepper.specs.Turns.{answer_value}
 use Rattle.pf_system.specs.Bodies.{Body, body_of, process_body, bodies_of}
 use Rattle.pf_system.specs.Slots.{SlotRepresents, SlotsRepresent}
-use Rattle.pf_system.specs.Processes.{RepresentsBut, checked_in, module_in}
+use Rattle.pf_image.specs.ImageView.{Grows}
+use Rattle.pf_system.specs.Processes.{RepresentsBut, base_of, basis_in, module_in, view_of_processes}
 use Rattle.pf_system.specs.Acts.{ActAnswer, AnswersAct, ActedIn, ActsIn, KeepsSlot, LifeBegins, OpensWithTies}
 use Rattle.pf_system.specs.Acts.{OpensProcess, ReportsSpawn, opened_by}
 use Rattle.pf_system.specs.declared.slot.Life.{Life}
 use Rattle.pf_system.specs.declared.slot.Slot.{Slot}
-use Rattle.pf_system.specs.declared.spare.Spare.{Spare}
 use Rattle.pf_system.specs.declared.processes.Processes.{Processes}
 use Rattle.pf_system.proofs.Bodies.{map_more, set_length, set_front, more_length, bodies_same, length_of}
 use Rattle.pf_system.proofs.Acting.{given_none}
 use Rattle.pf_system.proofs.Changed.{but_length, represent_more}
+use Rattle.pf_system.proofs.Growing.{basis_grows, same_grows, slots_but}
 use Rattle.pf_system.proofs.Ready.{numbers_in, by_bodies, more_in}
 use Rattle.pf_system.proofs.Rows.{senders_length}
 use Rattle.pf_system.proofs.Settling.{but_there, keeps_slot, raised_in, slot_is, alive_going}
@@ -83,8 +84,8 @@ body_front n c d b l e = by n c.processes d.processes l e
     by (suc n) (p ∷ ps) (q ∷ qs) l e = by n ps qs (omega arith) (cc)
 
 module _ (a : ℕ) (bond : Bond) (w w' : Processes) (l : Life) (r : ActAnswer) (c : Core) (s : ProcessState)
-    (but : RepresentsBut w c a) (few : length w.slots.items < w.basis.most)
-    (h : LifeBegins (checked_in w) (length w.slots.items) s l)
+    (but : RepresentsBut w c a) (few : length w.slots.items < w.most)
+    (h : LifeBegins w.image (length w.slots.items) s l)
     (o : OpensWithTies (opened_by bond a w.shared.ties) w l w') where
   abbrev after : Core
   after = after_spawn c a bond s
@@ -95,7 +96,7 @@ module _ (a : ℕ) (bond : Bond) (w w' : Processes) (l : Life) (r : ActAnswer) (
   same_length : length c.processes ≡ length w.slots.items
   same_length = but_length w c a but
 
-  new_body : SlotRepresents (checked_in w) (length w.slots.items) new_slot (body_of s [])
+  new_body : SlotRepresents w.image (length w.slots.items) new_slot (body_of s [])
   new_body = record { state = h.is_there o.slots.0 o.slots.2; mailbox = sym o.slots.1 }
 
   after_length : length after.processes ≡ suc (length c.processes)
@@ -105,24 +106,24 @@ module _ (a : ℕ) (bond : Bond) (w w' : Processes) (l : Life) (r : ActAnswer) (
   there_of : a < length (bodies_of c)
   there_of = let k = length_of c in let j = but.there in let i = same_length in omega arith
 
-  slots_after : (t : Slot) (b : Body) → SlotRepresents (checked_in w) a t b
-      → SlotsRepresent (checked_in w') zero (slice_set w'.slots.items a t) (slice_set (bodies_of after) a b)
+  slots_after : (t : Slot) (b : Body) → SlotRepresents w.image a t b
+      → SlotsRepresent w'.image zero (slice_set w'.slots.items a t) (slice_set (bodies_of after) a b)
   slots_after t b i =
       let ss : List Slot = slice_set w.slots.items a t in
       let bs : List Body = slice_set (bodies_of c) a b in
       let y : zero + length ss ≡ length w.slots.items = omega (arith, set_length a w.slots.items t) in
-      let x : SlotRepresents (checked_in w) (zero + length ss) new_slot (body_of s []) =
-      subst (λ z. SlotRepresents (checked_in w) z new_slot (body_of s [])) (sym y) new_body in
-      let v = represent_more (checked_in w) zero ss bs new_slot (body_of s []) (but.slots t b i) x in
+      let x : SlotRepresents w.image (zero + length ss) new_slot (body_of s []) =
+      subst (λ z. SlotRepresents w.image z new_slot (body_of s [])) (sym y) new_body in
+      let v = represent_more w.image zero ss bs new_slot (body_of s []) (but.slots t b i) x in
       let q : slice_set w'.slots.items a t ≡ ss ++ new_slot ∷ [] =
       ap (λ z. slice_set z a t) o.slots.3 ∙ set_front a w.slots.items (new_slot ∷ []) t but.there in
       let r : slice_set (bodies_of after) a b ≡ bs ++ body_of s [] ∷ [] =
       ap (λ z. slice_set z a b) (spawn_bodies c a s bond)
       ∙ set_front a (bodies_of c) (body_of s [] ∷ []) b there_of in
-      subst (SlotsRepresent (checked_in w') zero (slice_set w'.slots.items a t)) (sym r)
-      (subst (λ z. SlotsRepresent z.module.value zero (slice_set w'.slots.items a t) (bs ++ body_of s [] ∷ []))
+      subst (SlotsRepresent w'.image zero (slice_set w'.slots.items a t)) (sym r)
+      (subst (λ z. SlotsRepresent z.image zero (slice_set w'.slots.items a t) (bs ++ body_of s [] ∷ []))
       (sym o.basis)
-      (subst (λ z. SlotsRepresent (checked_in w) zero z (bs ++ body_of s [] ∷ [])) (sym q) v))
+      (subst (λ z. SlotsRepresent w.image zero z (bs ++ body_of s [] ∷ [])) (sym q) v))
 
   is_there_after : RepresentsBut w' after a
   is_there_after =
@@ -138,7 +139,7 @@ module _ (a : ℕ) (bond : Bond) (w w' : Processes) (l : Life) (r : ActAnswer) (
             ∙ ap (λ k. with_number k (numbers_in can_go zero (bodies_of c))) (sym z)
             ∙ sym (by_bodies can_go zero after.processes ∙ ap (numbers_in can_go zero) (spawn_bodies c a s bond)
             ∙ more_in can_go zero (bodies_of c) (body_of s []) h.goes);
-        slots = λ t b k. slots_after t b (subst (λ z. SlotRepresents z.module.value a t b) o.basis k);
+        slots = λ t b k. slots_after t b (subst (λ z. SlotRepresents z.image a t b) o.basis k);
         room = record {
           rows =
               let j = senders_length (n + 1) w.shared.channels in let k = j.1 in
@@ -180,7 +181,7 @@ module _ (a : ℕ) (bond : Bond) (w w' : Processes) (l : Life) (r : ActAnswer) (
           label = y.label ∙ ap (λ t. shown_for bond t w.shared.ties.next_reference) (sym e)
               ∙ ap (shown_for bond (length c.processes)) (sym k);
         };
-        basis = o.basis;
+        basis = ap basis_in o.basis;
       })
 
 pub reports_it : (linked : Bool) (p k : ℕ) (r : ActAnswer) → answer_value r.value ≡ Ok (pid p)
@@ -200,26 +201,55 @@ opens_tied w w' l t u e o = record {
   basis = o.basis;
 }
 
--- what is spare is no part of it
-pub opens_alike : (b : Bond) (n : ℕ) (w w' : Processes) (s : Spare) (l : Life) (r : ActAnswer)
-    → OpensProcess b n (record w { spare = s }) l r w' → OpensProcess b n w l r w'
-opens_alike b n w w' s l r o =
+-- ---- in an image that grew first
+
+-- nothing but the image grew
+pub record GrewTo (w w1 : Processes) : Type 0 where
+  pub grows : Grows w.image w1.image
+  pub most : w1.most ≡ w.most
+  pub slots : w1.slots ≡ w.slots
+  pub shared : w1.shared ≡ w.shared
+  pub ready : w1.ready ≡ w.ready
+
+pub but_grown : (w w1 : Processes) (c : Core) (a : ℕ) → GrewTo w w1 → RepresentsBut w c a → RepresentsBut w1 c a
+but_grown w w1 c a g h =
     record {
-      opens = record {
-        tied = o.opens.tied;
-        channels = o.opens.channels;
-        slots = o.opens.slots;
-        ready = o.opens.ready;
-        basis = o.opens.basis;
+      there = subst (λ z. a < length z.items) (sym g.slots) h.there;
+      slots = λ s b k. subst (λ z. SlotsRepresent w1.image zero (slice_set z.items a s) (slice_set (bodies_of c) a b))
+          (sym g.slots) (slots_but w w1.image c a g.grows h s b k);
+      ties = h.ties ∙ ap (λ z. z.ties) (sym g.shared);
+      ready = g.ready ∙ h.ready;
+      room = record {
+        rows = subst (λ z. length c.processes ≤ length z.channels) (sym g.shared) h.room.rows;
+        few = h.room.few;
+        most = h.room.most ∙ sym g.most;
+        within = subst (λ z. z ≤ MOST_PROCESSES) (sym g.most) h.room.within;
       };
-      reports = o.reports;
+    }
+
+-- what is done after it is done before it
+pub acted_before : (c : Core) (x : Acted) (a : ℕ) (w w1 : Processes) (r : ActAnswer) (w' : Processes) → GrewTo w w1
+    → ActedIn c x a w1 r w' → ActedIn c x a w r w'
+acted_before c x a w w1 r w' g h =
+    record {
+      is_there = h.is_there;
+      state = h.state;
+      mail = λ s s' e e' m. h.mail s s' (ap (λ z. slice_get z.items a) g.slots ∙ e) e' m;
+      channels = h.channels ∙ ap (λ z. posted a x.left.sent (with_senders (length x.left.core.processes) z.channels))
+          g.shared;
+      answers = h.answers;
+      basis = h.basis ∙ basis_grows w w1 g.grows g.most;
     }
 
 -- the slots of the others stay
-pub keeps_opened : (n : ℕ) (b : Bond) (w w' : Processes) (l : Life) (r : ActAnswer) → n < length w.slots.items
-    → OpensProcess b n w l r w' → KeepsSlot n w w'
-keeps_opened n b w w' l r k o = keeps_slot n w w'
-    (ap (λ z. slice_get z n) o.opens.slots.3 ∙ get_front n w.slots.items _ k)
+pub keeps_opened : (n : ℕ) (b : Bond) (w w1 w' : Processes) (l : Life) (r : ActAnswer) → n < length w.slots.items
+    → GrewTo w w1 → OpensProcess b n w1 l r w' → KeepsSlot n w w'
+keeps_opened n b w w1 w' l r k g o =
+    let there : n < length w1.slots.items = subst (λ z. n < length z.items) (sym g.slots) k in
+    keeps_slot n w w'
+    (ap (λ z. slice_get z n) o.opens.slots.3 ∙ get_front n w1.slots.items _ there
+    ∙ ap (λ z. slice_get z.items n) g.slots)
+    (subst (λ z. Grows w.image z.image) (sym o.opens.basis) g.grows)
 
 -- ---- the action
 
@@ -273,7 +303,7 @@ module _ (a : ℕ) (bond : Bond) (w : Processes) (r : ActAnswer) (home function 
         (subst (λ z. ActedIn c (given c (as_elements z) (λ vs. spawned c a bond (start_of (module_in w) h n vs))) a w r
         w') (sym y) (k c but)))
 
-    pub limit_refused : w.basis.most ≤ length w.slots.items
+    pub limit_refused : w.most ≤ length w.slots.items
         → ((c : Core) → AnswersAct r (raising c system_limit)) → Spawns w
     limit_refused l k =
         reaches w (λ c but.
@@ -286,9 +316,11 @@ module _ (a : ℕ) (bond : Bond) (w : Processes) (r : ActAnswer) (home function 
         (shown_for bond j c.next_reference) else raising c system_limit) a w r w) (sym lt)
         (raised_in a w r c system_limit (k c) but))
 
-    pub spawns_so : (w' : Processes) (l : Life) → length w.slots.items < w.basis.most
-        → LifeBegins (checked_in w) (length w.slots.items) (start_of (module_in w) h n vs) l
-        → OpensProcess bond a w l r w' → Spawns w'
-    spawns_so w' l few begins o =
-        reaches w' (λ c but. spawned_in a bond w w' l r c (start_of (module_in w) h n vs) but few begins
-        o.opens o.reports)
+    pub spawns_so : (w1 w' : Processes) (l : Life) → length w1.slots.items < w1.most → GrewTo w w1
+        → LifeBegins w1.image (length w1.slots.items) (start_of (module_in w) h n vs) l
+        → OpensProcess bond a w1 l r w' → Spawns w'
+    spawns_so w1 w' l few g begins o =
+        reaches w' (λ c but.
+        let s = start_of (module_in w) h n vs in
+        acted_before c (spawned c a bond s) a w w1 r w' g
+        (spawned_in a bond w1 w' l r c s (but_grown w w1 c a g but) few begins o.opens o.reports))

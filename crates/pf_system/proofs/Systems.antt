@@ -1,7 +1,6 @@
 -- A system that begins, and the turn of one of its processes, as a transition.
 use Rattle.std.proofs.Common.{◌≡◌, ◌⊎◌, inl, inr, ℕ, zero, suc, ◌+◌, ◌==◌, ◌≤◌, Bool, true, false, List, [], ◌∷◌, ◌++◌}
 use Rattle.std.proofs.Common.{None, if◌then◌else◌, refl, sym, ap, ◌∙◌, subst, arith, length, map}
-use Rattle.pf_terms.specs.Value.{none}
 use Rattle.pf_syntax.specs.Tree.{call, no_trees}
 use Rattle.pf_syntax.specs.Module.{Checked}
 use Rattle.pf_model.specs.Module.{module_of}
@@ -16,7 +15,10 @@ use Rattle.pf_model.specs.declared.report.Actor.TheVariants as actors
 use Rattle.pf_model.specs.Reports.{label_of}
 use Rattle.pf_model.specs.declared.report.Label.{Label}
 use Rattle.pf_ties.specs.Ties.{no_process, ties_opened}
-use Rattle.pf_stepper.specs.MachineView.{MachineView, goes, at_call}
+use Rattle.pf_stepper.specs.MachineView.{goes}
+use Rattle.pf_inbox.specs.InboxView.{InboxView}
+use Rattle.pf_machine.specs.declared.machine.Machine.{Machine}
+use Rattle.pf_image.specs.Machines.{IsMachineAt}
 use Rattle.pf_system.specs.Acts.{OpensWithTies}
 use Rattle.pf_system.specs.Bodies.{body_of, bodies_of}
 use Rattle.pf_system.specs.Slots.{SlotRepresents, SlotsRepresent}
@@ -96,7 +98,7 @@ module _ (m : Checked) (w w' : Processes) (k a left used : ℕ) (l : Label) wher
             (turn a used d h.turn);
         is_there = record {
           present = refl;
-          code = ap (λ z. z.module.value) h.shown.done.basis ∙ r.code;
+          code = ap (λ z. z.checked) h.shown.done.basis ∙ r.code;
           core = h.shown.done.is_there;
           channels = h.shown.done.channels ∙ ap (λ cs.
               posted a d.left.sent (with_senders (length d.left.core.processes) cs)) r.channels;
@@ -136,10 +138,10 @@ pub record IsEmpty (w : Processes) : Type 0 where
   pub channels : w.shared.channels ≡ []
   pub ready : w.ready ≡ []
 
-module _ (w w' : Processes) (k : MachineView) (root : ℕ) (none' : IsEmpty w)
-    (at : k ≡ at_call 0 (checked_in w) root none)
+module _ (w w' : Processes) (k : Machine) (root : ℕ) (none' : IsEmpty w)
+    (at : (b : InboxView) → b.mark ≡ 0 → IsMachineAt w.image 0 (goes (running (call root no_trees))) k b)
     (o : OpensWithTies (ties_opened w.shared.ties None) w (life.Lives k false) w') (edition : ℕ)
-    (most : w.basis.most ≡ most_processes edition) where
+    (most : w.most ≡ most_processes edition) where
   abbrev first : Slot
   first = record { life = life.Lives k false; mailbox = o.slots.0 }
 
@@ -150,15 +152,13 @@ module _ (w w' : Processes) (k : MachineView) (root : ℕ) (none' : IsEmpty w)
   one_row = o.channels ∙ ap (λ z. with_senders (length z + 1) w.shared.channels) none'.slots
       ∙ ap (with_senders 1) none'.channels
 
-  stood : k.standing ≡ goes (running (call root no_trees))
-  stood = ap (λ z. z.standing) at
-
-  first_is : SlotRepresents (checked_in w') zero first (body_of (running (call root no_trees)) [])
+  first_is : SlotRepresents w'.image zero first (body_of (running (call root no_trees)) [])
   first_is =
       record {
         state = (
-          ((ap (λ z. z.own) at, ap (λ z. z.checked) at ∙ ap (λ z. z.module.value) (sym o.basis), stood), refl),
-          o.slots.2 k,
+          subst (λ z. IsMachineAt z.image 0 (goes (running (call root no_trees))) k o.slots.0) (sym o.basis)
+          (at o.slots.0 o.slots.2),
+          refl,
         );
         mailbox = sym o.slots.1;
       }
@@ -166,7 +166,7 @@ module _ (w w' : Processes) (k : MachineView) (root : ℕ) (none' : IsEmpty w)
   begins : RepresentsCore (view_of_processes w') (start root edition).core
   begins =
       record {
-        slots = subst (λ ss. SlotsRepresent (checked_in w') zero ss (bodies_of (start root edition).core))
+        slots = subst (λ ss. SlotsRepresent w'.image zero ss (bodies_of (start root edition).core))
             (sym one_slot)
             (first_is, tt);
         ties = sym (o.tied ∙ ap (λ z. ties_opened z None) none'.ties);
@@ -184,7 +184,7 @@ module _ (w w' : Processes) (k : MachineView) (root : ℕ) (none' : IsEmpty w)
   begins_so m e =
       record {
         present = refl;
-        code = ap (λ z. z.module.value) o.basis ∙ e;
+        code = ap (λ z. z.image.checked) o.basis ∙ e;
         core = begins;
         channels = one_row;
       }

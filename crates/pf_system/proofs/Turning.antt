@@ -4,7 +4,6 @@ use Rattle.std.proofs.Common.{length, slice_set}
 use Rattle.std.specs.Prelude.{slice_get}
 use Rattle.pf_terms.specs.Value.{Value}
 use Rattle.pf_syntax.specs.Tree.{Tree}
-use Rattle.pf_syntax.specs.Module.{Checked}
 use Rattle.pf_model.specs.Module.{Module, module_of}
 use Rattle.pf_model.specs.Context as index
 use Rattle.pf_model.specs.Context.{Frame, ProcessState, running, waiting, ending, ended, goes_on, asks, awaits, moved}
@@ -18,23 +17,22 @@ use Rattle.pf_model.specs.declared.limits.TheConstants.{MOST_PROCESSES}
 use Rattle.pf_model.specs.declared.report.Label.{Label}
 use Rattle.pf_stepper.specs.MicroSteps.{Contracts}
 use Rattle.pf_stepper.specs.Advanced.{Steps, no_step, one_more}
-use Rattle.pf_mailbox.specs.MailView.{MailView}
-use Rattle.pf_stepper.specs.MachineView.{MachineStatus, asking}
+use Rattle.pf_image.specs.ImageView.{Grows}
+use Rattle.pf_stepper.specs.MachineView.{MachineStatus}
 use Rattle.pf_stepper.specs.Moves.{MachineMoved}
-use Rattle.pf_stepper.specs.Turns.{CanAnswer, StepsAndMove, MachineRan}
+use Rattle.pf_stepper.specs.Turns.{StepsAndMove, MachineRan}
 use Rattle.pf_stepper.proofs.Before.{steps_before, turn_after}
 use Rattle.pf_stepper.specs.declared.machine.Move.{Move}
 use Rattle.pf_stepper.specs.declared.machine.Move.TheVariants as v
 use Rattle.pf_system.specs.Bodies.{Body, process_body}
-use Rattle.pf_system.specs.Slots.{LifeAsks, LifeIsLeft, RanInSlot, SlotCanGo}
+use Rattle.pf_system.specs.Slots.{RanInSlot, SlotCanGo}
 use Rattle.pf_system.specs.Processes.{RepresentsCore, IsShaped, Shown, ProcessTurned}
-use Rattle.pf_system.specs.Processes.{checked_in, module_in, view_of_processes}
-use Rattle.pf_system.specs.Settled.{SlotAsksFor, SettlesMove, SettlesAs, LastStep, cut_in}
-use Rattle.pf_system.specs.declared.slot.Life.{Life}
-use Rattle.pf_system.specs.declared.slot.Life.TheVariants as life
+use Rattle.pf_system.specs.Processes.{basis_of, module_in, view_of_processes}
+use Rattle.pf_system.specs.Settled.{SettlesMove, SettlesAs, LastStep, cut_in}
 use Rattle.pf_system.specs.declared.slot.Slot.{Slot}
 use Rattle.pf_system.specs.declared.processes.Processes.{Processes}
 use Rattle.pf_system.proofs.Bodies.{set_length}
+use Rattle.pf_system.proofs.Growing.{basis_grows}
 use Rattle.pf_system.proofs.Changed.{ran_but, left_at, body_at, get_within, slots_length, ties_length_in}
 use Rattle.pf_model.proofs.Turned.{moved_goes_on}
 
@@ -93,10 +91,9 @@ slot_there w c a h e = let k = in_range a c.processes e in let l = slots_length 
 
 module _ (w : Processes) (c : Core) (a : ℕ) (s : Slot) (h : RepresentsCore (view_of_processes w) c)
     (at : slice_get w.slots.items a ≡ Some s) where
-  pub slot_can : can_go (of c a).state ≡ true → SlotCanGo s
+  pub slot_can : can_go (of c a).state ≡ true → SlotCanGo w.image s
   slot_can e =
       record {
-        code = checked_in w;
         own = a;
         body = process_body (of c a);
         is_there = body_at w c a s h at;
@@ -104,7 +101,7 @@ module _ (w : Processes) (c : Core) (a : ℕ) (s : Slot) (h : RepresentsCore (vi
       }
 
   pub still_shaped : (w1 : Processes) (s1 : Slot) → w1.slots.items ≡ slice_set w.slots.items a s1 → w1.shared ≡ w.shared
-      → w1.basis ≡ w.basis → IsShaped a w1
+      → w1.most ≡ w.most → IsShaped a w1
   still_shaped w1 s1 e b m =
       let n : length w1.slots.items ≡ length w.slots.items = ap length e ∙ set_length a w.slots.items s1 in
       let l = get_within a w.slots.items s at in
@@ -119,28 +116,12 @@ module _ (w : Processes) (c : Core) (a : ℕ) (s : Slot) (h : RepresentsCore (vi
         ties = omega arith;
         rows = omega arith;
         few = omega arith;
-        within = subst (λ z. z.most ≤ MOST_PROCESSES) (sym m) h.room.within;
+        within = subst (λ z. z ≤ MOST_PROCESSES) (sym m) h.room.within;
       }
-
-asks_in : (m : Checked) (own : ℕ) (x : MachineStatus) (l : Life) (mail : MailView) (fs : List Frame)
-    → LifeIsLeft m own x l mail → x ≡ asking fs → LifeAsks l
-asks_in m own x (life.Lives k w) mail fs h e = subst CanAnswer (sym (h.0.2 ∙ e)) tt
-asks_in m own x (life.Ends r) mail fs h e = tt
-asks_in m own x (life.Ended r) mail fs h e = tt
-
--- a machine that asked for an action waits for the answer
-pub asks_for : (m : Checked) (own left used : ℕ) (b : Body) (s1 : Slot) (move : Move)
-    → RanInSlot m own left b move used s1 → SlotAsksFor move s1
-asks_for m own left used b s1 (v.Action act) r = asks_in m own r.standing s1.life s1.mailbox r.ran.last.frames r.leaves
-    r.ran.last.is_there
-asks_for m own left used b s1 v.Pure r = tt
-asks_for m own left used b s1 (v.Take t) r = tt
-asks_for m own left used b s1 v.Wait r = tt
-asks_for m own left used b s1 (v.End e) r = tt
 
 -- ---- the turn, among all processes
 
-shown_from : (w w1 w' : Processes) (a : ℕ) (l : Label) (d : Deed) → w1.shared ≡ w.shared → w1.basis ≡ w.basis
+shown_from : (w w1 w' : Processes) (a : ℕ) (l : Label) (d : Deed) → w1.shared ≡ w.shared → basis_of w1 ≡ basis_of w
     → Shown a d w1.shared.channels w1 l w' → Shown a d w.shared.channels w l w'
 shown_from w w1 w' a l d e f h =
     record {
@@ -154,7 +135,7 @@ shown_from w w1 w' a l d e f h =
     }
 
 module _ (w w1 w' : Processes) (c : Core) (a left used : ℕ) (l : Label) (e : w1.shared ≡ w.shared)
-    (f : w1.basis ≡ w.basis) (can : can_go (of c a).state ≡ true)
+    (f : basis_of w1 ≡ basis_of w) (can : can_go (of c a).state ≡ true)
     (x : MachineStatus) (mail : List Value) where
   cut_so : MachineRan (module_in w) a left (of c a).state (of c a).mailbox v.Pure x used mail
       → SettlesMove c a v.Pure x mail w1 l w' → ProcessTurned c a left w l used w'
@@ -175,14 +156,14 @@ module _ (w w1 w' : Processes) (c : Core) (a left used : ℕ) (l : Label) (e : w
         deed = k.deed;
         turn = turn_after (module_in w) a c left used r.before (of c a).state r.middle k.deed r.counted
             r.within r.steps
-            (λ n. subst (λ z. Turn (module_of z.module.value) a c (suc n) r.middle k.deed 1) f (k.last n));
+            (λ n. subst (λ z. Turn (module_of z.checked) a c (suc n) r.middle k.deed 1) f (k.last n));
         within = r.within;
         shown = shown_from w w1 w' a l k.deed e f k.shown;
       }
 
   moved_from : (y : ProcessState) (move : Move) → MachineMoved (module_in w) a y (of c a).mailbox move x mail
       → MachineMoved (module_in w1) a y (of c a).mailbox move x mail
-  moved_from y move h = subst (λ z. MachineMoved (module_of z.module.value) a y (of c a).mailbox move x mail) (sym f) h
+  moved_from y move h = subst (λ z. MachineMoved (module_of z.checked) a y (of c a).mailbox move x mail) (sym f) h
 
   turned_by : (move : Move) → MachineRan (module_in w) a left (of c a).state (of c a).mailbox move x used mail
       → SettlesMove c a move x mail w1 l w' → ProcessTurned c a left w l used w'
@@ -194,10 +175,12 @@ module _ (w w1 w' : Processes) (c : Core) (a left used : ℕ) (l : Label) (e : w
 
 pub turned : (w w1 w' : Processes) (c : Core) (a left used : ℕ) (s s1 : Slot) (move : Move) (l : Label)
     → RepresentsCore (view_of_processes w) c → can_go (of c a).state ≡ true
-    → slice_get w.slots.items a ≡ Some s → RanInSlot (checked_in w) a left (process_body (of c a)) move used s1
+    → slice_get w.slots.items a ≡ Some s
+    → RanInSlot w.image a left (process_body (of c a)) move used w1.image s1
     → w1.slots.items ≡ slice_set w.slots.items a s1 → w1.shared ≡ w.shared
-    → w1.ready ≡ w.ready → w1.basis ≡ w.basis → SettlesAs a move w1 l w' → ProcessTurned c a left w l used w'
-turned w w1 w' c a left used s s1 move l h can at r e b q f k =
+    → w1.ready ≡ w.ready → Grows w.image w1.image → w1.most ≡ w.most → SettlesAs a move w1 l w'
+    → ProcessTurned c a left w l used w'
+turned w w1 w' c a left used s s1 move l h can at r e b q g m k =
     let n = get_within a w.slots.items s at in
-    turned_by w w1 w' c a left used l b f can r.standing s1.mailbox.messages move r.ran
-    (k c r.standing s1 (ran_but w w1 c a s1 h n e b q f) can (left_at w w1 c a s1 r.standing r.leaves n e f))
+    turned_by w w1 w' c a left used l b (basis_grows w w1 g m) can r.standing s1.mailbox.messages move r.ran
+    (k c r.standing s1 (ran_but w w1 c a s1 h n e b q g m) can (left_at w w1 c a s1 r.standing r.leaves n e))

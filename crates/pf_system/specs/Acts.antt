@@ -25,7 +25,7 @@ use Rattle.pf_stepper.specs.Turns.{answer_value}
 use Rattle.pf_stepper.specs.declared.act.Act.{Act as Asked}
 use Rattle.pf_stepper.specs.declared.act.Act.TheVariants as asked
 use Rattle.pf_system.specs.Slots.{LifeRepresents}
-use Rattle.pf_system.specs.Processes.{RepresentsBut, IsLeftAt, Shown, basis_of, module_in}
+use Rattle.pf_system.specs.Processes.{RepresentsBut, IsLeftAt, Shown, base_of, basis_of, module_in}
 use Rattle.pf_system.specs.declared.slot.Life.{Life}
 use Rattle.pf_system.specs.declared.slot.Slot.{Slot}
 use Rattle.pf_system.specs.declared.shared.Shared.{Shared}
@@ -135,8 +135,7 @@ pub record OpensWithTies (ties : AllTies) (w : Processes) (l : Life) (w' : Proce
   pub slots : (b : InboxView) × (b.messages ≡ []) × (b.mark ≡ 0)
       × (w'.slots.items ≡ w.slots.items ++ record { life = l; mailbox = b } ∷ [])
   pub ready : w'.ready ≡ with_number (length w.slots.items) w.ready
-  pub most : w'.most ≡ w.most
-  pub image : w'.image ≡ w.image
+  pub basis : base_of w' ≡ base_of w
 
 -- the ties after it, by the bond of the new process to another
 abbrev pub opened_by : Bond → (other : ℕ) → AllTies → AllTies

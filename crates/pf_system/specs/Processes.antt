@@ -14,6 +14,7 @@ use Rattle.pf_model.specs.declared.limits.TheConstants.{MOST_PROCESSES}
 use Rattle.pf_model.specs.declared.report.Label.{Label}
 use Rattle.pf_ties.specs.Laws.{ties_of}
 use Rattle.pf_stepper.specs.MachineView.{MachineStatus}
+use Rattle.pf_image.specs.ImageView.{ImageView}
 use Rattle.pf_system.specs.Bodies.{Body, bodies_of}
 use Rattle.pf_system.specs.Slots.{SlotRepresents, SlotsRepresent, SlotIsLeft, end_of}
 use Rattle.pf_system.specs.View.{ProcessesView}
@@ -31,8 +32,19 @@ pub record Basis : Type 0 where
   pub checked : Checked
   pub most : ℕ
 
+-- the same with the image whole
+pub record Base : Type 0 where
+  pub image : ImageView
+  pub most : ℕ
+
+abbrev pub base_of : Processes → Base
+base_of w = record { image = w.image; most = w.most }
+
+abbrev pub basis_in : Base → Basis
+basis_in b = record { checked = b.image.checked; most = b.most }
+
 abbrev pub basis_of : Processes → Basis
-basis_of w = record { checked = checked_in w; most = w.most }
+basis_of w = basis_in (base_of w)
 
 abbrev pub view_of_processes : Processes → ProcessesView
 view_of_processes w =

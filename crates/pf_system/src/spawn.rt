@@ -1,6 +1,6 @@
 //! The action that makes a process.
 
-ghost use Rattle.std.specs.Prelude.{◌≡◌, ◌<◌, if◌then◌else◌, length, option_map, IfOk, OnOk};
+ghost use Rattle.std.specs.Prelude.{◌≡◌, ◌<◌, if◌then◌else◌, length, option_map, IfOk, IfSome, OnOk};
 ghost use Rattle.pf_terms.specs.Term.{elements_of, value_of, values_of};
 ghost use Rattle.pf_terms.specs.declared.limits.TheConstants.{MOST_NODES};
 ghost use Rattle.pf_model.specs.Actions.{start_of};
@@ -10,6 +10,7 @@ ghost use Rattle.pf_model.specs.declared.bond.Bond.TheVariants as bonds;
 ghost use Rattle.pf_model.specs.declared.limits.TheConstants.{MOST_PROCESSES};
 ghost use Rattle.pf_ties.specs.Ties.{ties_opened};
 ghost use Rattle.pf_image.specs.ImageView.{Grows};
+ghost use Rattle.pf_image.specs.Machines.{HasFunction};
 ghost use Rattle.pf_system.specs.Acts.{ActsIn, KeepsSlot, LifeBegins, OpensWithTies, OpensProcess, ReportsSpawn};
 ghost use Rattle.pf_system.specs.Acts.{answer};
 ghost use Rattle.pf_system.specs.Acts.{home_function};
@@ -48,8 +49,9 @@ fn elements(alloc: Global, list: &List) -> Result<SmallVec<Term, 4>, NoMemory>
 
 /// The exported function of a module, which is the own one or none, by its name and the number of its arguments.
 fn exported(code: &Module, home: AtomId, name: AtomId, arity: u32) -> Option<FunctionId>
-    ensures { option_map (λ i. i.0) result
+    ensures found { option_map (λ i. i.0) result
         ≡ home_function (module_of code.now) home.0 name.0 arity }
+    ensures there { IfSome result (λ i. HasFunction code.now i.0 arity) }
 {
     if home != code.name() {
         return None;

@@ -11,6 +11,7 @@ ghost use Rattle.pf_model.specs.declared.report.Actor.TheVariants as who;
 ghost use Rattle.pf_model.specs.declared.limits.TheConstants.{MOST_PROCESSES};
 ghost use Rattle.pf_model.specs.Runs.{enabled};
 ghost use Rattle.pf_stepper.specs.Points.{IsPointOf};
+ghost use Rattle.pf_image.specs.Machines.{HasFunction};
 ghost use Rattle.pf_system.specs.Steps.{Begins, IsNoteOf, MayGo, Represents, RunsOut, SimulatesTransition};
 ghost use Rattle.pf_system.specs.Steps.{noted_actors};
 
@@ -70,7 +71,8 @@ impl System {
         root: FunctionId,
         edition: u32,
     ) -> Result<System, NoMemory>
-        requires { IsEdition edition }
+        requires edition { IsEdition edition }
+        requires root { HasFunction «compiled».now.value.checked root.0 0 }
         ensures { IfOk result (Begins «compiled».now.value.checked root.0 edition) }
     {
         System::new_in(alloc, compiled, root, edition, Spare::new(alloc))
@@ -84,7 +86,8 @@ impl System {
         edition: u32,
         mut spare: Spare,
     ) -> Result<System, NoMemory>
-        requires { IsEdition edition }
+        requires edition { IsEdition edition }
+        requires root { HasFunction «compiled».now.value.checked root.0 0 }
         ensures { IfOk result (Begins «compiled».now.value.checked root.0 edition) }
     {
         let mut image = Image::new(alloc, compiled)?;

@@ -3,7 +3,7 @@ use Rattle.std.proofs.lemmas.Result.{on_ok_weaker}
 use Rattle.pf_model.specs.Configuration.{Core, of, is_alive}
 use Rattle.pf_model.specs.Signals.{signal_of}
 use Rattle.pf_ties.specs.Ties as ties
-use Rattle.pf_system.specs.Processes.{RepresentsCore, Shown, view_of_processes}
+use Rattle.pf_system.specs.Processes.{RepresentsCore, Shown, base_of, view_of_processes}
 use Rattle.pf_system.specs.declared.processes.Processes.{Processes}
 use Rattle.pf_system.proofs.Shown.{rows_more}
 use Rattle.pf_system.proofs.Delivering.{shaped, ties_here, delivered_so, by_life}
@@ -19,7 +19,7 @@ taken_so : (w w1 : Processes) (c : Core) → w1 ≡ record w { shared = record w
     → length w1.shared.channels ≡ length w.shared.channels
     → RepresentsCore (view_of_processes w) c → RepresentsCore (view_of_processes w1) c
 taken_so w w1 c e n h =
-    rows_more w w1 c (ap (λ z. z.slots.items) e) (ap (λ z. z.ready) e) (ap (λ z. z.basis) e) h
+    rows_more w w1 c (ap (λ z. z.slots.items) e) (ap (λ z. z.ready) e) (ap base_of e) h
     (h.ties ∙ sym (ap (λ z. z.shared.ties) e)) (omega arith)
 
 pub at_living-requires : goal.at_living-requires

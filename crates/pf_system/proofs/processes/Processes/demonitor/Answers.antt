@@ -8,6 +8,7 @@ use Rattle.pf_system.specs.declared.processes.Processes.{Processes}
 use Rattle.pf_system.proofs.Acting.{not_reference}
 use Rattle.pf_system.proofs.Flushes.{demonitors_in, keeps_flushed, not_flushed, options_refused, reference_refused}
 use Rattle.pf_system.proofs.Flushes.{was_flushed}
+use Rattle.pf_image.proofs.Staying.{grows_itself}
 use Rattle.pf_system.proofs.Settling.{keeps_slot}
 use Rattle.pf_system.proofs.processes.Processes.demonitor.Goals as goal
 
@@ -18,7 +19,7 @@ returns-in_default c =
       acts = reference_refused x.pid x.self.now _ (value_of x.reference) (value_of x.options)
           (not_reference x.reference c.in_default.not-Ref)
           c.raising.ensures;
-      keeps = keeps_slot x.pid x.self.now x.self.now refl;
+      keeps = keeps_slot x.pid x.self.now x.self.now refl (grows_itself x.self.now.image);
     }
 
 pub returns-in_default-flushes-clause-acts : goal.returns-in_default-flushes-clause-acts
@@ -63,5 +64,5 @@ returns c =
           (λ d but. was_flushed x.pid k w w1 w2 r d refl refl refl but s s' at refl refl refl refl c.flush.ensures
           (subst (λ b. CarriesOut (demonitored_so d x.pid k b) x.pid w.shared r w1.shared) flag
           (c.in_ok-value.ensures d but.ties)));
-      keeps = keeps_flushed x.pid k w w2 s s' at refl c.flush.ensures;
+      keeps = keeps_flushed x.pid k w w2 s s' at refl refl c.flush.ensures;
     }

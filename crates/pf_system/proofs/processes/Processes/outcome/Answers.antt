@@ -3,7 +3,6 @@ use Rattle.std.specs.Prelude.{slice_get}
 use Rattle.pf_model.specs.Configuration.{of}
 use Rattle.pf_model.specs.Properties as outcome
 use Rattle.pf_model.specs.Runs.{is_waiting, pids_in_state}
-use Rattle.pf_system.specs.Processes.{checked_in}
 use Rattle.pf_system.proofs.Changed.{body_at}
 use Rattle.pf_system.proofs.Outcomes.{root_failed, root_finished, root_lives}
 use Rattle.pf_system.proofs.processes.Processes.outcome.Goals as goal
@@ -14,7 +13,7 @@ returns-in_ok-copy-in-Ok c d h =
     let s = c.in-Some.root.now in
     let at : slice_get w.slots.items zero ≡ Some s = ap (λ l. slice_get l zero) (sym c.deref.ensures.value)
     ∙ sym c.in-Some.ensures.value in
-    root_finished (checked_in w) zero s.life s.mailbox (of d zero).state _ _ _
+    root_finished w.image zero s.life s.mailbox (of d zero).state _ _ _
     (pids_in_state is_waiting zero d.processes) (body_at w d zero s h at).state c.in-Ended.is
     c.in_ok-copy-in-Ok.ensures c.in-Ok.is
 
@@ -24,7 +23,7 @@ returns-in_ok-copy-in-Err c d h =
     let s = c.in-Some.root.now in
     let at : slice_get w.slots.items zero ≡ Some s = ap (λ l. slice_get l zero) (sym c.deref.ensures.value)
     ∙ sym c.in-Some.ensures.value in
-    root_failed (checked_in w) zero s.life s.mailbox (of d zero).state _ _ _
+    root_failed w.image zero s.life s.mailbox (of d zero).state _ _ _
     (pids_in_state is_waiting zero d.processes) (body_at w d zero s h at).state c.in-Ended.is
     c.in_ok-copy-in-Err.ensures c.in-Err.is
 
@@ -35,5 +34,5 @@ returns-in_default-life c d h =
     let at : slice_get w.slots.items zero ≡ Some s = ap (λ l. slice_get l zero) (sym c.deref.ensures.value)
     ∙ sym c.in-Some.ensures.value in
     ap outcome.deadlock (c.in_ok-waiting.ensures d h)
-    ∙ sym (root_lives (checked_in w) zero s.life s.mailbox (of d zero).state
+    ∙ sym (root_lives w.image zero s.life s.mailbox (of d zero).state
     (pids_in_state is_waiting zero d.processes) c.in_default-life.not-Ended (body_at w d zero s h at).state)

@@ -3,7 +3,6 @@ use Rattle.std.specs.Prelude.{slice_get}
 use Rattle.std.proofs.lemmas.Option.{slice_get-get_or}
 use Rattle.pf_model.specs.Configuration.{of}
 use Rattle.pf_system.specs.Bodies.{process_body}
-use Rattle.pf_system.specs.Processes.{checked_in}
 use Rattle.pf_system.proofs.Changed.{body_at, slots_length}
 use Rattle.pf_system.proofs.Outcomes.{nothing_after, waiting_all, waiting_before, waiting_more}
 use Rattle.pf_system.proofs.processes.Processes.waiting.Goals as goal
@@ -27,7 +26,7 @@ loop-pid-preserved c d h =
     let same : get_or ss i s ≡ s = ap (λ l. get_or l i s) (sym c.deref-slot-items.ensures.value) ∙ sym c.slot-item.is in
     let at : slice_get ss i ≡ Some s = slice_get-get_or ss i s within ∙ ap (λ x. Some x) same in
     let more = waiting_more d i (omega (arith, within, slots_length w d h)) c.is_waiting.result
-    (c.is_waiting.ensures (checked_in w) i (process_body (of d i)) (body_at w d i s h at)) in
+    (c.is_waiting.ensures w.image i (process_body (of d i)) (body_at w d i s h at)) in
     let before = waiting_before d i in
     elim c.if-is_waiting.branch [
       | then-is_waiting+in_ok-push b ↦

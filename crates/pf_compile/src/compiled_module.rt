@@ -23,7 +23,13 @@ impl Model for CompiledModule {
     ghost use Rattle.pf_compile.specs.Compiled.{program_code};
     ghost use Rattle.pf_compile.specs.CompiledView.{CompiledView, IsProgramOf};
 
+    ghost use Rattle.std.specs.Coded.{codes};
+    ghost use Rattle.pf_terms.specs.Encoding.{coded_value};
+    ghost use Rattle.pf_syntax.specs.Module.{coded_checked};
+
     ghost Value = { CompiledView };
+
+    ghost coded = { Prim.hlevel (codes, coded_checked, coded_value) };
 
     ghost view = { λ s. record { checked = arc_value s.module; code = program_code s.program } };
 
