@@ -62,7 +62,8 @@ fn begin(process: &mut Process, pc: usize, words: &[Word]) -> Result<(), NoMemor
 {
     empty(process);
     process.machine.pc = pc;
-    process.machine.stack.fill(0, words)
+    process.machine.stack.fill(0, words)?;
+    Ok(())
 }
 
 impl Machine {
@@ -139,6 +140,7 @@ impl Machine {
     {
         self.spent = true;
         let words = lowered(setting.alloc, heap, arguments)?;
-        self.begin_with(heap, setting, function, &words)
+        self.begin_with(heap, setting, function, &words)?;
+        Ok(())
     }
 }
