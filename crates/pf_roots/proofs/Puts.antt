@@ -1,5 +1,5 @@
 -- Machines in whose places the words of a collection were put.
-use Rattle.std.proofs.Common.{◌≡◌, ◌+◌, ◌<◌, ◌≤◌, ℕ, List, [], ◌∷◌, ◌++◌, length, take, drop, set, get_or, refl, sym, ap}
+use Rattle.std.proofs.Common.{◌≡◌, ◌+◌, ◌<◌, ◌≤◌, ℕ, suc, List, [], ◌∷◌, ◌++◌, length, take, drop, set, get_or, refl, sym, ap}
 use Rattle.std.proofs.Common.{◌∙◌, subst, arith}
 use Rattle.std.specs.List.{All}
 use Rattle.std.proofs.lemmas.List.{length-append, append-nil, append_assoc, drop-set-lt, drop_more, drop_all, take_all}
@@ -10,8 +10,8 @@ use Rattle.pf_heap.specs.Heap.{Cell, word_value, word_values, IsWordOf}
 use Rattle.pf_heap.specs.declared.word.Word.{Word}
 use Rattle.pf_machine.specs.declared.machine.Machine.{Machine}
 use Rattle.pf_roots.specs.Moved.{word_in, HasValues}
-use Rattle.pf_roots.specs.Kept.{words_of, all_words_of, IsKept, AreKept}
-use Rattle.pf_roots.specs.Puts.{IsPut, ArePut}
+use Rattle.pf_roots.specs.Kept.{words_of, all_words_of, AreKept}
+use Rattle.pf_roots.specs.Puts.{IsPut, ArePut, IsPutKept, PutMachinesAreKept}
 use Rattle.pf_roots.proofs.Kept.{over_moved, stands_moved}
 
 -- as many words of a machine as there are, and those that are left
@@ -20,7 +20,7 @@ pub put_count : (k : Machine) (ws : List Word) (j : Machine) (rest us : List Wor
 put_count k ws j rest us p few =
     let regs = k.process.machine.stack.words.items in
     let w = word_in k.process.status in
-    let all : length ws ≡ length p.own + (1 + length rest) = ap length p.all ∙ length-append p.own (p.last ∷ rest) in
+    let all : length ws ≡ length p.own + suc (length rest) = ap length p.all ∙ length-append p.own (p.last ∷ rest) in
     let outer : length (words_of k.process ++ us) ≡ length (words_of k.process) + length us =
     length-append (words_of k.process) us in
     let inner : length (words_of k.process) ≡ length regs + 1 = length-append regs (w ∷ []) in
@@ -42,8 +42,7 @@ module _ (h g : List Cell) where
   same_length (w ∷ ws) [] e = absurd cc
   same_length (w ∷ ws) (u ∷ us) e =
       let rest : word_values g ws ≡ word_values h us = cc in
-      let n = same_length ws us rest in
-      omega (arith, n)
+      ap suc (same_length ws us rest)
 
   -- the same values in front and after
   pub record Parted (own rest us vs : List Word) : Type 0 where
@@ -62,21 +61,16 @@ module _ (h g : List Cell) where
       let p = parted own rest us vs count others in
       record { front = rw (first, p.front) refl; back = p.back }
 
-  -- what is known of the words that are left
-  pub record IsPutKept (k : Machine) (j : Machine) (rest us : List Word) : Type 0 where
-    pub kept : IsKept h k g j
-    pub values : word_values g rest ≡ word_values h us
-    pub words : All (IsWordOf g) rest
-
-  put_kept : (k : Machine) (ws : List Word) (j : Machine) (rest us : List Word) → IsPut k ws j rest
-      → word_values g ws ≡ word_values h (words_of k.process ++ us) → All (IsWordOf g) ws → IsPutKept k j rest us
+  pub put_kept : (k : Machine) (ws : List Word) (j : Machine) (rest us : List Word) → IsPut k ws j rest
+      → word_values g ws ≡ word_values h (words_of k.process ++ us) → All (IsWordOf g) ws
+      → IsPutKept h g k j rest us
   put_kept k ws j rest us p e a =
       let regs = k.process.machine.stack.words.items in
       let w = word_in k.process.status in
       let there : word_values g (p.own ++ p.last ∷ rest) ≡ word_values h (regs ++ w ∷ us) =
       ap (word_values g) (sym p.all) ∙ e ∙ ap (word_values h) (append_assoc regs (w ∷ []) us) in
       let q = parted p.own (p.last ∷ rest) regs (w ∷ us) p.count there in
-      let back = q.back in
+      let back : word_values g (p.last ∷ rest) ≡ word_values h (w ∷ us) = q.back in
       let last : word_value g p.last ≡ word_value h w = cc in
       let left : word_values g rest ≡ word_values h us = cc in
       let words = subst (All (IsWordOf g)) p.all a in
@@ -105,6 +99,9 @@ module _ (h g : List Cell) where
   puts_kept (k ∷ ks) ws (j ∷ js) p e a =
       let x = put_kept k ws j p.0 (all_words_of ks) p.1 e a in
       (x.kept, puts_kept ks p.0 js p.2 x.values x.words)
+
+pub put_machines_are_kept : PutMachinesAreKept
+put_machines_are_kept h g k ws j rest us p e a = put_kept h g k ws j rest us p e a
 
 -- ---- one machine after the other
 
