@@ -40,14 +40,12 @@ fn empty(process: &mut Process)
     ensures words { process.new.machine.stack.words.items ≡ [] }
     ensures base { process.new.machine.stack.base ≡ 0 }
     ensures waiting { process.new.machine.waiting.items ≡ [] }
-    ensures status { process.new.status ≡ Status.Begins }
 {
     process.machine.stack.words.clear();
     process.machine.stack.words.shrink_to(MOST_WORDS);
     process.machine.stack.base = 0;
     process.machine.waiting.clear();
     process.machine.waiting.shrink_to(MOST_WAITING);
-    process.status = Status::Begins;
 }
 
 /// A process, in place of another one, that begins at a place of the code, with these words as its arguments.
@@ -61,8 +59,10 @@ fn begin(process: &mut Process, pc: usize, words: &[Word]) -> Result<(), NoMemor
         (goes_on (running (call i (literals (word_values h words.now)))))) }
 {
     empty(process);
+    process.status = Status::Begins;
     process.machine.pc = pc;
-    process.machine.stack.fill(0, words)
+    process.machine.stack.fill(0, words)?;
+    Ok(())
 }
 
 impl Machine {
@@ -94,6 +94,7 @@ impl Machine {
     {
         self.spent = true;
         empty(&mut self.process);
+        self.process.status = Status::Begins;
     }
 
     /// A process, in place of the one that there was, at the call of a function with these words as its arguments. It
@@ -139,6 +140,7 @@ impl Machine {
     {
         self.spent = true;
         let words = lowered(setting.alloc, heap, arguments)?;
-        self.begin_with(heap, setting, function, &words)
+        self.begin_with(heap, setting, function, &words)?;
+        Ok(())
     }
 }

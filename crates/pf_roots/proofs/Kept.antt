@@ -20,6 +20,7 @@ use Rattle.pf_turns.specs.declared.status.Status.TheVariants as status
 use Rattle.pf_inbox.specs.InboxView.{InboxView}
 use Rattle.pf_machine.specs.Statuses.{GoesOnWith, IsOver, IsAtStatus}
 use Rattle.pf_machine.proofs.Inboxes.{all_words}
+use Rattle.pf_roots.specs.Kept.{KeptConstantsAre}
 use Rattle.pf_roots.specs.Moved.{word_in, with_word, IsMoved, HasValues, ProcessesMove, ConstantsMove}
 use Rattle.pf_roots.proofs.Values.{have_moved, in_moved, values_at}
 
@@ -62,7 +63,7 @@ module _ (m : Module) (own : ℕ) (code : Code) (h g : List Cell) (k j : Process
       let e = subst (λ xs. word_values g xs ≡ word_values h us) (sym i.words) v.registers in
       in_moved h g k.machine j.machine s (values_at h g us j.machine.stack.words.items e) i.base i.pc i.waiting
 
-  stands_moved : (x : MachineStatus) → IsAtStatus m own code h k b x → IsAtStatus m own code g j b x
+  pub stands_moved : (x : MachineStatus) → IsAtStatus m own code h k b x → IsAtStatus m own code g j b x
   stands_moved spent a = absurd a
   stands_moved (goes u) a =
       subst (λ y. GoesOnWith m own code g j.machine y b u) (sym i.status)
@@ -75,16 +76,20 @@ module _ (m : Module) (own : ℕ) (code : Code) (h g : List Cell) (k j : Process
   )
   stands_moved over a = tt
 
-  over_moved : IsOver g j
-  over_moved = (
-    subst (AreWords g) (sym i.words) (all_words g ws v.words),
-    subst (IsStatusOf g) (sym i.status) (status_moved g k.status w v.word),
-  )
+pub over_moved : (h g : List Cell) (k j : Process) (ws : List Word) (w : Word) → HasValues h k g ws w → IsMoved k ws w j
+    → IsOver g j
+over_moved h g k j ws w v i = (
+  subst (AreWords g) (sym i.words) (all_words g ws v.words),
+  subst (IsStatusOf g) (sym i.status) (status_moved g k.status w v.word),
+)
 
 pub processes_moved : ProcessesMove
 processes_moved m own code h g k j ws w b x v i a =
-    (over_moved m own code h g k j ws w b v i, stands_moved m own code h g k j ws w b v i x a)
+    (over_moved h g k j ws w v i, stands_moved m own code h g k j ws w b v i x a)
 
 pub constants_moved : ConstantsMove
 constants_moved h g cs ws ks e words a =
     (all_words g ws words, have_moved h g cs ws (values_at h g cs ws e) 0 ks a)
+
+pub kept_constants : KeptConstantsAre
+kept_constants h g cs ws ks e a = constants_moved h g cs ws ks e.values e.words a

@@ -1,2 +1,4 @@
 pub mod Values
 pub mod Kept
+pub mod Puts
+pub mod Whole

@@ -1,5 +1,5 @@
 -- The machines and the constants of a whole run after a collection.
-use Rattle.std.specs.Prelude.{◌≡◌, ◌<◌, ◌*◌, ℕ, List, [], ◌∷◌, ◌++◌, length, max, slice_get, Some}
+use Rattle.std.specs.Prelude.{◌≡◌, ◌*◌, ℕ, List, [], ◌∷◌, ◌++◌, max}
 use Rattle.std.specs.List.{All}
 use Rattle.pf_terms.specs.Value.{Value}
 use Rattle.pf_heap.specs.Heap.{Cell, word_values, IsWordOf}
@@ -25,20 +25,22 @@ all_words_of (k ∷ ks) = words_of k.process ++ all_words_of ks
 
 -- the words of all machines are of this heap
 abbrev pub AreOver : List Cell → List Machine → Type 0
-AreOver h ks = All (λ k. IsOver h k.process) ks
+AreOver h [] = Unit {0}
+AreOver h (k ∷ ks) = IsOver h k.process × AreOver h ks
 
--- a machine has the status over another heap that it had, whatever its messages
+-- a machine has over another heap each status that it had, with the same messages
 pub record IsKept (h : List Cell) (k : Machine) (g : List Cell) (j : Machine) : Type 0 where
   pub over : IsOver g j.process
   pub spent : j.spent ≡ k.spent
   pub status : (m : Module) (own : ℕ) (code : Code) (b : InboxView) (x : MachineStatus)
       → IsAtStatus m own code h k.process b x → IsAtStatus m own code g j.process b x
 
--- so it is of each machine
-pub record AreKept (h : List Cell) (ks : List Machine) (g : List Cell) (js : List Machine) : Type 0 where
-  pub count : length js ≡ length ks
-  pub over : AreOver g js
-  pub each : (i : ℕ) (k j : Machine) → slice_get ks i ≡ Some k → slice_get js i ≡ Some j → IsKept h k g j
+-- so has each of these machines
+abbrev pub AreKept : List Cell → List Machine → List Cell → List Machine → Type 0
+AreKept h [] g [] = Unit {0}
+AreKept h [] g (j ∷ js) = ⊥
+AreKept h (k ∷ ks) g [] = ⊥
+AreKept h (k ∷ ks) g (j ∷ js) = IsKept h k g j × AreKept h ks g js
 
 -- constants have the values that they had
 pub record ConstantsKept (h : List Cell) (cs : List Word) (g : List Cell) (ws : List Word) : Type 0 where

@@ -1,9 +1,11 @@
 -- Words that are put in place of those of machines, one after the other.
-use Rattle.std.specs.Prelude.{◌≡◌, ◌+◌, ℕ, suc, List, ◌∷◌, ◌++◌, length, take, drop, slice_get, Some}
+use Rattle.std.specs.Prelude.{◌≡◌, List, [], ◌∷◌, ◌++◌, length}
+use Rattle.std.specs.List.{All}
+use Rattle.pf_heap.specs.Heap.{Cell, word_values, IsWordOf}
 use Rattle.pf_heap.specs.declared.word.Word.{Word}
 use Rattle.pf_machine.specs.declared.machine.Machine.{Machine}
 use Rattle.pf_roots.specs.Moved.{IsMoved}
-use Rattle.pf_roots.specs.Kept.{all_words_of}
+use Rattle.pf_roots.specs.Kept.{words_of, IsKept}
 
 -- the first of these words are in place of those of a machine, and these are left
 pub record IsPut (k : Machine) (ws : List Word) (j : Machine) (rest : List Word) : Type 0 where
@@ -14,12 +16,20 @@ pub record IsPut (k : Machine) (ws : List Word) (j : Machine) (rest : List Word)
   pub moved : IsMoved k.process own last j.process
   pub spent : j.spent ≡ k.spent
 
--- where the words of a machine begin among those of all
-abbrev pub begin_of : List Machine → ℕ → ℕ
-begin_of ks i = length (all_words_of (take i ks))
+-- so it is of each machine, with the words that those before left
+abbrev pub ArePut : List Machine → List Word → List Machine → Type 0
+ArePut [] ws [] = Unit {0}
+ArePut [] ws (j ∷ js) = ⊥
+ArePut (k ∷ ks) ws [] = ⊥
+ArePut (k ∷ ks) ws (j ∷ js) = (rest : List Word) × IsPut k ws j rest × ArePut ks rest js
 
--- so it is of each machine, with the words where its own begin
-pub record ArePut (ks : List Machine) (ws : List Word) (js : List Machine) : Type 0 where
-  pub count : length js ≡ length ks
-  pub each : (i : ℕ) (k j : Machine) → slice_get ks i ≡ Some k → slice_get js i ≡ Some j
-      → IsPut k (drop (begin_of ks i) ws) j (drop (begin_of ks (suc i)) ws)
+-- a machine is as it was, and the words that are left have the values of these
+pub record IsPutKept (h g : List Cell) (k j : Machine) (rest us : List Word) : Type 0 where
+  pub kept : IsKept h k g j
+  pub values : word_values g rest ≡ word_values h us
+  pub words : All (IsWordOf g) rest
+
+abbrev pub PutMachinesAreKept : Type 0
+PutMachinesAreKept = (h g : List Cell) (k : Machine) (ws : List Word) (j : Machine) (rest us : List Word)
+    → IsPut k ws j rest → word_values g ws ≡ word_values h (words_of k.process ++ us) → All (IsWordOf g) ws
+    → IsPutKept h g k j rest us

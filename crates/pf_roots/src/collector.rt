@@ -32,6 +32,7 @@ pub fn collect(
     requires machines { AreOver heap.old machines.old }
     ensures constants { ConstantsKept heap.old constants.old.items heap.new constants.new.items }
     ensures machines { AreKept heap.old machines.old heap.new machines.new }
+    ensures over { AreOver heap.new machines.new }
     ensures shorter { length heap.new ≤ length heap.old }
 {
     let roots = all_roots(alloc, constants, machines)?;
@@ -52,7 +53,7 @@ impl Collector {
     pub fn is_due(&self, heap: &Heap) -> bool
         ensures { IsTrue result ↔ (most_cells self.now.lived < length heap.now) }
     {
-        heap.len() / 2 >= self.lived.max(FEW) && heap.len() > 2 * self.lived.max(FEW)
+        heap.len() > self.lived.max(FEW).saturating_mul(2)
     }
 
     /// Collects where the heap has grown past twice what lived last, and else does nothing.
@@ -67,6 +68,7 @@ impl Collector {
         requires machines { AreOver heap.old machines.old }
         ensures constants { ConstantsKept heap.old constants.old.items heap.new constants.new.items }
         ensures machines { AreKept heap.old machines.old heap.new machines.new }
+        ensures over { AreOver heap.new machines.new }
         ensures shorter { length heap.new ≤ length heap.old }
         ensures untried { length heap.old ≤ most_cells self.old.lived → (heap.new ≡ heap.old)
             × (constants.new.items ≡ constants.old.items) × (machines.new ≡ machines.old)

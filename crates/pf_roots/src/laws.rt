@@ -2,6 +2,7 @@
 
 ghost use Rattle.pf_roots.specs.Moved.{ConstantsMove, ProcessesMove};
 ghost use Rattle.pf_roots.specs.Kept.{KeptConstantsAre};
+ghost use Rattle.pf_roots.specs.Puts.{PutMachinesAreKept};
 
 /// A process whose words were moved has the status that it had.
 pub fn processes_move()
@@ -16,4 +17,10 @@ pub fn constants_move()
 /// Constants that kept their values are those of the same code.
 pub fn kept_constants_are()
     ensures { KeptConstantsAre }
+{}
+
+/// A machine in whose place words of the same values were put is as it was, and the words that are left have the values
+/// of the others.
+pub fn put_machines_are_kept()
+    ensures { PutMachinesAreKept }
 {}

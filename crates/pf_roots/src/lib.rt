@@ -8,5 +8,6 @@ mod moving;
 mod roots;
 
 pub use collector::{Collector, collect};
-pub use laws::{constants_move, kept_constants_are, processes_move};
+pub use laws::{constants_move, kept_constants_are, processes_move, put_machines_are_kept};
+pub use moving::move_machine;
 pub use roots::{add_roots, move_words};

@@ -31,17 +31,13 @@ pub(crate) fn all_roots(
 }
 
 /// Puts the first of these words in place of those of a machine, and answers the others.
-fn move_one<'a>(machine: &mut Machine, words: &'a [Word]) -> &'a [Word]
+pub fn move_machine<'a>(machine: &mut Machine, words: &'a [Word]) -> &'a [Word]
     requires { length machine.old.process.machine.stack.words.items + 1 ≤ length words.now }
     ensures { IsPut machine.old words.now machine.new result.now }
 {
     let count = machine.process.machine.stack.words.len();
-    let (own, others) = words.split_at(count);
-    let Some((last, rest)) = others.split_first() else {
-        unreachable!();
-    };
-    move_words(&mut machine.process, own, *last);
-    rest
+    move_words(&mut machine.process, &words[..count], words[count]);
+    &words[count + 1..]
 }
 
 /// Puts words in place of those of all machines.
@@ -51,7 +47,7 @@ fn move_machines(machines: &mut [Machine], words: &[Word])
 {
     let mut rest = words;
     for index in 0..machines.len() {
-        rest = move_one(&mut machines[index], rest);
+        rest = move_machine(&mut machines[index], rest);
     }
 }
 
@@ -65,7 +61,7 @@ pub(crate) fn move_all(constants: &mut Vec<Word>, machines: &mut [Machine], word
         → word_values g words.now ≡ word_values h (constants.old.items ++ all_words_of machines.old)
         → All (IsWordOf g) words.now → AreKept h machines.old g machines.new }
 {
-    let (front, others) = words.split_at(constants.len());
-    constants.copy_from_slice(front);
-    move_machines(machines, others);
+    let count = constants.len();
+    constants.copy_from_slice(&words[..count]);
+    move_machines(machines, &words[count..]);
 }
