@@ -8,7 +8,7 @@ ghost use Rattle.pf_heap.specs.Heap.{word_values, Cell, IsWordOf, Keeps};
 ghost use Rattle.pf_model.specs.Module.{Module};
 ghost use Rattle.pf_model.specs.Context.{goes_on, literals, running};
 ghost use Rattle.pf_code.specs.Sound.{Code};
-ghost use Rattle.pf_code.specs.Machine as code;
+ghost use Rattle.pf_code.specs.Machine as place;
 ghost use Rattle.pf_code.specs.Simulation.{IsSoundFor};
 ghost use Rattle.pf_loop.specs.View.{AreWords};
 ghost use Rattle.pf_stepper.specs.MachineView.{goes};
@@ -54,7 +54,7 @@ fn begin(process: &mut Process, pc: usize, words: &[Word]) -> Result<(), NoMemor
     ensures status { (h : List Cell) → IsStatusOf h process.new.status }
     ensures begins { OnOk result ((m : Module) (own : ℕ) (code : Code) (entries : List ℕ) (h : List Cell)
         (i : ℕ) (f : Function) → IsSoundFor m code entries → slice_get m.functions i ≡ Some f
-        → f.arity ≡ length words.now → code.entry entries i ≡ pc
+        → f.arity ≡ length words.now → place.entry entries i ≡ pc
         → Represents m own code h process.new.machine process.new.status
         (goes_on (running (call i (literals (word_values h words.now)))))) }
 {
