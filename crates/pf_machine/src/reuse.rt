@@ -20,7 +20,7 @@ use crate::lowering::lowered;
 use crate::machine::{Machine, entry};
 use pf_errors::NoMemory;
 use pf_heap::{Heap, Word};
-use pf_loop::{Machine as Code, Setting, Stack, Waiting};
+use pf_loop::{Machine as Registers, Setting, Stack, Waiting};
 use pf_syntax::FunctionId;
 use pf_terms::Term;
 use pf_turns::{Process, Status};
@@ -73,7 +73,7 @@ impl Machine {
     {
         Machine {
             process: Process {
-                machine: Code {
+                machine: Registers {
                     stack: Stack {
                         words: Vec::new(alloc),
                         base: 0,
