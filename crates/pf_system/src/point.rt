@@ -9,24 +9,25 @@ ghost use Rattle.pf_system.specs.Slots.{SlotRepresents};
 
 use crate::processes::Processes;
 use crate::slot::{Life, Slot};
+use pf_image::Image;
 use pf_stepper::Point;
 use pf_syntax::Module;
 
 impl Slot {
     /// Where the process is, and the module that it runs, in whose code that is. None where it has ended.
-    fn point<'a>(&'a self, code: &'a Module) -> Option<(&'a Module, Point)>
-        ensures own { (own : _) (b : _) → SlotRepresents code.now own self.now b
-            → IfSome result (λ x. x.0.now ≡ code.now) }
-        ensures point { (own : _) (b : _) → SlotRepresents code.now own self.now b
+    fn point<'a>(&'a self, image: &'a Image) -> Option<(&'a Module, Point)>
+        ensures own { IfSome result (λ x. x.0.now ≡ image.now.checked) }
+        ensures point { (own : _) (b : _) → SlotRepresents image.now own self.now b
             → MatchOption result (is_alive b.state ≡ false)
-            (λ x. IsPointOf code.now.tables (woken b.state) x.1) }
+            (λ x. IsPointOf image.now.checked.tables (woken b.state) x.1) }
     {
         match &self.life {
+            // Which node that is, code doesn't say yet.
             Life::Lives {
                 machine: _,
                 waits: _,
-            } => Some((code, Point::Nowhere)),
-            Life::Ends(_) => Some((code, Point::Nowhere)),
+            } => Some((image.module(), Point::Nowhere)),
+            Life::Ends(_) => Some((image.module(), Point::Nowhere)),
             Life::Ended(_) => None,
         }
     }
@@ -43,7 +44,7 @@ impl Processes {
             (λ x. IsPointOf (checked_in self.now).tables (woken (of c pid).state) x.1) }
     {
         match self.slots.get(pid as usize) {
-            Some(slot) => slot.point(self.image.module()),
+            Some(slot) => slot.point(&self.image),
             None => None,
         }
     }

@@ -48,12 +48,13 @@ impl Model for System {
     ghost use Rattle.std.specs.Coded.{codes};
     ghost use Rattle.pf_syntax.specs.Module.{coded_checked};
     ghost use Rattle.pf_channels.specs.Encoding.{coded_channels};
+    ghost use Rattle.pf_terms.specs.Encoding.{coded_value};
     ghost use Rattle.pf_system.specs.contracts.slot.Slot as slot;
     ghost use Rattle.pf_system.specs.View.{SystemView};
 
     ghost Value = { SystemView };
 
-    ghost coded = { Prim.hlevel (codes, slot.the_row.coded, coded_checked, coded_channels) };
+    ghost coded = { Prim.hlevel (codes, slot.the_row.coded, coded_checked, coded_channels, coded_value) };
 
     ghost use Rattle.pf_system.specs.Steps.{IsValid, view_of_inside};
 
