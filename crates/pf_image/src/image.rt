@@ -51,10 +51,12 @@ impl Model for Image {
 }
 
 /// The words of constants in a heap.
+#[tactic(auto, using(crate::proofs::Held::lowered_are))]
 fn constants_in(alloc: Global, heap: &mut Heap, terms: &[Term]) -> Result<Vec<Word>, NoMemory>
     ensures { IfOk result (λ ws. AreConstants heap.new ws.items (map value_of terms.now)) }
 {
-    lowered(alloc, heap, terms)
+    let words = lowered(alloc, heap, terms)?;
+    Ok(words)
 }
 
 /// What the machine of the process of this pid runs in.

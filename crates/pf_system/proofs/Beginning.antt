@@ -63,7 +63,7 @@ arity_is name n f h = let e : (f.arity == n) ≡ true = by (f.name == name) (f.a
     by true u e = e
     by false u e = absurd cc
 
-found_at : (m : Checked) (name n i : ℕ) → first_named name n m.functions ≡ Some i → HasFunction m i n
+pub found_at : (m : Checked) (name n i : ℕ) → first_named name n m.functions ≡ Some i → HasFunction m i n
 found_at m name n i h =
     let d : Function = record { name = 0; arity = 0; exported = false; clauses = [] } in
     let k = position-Some (is_named name n) m.functions i d h in

@@ -92,3 +92,6 @@ pub basis_grows : (w w' : Processes) → Grows w.image w'.image → w'.most ≡ 
 basis_grows w w' g e =
     ap {B = Basis} (λ z. record { checked = z; most = w'.most }) g.checked
     ∙ ap {B = Basis} (λ z. record { checked = w.image.checked; most = z }) e
+
+pub grows_here : (x : ImageView) → Grows x x
+grows_here x = grows_itself x

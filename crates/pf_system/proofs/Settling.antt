@@ -138,6 +138,10 @@ pub keeps_slot : (n : ℕ) (w w' : Processes) → slice_get w'.slots.items n ≡
 keeps_slot n w w' e g =
     record { grows = g; keeps = λ s h. (s, e ∙ h, record { life = refl; mark = λ z. z }) }
 
+pub keeps_same : (n : ℕ) (w w' : Processes) → w'.slots ≡ w.slots → w'.image ≡ w.image → KeepsSlot n w w'
+keeps_same n w w' e i =
+    keeps_slot n w w' (ap (λ z. slice_get z.items n) e) (subst (Grows w.image) (sym i) (grows_itself w.image))
+
 -- nothing but ties and channels is changed
 pub between : (n : ℕ) (c d : Core) (w w' : Processes) → Keeps c d → ties_of d ≡ w'.shared.ties
     → length w.shared.channels ≤ length w'.shared.channels

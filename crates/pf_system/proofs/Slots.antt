@@ -1,11 +1,11 @@
 -- What the calls of a slot do.
-use Rattle.std.proofs.Common.{◌≡◌, ℕ, zero, ◌<◌, Bool, true, false, List, refl, sym, ap, ◌∙◌, subst, arith}
+use Rattle.std.proofs.Common.{◌≡◌, ℕ, zero, ◌<◌, Bool, true, false, List, [], ◌∷◌, ◌++◌, refl, sym, ap, ◌∙◌, subst, arith}
 use Rattle.std.specs.Prelude.{Result, Ok, Err}
 use Rattle.pf_terms.specs.Value.{Value}
 use Rattle.pf_terms.specs.Term.{value_of}
 use Rattle.pf_terms.specs.declared.term.Term.{Term}
-use Rattle.pf_syntax.specs.Tree.{Tree}
-use Rattle.pf_model.specs.Module.{module_of}
+use Rattle.pf_syntax.specs.Tree.{Tree, Clauses}
+use Rattle.pf_model.specs.Module.{Module, module_of}
 use Rattle.pf_model.specs.Context.{Frame, ProcessState, running, waiting, ending, ended, goes_on}
 use Rattle.pf_model.specs.Deliveries.{woken}
 use Rattle.pf_model.specs.Runs.{can_go, is_waiting}
@@ -15,14 +15,15 @@ use Rattle.pf_stepper.specs.MachineView.{goes, asking, over}
 use Rattle.pf_stepper.specs.Turns.{MachineRan, answer_value}
 use Rattle.pf_stepper.specs.declared.machine.Move.{Move}
 use Rattle.pf_stepper.specs.declared.machine.Move.TheVariants as v
-use Rattle.pf_inbox.specs.InboxView.{InboxView}
+use Rattle.pf_inbox.specs.InboxView.{InboxView, delivered}
+use Rattle.pf_inbox.specs.Tests.{FitsNoneBefore}
 use Rattle.pf_machine.specs.Stays.{KeepsMark}
 use Rattle.pf_machine.specs.declared.machine.Machine.{Machine}
 use Rattle.pf_machine.specs.declared.machine.Turn.{Turn}
 use Rattle.pf_image.specs.ImageView.{ImageView}
 use Rattle.pf_image.specs.Machines.{IsMachineAt, IsOverImage, RanInImage}
 use Rattle.pf_image.proofs.Staying.{message_arrives}
-use Rattle.pf_system.specs.Bodies.{Body, body_of}
+use Rattle.pf_system.specs.Bodies.{Body, body_of, with_one_message}
 use Rattle.pf_system.specs.Slots.{IsMachineIn, LifeIsOver, LifeRepresents, SlotRepresents, SlotIsLeft, RanInSlot}
 use Rattle.pf_system.specs.declared.slot.Life.{Life}
 use Rattle.pf_system.specs.declared.slot.Life.TheVariants as life
@@ -165,6 +166,18 @@ pub lives_in : (x : ImageView) (own : ℕ) (l : Life) (mail : InboxView) (b : Bo
     → l ≡ life.Lives k w → SlotRepresents x own (slot_with l mail) b
     → SlotRepresents x own (slot_with (life.Lives k w) mail) b
 lives_in x own l mail b k w e h = subst (λ z. SlotRepresents x own (slot_with z mail) b) e h
+
+-- a message comes for a process with a machine
+pub placed_slot : (x : ImageView) (own : ℕ) (k : Machine) (w : Bool) (mail mail' : InboxView) (v : Value) (b : Body)
+    → mail' ≡ delivered v mail
+    → ((m : Module) (own : ℕ) (ks : Clauses) → FitsNoneBefore m own ks mail → FitsNoneBefore m own ks mail')
+    → SlotRepresents x own (slot_with (life.Lives k w) mail) b
+    → SlotRepresents x own (slot_with (life.Lives k false) mail') (with_one_message v b)
+placed_slot x own k w mail mail' v b e before h =
+    record {
+      state = woken_in x own k w mail mail' b.state (record { mark = ap (λ z. z.mark) e; before = before }) h.state;
+      mailbox = ap (λ vs. vs ++ v ∷ []) h.mailbox ∙ sym (ap (λ z. z.messages) e);
+    }
 
 -- a message comes for a process without a machine
 pub woken_as : (x : ImageView) (own : ℕ) (l : Life) (mail mail' : InboxView) (s : ProcessState)

@@ -50,6 +50,7 @@ impl Shared {
 
 impl Processes {
     /// A send leaves the slots as they are.
+    #[tactic(auto, using(crate::proofs::Settling::keeps_same))]
     fn send(
         &mut self,
         alloc: Global,
@@ -68,6 +69,7 @@ impl Processes {
 
     /// So does each other action that makes no process, and takes no message out.
     #[inline(never)]
+    #[tactic(auto, using(crate::proofs::Settling::keeps_same))]
     fn act_between(
         &mut self,
         alloc: Global,

@@ -57,6 +57,7 @@ impl Slot {
 impl Processes {
     /// `demonitor/1` and `demonitor/2`.
     #[inline(never)]
+    #[tactic(auto, using(crate::proofs::Settling::keeps_same))]
     pub(crate) fn demonitor(
         &mut self,
         alloc: Global,

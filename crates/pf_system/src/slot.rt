@@ -40,6 +40,8 @@ pub(crate) struct Slot {
 impl Slot {
     /// All steps of the process of this pid up to and with its next action, message, wait or end, but no more than
     /// `left`: how many they were, and in `did` the move that ended them.
+    #[tactic(auto, using(crate::proofs::Slots::ran_machine, crate::proofs::Slots::ran_to_end,
+    crate::proofs::Slots::over_slot, crate::proofs::Slots::lives_in, crate::proofs::Growing::grows_here))]
     pub(crate) fn run(
         &mut self,
         alloc: Global,
@@ -71,6 +73,8 @@ impl Slot {
     }
 
     /// The answer to the action that the process asked for.
+    #[tactic(auto, using(crate::proofs::Slots::answered_slot, crate::proofs::Slots::asks_none,
+    crate::proofs::Growing::grows_here))]
     pub(crate) fn answer(
         &mut self,
         alloc: Global,
@@ -100,6 +104,8 @@ impl Slot {
     }
 
     /// A message arrives, and the process goes on where it waited; returns whether it did.
+    #[tactic(auto, using(crate::proofs::Slots::placed_slot, crate::proofs::Slots::lives_in,
+    crate::proofs::Slots::woken_as, crate::proofs::Slots::waits_as))]
     pub(crate) fn index(&mut self, pool: &mut Pool<Term>, message: Term) -> Result<bool, NoMemory>
         ensures woken { IfOk result (λ w. (x : _) (own : _) (b : _) → SlotRepresents x own self.old b
             → w ≡ is_waiting b.state) }

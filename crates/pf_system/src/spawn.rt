@@ -48,6 +48,7 @@ fn elements(alloc: Global, list: &List) -> Result<SmallVec<Term, 4>, NoMemory>
 }
 
 /// The exported function of a module, which is the own one or none, by its name and the number of its arguments.
+#[tactic(auto, using(crate::proofs::Beginning::found_at))]
 fn exported(code: &Module, home: AtomId, name: AtomId, arity: u32) -> Option<FunctionId>
     ensures found { option_map (λ i. i.0) result
         ≡ home_function (module_of code.now) home.0 name.0 arity }
@@ -197,6 +198,7 @@ impl Processes {
 
     /// `spawn/3`, `spawn_link/3` and `spawn_monitor/3`.
     #[inline(never)]
+    #[tactic(auto, using(crate::proofs::Settling::keeps_same))]
     pub(crate) fn spawn(
         &mut self,
         alloc: Global,
