@@ -38,10 +38,7 @@ impl Model for ReadModule {
 
 impl ReadModule {
     /// A module with its source.
-    pub(crate) fn of(
-        source: &Source,
-        compiled: Arc<CompiledModule>,
-    ) -> Result<ReadModule, NoMemory>
+    pub(crate) fn of(source: &Source, compiled: Arc<CompiledModule>) -> Result<ReadModule, NoMemory>
         requires { Reads source.now (accepted_as «compiled».value.checked) }
         ensures { IfOk result (λ s. (s.source ≡ source.now) × IsReadAs source.now s) }
     {

@@ -22,7 +22,6 @@ impl Model for CompiledModule {
     ghost use Rattle.std.specs.Arc.{arc_value};
     ghost use Rattle.pf_compile.specs.Compiled.{program_code};
     ghost use Rattle.pf_compile.specs.CompiledView.{CompiledView, IsProgramOf};
-
     ghost use Rattle.std.specs.Coded.{codes};
     ghost use Rattle.pf_terms.specs.Encoding.{coded_value};
     ghost use Rattle.pf_syntax.specs.Module.{coded_checked};

@@ -36,7 +36,6 @@ pub struct Image {
 impl Model for Image {
     ghost use Rattle.pf_image.specs.ImageView.{ImageView};
     ghost use Rattle.pf_image.specs.Inner.{image_of, HoldsConstants};
-
     ghost use Rattle.std.specs.Coded.{codes};
     ghost use Rattle.pf_terms.specs.Encoding.{coded_value};
     ghost use Rattle.pf_syntax.specs.Module.{coded_checked};

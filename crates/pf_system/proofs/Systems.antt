@@ -157,7 +157,7 @@ module _ (w w' : Processes) (k : Machine) (root : ℕ) (none' : IsEmpty w)
       record {
         state = (
           subst (λ z. IsMachineAt z.image 0 (goes (running (call root no_trees))) k o.slots.0) (sym o.basis)
-          (at o.slots.0 o.slots.2),
+              (at o.slots.0 o.slots.2),
           refl,
         );
         mailbox = sym o.slots.1;

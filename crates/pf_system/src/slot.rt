@@ -40,8 +40,7 @@ pub(crate) struct Slot {
 impl Slot {
     /// All steps of the process of this pid up to and with its next action, message, wait or end, but no more than
     /// `left`: how many they were, and in `did` the move that ended them.
-    #[tactic(auto, using(crate::proofs::Slots::ran_machine, crate::proofs::Slots::ran_to_end,
-    crate::proofs::Slots::over_slot, crate::proofs::Slots::lives_in, crate::proofs::Growing::grows_here))]
+    #[tactic(auto, using(crate::proofs::Slots::ran_machine, crate::proofs::Slots::ran_to_end, crate::proofs::Slots::over_slot, crate::proofs::Slots::lives_in, crate::proofs::Growing::grows_here))]
     pub(crate) fn run(
         &mut self,
         alloc: Global,
@@ -73,8 +72,7 @@ impl Slot {
     }
 
     /// The answer to the action that the process asked for.
-    #[tactic(auto, using(crate::proofs::Slots::answered_slot, crate::proofs::Slots::asks_none,
-    crate::proofs::Growing::grows_here))]
+    #[tactic(auto, using(crate::proofs::Slots::answered_slot, crate::proofs::Slots::asks_none, crate::proofs::Growing::grows_here))]
     pub(crate) fn answer(
         &mut self,
         alloc: Global,
@@ -104,8 +102,7 @@ impl Slot {
     }
 
     /// A message arrives, and the process goes on where it waited; returns whether it did.
-    #[tactic(auto, using(crate::proofs::Slots::placed_slot, crate::proofs::Slots::lives_in,
-    crate::proofs::Slots::woken_as, crate::proofs::Slots::waits_as))]
+    #[tactic(auto, using(crate::proofs::Slots::placed_slot, crate::proofs::Slots::lives_in, crate::proofs::Slots::woken_as, crate::proofs::Slots::waits_as))]
     pub(crate) fn index(&mut self, pool: &mut Pool<Term>, message: Term) -> Result<bool, NoMemory>
         ensures woken { IfOk result (λ w. (x : _) (own : _) (b : _) → SlotRepresents x own self.old b
             → w ≡ is_waiting b.state) }
