@@ -144,7 +144,7 @@ without_arguments(Label) ->
     case re:run(Label, <<"\\['@[0-9]+',">>, [{capture, first, index}]) of
         {match, [{At, Length}]} ->
             <<Before:At/binary, _:Length/binary, Rest/binary>> = Label,
-            case plain_words_back:behind_term(Rest) of
+            case plain_words_back:after_term(Rest) of
                 {ok, <<"]", Later/binary>>} -> <<Before/binary, "[]", (without_arguments(Later))/binary>>;
                 _ -> Label
             end;

@@ -1,6 +1,6 @@
 %% @doc Names and terms of the text turned back into those of the source: maps, binaries, funs and services.
 -module(plain_words_back).
--export([line/2, function/1, place/1, size/1, behind_term/1]).
+-export([line/2, function/1, place/1, size/1, after_term/1]).
 -compile({no_auto_import, [size/1]}).
 
 %% @doc A line of an answer in the source's words.
@@ -148,8 +148,8 @@ size(Text) ->
     end.
 
 %% @doc What comes after the first term of a text.
--spec behind_term(binary()) -> {ok, binary()} | error.
-behind_term(Text) ->
+-spec after_term(binary()) -> {ok, binary()} | error.
+after_term(Text) ->
     case term(Text) of
         {ok, _, Rest} -> {ok, Rest};
         error -> error
