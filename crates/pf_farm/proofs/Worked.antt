@@ -1,13 +1,18 @@
 -- Seats whose workers have worked side by side.
-use Rattle.std.proofs.Common.{◌≡◌, ℕ, zero, suc, ◌<◌, List, [], ◌∷◌, length, get_or, true≢false, Option, Some, None}
-use Rattle.std.proofs.Common.{is_some, refl, sym, ap, ◌∙◌, subst, arith}
+use Rattle.std.proofs.Common.{◌≡◌, ℕ, zero, suc, ◌<◌, false, List, [], ◌∷◌, length, get_or, true≢false, Option, Some}
+use Rattle.std.proofs.Common.{None, is_some, refl, sym, ap, ◌∙◌, subst, arith}
 use Rattle.pf_farm_accounts.specs.DequeViews.{DequePlace, ThiefView}
-use Rattle.pf_farm.specs.Seats.{WorkSeatView, SameEnds, thief_deque, IsChain, IsRing, IsIdle, AllIdle}
+use Rattle.pf_farm.specs.Seats.{WorkSeatView, SameEnds, thief_deque, IsChain, IsRing, IsIdle, AllIdle, AllFree}
 
-pub idle_at : (ss : List WorkSeatView) (i : ℕ) (d : WorkSeatView) → AllIdle ss → i < length ss → IsIdle (get_or ss i d)
-idle_at [] i d idle within = absurd (omega (arith, within))
-idle_at (s ∷ ss) zero d idle within = idle.0
-idle_at (s ∷ ss) (suc i) d idle within = idle_at ss i d idle.1 (omega (arith, within))
+pub free_at : (ss : List WorkSeatView) (i : ℕ) (d : WorkSeatView) → AllFree ss → i < length ss
+    → (get_or ss i d).busy ≡ false
+free_at [] i d free within = absurd (omega (arith, within))
+free_at (s ∷ ss) zero d free within = free.0
+free_at (s ∷ ss) (suc i) d free within = free_at ss i d free.1 (omega (arith, within))
+
+pub idle_are_free : (ss : List WorkSeatView) → AllIdle ss → AllFree ss
+idle_are_free [] idle = tt
+idle_are_free (s ∷ ss) idle = (idle.0.0, idle_are_free ss idle.1)
 
 pub idle_each : (ss : List WorkSeatView) → ((i : ℕ) (d : WorkSeatView) → i < length ss → IsIdle (get_or ss i d))
     → AllIdle ss

@@ -84,6 +84,11 @@ abbrev pub AllIdle : List WorkSeatView → Type 0
 AllIdle [] = ⊤
 AllIdle (s ∷ ss) = IsIdle s × AllIdle ss
 
+-- they hold no run
+abbrev pub AllFree : List WorkSeatView → Type 0
+AllFree [] = ⊤
+AllFree (s ∷ ss) = (s.busy ≡ false) × AllFree ss
+
 -- ---- rings
 
 -- the first seat owns the deque `from`, each steals from the next one's, and the last from `to`

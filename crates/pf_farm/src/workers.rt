@@ -1,7 +1,7 @@
 //! The work of one worker.
 
 ghost use Rattle.std.specs.Prelude.{◌≡◌, ◌<◌, true, false, length, is_some, IfOk, OnErr, OnOk};
-ghost use Rattle.pf_farm.specs.Seats.{AllIdle, IsAsBefore, IsIdle, IsNotLost, IsRing, SameEnds};
+ghost use Rattle.pf_farm.specs.Seats.{AllFree, AllIdle, IsAsBefore, IsIdle, IsNotLost, IsRing, SameEnds};
 
 use crate::floor::Floor;
 use crate::gate::{DueSlice, Gate};
@@ -56,7 +56,7 @@ pub fn work_all<N: FarmNames + Sync + Send, G: Gate + Sync, R: Threads + Wait + 
     gate: &G,
 )
     requires some { 0 < length seats.old }
-    requires idle { AllIdle seats.old }
+    requires free { AllFree seats.old }
     ensures len { length seats.new ≡ length seats.old }
     ensures ring { IsRing seats.old → IsRing seats.new }
     ensures idle { AllIdle seats.new }

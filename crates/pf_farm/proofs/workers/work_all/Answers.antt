@@ -2,7 +2,7 @@ use denote.Param.{param}
 use denote.Param.Send.{sendable}
 use Rattle.std.proofs.Common.{rules, ◌≡◌, ◌∙◌, ap, subst, ◌<◌, length}
 use Rattle.pf_farm.proofs.Crossing.{closure_sync, floor_sync, work_seat_send}
-use Rattle.pf_farm.proofs.Worked.{idle_at, idle_each, ring_each}
+use Rattle.pf_farm.proofs.Worked.{free_at, idle_each, ring_each}
 use Rattle.pf_farm.proofs.workers.work_all.Goals as goal
 
 pub for_each_mut-requires-send-T : goal.for_each_mut-requires-send-T
@@ -15,7 +15,7 @@ for_each_mut-requires-sync-F g c κs within =
 
 pub for_each_mut-requires-clause-accepts : goal.for_each_mut-requires-clause-accepts
 for_each_mut-requires-clause-accepts g c κs within = λ i p inside is. ap (λ s. s.busy) is
-    ∙ (idle_at c.args.seats.now i p.now c.requires.idle inside).0
+    ∙ free_at c.args.seats.now i p.now c.requires.free inside
 
 pub returns-clause-ring : goal.returns-clause-ring
 returns-clause-ring g c = λ ring. let len : length c.for_each_mut.new.s ≡ length c.args.seats.now = search rules in
