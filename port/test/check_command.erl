@@ -190,7 +190,7 @@ by_default() ->
     {Timed, 0} = checks:command(["hunt", File, "--for", "1s"]),
     checks:has("for a time", "^stopped after [0-9]+ seeds\nno failure in [0-9]+ seeds$", Timed).
 
-%% Who comes to what the translator lacks is refused, whatever catches errors there, and never reported as a failure of the program.
+%% Who calls what the translator lacks is refused, whatever catches errors there, and never reported as a failure of the program.
 -spec gaps() -> boolean().
 gaps() ->
     File = checks:folder("commands/gap.erl"),

@@ -1,4 +1,4 @@
-%% A process comes to what the library lacks, by an argument that a run alone knows, within a try that would catch an error.
+%% A process calls what the library lacks, by an argument that a run alone knows, within a try that would catch an error.
 -module(gap).
 -export([main/0, other/0, measure/0, tied/0, between/0]).
 
