@@ -15,7 +15,7 @@ _pulsefarm_options() {
     shrink) echo '--root --limit --edition --schedule --property --runs --format --help' ;;
     check) echo '--explain --format --help' ;;
     steps) echo '--help' ;;
-    farm) echo '--workers --summary --help' ;;
+    farm) echo '--workers --replies --summary --help' ;;
     *) echo '--help --version' ;;
   esac
 }
@@ -50,6 +50,7 @@ _pulsefarm() {
       fi
       ;;
     --strategy) mapfile -t COMPREPLY < <(compgen -W 'pos uniform' -- "$word") ;;
+    --replies) mapfile -t COMPREPLY < <(compgen -d -- "$word") ;;
     --format) mapfile -t COMPREPLY < <(compgen -W 'text json' -- "$word") ;;
     --edition) mapfile -t COMPREPLY < <(compgen -W '1 2' -- "$word") ;;
     --limit | --seed | --seeds | --for | --weights | --last | --workers | --shrink | --runs | --page) ;;

@@ -54,7 +54,7 @@ _pulsefarm() {
       own=($job '--seed[seed]:seed: ' $weights $strategy $last $schedule '--compact[join send and receive]' '--page[page of 500 rows]:page: ')
       ;;
     hunt)
-      own=($job '--seeds[seeds A..B]:seeds: ' '--for[time after which it stops]:time: ' $weights $strategy $last '--workers[threads]:threads: ' '--all[report each outcome]'
+      own=(${job/#--property/'*--property'} '--seeds[seeds A..B]:seeds: ' '--for[time after which it stops]:time: ' $weights $strategy $last '--workers[threads]:threads: ' '--all[report each outcome]'
         '--shrink[shrink within N runs]:runs: ' '--all-roots[hunt every root]' '--fail-fast[end after the first root that fails]'
         '--leaks[waiting processes fail too]' $format)
       ;;
@@ -64,7 +64,7 @@ _pulsefarm() {
       ;;
     shrink) own=($job $schedule '--runs[most runs]:runs: ' $format) ;;
     check) own=('--explain[say how to fix a refusal]' $format) ;;
-    farm) own=('--workers[threads]:threads: ' '--summary[report what each worker did]') ;;
+    farm) own=('--workers[threads]:threads: ' '--replies[folder of the replies]:folder:_files -/' '--summary[report what each worker did]') ;;
   esac
   _arguments $own '(-h --help)'{-h,--help}'[print help]' '*:file:_files'
 }

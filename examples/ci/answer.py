@@ -15,7 +15,7 @@ def numbers(schedule):
 
 
 def strategy(lines):
-    return "pos" if "strategy pos" in lines[:2] else "uniform"
+    return "pos" if "strategy pos" in lines[:3] else "uniform"
 
 
 def failure(lines):
@@ -23,9 +23,11 @@ def failure(lines):
     schedules = [it.removeprefix("schedule ") for it in lines if it.startswith("schedule ")]
     search = next((it for it in lines if it in ("complete", "partial")), None)
     events = [it for it in lines if re.match(r"\d+/\d+ <", it)]
+    named = [it.removeprefix("fails ") for it in lines[1:2] if it.startswith("fails ")]
     return {
         "answer": "failure",
         "seed": int(lines[0].removeprefix("seed ")),
+        **({"property": named[0]} if named else {}),
         "strategy": strategy(lines),
         "schedule": numbers(schedules[-1]),
         **({"shrinking": search} if search else {}),

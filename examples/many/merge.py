@@ -15,7 +15,7 @@ from shards import seeds_of, stop  # noqa: E402
 NAME = re.compile(r"(?:0|[1-9][0-9]*)\.\.(?:0|[1-9][0-9]*)")
 NONE = re.compile(rb"no failure in ([0-9]+) seeds\n")
 POS = b"strategy pos"
-FOUND = re.compile(rb"seed ([0-9]+)\n(?:strategy pos\n)?schedule [^\n]*\n(?:.*\n)?property fails\n", re.S)
+FOUND = re.compile(rb"seed ([0-9]+)\n(?:fails [^\n]*\n)?(?:strategy pos\n)?schedule [^\n]*\n(?:.*\n)?property fails\n", re.S)
 ROW = re.compile(rb"(holds|fails) ([0-9]+) seeds, least ([0-9]+): ([^\n]*)")
 
 

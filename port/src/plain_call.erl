@@ -34,7 +34,8 @@ an_atom({v, _} = Variable, Env) ->
     end;
 an_atom(_, _) -> no.
 
-%% @doc A call of a function of a known module.
+%% @doc A call of a function of a known module. The text of a term raises nothing, so its functions are there in plain
+%% mode alone.
 -spec known(module(), atom(), [tree()], environment(), mode()) -> plain_text:body().
 known(erlang, Function, Arguments, Env, Mode) -> plain_builtin:call(Function, Arguments, Env, Mode);
 known(prim, raw, [{lit, Function, _} | Arguments], Env, Mode) ->
@@ -43,6 +44,11 @@ known(prim, arm, [Time, Reference], Env, Mode) -> [plain_body:returned(plain_rec
 known(prim, flush, [Time, Reference], Env, Mode) -> [plain_body:returned({call, 'flush@', plain_value:values([Time, Reference], Env)}, Mode)];
 known(prim, named, [Fun], Env, Mode) ->
     [plain_body:returned({call, plain_reach:dispatcher(fun_name, plain), [plain_value:value(Fun, Env)]}, Mode)];
+known(Module, Function, Arguments, Env, Mode)
+  when Module =:= pf_pretty, Function =:= print; Module =:= pf_format, Function =:= write ->
+    Arity = length(Arguments),
+    plain_reach:need({function, Module, Function, Arity, plain}),
+    [plain_body:returned({call, plain_reach:name(Module, Function, Arity), plain_value:values(Arguments, Env)}, Mode)];
 known(code, ensure_loaded, [Module], Env, Mode) -> loaded(Module, lists:member(code, plain_state:get(users)), Env, Mode);
 known(math, Function, Arguments, Env, Mode) ->
     Numbers = [X || {lit, X, _} <- Arguments, is_number(X)],

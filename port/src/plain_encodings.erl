@@ -35,7 +35,7 @@ sentence(Module) when Module =:= dict; Module =:= sets -> {hash, "dict and sets 
 sentence(Module) when Module =:= logger; Module =:= error_logger; Module =:= io -> {output, "what is logged or printed is left out; a crash in formatting it isn't seen"};
 sentence(global) -> {global, "global names are names of the one node"};
 sentence(gen_server) -> {calls, "a call without a time of its own never times out; -D CALL_TIMEOUTS lets it"};
-sentence(io_lib) -> {formats, "pids, references and funs are formatted without numbers, and ~p breaks no lines"};
+sentence(io_lib) -> {formats, "pids, references and funs are formatted without numbers, and what comes is a flat list"};
 sentence(string) -> {text, "a character is a code point, upper and lower case are those of ASCII, and a text is a flat list or a binary"};
 sentence(gen_statem) -> {statem, "gen_statem is a library after OTP 25, without hibernation, code change and change of the callback module"};
 sentence(supervisor) -> {supervisor, "supervisor is a library after OTP 25, without code change and auto_shutdown; its restarts are counted by the clock of the run"};

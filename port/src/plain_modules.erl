@@ -95,7 +95,8 @@ in_library(Module) -> lists:member(Module, from_otp()) orelse filelib:is_regular
 %% The modules of OTP whose own source is translated where it is called.
 -spec from_otp() -> [module()].
 from_otp() ->
-    [lists, queue, orddict, ordsets, proplists, gb_trees, gb_sets, dict, sets, string, array, digraph, sofs, calendar, filename].
+    [lists, queue, orddict, ordsets, proplists, gb_trees, gb_sets, dict, sets, string, array, digraph, sofs, calendar,
+     filename, erl_internal].
 
 %% @doc The folder of the library.
 -spec library() -> file:filename().

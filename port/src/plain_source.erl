@@ -114,8 +114,25 @@ wants(#{forms := Forms, exports := Exports}) ->
         orelse mentions(supervisor, Forms),
     Ancestors = lists:any(fun(Atom) -> mentions(Atom, Forms) end, ['$ancestors', '$initial_call', initial_call, translate_initial_call, dictionary])
         orelse asks_all(Forms),
-    ['SERVER_TIMEOUTS' || answers_with_time(Forms)] ++ ['START_TIMES' || starts_in_time(Forms)] ++ ['STOP_TIMES' || stops_in_time(Forms)] ++ ['MATCH_MAPS' || has_maps(Forms)] ++ ['ANCESTORS' || Ancestors] ++ ['CATCHES' || Catches] ++
-        ['TIMED_CALLS' || calls_in_time(Forms)] ++ ['GIVES_UP' || catches(Forms)] ++ ['STATEM' || mentions(gen_statem, Forms)].
+    Fixed = mentions(safe_fixed, Forms) orelse mentions(safe_fixed_monotonic_time, Forms),
+    [Macro || {Macro, true} <-
+        [{'SERVER_TIMEOUTS', answers_with_time(Forms)}, {'START_TIMES', starts_in_time(Forms)},
+         {'STOP_TIMES', stops_in_time(Forms)}, {'MATCH_MAPS', has_maps(Forms)}, {'ANCESTORS', Ancestors},
+         {'CATCHES', Catches}, {'TIMED_CALLS', calls_in_time(Forms)}, {'GIVES_UP', catches(Forms)},
+         {'STATEM', mentions(gen_statem, Forms)}, {'FIX_TIMES', Fixed}, 
+         {'ERROR_INFO', mentions(format_error, Forms) orelse mentions(function, Forms)},
+         {'PRETTY', has_text("~[^a-zA-Z~#+]*[tl]*([pP]|$)", Forms)},
+         {'RARE_FORMATS', has_text("~[^a-zA-Z~]*([*+#]|[tl]*([PWxX]|$))", Forms)}]].
+
+%% Whether a text has a directive of these, or ends within one, as a text that is built at run time may.
+-spec has_text(string(), term()) -> boolean().
+has_text(Directive, {string, _, Text}) -> re:run(Text, Directive, [unicode]) =/= nomatch;
+has_text(Directive, {atom, Line, Atom}) ->
+    Text = atom_to_list(Atom),
+    lists:member($~, Text) andalso has_text(Directive, {string, Line, Text});
+has_text(Directive, Form) when is_tuple(Form) -> has_text(Directive, tuple_to_list(Form));
+has_text(Directive, [Head | Tail]) -> has_text(Directive, Head) orelse has_text(Directive, Tail);
+has_text(_, _) -> false.
 
 %% @doc The macros that all sources want: an answer may come after its call timed out where one has calls within a time
 %% and one catches. With CALL_TIMEOUTS each call has a time.

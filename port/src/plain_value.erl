@@ -142,6 +142,9 @@ literal(Integer, _) when is_integer(Integer) -> {int, Integer};
 literal(Atom, Line) when is_atom(Atom) -> atom(Atom, Line);
 literal([], _) -> nil;
 literal([_ | Tail], Line) when not is_list(Tail) -> refused(Line, "the profile has no improper lists; take a tuple {Head, Tail}", []);
+literal(List, Line) when length(List) > 4095 ->
+    Sentence = "a list of ~w elements has over 4,096 nodes, the most that a value may have; take less of it",
+    refused(Line, Sentence, [length(List)]);
 literal([Head | Tail], Line) -> {cons, literal(Head, Line), literal(Tail, Line)};
 literal(Tuple, Line) when is_tuple(Tuple), tuple_size(Tuple) > 0, is_atom(element(1, Tuple)) ->
     [Tag | Elements] = tuple_to_list(Tuple),

@@ -26,6 +26,7 @@ check() ->
     unread(),
     progress(),
     completed(),
+    manual(),
     ok.
 
 %% One command finds the race of a program and reports it by a line that the file names.
@@ -200,23 +201,26 @@ gaps() ->
         checks:has(Name, Line, Answer)
     end,
     Refused("a gap in a hunt", ["hunt", File], "^no verdict$"),
-    Refused("what is lacking", ["hunt", File], "^refused <0> at gap\\.erl:8 gap:main/0: ets:info/2 is not translated, or not with these arguments$"),
-    Refused("a gap in a run", ["run", File], "^ended \\{refused,ets,info,2\\}\nsteps [0-9]+\nno verdict$"),
+    Refused("what is lacking", ["hunt", File], "^refused <0> at gap\\.erl:8 gap:main/0: erlang:statistics/1 is not translated, or not with these arguments$"),
+    Refused("a gap in a run", ["run", File], "^ended \\{refused,erlang,statistics,1\\}\nsteps [0-9]+\nno verdict$"),
     Refused("a gap by another property", ["hunt", File, "--property", "returns"], "^no verdict$"),
-    Refused("a gap among outcomes", ["hunt", File, "--all", "--seeds", "0..5"], "^refused 5 seeds, least 0: ended \\{refused,ets,info,2\\}$"),
+    Refused("a gap among outcomes", ["hunt", File, "--all", "--seeds", "0..5"], "^refused 5 seeds, least 0: ended \\{refused,erlang,statistics,1\\}$"),
     Refused("a module that isn't there", ["run", File, "--root", "other"], "^refused <0> after gap\\.erl:12 gap:other/0: file:read_file/1 is not translated"),
     Refused("a number of a machine's library", ["run", File, "--root", "measure"], "^refused <0> .*: math:exp/1 is not translated"),
     Refused("a link that two change", ["run", File, "--root", "tied"], "^refused <0> .*: erlang:process_info/2 is not translated"),
     Refused("an answer to another request", ["run", File, "--root", "between"], "^refused <0> .*: gen:receive_response/3 is not translated").
 
-%% A race by a table of dets, whose requests are in the story as the source has them.
+%% A race by a table of ets, and one by a table of dets, whose requests are in the story as the source has them.
 -spec files() -> boolean().
 files() ->
     {Answer, 1} = checks:command(["hunt", checks:folder("commands/files.erl")]),
     checks:has("a table is read", "^[0-9]+ <[0-9]+> dets:lookup\\(jobs,n\\)  % files\\.erl:14 files:one/1: ", Answer),
     checks:has("it is written", "^[0-9]+ <[0-9]+> dets:insert\\(jobs,\\[\\{n,1\\}\\]\\)  % files\\.erl:15 files:one/1: ", Answer),
     checks:has("the race", "^crash <0> at files\\.erl:10 files:main/0: error \\{badmatch,\\[\\{n,1\\}\\]\\}$", Answer),
-    checks:expect("no service", nomatch, re:run(Answer, "port@|#Ref")).
+    checks:expect("no service", nomatch, re:run(Answer, "port@|#Ref")),
+    {Cached, 1} = checks:command(["hunt", checks:folder("corpus/own_cache.erl"), "--root", "race"]),
+    checks:has("a table of ets is read", "^[0-9]+ <[0-9]+> ets:lookup\\(cache,k\\)  % own_cache\\.erl:25 own_cache:read/1: case ets:lookup\\(cache, Key\\) of$",
+               Cached).
 
 %% Each word of each command is among the completions of each shell.
 -spec completed() -> ok.
@@ -242,6 +246,22 @@ lacks_word(Command, Word) ->
         {refused, Sentence} -> re:run(Sentence, "has no word|isn't known") =/= nomatch;
         _ -> false
     end.
+
+%% The page for man names each command, and each word that pulsefarm hasn't too.
+-spec manual() -> boolean().
+manual() ->
+    {Help, 0} = checks:command(["--help"]),
+    {ok, Page} = file:read_file(checks:folder("../pulsefarm-erl.1")),
+    {ok, Other} = file:read_file(checks:folder("../../docs/pulsefarm.1")),
+    Plain = fun(Text) -> lists:flatten(string:replace(binary_to_list(Text), "\\-", "-", all)) end,
+    {match, Words} = re:run(Help, "--[a-z][a-z-]*", [global, {capture, first, list}]),
+    Lacking = [Word || [Word] <- lists:usort(Words), Word =/= "--help", string:find(Plain(Page), Word) =:= nomatch,
+                       string:find(Plain(Other), Word) =:= nomatch],
+    checks:expect("words of the page", [], Lacking),
+    {match, Commands} = re:run(Help, "^  pulsefarm-erl ([a-z]+) ", [global, multiline, {capture, [1], list}]),
+    checks:expect("commands of the page", {9, []},
+                  {length(Commands),
+                   [Name || [Name] <- Commands, string:find(Plain(Page), ".B " ++ Name ++ "\n") =:= nomatch]}).
 
 %% What a process does to answer for its mailbox isn't part of a story.
 -spec looks() -> boolean().

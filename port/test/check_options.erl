@@ -52,7 +52,7 @@ json() ->
     prints("an end that passes a reason on, as JSON", ["hunt", checks:folder("corpus/own_quota.erl"), "--root", "race", "--format", "json"], 1,
           ["^\\{\"ended\":\"<[0-9]+>\",\"as\":\"<0>\",\"class\":\"error\",\"reason\":\"badarg\"\\}$"]),
     prints("what is refused, as JSON", ["run", command_file("gap.erl"), "--format", "json"], 2,
-          ["^\\{\"refused\":\"<0>\",\"file\":\"[^\"]*gap\\.erl\",\"line\":8,\"function\":\"gap:main/0\",\"lacks\":\"ets:info/2\","]),
+          ["^\\{\"refused\":\"<0>\",\"file\":\"[^\"]*gap\\.erl\",\"line\":8,\"function\":\"gap:main/0\",\"lacks\":\"erlang:statistics/1\","]),
     prints("a place before the end, as JSON", ["run", command_file("gap.erl"), "--root", "other", "--format", "json"], 2,
           ["^\\{\"refused\":\"<0>\",\"file\":\"[^\"]*gap\\.erl\",\"line\":12,\"function\":\"gap:other/0\",\"after\":true,\"lacks\":\"file:read_file/1\","]),
     prints("a check as JSON", ["check", File, "--format", "json"], 0, ["^\\{\"ok\":true\\}$"]),

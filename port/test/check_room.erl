@@ -1,5 +1,5 @@
 %% @doc What a translation takes of its 65,536 bytes: a supervisor with one child, and an application of eleven modules;
-%% and what is reported where it doesn't fit.
+%% what is reported where it doesn't fit; and what stops dets itself, as docs/FROM_ERLANG.md has it.
 -module(check_room).
 -export([check/0]).
 
@@ -9,7 +9,8 @@ check() ->
     Sources = filelib:wildcard(checks:folder("shop/src/*.erl")),
     Options = #{includes => [checks:folder("shop/include")], defines => [{'MAX_LINES', 20}]},
     at_most("an application", 60000, [checks:folder("shop/main.erl") | Sources], Options),
-    too_large().
+    too_large(),
+    dets_itself().
 
 -spec at_most(string(), pos_integer(), [file:filename()], map()) -> boolean().
 at_most(Name, Most, Files, Options) ->
@@ -36,4 +37,20 @@ too_large() ->
     checks:expect(["what takes the room of what fits: ", Answer], match,
                   re:run(Answer, "^ok\\n(?:note: .*\\n)*pulsefarm-erl: [0-9]+ of 65536 bytes: gen_server [0-9]+, supervisor [0-9]+, |"
                                  "^pulsefarm-erl: [0-9]+ of 65536 bytes: gen_server [0-9]+, supervisor [0-9]+, ", [multiline, {capture, none}])),
+    ok.
+
+%% The sources of dets under three clients: 20 places that are refused, and without these the size.
+-spec dets_itself() -> ok.
+dets_itself() ->
+    Sources = [filename:join([code:lib_dir(stdlib), "src", Name ++ ".erl"])
+               || Name <- ["dets", "dets_server", "dets_sup", "dets_utils", "dets_v9"]],
+    Files = [checks:folder("commands/three_clients.erl") | Sources],
+    {refused, Places} = checks:translate(Files),
+    Of = fun(Name) -> length([Name || {_, _, Why} <- Places, string:find(Why, Name) =/= nomatch]) end,
+    checks:expect("places of dets that are refused", {20, 15, 2, 1, 1, 1},
+                  {length(Places), Of("file:"), Of("phash2"), Of("md5"), Of("init:get_argument"), Of("process_info")}),
+    {refused, [{_, 1, Sentence}]} = checks:translate(Files, #{lax => true}),
+    checks:expect(["the size of dets: ", Sentence], match,
+                  re:run(Sentence, "^the module would have 40[0-9]{4} bytes, over 65536 \\(dets_v9 119[0-9]{3}, dets_utils 64[0-9]{3}, dets 6[0-9]{4}, ",
+                         [{capture, none}])),
     ok.

@@ -4,7 +4,7 @@
 -export([main/0, main/1, pass/1, expect/3, expect/2, has/3, folder/1, room/1, translate/2, translate/1, hunt/4, run/3, value_on_erlang/2, value_on_erlang/3, load/2, normal/1, last/1, bare/1, command/1, command/2]).
 
 -spec main() -> no_return().
-main() -> main([check_units, check_language, check_refused, check_notes, check_random, check_calls, check_tables, check_facts, check_otp, check_programs, check_places, check_command, check_explore, check_options, check_eunit, check_prop, check_ct, check_rebar,
+main() -> main([check_units, check_language, check_refused, check_notes, check_random, check_calls, check_formats, check_tables, check_facts, check_otp, check_programs, check_places, check_command, check_explore, check_options, check_eunit, check_prop, check_ct, check_rebar,
               check_corpus, check_room, check_speed]).
 
 %% @doc Runs these checks, and ends with the count on the last line.

@@ -23,6 +23,17 @@ many_sources_test() ->
      || Source <- Sources, Own <- [[], ['CALL_TIMEOUTS']]],
     ?assertEqual(Before, {persistent_term:info(), entries()}).
 
+%% The layout of terms and rare directives are there where a text of the source, or an atom, has them.
+directives_test() ->
+    Of = fun(Form) ->
+        Wanted = plain_source:wants(#{forms => [Form], exports => []}),
+        [Macro || Macro <- Wanted, lists:member(Macro, ['PRETTY', 'RARE_FORMATS'])]
+    end,
+    Texts = ["~w ~s 5p", "~p", "x ~30.2.0tp", "~lP", "~*w", "~.16#", "~+", "~W", "it ends ~5", "50% p"],
+    ?assertEqual([[], ['PRETTY'], ['PRETTY'], ['PRETTY', 'RARE_FORMATS'], ['RARE_FORMATS'], ['RARE_FORMATS'], ['RARE_FORMATS'],
+                  ['RARE_FORMATS'], ['PRETTY', 'RARE_FORMATS'], []], [Of({string, 1, Text}) || Text <- Texts]),
+    ?assertEqual([['PRETTY'], []], [Of({atom, 1, Atom}) || Atom <- ['~p', 'p']]).
+
 entries() -> [Named || {{plain_source, Named}, _} <- get()].
 
 in_process(Run) ->

@@ -15,7 +15,7 @@ use Rattle.pf_cli.specs.Span.{time_named}
 use Rattle.pf_cli.specs.Form.{format_named}
 use Rattle.pf_cli.specs.Pids.{pid_named}
 use Rattle.pf_cli.specs.Explore.{ExploreArgs, ExploreReach, budget_named, deviations_named, explore_reach, runs_named}
-use Rattle.pf_cli.specs.Reach.{HuntScope, clashes, more_named, names_given, reach_asked, roots_named}
+use Rattle.pf_cli.specs.Reach.{HuntScope, clashes, further_named, more_named, names_given, reach_asked, roots_named}
 use Rattle.pf_request.specs.Request as requests
 use Rattle.pf_request.specs.Request.{Request, RequestKind}
 use Rattle.pf_request.specs.View.{view_of_request}
@@ -63,6 +63,7 @@ pub record HuntArgs : Type 0 where
   pub more : List Text
   pub roots : Roots
   pub fail_fast : Bool
+  pub further : List Text
   pub leaks : Bool
   pub request : Request
   pub edition : ℕ
@@ -72,11 +73,12 @@ pub record HuntArgs : Type 0 where
   pub workers : Option ℕ
   pub sought : HuntGoal
 
--- a farm is asked for: of n workers, and of the clients whose files these are, that of project 1 first; and whether
--- what each worker did is reported
+-- a farm is asked for: of n workers, and of the clients whose files these are, that of project 1 first; in which folder
+-- replies are written, if one is named; and whether what each worker did is reported
 pub record FarmArgs : Type 0 where
   pub workers : ℕ
   pub files : List Text
+  pub replies : Option Text
   pub summary : Bool
 
 abbrev pub request_by : (root property : Text) → RequestKind → (limit : ℕ) → Request
@@ -309,6 +311,7 @@ hunt_by reach root property choices strategy bounds seeds time workers sought =
       more = reach.more;
       roots = reach.roots;
       fail_fast = reach.fail_fast;
+      further = reach.further;
       leaks = reach.leaks;
       request = request_by root property (requests.run choices) bounds.0;
       edition = bounds.1;
@@ -349,17 +352,23 @@ strategy_in rows =
 abbrev pub source_names : List Row → List Text
 source_names rows = names_given (all_of (codes "file") rows)
 
+-- the properties that are named
+abbrev pub property_names : List Row → List Text
+property_names rows = names_given (all_of (codes "property") rows)
+
 abbrev pub reach_in : List Row → Option HuntScope
 reach_in rows =
     reach_asked (more_named (source_names rows))
     (roots_named (is_given (first_of (codes "all-roots") rows)) (first_of (codes "root") rows))
-    (is_given (first_of (codes "fail-fast") rows)) (is_given (first_of (codes "leaks") rows))
+    (is_given (first_of (codes "fail-fast") rows))
+    (further_named (is_given (first_of (codes "all") rows)) (property_names rows))
+    (is_given (first_of (codes "leaks") rows))
 
 -- whether there are words that exclude each other
 abbrev pub clashes_in : List Row → Bool
 clashes_in rows =
     clashes (is_given (first_of (codes "all-roots") rows)) (is_given (first_of (codes "leaks") rows))
-    (nat_lt 1 (length (source_names rows)))
+    (nat_lt 1 (length (source_names rows))) (nat_lt 1 (length (property_names rows)))
     (is_given (first_of (codes "all") rows)) (first_of (codes "root") rows) (first_of (codes "shrink") rows)
 
 -- what a hunt's words ask for where they go together
@@ -405,15 +414,17 @@ explore_of rows =
 abbrev pub as_files : List Text → Option (List Text)
 as_files files = if nat_le 1 (length files) && nat_le (length files) 64 then Some files else None
 
-abbrev pub farm_asked : (workers : Option ℕ) → (files : Option (List Text)) → (summary : Bool) → Option FarmArgs
-farm_asked (Some workers) (Some files) summary = Some (record { workers = workers; files = files; summary = summary })
-farm_asked _ _ summary = None
+abbrev pub farm_asked : (workers : Option ℕ) → (files : Option (List Text)) → (replies : Option Text)
+    → (summary : Bool) → Option FarmArgs
+farm_asked (Some workers) (Some files) replies summary =
+    Some (record { workers = workers; files = files; replies = replies; summary = summary })
+farm_asked _ _ replies summary = None
 
 abbrev pub farm_of : List Row → Option FarmArgs
 farm_of rows =
     farm_asked (option_and_then as_workers (option_number (codes "workers") rows))
     (option_and_then as_files (all_of (codes "files") rows))
-    (is_given (first_of (codes "summary") rows))
+    (first_of (codes "replies") rows) (is_given (first_of (codes "summary") rows))
 
 -- whether more is to be explained
 abbrev pub explain_of : List Row → Bool
@@ -529,6 +540,7 @@ view_of_hunt_args a =
       more = map (λ s. s.now) a.more.items;
       roots = a.roots;
       fail_fast = a.fail_fast;
+      further = map (λ s. s.now) a.further.items;
       leaks = a.leaks;
       request = view_of_request a.request;
       edition = edition_number a.edition;
@@ -553,7 +565,13 @@ view_of_explore_args a =
     }
 
 abbrev pub view_of_farm_args : farm_code.FarmArgs → FarmArgs
-view_of_farm_args a = record { workers = a.workers; files = map (λ s. s.now) a.files.items; summary = a.summary }
+view_of_farm_args a =
+    record {
+      workers = a.workers;
+      files = map (λ s. s.now) a.files.items;
+      replies = option_map (λ s. s.now) a.replies;
+      summary = a.summary;
+    }
 
 abbrev pub view_of_args : args_code.Args → CommandWork
 view_of_args (Run a) = run (view_of_run_args a)

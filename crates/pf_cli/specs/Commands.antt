@@ -2,7 +2,7 @@
 use Rattle.std.specs.Prelude.{Some, None, Bool, true, false, codes}
 use Rattle.clap.specs.Words.{App, Shape, Rule, Text, new_app, new_rule, with_rule, with_subcommand}
 use Rattle.clap.specs.Lexer.{usize_max}
-use Rattle.clap.specs.declared.builder.action.ArgAction.TheVariants.{SetTrue}
+use Rattle.clap.specs.declared.builder.action.ArgAction.TheVariants.{Append, SetTrue}
 
 -- ---- rules of arguments
 
@@ -26,6 +26,10 @@ sources_rule = many_rule (codes "file")
 -- an option has one value, and may be left out
 abbrev pub option_rule : Text → Rule
 option_rule name = record (new_rule name) { long = Some name; value_names = 1 }
+
+-- an option may be given several times, each time with one value
+abbrev pub repeated_rule : Text → Rule
+repeated_rule name = record (option_rule name) { action = Some Append }
 
 -- an option must be given where its command wants it
 abbrev pub wanted_rule : (wanted : Bool) → Text → Rule
@@ -77,9 +81,9 @@ abbrev pub chart_app : App
 chart_app = with_rule (with_rule (one_run_app false (codes "chart")) (flag_rule (codes "compact")))
     (option_rule (codes "page"))
 
--- what is hunted: hunt [FILE].. [--root F] [--limit N] [--edition E] [--property P]
+-- what is hunted: hunt [FILE].. [--root F] [--limit N] [--edition E] [--property P]..
 abbrev pub judged_app : App
-judged_app = with_rule (bounded_app sources_rule false (codes "hunt")) (option_rule (codes "property"))
+judged_app = with_rule (bounded_app sources_rule false (codes "hunt")) (repeated_rule (codes "property"))
 
 -- and how far: after these [--seeds A..B] [--for T]
 abbrev pub seeded_app : App
@@ -142,10 +146,11 @@ check_app = with_rule (with_rule (with_rule (new_app (codes "check")) file_rule)
 abbrev pub steps_app : App
 steps_app = with_rule (new_app (codes "steps")) file_rule
 
--- farm FILE.. --workers N [--summary]
+-- farm FILE.. --workers N [--replies DIR] [--summary]
 abbrev pub farm_app : App
-farm_app = with_rule (with_rule (with_rule (new_app (codes "farm")) files_rule) (required_rule (codes "workers")))
-    (flag_rule (codes "summary"))
+farm_app =
+    with_rule (with_rule (with_rule (with_rule (new_app (codes "farm")) files_rule) (required_rule (codes "workers")))
+    (option_rule (codes "replies"))) (flag_rule (codes "summary"))
 
 -- ---- the command line
 

@@ -4,7 +4,7 @@ use Rattle.std.specs.Prelude.{if◌then◌else◌}
 use Rattle.std.specs.Str.{bytes_eq}
 use Rattle.std.specs.String.{string_bytes}
 use Rattle.clap.specs.Words.{App, Row, first_of}
-use Rattle.pf_cli.specs.Args.{is_given, source_names}
+use Rattle.pf_cli.specs.Args.{is_given, property_names, source_names}
 use Rattle.pf_cli.specs.Commands.{chart_app, check_app, explore_app, farm_app, hunt_app, run_app, shrink_app}
 use Rattle.pf_cli.specs.declared.reading.ReadWords as reading_code
 use Rattle.pf_cli.specs.declared.reading.ReadWords.TheVariants as read
@@ -45,19 +45,20 @@ clash_with reported leaks every several =
     else (if every then Some (reported, codes "'--all-roots'")
     else (if several then Some (reported, codes "several files") else None))
 
--- or every root with one that is named, or each outcome with a shrinking
-abbrev pub clash_reported : (every leaks several all : Bool) → (root shrink : Option (List ℕ))
+-- or every root with one that is named, or each outcome with a shrinking or with several properties
+abbrev pub clash_reported : (every leaks several many all : Bool) → (root shrink : Option (List ℕ))
     → Option (List ℕ × List ℕ)
-clash_reported every leaks several all root shrink =
+clash_reported every leaks several many all root shrink =
     if every && is_some root then Some (codes "--all-roots", codes "'--root <F>'")
     else (if all && is_some shrink then Some (codes "--all", codes "'--shrink <N>'")
+    else (if all && many then Some (codes "--all", codes "several properties")
     else (if all then clash_with (codes "--all") leaks every several
-    else (if is_some shrink then clash_with (codes "--shrink <N>") leaks every several else None)))
+    else (if is_some shrink then clash_with (codes "--shrink <N>") leaks every several else None))))
 
 abbrev pub clash_reported_in : List Row → Option (List ℕ × List ℕ)
 clash_reported_in rows =
     clash_reported (is_given (first_of (codes "all-roots") rows)) (is_given (first_of (codes "leaks") rows))
-    (nat_lt 1 (length (source_names rows)))
+    (nat_lt 1 (length (source_names rows))) (nat_lt 1 (length (property_names rows)))
     (is_given (first_of (codes "all") rows)) (first_of (codes "root") rows) (first_of (codes "shrink") rows)
 
 -- ---- of which command the usage is shown

@@ -123,6 +123,8 @@ pub struct HuntArgs<'a> {
     pub roots: Roots,
     /// Whether nothing is hunted after the first root that fails.
     pub fail_fast: bool,
+    /// The properties after that of the request, in the order of the words: a run fails too by one of these.
+    pub further: Vec<&'a str>,
     /// Whether a seed also fails if its root returned while processes still wait.
     pub leaks: bool,
     pub request: Request,
@@ -192,6 +194,8 @@ pub struct FarmArgs<'a> {
     pub workers: u32,
     /// The files of the clients, from 1 to 64: that of project 1, that of project 2 and so on.
     pub files: Vec<&'a str>,
+    /// The folder of the files that replies are written to; they are kept and printed where there is none.
+    pub replies: Option<&'a str>,
     /// Whether what each worker did is reported at the end.
     pub summary: bool,
     ghost some_workers: { (1 ≤ workers) × (workers ≤ 64) },

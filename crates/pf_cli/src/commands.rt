@@ -7,7 +7,8 @@ ghost use Rattle.pf_cli.specs.Commands.{bare_app, bounded_app, chart_app, check_
 ghost use Rattle.pf_cli.specs.Commands.{explored_app, exploring_app, farm_app, file_rule, files_rule, finding_app};
 ghost use Rattle.pf_cli.specs.Commands.{flag_rule, format_rule, hunt_app, judged_app, many_rule, one_file_app};
 ghost use Rattle.pf_cli.specs.Commands.{one_run_app, option_rule, pulsefarm, reaching_app, reporting_app};
-ghost use Rattle.pf_cli.specs.Commands.{required_rule, rooted_app, run_app, runs_app, seeded_app, shrink_app};
+ghost use Rattle.pf_cli.specs.Commands.{repeated_rule, required_rule, rooted_app};
+ghost use Rattle.pf_cli.specs.Commands.{run_app, runs_app, seeded_app, shrink_app};
 ghost use Rattle.pf_cli.specs.Commands.{shrinking_app, steps_app, wanted_rule, weighted_app};
 
 use clap::{Arg, ArgAction, Command};
@@ -27,6 +28,9 @@ const FAILING_HELP: &str =
 
 const JUDGING_HELP: &str =
     "Property that each run is judged by: `returns`, `true`, `nocrash`, `nodeadlock`, `withinlimit` or `never:PATTERN` [default: returns]";
+
+const HUNTED_HELP: &str =
+    "Property that each run is judged by, which may be given several times: `returns`, `true`, `nocrash`, `nodeadlock`, `withinlimit` or `never:PATTERN` [default: `returns`, `nocrash` and `nodeadlock`; with --all `returns`]";
 
 const SEEDS_HELP: &str =
     "Seeds from A to before B; `A..=B` has B too, and `N` is 0..N; each from 0 to 18446744073709551615 [default: 10000; with --for all but the greatest]";
@@ -96,6 +100,14 @@ fn option<'a>(alloc: Global, name: &'a str, value: &'a str, help: &'a str) -> Ar
         .long(name)
         .value_name(value)
         .help(help)
+}
+
+/// An option with its one value, which may be given several times.
+fn repeated<'a>(alloc: Global, name: &'a str, value: &'a str, help: &'a str) -> Arg<'a>
+    ensures rule { rule_of result ≡ repeated_rule name.entry.now }
+    ensures local { result.global ≡ false }
+{
+    option(alloc, name, value, help).action(ArgAction::Append)
 }
 
 /// An option that must be given.
@@ -317,7 +329,7 @@ fn judged<'a>(alloc: Global, about: &'a str) -> Result<Command<'a>, AllocError>
     ensures app { IfOk result (λ c. app_of c ≡ judged_app) }
     ensures local { IfOk result (λ c. (out-Command c).has_globals ≡ false) }
 {
-    let judging = option(alloc, "property", "P", JUDGING_HELP);
+    let judging = repeated(alloc, "property", "P", HUNTED_HELP);
     let sources = many(alloc, "file", SOURCES_HELP);
     let judged = bounded(alloc, sources, "hunt", about, false)?.arg(judging)?;
     Ok(judged)
@@ -487,10 +499,12 @@ pub(crate) fn farm_command<'a>(alloc: Global) -> Result<Command<'a>, AllocError>
         "Runs a farm of workers, with a client for each file, and prints what each client is answered";
     let clients = "Files of the clients' lines, from 1 to 64; the first is that of project 1";
     let workers = "Threads that work, from 1 to 64";
+    let replies = "Writes the replies to client K to the file DIR/K, each as soon as it is there";
     let summary = "Reports at the end what each worker did";
     let farm = bare(alloc, "farm", about)
         .arg(files(alloc, clients))?
         .arg(required(alloc, "workers", "N", workers))?
+        .arg(option(alloc, "replies", "DIR", replies))?
         .arg(flag(alloc, "summary", summary))?;
     Ok(farm)
 }

@@ -71,6 +71,7 @@ pub(crate) fn farm_args<'a>(alloc: Global, rows: &ArgMatches<'a>) -> Result<Farm
         Ok(files) => Ok(FarmArgs {
             workers,
             files,
+            replies: value(rows, "replies"),
             summary: is_given(rows, "summary"),
         }),
         Err(e) => Err(e),

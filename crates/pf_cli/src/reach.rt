@@ -3,15 +3,15 @@
 ghost use Rattle.std.specs.Prelude.{◌≡◌, ◌⊎◌, IfOk, IfErr, Some, None, codes, is_some, length, map, nat_lt, option_map};
 ghost use Rattle.clap.specs.Words.{first_of, kind_of, rows_of, found_of};
 ghost use Rattle.pf_cli.specs.Faults.{clash_reported_in};
-ghost use Rattle.pf_cli.specs.Args.{clashes_in, is_given, source_names, reach_in};
-ghost use Rattle.pf_cli.specs.Reach.{more_named, roots_named, view_of_reach};
+ghost use Rattle.pf_cli.specs.Args.{clashes_in, is_given, property_names, source_names, reach_in};
+ghost use Rattle.pf_cli.specs.Reach.{further_named, looked_for, more_named, roots_named, view_of_reach};
 
 use crate::args::Roots;
 use crate::refusals::{Valued, refuse_file};
 use crate::values::{is_given, value, values};
 use clap::error::ErrorKind;
 use clap::{ArgMatches, Error};
-use std::alloc::Global;
+use std::alloc::{AllocError, Global};
 
 /// What is said of a name too many.
 const NAMES: &str = "'[FILE]...': it wants at most 4,096 files, and this is the 4,097th";
@@ -24,6 +24,8 @@ pub(crate) struct HuntScope<'a> {
     pub roots: Roots,
     /// Whether nothing is hunted after the first root that fails.
     pub fail_fast: bool,
+    /// The properties after the first.
+    pub further: Vec<&'a str>,
     /// Whether a seed also fails if its root returned while processes still wait.
     pub leaks: bool,
 }
@@ -70,6 +72,44 @@ fn are_several(rows: &ArgMatches) -> bool
     }
 }
 
+/// The properties that a hunt looks for beside `returns` where none is named, unless each outcome is sought.
+fn looked_for<'a>(alloc: Global, all: bool) -> Result<Vec<&'a str>, AllocError>
+    ensures { IfOk result (λ v. map (λ s. s.now) v.items ≡ looked_for all) }
+{
+    let mut properties = Vec::new(alloc);
+    if !all {
+        properties.push("nocrash")?;
+        properties.push("nodeadlock")?;
+    }
+    Ok(properties)
+}
+
+/// The properties after the first.
+fn further<'a>(alloc: Global, rows: &ArgMatches<'a>) -> Result<Vec<&'a str>, AllocError>
+    ensures { IfOk result (λ v. map (λ s. s.now) v.items
+        ≡ further_named (is_given (first_of (codes "all") (rows_of (found_of rows.now))))
+        (property_names (rows_of (found_of rows.now)))) }
+{
+    let all = is_given(rows, "all");
+    let Some(names) = values(rows, "property") else {
+        return looked_for(alloc, all);
+    };
+    let Some((_, after)) = names.split_first() else {
+        return looked_for(alloc, all);
+    };
+    Vec::from_slice(alloc, after)
+}
+
+/// Whether several properties are named.
+fn judges_by_several(rows: &ArgMatches) -> bool
+    ensures { result ≡ nat_lt 1 (length (property_names (rows_of (found_of rows.now)))) }
+{
+    match values(rows, "property") {
+        Some(names) => names.len() > 1,
+        None => false,
+    }
+}
+
 /// Which roots are hunted.
 fn roots(rows: &ArgMatches) -> Roots
     ensures { result ≡ roots_named (is_given (first_of (codes "all-roots") (rows_of (found_of rows.now))))
@@ -88,15 +128,21 @@ pub(crate) fn reach_of<'a>(alloc: Global, rows: &ArgMatches<'a>) -> Result<HuntS
     ensures err { IfErr result (λ e. (kind_of e ≡ ErrorKind.OutOfMemory)
         ⊎ ((kind_of e ≡ ErrorKind.InvalidValue) × (reach_in (rows_of (found_of rows.now)) ≡ None))) }
 {
-    match more(alloc, rows) {
-        Ok(more) => Ok(HuntScope {
-            more,
-            roots: roots(rows),
-            fail_fast: is_given(rows, "fail-fast"),
-            leaks: is_given(rows, "leaks"),
-        }),
-        Err(e) => Err(e),
-    }
+    let more = match more(alloc, rows) {
+        Ok(more) => more,
+        Err(e) => return Err(e),
+    };
+    let further = match further(alloc, rows) {
+        Ok(further) => further,
+        Err(e) => return Err(Error::from(e)),
+    };
+    Ok(HuntScope {
+        more,
+        roots: roots(rows),
+        fail_fast: is_given(rows, "fail-fast"),
+        further,
+        leaks: is_given(rows, "leaks"),
+    })
 }
 
 /// Two words that exclude each other, if there are such.
@@ -110,6 +156,7 @@ pub(crate) fn clash(rows: &ArgMatches) -> Option<(&'static str, &'static str)>
     }
     let reported = match (is_given(rows, "all"), value(rows, "shrink")) {
         (true, Some(_)) => return Some(("--all", "'--shrink <N>'")),
+        (true, None) if judges_by_several(rows) => return Some(("--all", "several properties")),
         (true, None) => "--all",
         (false, Some(_)) => "--shrink <N>",
         (false, None) => return None,

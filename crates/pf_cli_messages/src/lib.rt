@@ -11,7 +11,7 @@ mod wording;
 
 pub use finding::{Reason, SourceRequest, find_reason};
 pub use lacking::lacking_sentence;
-pub use lines::line_reason;
+pub use lines::{client_line_reason, line_reason};
 pub use wording::sentence;
 
 mod explained;

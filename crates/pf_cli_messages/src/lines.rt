@@ -1,4 +1,4 @@
-//! Why a line of `steps` is no command.
+//! Why a line of `steps` or of `farm` is no command.
 
 use crate::wording::quoted;
 use pf_errors::NoMemory;
@@ -150,4 +150,43 @@ pub fn line_reason(alloc: Global, line: &[u8], is_whole: bool) -> Result<String,
         Some(form) if is_whole => form_reason(alloc, &name, form, words),
         Some(form) => Ok(format!(in alloc; "{name} wants `{form}` after it")?),
     }
+}
+
+/// Whether this names a project, but not the one that it should.
+fn is_other(word: &[u8], project: u32) -> bool {
+    matches!(number_of(word), Some(other) if other != project)
+}
+
+/// Why a line of a client of this project is no command, of which all is given or only the beginning: it is a worker's
+/// or of another project, or it is none of `steps` either.
+pub fn client_line_reason(
+    alloc: Global,
+    project: u32,
+    line: &[u8],
+    is_whole: bool,
+) -> Result<String, NoMemory> {
+    let (first, words) = cut(line, b' ');
+    let name = quoted(alloc, first)?;
+    let form = if first == b"await".as_slice() {
+        Some("P T")
+    } else {
+        form_of(first)
+    };
+    let Some(form) = form else {
+        return line_reason(alloc, line, is_whole);
+    };
+    if form.starts_with('W') {
+        return Ok(format!(in alloc; "{name} is a line of workers, and not of clients")?);
+    }
+    let (word, _) = cut(words.unwrap_or(&[]), b' ');
+    if is_other(word, project) {
+        let number = quoted(alloc, word)?;
+        return Ok(format!(in alloc;
+            "{number} is another project: the lines of this file are those of project {project}"
+        )?);
+    }
+    if is_whole && first == b"await".as_slice() {
+        return form_reason(alloc, &name, form, words);
+    }
+    line_reason(alloc, line, is_whole)
 }

@@ -144,6 +144,12 @@ fn of_runs(alloc: Global, runs: u32) -> Result<String, NoMemory> {
     Ok(format!(in alloc; "the number of runs {runs} is out of range: it is from 1 to 1,000")?)
 }
 
+/// What is said of a text that is no property.
+pub(crate) fn of_property(alloc: Global, text: &[u8]) -> Result<String, NoMemory> {
+    let shown = quoted(alloc, text)?;
+    Ok(format!(in alloc; "there is no property {shown}: {PROPERTIES}")?)
+}
+
 /// What is said of what is asked for.
 fn of_request(
     alloc: Global,
@@ -153,10 +159,7 @@ fn of_request(
 ) -> Result<String, NoMemory> {
     match refusal {
         JobRefusal::NoRoot => of_root(alloc, module, request.root.as_slice()),
-        JobRefusal::NoProperty => {
-            let shown = quoted(alloc, request.property.as_slice())?;
-            Ok(format!(in alloc; "there is no property {shown}: {PROPERTIES}")?)
-        }
+        JobRefusal::NoProperty => of_property(alloc, request.property.as_slice()),
         JobRefusal::OutOfRange => of_range(alloc, request),
         JobRefusal::WeightsOutOfRange => Ok(String::from_str(alloc, WEIGHTS)?),
     }

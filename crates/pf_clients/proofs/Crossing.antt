@@ -17,7 +17,8 @@ use Rattle.pf_sched.proofs.Crossing as sched
 use Rattle.pf_farm_state.proofs.Crossing as hall
 use Rattle.pf_wire.specs.contracts.reported.WrittenAnswer as Reported
 use Rattle.pf_wire.specs.contracts.reported.ReportedReport as Report
-use Rattle.pf_clients.specs.contracts.client.FileEnd as Ended
+use Rattle.pf_wire.specs.contracts.ending.RefusedLine as Refused
+use Rattle.pf_clients.specs.contracts.end.FileEnd as Ended
 use Rattle.pf_clients.proofs.start.StartStage.TheSendSync as stage
 use Rattle.pf_clients.specs.contracts.client.Client as Client
 use Rattle.pf_clients.specs.contracts.start.FarmStart as Start
@@ -32,26 +33,32 @@ reported_field_send = search (report_field_send, heap.crosses, sendable) depth 3
 reported_send : IsSend Reported.the_row
 reported_send = recorded_send (Reported.the_field).row _ _ (Reported.the_type).to_one reported_field_send
 
-ended_field_send : IsSend (Ended.the_field).row
-ended_field_send = search (error.the_field_send, sendable) depth 30
+refused_field_send : IsSend (Refused.the_field).row
+refused_field_send = search (heap.crosses, sendable) depth 30
 
-module _ (N R : RattleType) (g : names.Ghosts N.Denot) (s : IsSend R) where
-  client_field_send : IsSend (Client.the_field N R g).row
+ended_field_send : IsSend (Ended.the_field).row
+ended_field_send = search (refused_field_send, error.the_field_send, sendable) depth 30
+
+module _ (N S V : RattleType) (g : names.Ghosts N.Denot) (s : IsSend S) (v : IsSend V) where
+  client_field_send : IsSend (Client.the_field N S V g).row
   client_field_send =
-      let all : AllSend (shape (Client.the_type N R g)).fields = (
+      let all : AllSend (shape (Client.the_type N S V g)).fields = (
         search (hall.client_seat_send N g, sendable) depth 30,
         (
           search (s, sendable) depth 30,
           (
-            search (reported_send, heap.crosses, sendable) depth 30,
-            (search (ended_field_send, sendable) depth 30, tt),
+            search (v, sendable) depth 30,
+            (
+              search (reported_send, heap.crosses, sendable) depth 30,
+              (search (ended_field_send, sendable) depth 30, tt),
+            ),
           ),
         ),
       ) in
-      struct_send (shape (Client.the_type N R g)) all
+      struct_send (shape (Client.the_type N S V g)) all
 
-  pub client_send : IsSend (Client.the_row N R g)
-  client_send = recorded_send (Client.the_field N R g).row _ _ (Client.the_type N R g).to_one client_field_send
+  pub client_send : IsSend (Client.the_row N S V g)
+  client_send = recorded_send (Client.the_field N S V g).row _ _ (Client.the_type N S V g).to_one client_field_send
 
 -- ---- the start is shared
 

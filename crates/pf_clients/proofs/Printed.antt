@@ -18,8 +18,9 @@ use Rattle.pf_wire.proofs.Adding.{added_both, front_of_second}
 use Rattle.pf_wire.proofs.Leaving.{IsAdded}
 use Rattle.pf_wire.specs.Whole.{whole_text, with_report}
 use Rattle.pf_wire.specs.declared.reported.WrittenAnswer.{WrittenAnswer}
-use Rattle.pf_clients.specs.declared.client.FileEnd.{FileEnd}
-use Rattle.pf_clients.specs.declared.client.FileEnd.TheVariants.{Answered, NoCommand, Unread, NoMemory as OutOfMemory}
+use Rattle.pf_clients.specs.declared.end.FileEnd.{FileEnd}
+use Rattle.pf_clients.specs.declared.end.FileEnd.TheVariants.{Answered, NoCommand, Unread, Unwritten}
+use Rattle.pf_clients.specs.declared.end.FileEnd.TheVariants.{NoMemory as OutOfMemory}
 use Rattle.pf_clients.specs.Faults.{CountsFault}
 use Rattle.pf_clients.specs.Farms.{ClientText, stop_at, or_else, first_stop, unless, printed, status_at, status_of}
 use Rattle.pf_clients.specs.Farms.{Prints, PrintsInPart}
@@ -98,14 +99,19 @@ stop_both (c ∷ cs) ds h =
     let k = goes_on c cs h in
     ap (λ (o : Option (OrNoMemory StreamFault)). or_else o (first_stop (cs ++ ds))) k.0 ∙ stop_both cs ds k.1
 
+two_apart : (b : FileEnd) (n : ℕ) → 2 ≡ status_at b 2
+two_apart Answered n = refl
+two_apart (NoCommand r) n = refl
+two_apart (Unread e) n = refl
+two_apart (Unwritten e) n = refl
+two_apart OutOfMemory n = refl
+
 status_apart : (a b : FileEnd) (n : ℕ) → status_at a (status_at b n) ≡ status_at b (status_at a n)
 status_apart Answered b n = refl
 status_apart (Unread e) b n = refl
 status_apart OutOfMemory b n = refl
-status_apart NoCommand Answered n = refl
-status_apart NoCommand (Unread e) n = refl
-status_apart NoCommand OutOfMemory n = refl
-status_apart NoCommand NoCommand n = refl
+status_apart (NoCommand r) b n = two_apart b n
+status_apart (Unwritten e) b n = two_apart b n
 
 pub status_more : (cs : List ClientText) (c : ClientText) → status_of (cs ++ c ∷ []) ≡ status_at c.ended (status_of cs)
 status_more [] c = refl
@@ -176,7 +182,8 @@ pub in_part_by_stop : (cs : List ClientText) (c : FileEnd) (e : OrNoMemory Strea
     (n0 n1 : ℕ) → stop_at c ≡ Some e → n1 ≡ n0
     → (first_stop cs ≡ Some e) × Appends w0 w1 (printed cs) → PrintsInPart cs e w0 w1 n0 n1
 in_part_by_stop cs Answered e w0 w1 n0 n1 is same h = absurd (cc)
-in_part_by_stop cs NoCommand e w0 w1 n0 n1 is same h = absurd (cc)
+in_part_by_stop cs (NoCommand r) e w0 w1 n0 n1 is same h = absurd (cc)
+in_part_by_stop cs (Unwritten x) e w0 w1 n0 n1 is same h = absurd (cc)
 in_part_by_stop cs (Unread x) e w0 w1 n0 n1 is same h =
     let stop : Fault (Read x) ≡ e = cc in
     subst (λ k. PrintsInPart cs k w0 w1 n0 n1) stop (same, h.0 ∙ ap Some (sym stop), h.1)

@@ -13,18 +13,22 @@ use Rattle.pf_desks.specs.Desks.{desk_at}
 use Rattle.pf_farm_accounts.specs.Rows.{HaveEnded}
 use Rattle.pf_book.specs.Profile.{ForRight}
 use Rattle.pf_farm_laws.specs.Reported.{AgreesWithHistories}
-use Rattle.pf_farm_state.specs.Clients.{all_receipts, closed_as, AreFull, AreLegal, AreTheCalls}
+use Rattle.pf_farm_state.specs.Clients.{all_receipts, closed_as, empty_client, AreFull, AreLegal, AreTheCalls}
+use Rattle.pf_farm_state.specs.Clients.{SawTruly}
 use Rattle.pf_farm_state.specs.declared.client.ClosedSeat.{ClosedSeat}
 use Rattle.pf_farm_state.specs.declared.closing.Closing.{Closing}
-use Rattle.pf_clients.specs.declared.client.FileEnd.{FileEnd}
-use Rattle.pf_clients.specs.declared.client.FileEnd.TheVariants.{Answered, NoCommand, Unread, NoMemory as OutOfMemory}
+use Rattle.pf_clients.specs.declared.end.FileEnd.{FileEnd}
+use Rattle.pf_clients.specs.declared.end.FileEnd.TheVariants.{Answered, NoCommand, Unread, Unwritten}
+use Rattle.pf_clients.specs.declared.end.FileEnd.TheVariants.{NoMemory as OutOfMemory}
 use Rattle.pf_clients.specs.declared.reported.ClientAnswers.{ClientAnswers}
+use Rattle.pf_clients.specs.declared.streams.ClientStreams.{ClientStreams}
 use Rattle.pf_clients.specs.Lines.{AnswersFile}
+use Rattle.pf_clients.specs.Served.{unopened}
 use Rattle.pf_clients.specs.Texts.{reported_text}
 
 -- ---- what is written
 
--- what a client was answered, and how its file ended
+-- what was kept of what a client was answered, and how its file ended
 pub record ClientText : Type 0 where
   pub text : List ℕ
   pub ended : FileEnd
@@ -38,8 +42,9 @@ client_text a = record { text = reported_text a.reported.items; ended = a.ended 
 -- why no file is printed after one that ended so, if none is
 abbrev pub stop_at : FileEnd → Option (OrNoMemory StreamFault)
 stop_at Answered = None
-stop_at NoCommand = None
+stop_at (NoCommand r) = None
 stop_at (Unread e) = Some (Fault (Read e))
+stop_at (Unwritten e) = None
 stop_at OutOfMemory = Some NoMemory
 
 abbrev pub or_else : Option (OrNoMemory StreamFault) → Option (OrNoMemory StreamFault) → Option (OrNoMemory StreamFault)
@@ -54,14 +59,15 @@ abbrev pub unless : Option (OrNoMemory StreamFault) → List ℕ → List ℕ
 unless None text = text
 unless (Some e) text = []
 
--- what is printed: what the clients were answered, file by file, up to one after which none is printed
+-- what is printed: what was kept of the clients, file by file, up to one after which none is printed
 abbrev pub printed : List ClientText → List ℕ
 printed [] = []
 printed (c ∷ cs) = c.text ++ unless (stop_at c.ended) (printed cs)
 
--- the status: 2 if a line was no command, and else 0
+-- the status: 2 if a line was no command or an answer can't be written, and else 0
 abbrev pub status_at : FileEnd → (others : ℕ) → ℕ
-status_at NoCommand n = 2
+status_at (NoCommand r) n = 2
+status_at (Unwritten e) n = 2
 status_at Answered n = n
 status_at (Unread e) n = n
 status_at OutOfMemory n = n
@@ -85,39 +91,69 @@ PrintsInPart cs NoMemory w0 w1 n0 n1 = (n1 ≡ n0) × (first_stop cs ≡ Some No
 
 -- ---- a farm
 
--- these are what is left of the clients of these files, and what they were answered; the first is of project k, and
--- each is of the next project
-abbrev pub AreAnswered : (k : ℕ) → List (Option (List ℕ)) → List ClosedSeat → List ClientText → Type 0
-AreAnswered k [] [] [] = ⊤
-AreAnswered k (f ∷ fs) (s ∷ ss) (c ∷ cs) = AnswersFile k f (closed_as s) c.text c.ended × AreAnswered (suc k) fs ss cs
-AreAnswered k _ _ _ = ⊥
+-- what a client was answered was taken by its writer, and nothing kept; or it has none, and this was kept
+abbrev pub IsTaken : {V : Type 0} → (contents : V → Option (List ℕ)) → (was is : Option V) → (kept text : List ℕ)
+    → Type 0
+IsTaken contents None None kept text = kept ≡ text
+IsTaken contents (Some v) (Some w) kept text = (kept ≡ []) × Appends (contents v) (contents w) text
+IsTaken contents None (Some w) kept text = ⊥
+IsTaken contents (Some v) None kept text = ⊥
 
--- a farm of a client for each of these files, file k being that of project k, in which the clients were answered this;
--- and what is left when it is closed: the receipts of the clients are those of all calls that the histories note, each
--- once, and these histories are legal
-pub record FarmOf (inputs : List (Option (List ℕ))) (clients : List ClientText) : Type 0 where
-  pub closing : Closing
-  pub answered : AreAnswered 1 inputs closing.seats.items clients
-  pub receipts : ForRight (λ p. AreTheCalls (all_receipts closing.seats.items) closing.book)
-  pub legal : ForRight (λ p. AreLegal p closing.seats.items closing.book)
-  pub full : ForRight (λ p. AreFull closing.seats.items closing.book)
-  pub ended : HaveEnded closing.rows.items
-  pub reported : ForRight (λ p. AgreesWithHistories closing.rows.items closing.book)
-
--- what such a farm answered its clients was printed
-abbrev pub FarmPrints : List (Option (List ℕ)) → (status : ℕ) → (written_old written_new : Option (List ℕ)) → Type 0
-FarmPrints inputs status w0 w1 = (clients : List ClientText) × FarmOf inputs clients × Prints clients status w0 w1
-
--- nothing was written, since memory ran out before the farm began, or no thread can be started
+-- nothing was written, since no thread can be started
 abbrev pub NeverBegins : OrNoMemory StreamFault → (written_old written_new : Option (List ℕ))
     → (failed_old failed_new : ℕ) → Type 0
 NeverBegins (Fault (Write e)) w0 w1 n0 n1 = ⊥
 NeverBegins (Fault (Read e)) w0 w1 n0 n1 = (w1 ≡ w0) × (n1 ≡ n0)
 NeverBegins NoMemory w0 w1 n0 n1 = (w1 ≡ w0) × (n1 ≡ n0)
 
--- the farm never began; or what it answered its clients was printed in part
-abbrev pub FarmLeaves : List (Option (List ℕ)) → OrNoMemory StreamFault → (written_old written_new : Option (List ℕ))
-    → (failed_old failed_new : ℕ) → Type 0
-FarmLeaves inputs e w0 w1 n0 n1 =
-    NeverBegins e w0 w1 n0 n1 ⊎ ((clients : List ClientText) × FarmOf inputs clients
-    × PrintsInPart clients e w0 w1 n0 n1)
+-- X is what clients are given, which may give streams to the client of project k, or lack one; of a file it may be
+-- known what remains, and of a writer what it holds
+module _ {X F V : Type 0} (gives : ℕ → X → ClientStreams F V → Type 0) (lacks : ℕ → X → StreamFault → Type 0)
+    (remaining : F → Option (List ℕ)) (contents : V → Option (List ℕ)) where
+  -- the client of project k was answered, this is left of its writer and of its seat, and this was kept
+  abbrev pub IsAnswered : (k : ℕ) → X → (left : Option V) → ClosedSeat → ClientText → Type 0
+  IsAnswered k x w s c =
+      (streams : ClientStreams F V) × (text : List ℕ) × gives k x streams
+      × AnswersFile k (remaining streams.file) (closed_as s) text c.ended
+      × IsTaken contents streams.replies w c.text text
+
+  -- one of its streams can't be opened, and nothing was done
+  abbrev pub IsUnopened : (k : ℕ) → X → (left : Option V) → ClosedSeat → ClientText → Type 0
+  IsUnopened k x w s c =
+      (e : StreamFault) × lacks k x e × (c.ended ≡ unopened e) × (closed_as s ≡ empty_client k) × (w ≡ None)
+      × (c.text ≡ [])
+
+  -- these are what is left of the clients that were given this, and of their writers, and what was kept; the first is
+  -- of project k, and each is of the next project
+  abbrev pub AreAnswered : (k : ℕ) → List X → (left : List (Option V)) → List ClosedSeat → List ClientText → Type 0
+  AreAnswered k [] [] [] [] = ⊤
+  AreAnswered k (x ∷ xs) (w ∷ ws) (s ∷ ss) (c ∷ cs) =
+      (IsAnswered k x w s c ⊎ IsUnopened k x w s c) × AreAnswered (suc k) xs ws ss cs
+  AreAnswered k _ _ _ _ = ⊥
+
+  -- a farm of a client for each of these, the k-th being that of project k, in which this was kept of the clients, and
+  -- this is left of their writers; and what is left when it is closed: the receipts of the clients are those of all
+  -- calls that the histories note, each once, and these histories are legal; what each client saw that waited was so at
+  -- that point of its own project's
+  pub record FarmOf (xs : List X) (left : List (Option V)) (clients : List ClientText) : Type 0 where
+    pub closing : Closing
+    pub answered : AreAnswered 1 xs left closing.seats.items clients
+    pub receipts : ForRight (λ p. AreTheCalls (all_receipts closing.seats.items) closing.book)
+    pub legal : ForRight (λ p. AreLegal p closing.seats.items closing.book)
+    pub full : ForRight (λ p. AreFull closing.seats.items closing.book)
+    pub looks : ForRight (λ p. SawTruly p closing.seats.items closing.book closing.stopped)
+    pub ended : HaveEnded closing.rows.items
+    pub reported : ForRight (λ p. AgreesWithHistories closing.rows.items closing.book)
+
+  -- what such a farm kept of its clients was printed
+  abbrev pub FarmPrints : List X → (left : List (Option V)) → (status : ℕ)
+      → (written_old written_new : Option (List ℕ)) → Type 0
+  FarmPrints xs left status w0 w1 =
+      (clients : List ClientText) × FarmOf xs left clients × Prints clients status w0 w1
+
+  -- the farm never began; or what it kept of its clients was printed in part
+  abbrev pub FarmLeaves : List X → (left : List (Option V)) → OrNoMemory StreamFault
+      → (written_old written_new : Option (List ℕ)) → (failed_old failed_new : ℕ) → Type 0
+  FarmLeaves xs left e w0 w1 n0 n1 =
+      NeverBegins e w0 w1 n0 n1
+      ⊎ ((clients : List ClientText) × FarmOf xs left clients × PrintsInPart clients e w0 w1 n0 n1)

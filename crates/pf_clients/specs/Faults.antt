@@ -4,8 +4,8 @@ use Rattle.pf_errors.specs.declared.fault.OrNoMemory.{OrNoMemory}
 use Rattle.pf_errors.specs.declared.fault.OrNoMemory.TheVariants.{Fault, NoMemory}
 use Rattle.pf_streams.specs.declared.stream.StreamFault.{StreamFault}
 use Rattle.pf_streams.specs.declared.stream.StreamFault.TheVariants.{Read, Write}
-use Rattle.pf_clients.specs.declared.client.FileEnd.{FileEnd}
-use Rattle.pf_clients.specs.declared.client.FileEnd.TheVariants.{Unread, NoMemory as OutOfMemory}
+use Rattle.pf_clients.specs.declared.end.FileEnd.{FileEnd}
+use Rattle.pf_clients.specs.declared.end.FileEnd.TheVariants.{Unread, NoMemory as OutOfMemory}
 
 -- a write that failed was counted, once; a file that can't be read and running out of memory are no fault of the writer
 abbrev pub CountsFault : OrNoMemory StreamFault → (failed_old failed_new : ℕ) → Type 0

@@ -1,51 +1,33 @@
-//! One client: the lines of its file are answered one after another.
+//! One client: the lines of its file are answered one after another, as they come.
 
-ghost use Rattle.std.specs.Prelude.{◌≡◌, ◌<◌, ◌≤◌, ◌++◌, None, length, IfOk, OnOk, OnErr, false};
-ghost use Rattle.std.specs.Bool.{OnTrue};
-ghost use Rattle.std.specs.Option.{option_copied};
-ghost use Rattle.pf_protocol.specs.View.{view_of_client_line};
-ghost use Rattle.pf_protocol.specs.Clients.{calls};
-ghost use Rattle.pf_request.specs.View.{view_of_call};
-ghost use Rattle.pf_wire.specs.Steps.{last_text, AreRead};
-ghost use Rattle.pf_wire.specs.declared.outcome.Requester.TheVariants as requester;
+ghost use Rattle.std.specs.Prelude.{◌≡◌, ◌<◌, ℕ, List, [], None, IfErr, IfOk, OnOk};
+ghost use Rattle.pf_farm_state.specs.Clients.{empty_client};
+ghost use Rattle.pf_protocol.specs.Clients.{client_line_at};
 ghost use Rattle.pf_wire.specs.Whole.{whole_text};
 ghost use Rattle.pf_clients.specs.Faults.{ended_by};
-ghost use Rattle.pf_pool.specs.Responses.{response_in};
-ghost use Rattle.pf_clients.specs.Lines.{answer_in, call_text, AnswersBytes, AnswersFront, AnswersLine, CutsFront};
-ghost use Rattle.pf_clients.specs.Lines.{CutsLine, IsNew, IsServed};
-ghost use Rattle.pf_clients.specs.Texts.{reported_text, EndsInText};
+ghost use Rattle.pf_clients.specs.Lines.{AnswersFront, EndsAt};
+ghost use Rattle.pf_clients.specs.Served.{AnswersClient, IsNew, IsServed};
+ghost use Rattle.pf_clients.specs.Replies.{Takes, TakesBeginning};
 
+use crate::end::FileEnd;
+use crate::line::{answer_front, refusal};
+use crate::replies::{add, reply};
+use crate::streams::{ClientStreams, Source};
 use crate::watch::Watch;
-use pf_book::Reply;
 use pf_errors::{NoMemory, OrNoMemory};
 use pf_farm::{ClientSeat, Floor};
 use pf_farm_accounts::FarmNames;
-use pf_pool::Response;
-use pf_protocol::{ClientLine, NoCommand, is_due, read_client_line};
-use pf_request::Call;
 use pf_streams::{Counted, StreamFault};
-use pf_wire::{MOST_BYTES, Requester, WrittenAnswer, put_no_command, put_outcome};
+use pf_wire::{Input, RefusedLine, WrittenAnswer};
 use std::alloc::Global;
-use std::io::{Error, Read};
+use std::io::Write;
 use std::marker::Brand;
+use std::mem::replace;
 use std::sync::Wait;
 use std::sync::ledger::{Blank, Ledger};
 
-/// How long a text of several replies gets, in bytes, before another is begun.
-const MOST_TEXT: usize = 65_536;
-
-/// How the lines of a file ended.
-#[derive(Drop)]
-pub(crate) enum FileEnd {
-    /// All were answered.
-    Answered,
-    /// One was no command, and none after it was read.
-    NoCommand,
-    /// The file can't be read any more.
-    Unread(Error),
-    /// Memory ran out.
-    NoMemory,
-}
+/// The most bytes that are read in one call.
+const PIECE: usize = 4_096;
 
 /// How a file ended that can't be read, or for which memory ran out.
 fn stopped(stop: OrNoMemory<StreamFault>) -> FileEnd
@@ -59,240 +41,158 @@ fn stopped(stop: OrNoMemory<StreamFault>) -> FileEnd
     }
 }
 
-/// A client: its seat, its file until that is read, and what it was answered, reply by reply.
+/// A client: its seat, the source of its streams until they are opened, the writer of its replies if it has one, and
+/// what is kept of its replies if it has none.
 #[derive(Drop)]
-pub(crate) struct Client<N: FarmNames, R> {
+pub(crate) struct Client<N: FarmNames, S, W> {
     pub seat: ClientSeat<N>,
-    pub file: Option<R>,
+    pub source: Option<S>,
+    pub replies: Option<W>,
     pub reported: Vec<WrittenAnswer>,
     pub ended: FileEnd,
 }
 
-/// What a file holds, up to 64 MiB.
-fn contents<R: Read + Drop, L: Ledger>(
-    alloc: Global,
-    file: R,
-    reads: Blank,
-) -> Result<Vec<u8>, OrNoMemory<StreamFault>>
-    requires reads { reads.name ≡ L.name }
-    requires read_parts { reads.parts ≡ L.parts }
-    requires some_reads { 0 < reads.parts }
-    ensures read { IfOk result (λ v. AreRead (R.remaining file) v.items) }
-    ensures len { IfOk result (λ v. length v.items ≤ MOST_BYTES) }
-{
-    let mut reader = Counted::<R, L>::new(file, reads);
-    reader.take_front(alloc, MOST_BYTES)
-}
-
-/// What came of a call, as what a world responds.
-fn response_of(outcome: Result<Reply, NoMemory>) -> Result<Response, NoMemory>
-    ensures { response_in result ≡ answer_in outcome }
-{
-    match outcome {
-        Ok(reply) => Ok(Response::Reply(reply)),
-        Err(NoMemory) => Err(NoMemory),
-    }
-}
-
-/// The client of a project, as who is sent an answer.
-fn client_of(project: u32) -> Requester
-    ensures { result ≡ requester.Client project }
-{
-    Requester::Client { project }
-}
-
-/// The text of what came of a project's call.
-fn text_of(
-    alloc: Global,
-    project: u32,
-    outcome: Result<Reply, NoMemory>,
-) -> Result<WrittenAnswer, NoMemory>
-    ensures { IfOk result (λ t. whole_text t ≡ call_text project outcome) }
-{
-    let response = response_of(outcome);
-    let mut reported = WrittenAnswer {
-        text: Vec::new(alloc),
-        report: None,
-    };
-    put_outcome(alloc, &mut reported, client_of(project), response)?;
-    Ok(reported)
-}
-
-/// The text that says that the line of this number is no command.
-fn refusal(alloc: Global, number: u64) -> Result<WrittenAnswer, NoMemory>
-    ensures { IfOk result (λ t. whole_text t ≡ last_text false number) }
-{
-    let mut text = Vec::new(alloc);
-    put_no_command(alloc, &mut text, number)?;
-    Ok(WrittenAnswer { text, report: None })
-}
-
-/// Whether an answer may join the last text: neither has a report, and that text isn't long.
-fn joins(all: &[WrittenAnswer], reported: &WrittenAnswer) -> bool
-    ensures { OnTrue result ((reported.now.report ≡ None) × EndsInText all.now) }
-{
-    if reported.report.is_some() {
-        return false;
-    }
-    match all.last() {
-        Some(last) => last.report.is_none() && last.text.len() < MOST_TEXT,
-        None => false,
-    }
-}
-
-/// Adds an answer, to the last text where it may join that.
-fn add(all: &mut Vec<WrittenAnswer>, reported: WrittenAnswer) -> Result<(), NoMemory>
-    ensures added { OnOk result (reported_text all.new.items ≡ reported_text all.old.items ++ whole_text reported) }
-    ensures err { OnErr result (reported_text all.new.items ≡ reported_text all.old.items) }
-{
-    if joins(all, &reported) {
-        let last = all.len() - 1;
-        all[last].text.extend_from_slice(&reported.text)?;
-    } else {
-        all.push(reported)?;
-    }
-    Ok(())
-}
-
-impl<N: FarmNames, R: Read + Drop> Client<N, R> {
-    /// Answers the lines of its file, at most 64 MiB of it, up to one that is no command.
+impl<N: FarmNames, W: Write + Drop, S: Source<Replies = W> + Drop> Client<N, S, W> {
+    /// Opens its streams, and answers the lines of its file as they come, at most 64 MiB of it, up to one that is no
+    /// command.
     pub fn work<T: Wait, G: Watch>(&mut self, alloc: Global, rt: &T, floor: &Floor<N>, watch: &G)
-        requires { IsNew self.old.seat self.old.reported.items }
-        ensures { IsServed R.remaining self.old.file self.old.seat.project
-            self.new.seat self.new.reported.items self.new.ended }
+        requires { IsNew self.old.seat self.old.replies self.old.reported.items }
+        ensures { IsServed S.gives S.lacks S.File.remaining W.contents self.old.source self.new.replies
+            self.old.seat.project self.new.seat self.new.reported.items self.new.ended }
     {
-        self.ended = self.answer_file(alloc, rt, floor, watch);
+        self.ended = self.answer_source(alloc, rt, floor, watch);
+        watch.ended(self.seat.project(), &self.ended);
     }
 
-    /// Answers the lines of its file, if it has one.
-    fn answer_file<T: Wait, G: Watch>(
+    /// Opens its streams, if it has a source, and answers the lines of its file.
+    fn answer_source<T: Wait, G: Watch>(
         &mut self,
         alloc: Global,
         rt: &T,
         floor: &Floor<N>,
         watch: &G,
     ) -> FileEnd
-        requires { IsNew self.old.seat self.old.reported.items }
-        ensures { IsServed R.remaining self.old.file self.old.seat.project
-            self.new.seat self.new.reported.items result }
+        requires { IsNew self.old.seat self.old.replies self.old.reported.items }
+        ensures { IsServed S.gives S.lacks S.File.remaining W.contents self.old.source self.new.replies
+            self.old.seat.project self.new.seat self.new.reported.items result }
     {
-        let Some(file) = self.file.take() else {
+        let Some(source) = self.source.take() else {
             return FileEnd::Answered;
         };
-        match contents::<R, Brand>(alloc, file, Blank::new(1)) {
-            Ok(bytes) => self.answer_lines(alloc, rt, floor, watch, &bytes),
-            Err(stop) => stopped(stop),
+        match source.open() {
+            Ok(ClientStreams { file, replies }) => {
+                // It has no writer yet, so none is dropped here.
+                let _none = replace(&mut self.replies, replies);
+                self.answer_lines::<Brand, T, G>(alloc, rt, floor, watch, file, Blank::new(1))
+            }
+            Err(StreamFault::Read(error)) => FileEnd::Unread(error),
+            Err(StreamFault::Write(error)) => FileEnd::Unwritten(error),
         }
     }
 
-    /// Answers the lines of these bytes, one after another.
-    fn answer_lines<T: Wait, G: Watch>(
+    /// Answers the lines of a file, each before more is read than a piece.
+    fn answer_lines<L: Ledger, T: Wait, G: Watch>(
         &mut self,
         alloc: Global,
         rt: &T,
         floor: &Floor<N>,
         watch: &G,
-        bytes: &[u8],
+        file: S::File,
+        reads: Blank,
     ) -> FileEnd
-        requires { length bytes.now ≤ MOST_BYTES }
-        ensures { AnswersBytes bytes.now self.old.seat self.new.seat
-            (reported_text self.old.reported.items) (reported_text self.new.reported.items) result }
+        requires reads { reads.name ≡ L.name }
+        requires read_parts { reads.parts ≡ L.parts }
+        requires some_reads { 0 < reads.parts }
+        requires new { (self.old.seat ≡ empty_client self.old.seat.project) × (self.old.reported.items ≡ []) }
+        ensures { AnswersClient S.File.remaining W.contents file self.old.replies self.new.replies
+            self.old.seat.project self.new.seat self.new.reported.items result }
     {
-        let mut rest = bytes;
+        let mut reader = Counted::<S::File, L>::new(file, reads);
+        let mut piece = [0u8; PIECE];
+        let mut input = Input::new(alloc);
         let mut number: u64 = 1;
-        'lines: while is_due(rest, true) {
-            let follows = match self.answer_front(alloc, rt, floor, watch, number, rest) {
-                Ok(follows) => follows,
-                Err(NoMemory) => return FileEnd::NoMemory,
-            };
-            let Some(after) = follows else {
-                return FileEnd::NoCommand;
-            };
-            rest = after;
-            number += 1;
+        let mut is_over = false;
+        'lines: loop {
+            if input.is_due(is_over) {
+                match self.answer_next(alloc, rt, floor, watch, number, &input.bytes) {
+                    Ok(rest) => input.keep(rest),
+                    Err(end) => return end,
+                }
+                number += 1;
+            } else if is_over {
+                return FileEnd::Answered;
+            } else {
+                match input.take_piece(&mut reader, &mut piece) {
+                    Ok(ends) => is_over = ends,
+                    Err(stop) => return stopped(stop),
+                }
+            }
         }
-        FileEnd::Answered
     }
 
-    /// Answers the line of this number, which is first; returns what follows it, unless it is no command.
-    fn answer_front<'a, T: Wait, G: Watch>(
+    /// Answers the line of this number, which is first; gives what follows it, or how the file ends there.
+    fn answer_next<T: Wait, G: Watch>(
         &mut self,
         alloc: Global,
         rt: &T,
         floor: &Floor<N>,
         watch: &G,
         number: u64,
-        bytes: &'a [u8],
-    ) -> Result<Option<&'a [u8]>, NoMemory>
-        ensures answered { IfOk result (λ rest. AnswersFront bytes.now number (option_copied rest)
-            self.old.seat self.new.seat (reported_text self.old.reported.items)
-            (reported_text self.new.reported.items)) }
-        ensures err { OnErr result (CutsFront bytes.now
-            self.old.seat self.new.seat (reported_text self.old.reported.items)
-            (reported_text self.new.reported.items)) }
+        bytes: &[u8],
+    ) -> Result<Vec<u8>, FileEnd>
+        requires { ¬ (bytes.now ≡ []) }
+        ensures next { IfOk result (λ rest. (text : List ℕ)
+            × AnswersFront bytes.now rest.items self.old.seat self.new.seat text
+            × Takes W.contents self.old.replies self.new.replies
+            self.old.reported.items self.new.reported.items text) }
+        ensures end { IfErr result (λ end. (text : List ℕ)
+            × EndsAt end number bytes.now self.old.seat self.new.seat text
+            × Takes W.contents self.old.replies self.new.replies
+            self.old.reported.items self.new.reported.items text) }
     {
-        match read_client_line(alloc, self.seat.project(), bytes) {
-            Ok((line, rest)) => {
-                self.answer_line(alloc, rt, floor, watch, line)?;
-                Ok(Some(rest))
-            }
-            Err(OrNoMemory::Fault(NoCommand)) => {
-                let reported = refusal(alloc, number)?;
-                add(&mut self.reported, reported)?;
-                Ok(None)
-            }
-            Err(OrNoMemory::NoMemory) => Err(NoMemory),
+        match answer_front(alloc, rt, floor, watch, &mut self.seat, bytes) {
+            Ok(Some(line)) => match self.take(line.reported) {
+                Ok(()) => Ok(line.rest),
+                Err(end) => Err(end),
+            },
+            Ok(None) => Err(self.refuse(alloc, number, bytes)),
+            Err(NoMemory) => Err(FileEnd::NoMemory),
         }
     }
 
-    /// Does what a line asks for.
-    fn answer_line<T: Wait, G: Watch>(
-        &mut self,
-        alloc: Global,
-        rt: &T,
-        floor: &Floor<N>,
-        watch: &G,
-        line: ClientLine,
-    ) -> Result<(), NoMemory>
-        ensures answered { OnOk result (AnswersLine (view_of_client_line line)
-            self.old.seat self.new.seat (reported_text self.old.reported.items)
-            (reported_text self.new.reported.items)) }
-        ensures err { OnErr result (CutsLine (view_of_client_line line)
-            self.old.seat self.new.seat (reported_text self.old.reported.items)
-            (reported_text self.new.reported.items)) }
+    /// Answers that the line of this number, which is first, is no command; how the file ends there.
+    fn refuse(&mut self, alloc: Global, number: u64, bytes: &[u8]) -> FileEnd
+        requires some { ¬ (bytes.now ≡ []) }
+        requires none { client_line_at self.old.seat.project bytes.now ≡ None }
+        ensures { (text : List ℕ)
+            × EndsAt result number bytes.now self.old.seat self.new.seat text
+            × Takes W.contents self.old.replies self.new.replies
+            self.old.reported.items self.new.reported.items text }
     {
-        match line {
-            ClientLine::Call(call) => self.answer_call(alloc, rt, floor, watch, call),
-            ClientLine::Await(ticket) => {
-                floor.wait_done(rt, &self.seat, ticket);
-                Ok(())
-            }
+        let reported = match refusal(alloc, number) {
+            Ok(reported) => reported,
+            Err(NoMemory) => return FileEnd::NoMemory,
+        };
+        match self.take(reported) {
+            Ok(()) => FileEnd::NoCommand(RefusedLine::of(alloc, number, bytes)),
+            Err(end) => end,
         }
     }
 
-    /// Makes a call, and adds its result to what the client was answered: the reply that its new receipt bears, or
-    /// that the call is refused.
-    fn answer_call<T: Wait, G: Watch>(
-        &mut self,
-        alloc: Global,
-        rt: &T,
-        floor: &Floor<N>,
-        watch: &G,
-        call: Call,
-    ) -> Result<(), NoMemory>
-        ensures answered { OnOk result (AnswersLine (calls (view_of_call call))
-            self.old.seat self.new.seat (reported_text self.old.reported.items)
-            (reported_text self.new.reported.items)) }
-        ensures err { OnErr result (CutsLine (calls (view_of_call call))
-            self.old.seat self.new.seat (reported_text self.old.reported.items)
-            (reported_text self.new.reported.items)) }
+    /// Writes an answer, or keeps it where there is no writer; how the file ends, if neither can be done.
+    fn take(&mut self, reported: WrittenAnswer) -> Result<(), FileEnd>
+        ensures seat { self.new.seat ≡ self.old.seat }
+        ensures taken { OnOk result (Takes W.contents self.old.replies self.new.replies
+            self.old.reported.items self.new.reported.items (whole_text reported)) }
+        ensures beginning { IfErr result (λ end. TakesBeginning W.contents end self.old.replies self.new.replies
+            self.old.reported.items self.new.reported.items (whole_text reported)) }
     {
-        let project = self.seat.project();
-        let outcome = floor.call(alloc, rt, &mut self.seat, call);
-        if let Ok(Reply::Ticket(_)) = &outcome {
-            watch.ordered(project);
+        match &mut self.replies {
+            Some(writer) => reply(writer, reported),
+            None => match add(&mut self.reported, reported) {
+                Ok(()) => Ok(()),
+                Err(NoMemory) => Err(FileEnd::NoMemory),
+            },
         }
-        let reported = text_of(alloc, project, outcome)?;
-        add(&mut self.reported, reported)
     }
 }

@@ -1,4 +1,4 @@
-//! What all clients were answered, file by file.
+//! What was kept of what all clients were answered, file by file.
 
 ghost use Rattle.std.specs.Prelude.{◌≡◌, map, None, Some, IfErr, IfOk, OnErr, OnOk};
 ghost use Rattle.std.specs.Io.KnownBytes.{Appends};
@@ -7,7 +7,7 @@ ghost use Rattle.pf_clients.specs.Farms.{client_text, status_at, stop_at, Prints
 ghost use Rattle.pf_clients.specs.Faults.{CountsFault};
 ghost use Rattle.pf_clients.specs.Texts.{reported_text};
 
-use crate::client::FileEnd;
+use crate::end::FileEnd;
 use pf_errors::OrNoMemory;
 use pf_streams::{Counted, StreamFault};
 use pf_wire::{Gathered, WrittenAnswer};
@@ -15,14 +15,14 @@ use std::alloc::Global;
 use std::io::Write;
 use std::sync::ledger::Ledger;
 
-/// What a client was answered, and how its file ended.
+/// What was kept of what a client was answered, and how its file ended.
 #[derive(Drop)]
 pub(crate) struct ClientAnswers {
     pub reported: Vec<WrittenAnswer>,
     pub ended: FileEnd,
 }
 
-/// Writes what one client was answered.
+/// Writes what was kept of one client.
 fn write_one<W: Write, M: Ledger>(
     alloc: Global,
     reported: &[WrittenAnswer],
@@ -42,22 +42,22 @@ fn write_one<W: Write, M: Ledger>(
     gathered.send(writer)
 }
 
-/// The status after a file that ended so, where this is the status before it: 2 if a line was no command. None after a
-/// file that can't be read or for which memory ran out.
+/// The status after a file that ended so, where this is the status before it: 2 if a line was no command or a reply
+/// can't be written. None after a file that can't be read or for which memory ran out.
 fn next_status(status: u8, ended: FileEnd) -> Result<u8, OrNoMemory<StreamFault>>
     ensures next { IfOk result (λ n. (stop_at ended ≡ None) × (n ≡ status_at ended status)) }
     ensures stop { IfErr result (λ e. stop_at ended ≡ Some e) }
 {
     match ended {
         FileEnd::Answered => Ok(status),
-        FileEnd::NoCommand => Ok(2),
+        FileEnd::NoCommand(_) | FileEnd::Unwritten(_) => Ok(2),
         FileEnd::Unread(error) => Err(OrNoMemory::Fault(StreamFault::Read(error))),
         FileEnd::NoMemory => Err(OrNoMemory::NoMemory),
     }
 }
 
-/// Writes what the clients were answered, file by file, up to a file that can't be read or for which memory ran out;
-/// the status, 2 if a line was no command, and else 0.
+/// Writes what was kept of the clients, file by file, up to a file that can't be read or for which memory ran out; the
+/// status, 2 if a line was no command or a reply can't be written, and else 0.
 pub(crate) fn write_all<W: Write, M: Ledger>(
     alloc: Global,
     answers: Vec<ClientAnswers>,

@@ -3,7 +3,8 @@ use Rattle.std.specs.Prelude.{◌≡◌, ◌<◌, ℕ, List, Option, Some}
 use Rattle.pf_request.specs.Job.{Job}
 use Rattle.pf_check.specs.Reading.{IsModuleOf}
 use Rattle.pf_hunt.specs.Notices.{Notice}
-use Rattle.pf_hunt.specs.Views.{failure_of}
+use Rattle.pf_model.specs.Properties.{Property}
+use Rattle.pf_hunt.specs.Views.{failure_of, further_of}
 use Rattle.pf_cli.specs.Args.{HuntArgs, RunArgs, view_of_hunt_args}
 use Rattle.pf_cli.specs.declared.args.HuntGoal.{HuntGoal}
 use Rattle.pf_cli.specs.declared.args.HuntGoal.TheVariants.{Failure}
@@ -29,15 +30,15 @@ ReportsRun r text status = (k : Job) × IsRunOf r k × ReportsJob k text status
 abbrev pub MaySay : (bytes : List ℕ) → List Notice → Answer → List ℕ → ℕ → Type 0
 MaySay bytes ns (Reported a) text status = IsOutput a text status
 MaySay bytes ns (Run r) text status = ReportsRun r text status
-MaySay bytes ns (Found f) text status = PrintsSought (view_of_hunt_args f.args.now) bytes f.job ns (Failure f.runs)
-    text status
+MaySay bytes ns (Found f) text status = PrintsSought (view_of_hunt_args f.args.now) bytes f.hunt.job
+    (further_of f.hunt) ns (Failure f.runs) text status
 
 -- a run that fails is the first of the module of the source that does
 abbrev pub IsFound : (bytes : List ℕ) → List Notice → Answer → Type 0
 IsFound bytes ns (Reported a) = Unit {0}
 IsFound bytes ns (Run r) = Unit {0}
-IsFound bytes ns (Found f) = IsModuleOf bytes f.«module» × IsLeastFailure (view_of_hunt_args f.args.now) f.job ns
-    (view_of_hunt_args f.args.now).seeds.1 (Some (failure_of f.failure))
+IsFound bytes ns (Found f) = IsModuleOf bytes f.«module» × IsLeastFailure (view_of_hunt_args f.args.now) f.hunt.job
+    (further_of f.hunt) ns (view_of_hunt_args f.args.now).seeds.1 (Some (failure_of f.failure))
 
 -- whatever may be said of it answers a source of these bytes
 abbrev pub IsAnswerTo : Answering → (bytes : List ℕ) → Answer → Type 0
@@ -73,10 +74,10 @@ RunEndsAs a bytes (Found f) = ⊥
 -- ---- of a hunt
 
 -- whatever may be said of it is reported of the runs of this job
-abbrev pub PrintsAs : HuntArgs → (bytes : List ℕ) → Job → HuntGoal → Answer → List Notice → Type 0
-PrintsAs h bytes j sought x ns =
+abbrev pub PrintsAs : HuntArgs → (bytes : List ℕ) → Job → List Property → HuntGoal → Answer → List Notice → Type 0
+PrintsAs h bytes j ps sought x ns =
     IsFound bytes ns x × ((text : List ℕ) (status : ℕ) → MaySay bytes ns x text status
-    → PrintsSought h bytes j ns sought text status)
+    → PrintsSought h bytes j ps ns sought text status)
 
 -- so a source of these bytes may be answered
 abbrev pub HuntEndsAs : HuntArgs → HuntGoal → (bytes : List ℕ) → Answer → List Notice → Type 0

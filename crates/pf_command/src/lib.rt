@@ -20,7 +20,7 @@ pub use answer::Output;
 pub use answers::{Answer, answer_by, print_answer};
 pub use chart::Chart;
 pub use check::CheckCommand;
-pub use ending::FailingRun;
+pub use ending::{FailingRun, named_property};
 pub use hunt::{HuntRequest, answer_of_hunt, hunt_source};
 pub use one_run::RunToPrint;
 pub use printing::run_source;

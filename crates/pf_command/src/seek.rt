@@ -1,9 +1,12 @@
 //! What is hunted of a source, and the result of a hunt.
 
-ghost use Rattle.std.specs.Prelude.{◌≡◌, ◌-◌, ◌++◌, [], List, ℕ, IfOk, Ok, Some, MatchResult, flat_map, if◌then◌else◌};
+ghost use Rattle.std.specs.Prelude.{◌≡◌, ◌-◌, ◌++◌, [], List, ℕ, IfOk, Ok, Some, MatchResult, flat_map, map};
+ghost use Rattle.std.specs.Prelude.{if◌then◌else◌};
 ghost use Rattle.std.specs.List.{list_any};
 ghost use Rattle.pf_model.specs.Shrinking.{is_failure};
+ghost use Rattle.pf_property.specs.Views.{property_of};
 ghost use Rattle.pf_sched.specs.Asked.{IsRefusal};
+ghost use Rattle.pf_verdicts.specs.Watching.{AreJobsOf};
 ghost use Rattle.pf_hunt.specs.Notices.{HearsSome};
 ghost use Rattle.pf_hunt.specs.Views.{row_of};
 ghost use Rattle.pf_cli.specs.Args.{view_of_hunt_args};
@@ -11,9 +14,10 @@ ghost use Rattle.pf_cli.specs.declared.args.HuntGoal.TheVariants as goals;
 ghost use Rattle.pf_command.specs.Answers.{AnswersRun, atom_names_of, run_args};
 ghost use Rattle.pf_cli_messages.specs.Explained.{AsksOf};
 ghost use Rattle.pf_check.specs.Reading.{IsModuleOf};
-ghost use Rattle.pf_command.specs.Hunts.{HuntAsksFor, IsHunted, IsNotHunted, MayShrink, OfEach, PrintsSought};
+ghost use Rattle.pf_command.specs.Hunts.{HuntAsksFor, IsHunted, IsNotHunted, IsRefusedAs, MayHunt, MayShrink};
+ghost use Rattle.pf_command.specs.Hunts.{OfEach, PrintsSought};
 ghost use Rattle.pf_command.specs.Printed.{PrintsAs};
-ghost use Rattle.pf_command.specs.Hunts.{front_text, none_text, row_text, shrinking_of, strategy_text};
+ghost use Rattle.pf_command.specs.Hunts.{front_text, none_text, properties_of, row_text, shrinking_of, strategy_text};
 
 use crate::answer::{Output, refused_at, refused_by_code};
 use crate::answers::Answer;
@@ -24,30 +28,31 @@ use crate::seeds::{put_none, put_rows, put_strategy, rows_status};
 use crate::stopping::{may_stop, put_front};
 use pf_check::{ReadModule, ReadSource};
 use pf_cli::{HuntArgs, HuntGoal};
-use pf_errors::{NoMemory, OrNoMemory};
-use pf_hunt::{
-    Hunt, HuntObserver, HuntRange, Searched, Tally, first_failing, other_jobs, tally_all,
-};
+use pf_errors::{Code, NoMemory, OrNoMemory};
+use pf_hunt::{Hunt, HuntObserver, HuntRange, Searched, Tally, first_failing, tally_all};
+use pf_property::Property;
 use pf_request::{Request, RequestKind, ShortBytes};
 use pf_sched::{Job, JobRefusal, Observer};
+use pf_verdicts::{HuntAsked, WorkerJobs, further_properties, worker_jobs};
 use std::alloc::Global;
 use std::sync::Arc;
 use std::thread::Threads;
 
-/// The shrinking of a schedule that a hunt finds.
+/// The shrinking of a schedule that a hunt finds, by which a property fails.
 fn shrinking(
     alloc: Global,
     args: &HuntArgs,
+    property: &[u8],
     schedule: Vec<u32>,
     runs: u32,
 ) -> Result<Request, NoMemory>
     ensures { IfOk result (λ r. run_args r args.now.edition
-        ≡ shrinking_of (view_of_hunt_args args.now) schedule.items runs) }
+        ≡ shrinking_of (view_of_hunt_args args.now) property.now schedule.items runs) }
 {
     let HuntArgs { request, .. } = args;
     Ok(Request {
         root: ShortBytes::from_slice(alloc, request.root.as_slice())?,
-        property: ShortBytes::from_slice(alloc, request.property.as_slice())?,
+        property: ShortBytes::from_slice(alloc, property)?,
         kind: RequestKind::Shrink {
             schedule: Arc::new(alloc, schedule)?,
             runs,
@@ -64,10 +69,14 @@ fn try_shrinking(
     runs: u32,
 ) -> Result<Job, OrNoMemory<JobRefusal>>
     ensures { MatchResult result
-        (λ job. AsksOf (shrinking_of (view_of_hunt_args args.now) [] runs) «module».now (Ok job))
-        (IsRefusal (AsksOf (shrinking_of (view_of_hunt_args args.now) [] runs) «module».now)) }
+        (λ job. AsksOf (shrinking_of (view_of_hunt_args args.now)
+        (view_of_hunt_args args.now).request.property [] runs) «module».now
+        (Ok job))
+        (IsRefusal (AsksOf (shrinking_of (view_of_hunt_args args.now)
+        (view_of_hunt_args args.now).request.property [] runs) «module».now)) }
 {
-    let request = shrinking(alloc, args, Vec::new(alloc), runs)?;
+    let property = args.request.property.as_slice();
+    let request = shrinking(alloc, args, property, Vec::new(alloc), runs)?;
     Job::new(alloc, module.share()?, &request, args.edition.number())
 }
 
@@ -129,7 +138,7 @@ fn job_of(
     module: &ReadModule,
 ) -> Result<Job, OrNoMemory<JobRefusal>>
     ensures { MatchResult result
-        (λ job. HuntAsksFor (view_of_hunt_args args.now) (view_of_hunt_args args.now).sought «module».now (Ok job))
+        (λ job. MayHunt (view_of_hunt_args args.now) «module».now job)
         (IsRefusal (HuntAsksFor (view_of_hunt_args args.now) (view_of_hunt_args args.now).sought «module».now)) }
 {
     may_seek(alloc, args, module)?;
@@ -140,7 +149,22 @@ fn job_of(
 #[derive(Drop)]
 pub(crate) struct HuntedJob {
     pub job: Job,
+    /// The properties by which a run fails too.
+    pub further: Vec<Property>,
     pub module: ReadModule,
+}
+
+/// The answer of what is refused by a code.
+fn refused_as(alloc: Global, refusal: OrNoMemory<Code>) -> OrNoMemory<Output>
+    ensures { IsRefusedAs refusal result }
+{
+    match refusal {
+        OrNoMemory::NoMemory => OrNoMemory::NoMemory,
+        OrNoMemory::Fault(code) => match refused_by_code(alloc, code) {
+            Ok(answer) => OrNoMemory::Fault(answer),
+            Err(NoMemory) => OrNoMemory::NoMemory,
+        },
+    }
 }
 
 /// What is hunted of a module; or the answer, if that is refused.
@@ -152,13 +176,20 @@ fn hunted_in(
     ensures { (bytes : List ℕ) → IsModuleOf bytes «module» → MatchResult result
         (IsHunted (view_of_hunt_args args.now) bytes) (IsNotHunted (view_of_hunt_args args.now) bytes) }
 {
-    match job_of(alloc, args, &module) {
-        Ok(job) => Ok(HuntedJob { job, module }),
+    let job = match job_of(alloc, args, &module) {
+        Ok(job) => job,
+        Err(OrNoMemory::NoMemory) => return Err(OrNoMemory::NoMemory),
         Err(OrNoMemory::Fault(refusal)) => {
-            let answer = refused_by_code(alloc, refusal.code())?;
-            Err(OrNoMemory::Fault(answer))
+            return Err(refused_as(alloc, OrNoMemory::Fault(refusal.code())));
         }
-        Err(OrNoMemory::NoMemory) => Err(OrNoMemory::NoMemory),
+    };
+    match further_properties(alloc, &module, args.further.as_slice()) {
+        Ok(further) => Ok(HuntedJob {
+            job,
+            further,
+            module,
+        }),
+        Err(refusal) => Err(refused_as(alloc, refusal)),
     }
 }
 
@@ -191,25 +222,43 @@ fn write_none(alloc: Global, args: &HuntArgs, end: u64) -> Result<Output, NoMemo
     Ok(Output { text, status: 0 })
 }
 
-/// What the shrinking of a schedule that a hunt finds is answered with.
+/// What the shrinking of a schedule that a hunt finds is answered with, by which a property fails.
 pub(crate) fn shrink(
     alloc: Global,
     args: &HuntArgs,
+    property: &[u8],
     module: ReadModule,
     schedule: Vec<u32>,
     runs: u32,
     observer: &mut impl Observer,
 ) -> Result<Output, NoMemory>
     ensures { IfOk result (λ a. (bytes : List ℕ) → IsModuleOf bytes «module»
-        → AnswersRun (shrinking_of (view_of_hunt_args args.now) schedule.items runs) bytes a.text.items a.status) }
+        → AnswersRun (shrinking_of (view_of_hunt_args args.now) property.now schedule.items runs) bytes
+        a.text.items a.status) }
 {
-    let request = shrinking(alloc, args, schedule, runs)?;
+    let request = shrinking(alloc, args, property, schedule, runs)?;
     output_of_module(alloc, &request, args.edition, module, observer)
 }
 
-/// How many workers have seeds of a hunt.
-fn workers_of(args: &HuntArgs, workers: u64) -> u64 {
-    workers.min(args.end.saturating_sub(args.first))
+/// By which jobs the workers of a hunt run its seeds: those that have any.
+fn jobs_of(
+    alloc: Global,
+    asked: &HuntRequest,
+    job: &Job,
+    module: &ReadModule,
+    further: &[Property],
+) -> Result<WorkerJobs, NoMemory>
+    ensures { IfOk result (AreJobsOf job.now (map property_of further.now)) }
+{
+    let HuntRequest { args, workers } = *asked;
+    let workers = workers.min(args.end.saturating_sub(args.first));
+    let asked = HuntAsked {
+        module,
+        request: &args.request,
+        further: args.further.as_slice(),
+        workers,
+    };
+    worker_jobs(alloc, job, further, &asked)
 }
 
 /// The result if the least seed that fails is sought.
@@ -222,22 +271,22 @@ pub(crate) fn seek_failure<'a, T: Threads + Sync, S: HuntObserver>(
     seeds: &mut S,
 ) -> Result<Answer<'a>, NoMemory>
     ensures { IfOk result (λ x. HearsSome S.Heard seeds.old (OfEach hunted.«module»
-        (λ bytes. PrintsAs (view_of_hunt_args asked.now.args.now) bytes hunted.job (goals.Failure runs) x))
+        (λ bytes. PrintsAs (view_of_hunt_args asked.now.args.now) bytes hunted.job (properties_of hunted)
+        (goals.Failure runs) x))
         seeds.new) }
 {
     let HuntRequest { args, workers } = *asked;
-    let HuntedJob { job, module } = hunted;
-    let others = other_jobs(
-        alloc,
-        &job,
-        &module,
-        &args.request,
-        workers_of(args, workers),
-    )?;
+    let HuntedJob {
+        job,
+        further,
+        module,
+    } = hunted;
+    let jobs = jobs_of(alloc, asked, &job, &module, further.as_slice())?;
     let hunt = Hunt {
         job,
-        others,
+        jobs,
         strategy: args.strategy,
+        further,
         leaks: args.leaks,
     };
     let may_stop = may_stop(args);
@@ -254,7 +303,7 @@ pub(crate) fn seek_failure<'a, T: Threads + Sync, S: HuntObserver>(
     };
     Ok(Answer::Found(FailingRun {
         args,
-        job: hunt.job,
+        hunt,
         module,
         failure,
         runs,
@@ -292,22 +341,18 @@ pub(crate) fn seek_outcomes<T: Threads + Sync, S: HuntObserver>(
     seeds: &mut S,
 ) -> Result<Output, NoMemory>
     ensures { IfOk result (λ a. HearsSome S.Heard seeds.old (λ ns. (bytes : List ℕ)
-        → PrintsSought (view_of_hunt_args asked.now.args.now) bytes hunted.job ns goals.Outcomes
+        → PrintsSought (view_of_hunt_args asked.now.args.now) bytes hunted.job (properties_of hunted) ns goals.Outcomes
         a.text.items a.status) seeds.new) }
 {
     let HuntRequest { args, workers } = *asked;
-    let HuntedJob { job, module } = hunted;
-    let others = other_jobs(
-        alloc,
-        &job,
-        &module,
-        &args.request,
-        workers_of(args, workers),
-    )?;
+    let HuntedJob { job, module, .. } = hunted;
+    let further = Vec::new(alloc);
+    let jobs = jobs_of(alloc, asked, &job, &module, further.as_slice())?;
     let hunt = Hunt {
         job,
-        others,
+        jobs,
         strategy: args.strategy,
+        further,
         leaks: false,
     };
     let may_stop = may_stop(args);

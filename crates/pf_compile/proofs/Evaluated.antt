@@ -509,14 +509,19 @@ pub given_int : (s : Scope) (t : Tree) (to : Target) (old new : Code) (pc : ℕ)
 given_int s t to old new pc y z e h same =
     given_value s t to old new pc (value.int y) (e ∙ ap (λ n. lit (value.int n)) (sym same)) h
 
+-- the value of a variable in its place
+pub slot_is : (s : Scope) (x k : ℕ) → slice_get (slots_in s) x ≡ Some k → (r : Registers)
+    → sub (scope_in (slots_in s) r) (var x) ≡ lit (reg r k)
+slot_is s x k there r =
+    ap (λ o. value_or_var o (x - length (scope_in (slots_in s) r)))
+    (slice_get-map (reg r) (slots_in s) x ∙ ap (option_map (reg r)) there)
+
 pub given_slot : (s : Scope) (t : Tree) (to : Target) (old new : Code) (pc x k : ℕ) → t ≡ var x
     → slice_get (slots_in s) x ≡ Some k → Made old new pc (GivesValue to.into to.after (λ r. reg r k) pc)
     → Made old new pc (Evaluates s t to pc)
 given_slot s t to old new pc x k e there h =
     value_evaluates s t to old new pc (λ r. reg r k)
-    (λ r. ap (sub (scope_in (slots_in s) r)) e
-    ∙ ap (λ o. value_or_var o (x - length (scope_in (slots_in s) r)))
-    (slice_get-map (reg r) (slots_in s) x ∙ ap (option_map (reg r)) there)) h
+    (λ r. ap (sub (scope_in (slots_in s) r)) e ∙ slot_is s x k there r) h
 
 pub raised_slot : (s : Scope) (t : Tree) (to : Target) (old new : Code) (pc x : ℕ) → t ≡ var x
     → slice_get (slots_in s) x ≡ None → Made old new pc (StepsToRaise 17 pc) → Made old new pc (Evaluates s t to pc)

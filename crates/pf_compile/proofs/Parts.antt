@@ -1,11 +1,12 @@
 -- `andalso`, `orelse`, `case`, `if` and calls, whose parts are evaluated first.
-use Rattle.std.proofs.Common.{◌≡◌, ◌≤◌, ◌+◌, ℕ, Bool, true, false, List, [], ◌∷◌, Option, Some, None, length}
+use Rattle.std.proofs.Common.{◌≡◌, ◌≤◌, ◌<◌, ◌+◌, ℕ, zero, suc, Bool, true, false, List, [], ◌∷◌, Option, Some, None}
+use Rattle.std.proofs.Common.{length}
 use Rattle.std.proofs.Common.{option_map, refl, sym, ap, ◌∙◌, arith}
 use Rattle.std.specs.Prelude.{slice_get}
 use Rattle.pf_terms.specs.Value.{Value, Values, list, none}
 use Rattle.pf_terms.specs.Fixed.{badarg, if_clause}
 use Rattle.pf_syntax.specs.Pattern.{Patterns, no_patterns}
-use Rattle.pf_syntax.specs.Tree.{Tree, Trees, Clauses, lit, call, match, bind, case}
+use Rattle.pf_syntax.specs.Tree.{Tree, Trees, Clauses, lit, var, call, match, bind, case}
 use Rattle.pf_syntax.specs.Tree.{if_expression, receive}
 use Rattle.pf_patterns.specs.Fit.{ValueScope}
 use Rattle.pf_patterns.specs.Substitution.{sub, sub_clauses, sub_patterns}
@@ -25,6 +26,7 @@ use Rattle.pf_compile.specs.declared.target.After.TheVariants as way
 use Rattle.pf_compile.specs.declared.target.Subject.TheVariants as subjects
 use Rattle.pf_compile_patterns.specs.declared.scope.Scope.{Scope}
 use Rattle.pf_compile.specs.declared.target.Target.{Target}
+use Rattle.pf_compile.specs.Scopes.{IsTarget}
 use Rattle.pf_compile_patterns.specs.Scopes.{model_in, slots_in}
 use Rattle.pf_compile_patterns.specs.Growth.{Pushed, Put, Made}
 use Rattle.pf_compile_patterns.specs.Tests.{chosen}
@@ -37,7 +39,7 @@ use Rattle.pf_compile_patterns.proofs.Grown.{extends_itself, extends_on, end_sou
 use Rattle.pf_compile_patterns.proofs.Laid.{sound_same}
 use Rattle.pf_compile_patterns.proofs.Dependent.{depends_more, scope_same, row_same, chosen_depends}
 use Rattle.pf_compile_patterns.proofs.Guarded.{put_there, exits_to}
-use Rattle.pf_compile.proofs.Evaluated.{call_holder, target_at}
+use Rattle.pf_compile.proofs.Evaluated.{call_holder, slot_is, target_at}
 use Rattle.pf_compile.proofs.Clauses.{inner_target, step_sound}
 
 -- ---- what is evaluated first
@@ -209,6 +211,42 @@ evaluates_case s a ks to free old one two three new raise first step pc low belo
           (λ r. raise_chosen (picked m own (sub_clauses (scope_in (slots_in s) r) ks) (reg r to.free))
           (no_case (reg r to.free)) (frames r)) picks;
     }) he
+
+some_slot : (j k : ℕ) → Some j ≡ Some k → j ≡ k
+some_slot j k e = cc
+
+slot_below : (n : ℕ) (slots : List ℕ) (x k : ℕ) → AreBelow n slots → slice_get slots x ≡ Some k → k < n
+slot_below n [] x k b e = absurd (cc)
+slot_below n (s ∷ slots) zero k b e = omega (arith, b.0, some_slot s k e)
+slot_below n (s ∷ slots) (suc x) k b e = slot_below n slots x k b.1 e
+
+pub variable_below : (code : Code) (slots : List ℕ) (to : Target) (x k : ℕ) → IsTarget code slots to
+    → slice_get slots x ≡ Some k → k < to.free
+variable_below code slots to x k h e = slot_below to.free slots x k h.1 e
+
+-- a `case` of a variable, whose value is in a register
+pub evaluates_case_of : (s : Scope) (ks : Clauses) (to : Target) (x k : ℕ) (old one two new : Code)
+    (raise first pc : ℕ) → k < to.free → slice_get (slots_in s) x ≡ Some k
+    → Made old one raise (RaisesWith 13 k raise)
+    → Made one two first (Picks s ks (subjects.Value k) to raise first)
+    → Put two new (step_of ops.Step) first pc
+    → Made old new pc (Evaluates s (case (var x) ks) to pc)
+evaluates_case_of s ks to x k old one two new raise first pc below there hr hp hs = record {
+  grown = extends_on old one new hr.grown (extends_on one two new hp.grown hs.grown);
+  place = put_there two two new (step_of ops.Step) first pc hp.place (extends_itself two) hs;
+  meant = λ own outer later e frames d c.
+      let m = model_in s in
+      let e2 = extends_on two new later hs.grown e in
+      let e1 = extends_on one two later hp.grown e2 in
+      let scoped : Registers → Clauses = λ r. sub_clauses (scope_in (slots_in s) r) ks in
+      let raises : Point = λ r. inside [] (Raises (no_case (reg r k))) in
+      let raises_low : DependsBelow to.free raises = λ r q h. ap (λ v. inside [] (Raises (no_case v))) (h k below) in
+      let picks = hp.meant own outer later e2 frames raises d raises_low c (hr.meant own outer later e1 m) in
+      step_sound m own outer two new later first pc frames (λ r. sub (scope_in (slots_in s) r) (case (var x) ks))
+      (λ r. body_or_raise (picked m own (scoped r) (reg r k)) (no_case (reg r k))) _ hs e
+      (λ r. ap (λ u. contract m own (case u (scoped r))) (slot_is s x k there r))
+      (λ r. raise_chosen (picked m own (scoped r) (reg r k)) (no_case (reg r k)) (frames r)) picks;
+}
 
 pub evaluates_if : (s : Scope) (ks : Clauses) (to : Target) (free : ℕ) (old one two three new : Code)
     (raise first load pc : ℕ) → to.into ≤ to.free → AreBelow to.free (slots_in s) → free ≡ to.free + 1

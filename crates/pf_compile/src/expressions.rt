@@ -1,6 +1,6 @@
 //! Expressions: code that evaluates one in any frames, and goes on with its value.
 
-ghost use Rattle.std.specs.Prelude.{◌≡◌, ◌<◌, ◌≤◌, length, IfOk};
+ghost use Rattle.std.specs.Prelude.{◌≡◌, ◌<◌, ◌≤◌, length, slice_get, IfOk, IfSome, Some};
 ghost use Rattle.pf_terms.specs.Term.{value_of};
 ghost use Rattle.pf_syntax.specs.Tree as tree;
 ghost use Rattle.pf_syntax.specs.Over.{clauses_over, part_over, parts_over, patterns_at, tree_over};
@@ -450,6 +450,40 @@ fn binds(
     }
 }
 
+/// The variable that an operand is, and its register.
+fn variable(scope: &Scope, part: Operand) -> Option<(u32, u32)>
+    ensures { IfSome result (λ v. (part_over (tables_in scope.now) part ≡ tree.var v.0)
+        × (slice_get (slots_in scope.now) v.0 ≡ Some v.1)) }
+{
+    match part {
+        Operand::Slot(index) => match slot_at(scope.slots, index) {
+            Some(register) => Some((index, *register)),
+            None => None,
+        },
+        _ => None,
+    }
+}
+
+/// Adds a `case` of a variable, whose value is read where it is.
+#[cycle(expression)]
+fn case_of_variable(
+    maker: &mut Maker,
+    scope: &Scope,
+    variable: (u32, u32),
+    clauses: &[Clause],
+    to: Target,
+) -> Result<u32, OrNoMemory<NotCompiled>>
+    requires target { IsTarget (code_of maker.old) (slots_in scope.now) to }
+    requires register { slice_get (slots_in scope.now) variable.0 ≡ Some variable.1 }
+    ensures { IfOk result (λ pc. Made (code_of maker.old) (code_of maker.new) pc
+        (Evaluates scope.now (tree.case (tree.var variable.0) (clauses_over (tables_in scope.now) clauses.now))
+        to pc)) }
+{
+    let raise = raise_with(maker, AtomId::CASE_CLAUSE, variable.1)?;
+    let first = pick(maker, scope, clauses, Subject::Value(variable.1), to, raise)?;
+    Ok(step(maker, Operation::Step, first)?)
+}
+
 /// Adds a `case`.
 #[cycle(expression)]
 fn case(
@@ -464,6 +498,9 @@ fn case(
         (Evaluates scope.now (tree.case (part_over (tables_in scope.now) part)
         (clauses_over (tables_in scope.now) clauses.now)) to pc)) }
 {
+    if let Some(found) = variable(scope, part) {
+        return case_of_variable(maker, scope, found, clauses, to);
+    }
     let raise = raise_with(maker, AtomId::CASE_CLAUSE, to.free)?;
     let above = at_plan(to, register_after(to.free, 1)?);
     let subject = Subject::Value(to.free);

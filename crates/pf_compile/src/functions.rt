@@ -14,6 +14,7 @@ use crate::target::{After, NotCompiled, Target};
 use pf_code::{Instruction, Operation};
 use pf_compile_patterns::{Exits, Maker, Scope, register_after};
 use pf_errors::OrNoMemory;
+use pf_fuse::fuse;
 use pf_syntax::{Function, FunctionClause, FunctionId, Module};
 use pf_terms::{AtomId, Term};
 use std::alloc::Global;
@@ -91,8 +92,8 @@ fn enter(
     )
 }
 
-/// The code of a module.
-pub fn program_of(alloc: Global, code: &Module) -> Result<Program, OrNoMemory<NotCompiled>>
+/// The code of a module, function by function.
+fn compiled(alloc: Global, code: &Module) -> Result<Program, OrNoMemory<NotCompiled>>
     ensures sound { IfOk result (λ p. IsSoundFor (module_of code.now) (program_code p) p.entries.items) }
     ensures entries { IfOk result (λ p. length p.entries.items ≡ length code.now.functions) }
 {
@@ -119,5 +120,19 @@ pub fn program_of(alloc: Global, code: &Module) -> Result<Program, OrNoMemory<No
         instructions,
         constants,
         entries,
+    })
+}
+
+/// The code of a module.
+pub fn program_of(alloc: Global, code: &Module) -> Result<Program, OrNoMemory<NotCompiled>>
+    ensures sound { IfOk result (λ p. IsSoundFor (module_of code.now) (program_code p) p.entries.items) }
+    ensures entries { IfOk result (λ p. length p.entries.items ≡ length code.now.functions) }
+{
+    let made = compiled(alloc, code)?;
+    let fused = fuse(alloc, &made.instructions, &made.entries)?;
+    Ok(Program {
+        instructions: fused.instructions,
+        constants: made.constants,
+        entries: fused.entries,
     })
 }

@@ -1,6 +1,6 @@
 -- The line of a position as it is shown, and the caret below the position.
-use Rattle.std.specs.Prelude.{ℕ, zero, suc, ◌+◌, ◌-◌, ◌&&◌, ◌||◌, nat_lt, get_or, Bool, List, [], ◌∷◌, ◌++◌, length}
-use Rattle.std.specs.Prelude.{take, drop, replicate, codes, if◌then◌else◌}
+use Rattle.std.specs.Prelude.{ℕ, zero, suc, ◌+◌, ◌-◌, ◌==◌, ◌&&◌, ◌||◌, nat_lt, get_or, Bool, List, [], ◌∷◌, ◌++◌}
+use Rattle.std.specs.Prelude.{length, take, drop, replicate, codes, if◌then◌else◌}
 use Rattle.pf_diagnostics.specs.Positions.{columns, goes_on, since_newline, up_to_newline}
 use Rattle.pf_diagnostics.specs.declared.shown.TheConstants.{MOST_SHOWN}
 
@@ -13,8 +13,12 @@ abbrev pub shown_after : (before byte : ℕ) → List ℕ
 shown_after before byte = if leads before then byte ∷ [] else []
 
 -- a byte with which a character begins: itself from the blank to `~` and in such a letter, else `?`
+abbrev pub shown_other : (byte next : ℕ) → List ℕ
+shown_other byte next = if nat_lt 31 byte && nat_lt byte 127 || leads byte && goes_on next then byte ∷ [] else 63 ∷ []
+
+-- a tab is a blank, so that the caret is below its position
 abbrev pub shown_first : (byte next : ℕ) → List ℕ
-shown_first byte next = if nat_lt 31 byte && nat_lt byte 127 || leads byte && goes_on next then byte ∷ [] else 63 ∷ []
+shown_first byte next = if byte == 9 then 32 ∷ [] else shown_other byte next
 
 -- a byte as it is shown, by those around it
 abbrev pub shown_byte : (before byte next : ℕ) → List ℕ

@@ -28,12 +28,13 @@ fn put_after(out: &mut Vec<u8>, before: u8, byte: u8) -> Result<(), NoMemory>
     Ok(())
 }
 
-/// A byte with which a character begins: itself where it is a blank or a visible character, or begins such a letter,
-/// else `?`.
+/// A byte with which a character begins: itself where it is a blank or a visible character, or begins such a letter; a
+/// blank for a tab; else `?`.
 fn shown_first(byte: u8, next: u8) -> u8
     ensures { shown_first byte next ≡ result ∷ [] }
 {
     match byte {
+        b'\t' => b' ',
         b' '..=b'~' => byte,
         _ if leads(byte) && goes_on(next) => byte,
         _ => b'?',

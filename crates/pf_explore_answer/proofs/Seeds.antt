@@ -16,7 +16,7 @@ use Rattle.pf_strategy.specs.declared.strategy.Sampling.TheVariants.{Uniform, Pr
 use Rattle.pf_explore_laws.proofs.Last.{some_schedule}
 use Rattle.pf_explore_laws.proofs.Parting.{some_choices}
 use Rattle.pf_strategy.specs.declared.strategy.Strategy.{Strategy}
-use Rattle.pf_hunt.specs.Hunts.{FirstFailing, first, is_leak, none_is}
+use Rattle.pf_hunt.specs.Hunts.{Failures, FirstFailing, first, is_leak, none_is, property_alone}
 use Rattle.pf_hunt.specs.Views.{failure_of}
 use Rattle.pf_hunt.specs.declared.failure.FailingSeed.{FailingSeed}
 use Rattle.pf_explore.specs.Failing.{IsFailingLast}
@@ -34,7 +34,7 @@ scheduled Uniform p j s r means = some_schedule _ p j (choose_by_picks (picks_of
 scheduled Priorities p j s r means = some_schedule _ p j choose_by_priorities (priorities.first s) r means
 
 -- the least seed that fails, fails by the choices of its run as a schedule
-failing_by : (w : Strategy) (j : Job) (a b : ℕ) (x : Option (ℕ × Report)) → FirstFailing false w j a b x
+failing_by : (w : Strategy) (j : Job) (a b : ℕ) (x : Option (ℕ × Report)) → FirstFailing property_alone w j a b x
     → IfSome x (λ p. IsFailingLast w.last j p.1)
 failing_by w j a b _ (none_is h) = tt
 failing_by w j a b _ (first s r above below means so least) =
@@ -42,9 +42,9 @@ failing_by w j a b _ (first s r above below means so least) =
     let makes = some_choices w.last j h.0 r h.1 in
     ((replay_of_seeds w j s r means, verdict_fails r.verdict (is_leak r) so), (h.0, makes.0, makes.1))
 
-pub failing_seed : (j : Job) (a b : ℕ) (leaks : Bool) (w : Strategy) (x : Option (ℕ × Report)) → leaks ≡ false
-    → FirstFailing leaks w j a b x → IfSome x (λ p. IsFailingLast w.last j p.1)
-failing_seed j a b leaks w x none h = failing_by w j a b x (subst (λ l. FirstFailing l w j a b x) none h)
+pub failing_seed : (j : Job) (a b : ℕ) (f : Failures) (w : Strategy) (x : Option (ℕ × Report)) → f ≡ property_alone
+    → FirstFailing f w j a b x → IfSome x (λ p. IsFailingLast w.last j p.1)
+failing_seed j a b f w x alone h = failing_by w j a b x (subst (λ g. FirstFailing g w j a b x) alone h)
 
 -- of the code's own
 pub of_found : (p : Option ℕ) (j : Job) (o : Option FailingSeed)

@@ -18,6 +18,7 @@ use pf_explore::{Explored, Pace};
 use pf_hunt::Hunt;
 use pf_sched::Job;
 use pf_strategy::{Sampling, Strategy};
+use pf_verdicts::WorkerJobs;
 use std::alloc::Global;
 
 /// The answer of what an exploration found of a job.
@@ -49,11 +50,12 @@ fn answer_job<P: Pace>(
 {
     let hunt = Hunt {
         job,
-        others: Vec::new(alloc),
+        jobs: WorkerJobs::none(alloc),
         strategy: Strategy {
             sampling: Sampling::Priorities,
             last: asked.last,
         },
+        further: Vec::new(alloc),
         leaks: false,
     };
     let explored = explored_of(alloc, &hunt, asked, pace)?;

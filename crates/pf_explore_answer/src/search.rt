@@ -1,9 +1,10 @@
 //! What an exploration finds: the first 2,000 seeds are run by priorities before, and then all schedules by rising
 //! deviations. A process that is named goes last in each run.
 
-ghost use Rattle.std.specs.Prelude.{◌≡◌, ◌<◌, false, suc, IfOk, IfSome};
+ghost use Rattle.std.specs.Prelude.{◌≡◌, ◌<◌, suc, IfOk, IfSome};
 ghost use Rattle.pf_model.specs.Reports.{view_of_report};
-ghost use Rattle.pf_hunt.specs.Views.{failure_of};
+ghost use Rattle.pf_hunt.specs.Hunts.{property_alone};
+ghost use Rattle.pf_hunt.specs.Views.{failure_of, failures_of};
 ghost use Rattle.pf_explore.specs.Asked.{with_last};
 ghost use Rattle.pf_explore.specs.Explored.{IsExplored};
 ghost use Rattle.pf_explore.specs.Failing.{IsFailingLast};
@@ -39,7 +40,7 @@ fn failing_in(
     from: u64,
     end: u64,
 ) -> Result<Option<FailingSeed>, NoMemory>
-    requires leaks { hunt.now.leaks ≡ false }
+    requires alone { failures_of hunt.now ≡ property_alone }
     ensures { IfOk result (λ found. IfSome found (λ f.
         IsFailingLast hunt.now.strategy.last hunt.now.job.asked (failure_of f).1)) }
 {
@@ -53,7 +54,7 @@ fn failing_by_seed<P: Pace>(
     hunt: &Hunt,
     pace: &mut P,
 ) -> Result<Option<FailingSeed>, NoMemory>
-    requires leaks { hunt.now.leaks ≡ false }
+    requires alone { failures_of hunt.now ≡ property_alone }
     ensures found { IfOk result (λ found. IfSome found (λ f.
         IsFailingLast hunt.now.strategy.last hunt.now.job.asked (failure_of f).1)) }
     ensures same { P.may_stop pace.new ≡ P.may_stop pace.old }
@@ -98,7 +99,7 @@ pub(crate) fn explored_of<P: Pace>(
     asked: &Exploration,
     pace: &mut P,
 ) -> Result<Explored, NoMemory>
-    requires leaks { hunt.now.leaks ≡ false }
+    requires alone { failures_of hunt.now ≡ property_alone }
     requires few { IfSome asked.now.deviations (λ k. k < 4294967295) }
     ensures { IfOk result (IsExplored (with_last hunt.now.strategy.last hunt.now.job.asked)
         (P.may_stop pace.old) asked.now.budget (levels_of asked.now.deviations)) }

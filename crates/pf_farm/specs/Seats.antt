@@ -47,6 +47,11 @@ abbrev pub CountsSteals : WorkSeatView → Type 0
 CountsSteals s = (s.tally.steals ≡ saturated (length (stolen_by s.next)))
     × (s.tally.parks ≡ saturated (length s.own.pushed))
 
+-- its claims are counted, and those that ended as filed or as handed back
+abbrev pub CountsClaims : (opened ended : ℕ) → WorkSeatView → Type 0
+CountsClaims opened ended s = (s.tally.claims ≡ saturated opened)
+    × (saturated (s.filed + s.tally.hand_backs) ≡ saturated ended)
+
 -- ---- what a worker's steps leave of its seat
 
 -- the deque of a thief, if there is one

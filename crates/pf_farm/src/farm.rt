@@ -5,6 +5,7 @@ ghost use Rattle.pf_farm_accounts.specs.Rows.{HaveEnded};
 ghost use Rattle.pf_book.specs.Profile.{ForRight};
 ghost use Rattle.pf_farm_laws.specs.Reported.{AgreesWithHistories};
 ghost use Rattle.pf_farm_state.specs.Clients.{all_receipts, closed_as, empty_client, AreFull, AreTheCalls};
+ghost use Rattle.pf_farm_state.specs.Clients.{SawTruly};
 ghost use Rattle.pf_farm_accounts.specs.DequeViews.{stolen_by};
 ghost use Rattle.pf_farm.specs.Farms.{opened_farm, LacksSeat};
 ghost use Rattle.pf_farm.specs.Seats.{IsRing, AllIdle, IsSpent, seat_at};
@@ -19,7 +20,7 @@ use pf_farm_accounts::{
     CallLedger, Claim, EndedLedger, FarmNames, NewRegister, OpenedLedger, Owner, Receipt, Thief,
     open_deque, open_deque_alone,
 };
-use pf_farm_state::{ClientSeat, ClosedSeat, Closing, Hall};
+use pf_farm_state::{ClientSeat, ClosedSeat, Closing, Hall, NewAccounts, TrialLook};
 use pf_request::Call;
 use pf_sched::Job;
 use std::alloc::Global;
@@ -41,16 +42,25 @@ pub struct Blanks {
     pub calls: Blank,
     pub claims: NewRegister<Claim<Job>>,
     pub receipts: NewRegister<Receipt<Call, Reply>>,
+    pub looks: NewRegister<TrialLook>,
 }
 
 /// A farm has given as many seats as it may: `F1`.
 #[derive(Clone, Copy, Debug, PartialEq, Eq)]
 pub struct NoSeat;
 
-/// A farm. Contracts see how many workers it has, and how many seats it gave to clients.
+/// A farm that was opened, with what its threads share, and the seats of its workers.
+#[derive(Drop)]
+pub struct OpenFarm<N: FarmNames> {
+    pub farm: Farm<N>,
+    pub floor: Floor<N>,
+    pub seats: Vec<WorkSeat<N>>,
+}
+
+/// What a farm keeps while its threads work. Contracts see how many workers it has, and how many seats it gave to
+/// clients.
 #[derive(Drop)]
 pub struct Farm<N: FarmNames> {
-    floor: Floor<N>,
     opened: Share<OpenedLedger<N>>,
     ended: Share<EndedLedger<N>>,
     calls: Share<CallLedger<N>>,
@@ -92,17 +102,18 @@ impl<N: FarmNames> Farm<N> {
         keys: RandomState,
         blanks: Blanks,
         workers: usize,
-    ) -> Result<(Farm<N>, Vec<WorkSeat<N>>), NoMemory>
+    ) -> Result<OpenFarm<N>, NoMemory>
         requires opened { (blanks.opened.name ≡ N.opened) × (blanks.opened.parts ≡ N.workers) }
         requires ended { (blanks.ended.name ≡ N.ended) × (blanks.ended.parts ≡ N.workers) }
         requires calls { (blanks.calls.name ≡ N.calls) × (blanks.calls.parts ≡ N.seats) }
         requires claims { N.claims ≡ Some blanks.claims }
         requires receipts { N.receipts ≡ Some blanks.receipts }
+        requires looks { N.looks ≡ Some blanks.looks }
         requires workers { (0 < workers) × (workers < N.workers) }
         requires seats { MOST_SEATS < N.seats }
-        ensures workers { IfOk result (λ r. (r.0 ≡ opened_farm workers 0) × (vec_len r.1 ≡ workers)) }
-        ensures ring { IfOk result (λ r. IsRing r.1.items) }
-        ensures idle { IfOk result (λ r. AllIdle r.1.items) }
+        ensures workers { IfOk result (λ r. (r.farm ≡ opened_farm workers 0) × (vec_len r.seats ≡ workers)) }
+        ensures ring { IfOk result (λ r. IsRing r.seats.items) }
+        ensures idle { IfOk result (λ r. AllIdle r.seats.items) }
     {
         let Blanks {
             opened,
@@ -110,14 +121,22 @@ impl<N: FarmNames> Farm<N> {
             calls,
             claims,
             receipts,
+            looks,
         } = blanks;
         let (all_opened, mut opened) = opened.open::<OpenedLedger<N>>();
         let (all_ended, mut ended) = ended.open::<EndedLedger<N>>();
         let (logged, calls) = calls.open::<CallLedger<N>>();
         let seats = all_seats(alloc, &mut opened, &mut ended, workers)?;
-        let hall = Hall::new(alloc, keys, all_opened, all_ended, logged, claims, receipts);
+        let accounts = NewAccounts {
+            opened: all_opened,
+            ended: all_ended,
+            logged,
+            claims,
+            receipts,
+            looks,
+        };
+        let hall = Hall::new(alloc, keys, accounts);
         let farm = Farm {
-            floor: Floor::new(hall),
             opened,
             ended,
             calls,
@@ -125,11 +144,20 @@ impl<N: FarmNames> Farm<N> {
             given: 0,
             closed: Vec::new(alloc),
         };
-        Ok((farm, seats))
+        Ok(OpenFarm {
+            farm,
+            floor: Floor::new(hall),
+            seats,
+        })
     }
 
     /// A seat for a client of a project, unless as many were given as may be. Several seats may have one project.
-    pub fn seat(&mut self, alloc: Global, project: u32) -> Result<ClientSeat<N>, OrNoMemory<NoSeat>>
+    pub fn seat(
+        &mut self,
+        floor: &mut Floor<N>,
+        alloc: Global,
+        project: u32,
+    ) -> Result<ClientSeat<N>, OrNoMemory<NoSeat>>
         ensures seat { IfOk result (λ s. (s ≡ empty_client project)
             × (self.new ≡ opened_farm self.old.workers (self.old.given + 1))) }
         ensures err { IfErr result (λ e. LacksSeat e self.old × (self.new ≡ self.old)) }
@@ -142,7 +170,7 @@ impl<N: FarmNames> Farm<N> {
         }
         let share = self.calls.split_off(1, 0);
         self.given += 1;
-        let shared = self.floor.shared.get_mut();
+        let shared = floor.shared.get_mut();
         Ok(shared.hall.seat(alloc, share, project))
     }
 
@@ -153,17 +181,17 @@ impl<N: FarmNames> Farm<N> {
         self.given
     }
 
-    /// What all threads share. The names `N` are of this farm alone, so its type says which floor it is; what is under
-    /// its lock changes with each call, so no clause can say it.
-    pub fn floor(&self) -> &Floor<N> {
-        &self.floor
-    }
-
     /// Closes the farm, with the seats of all its clients and of all its workers, each of which has returned. No claim
     /// is open then, the ledger agrees with the histories, and what was pushed to a deque was popped or stolen,
     /// each in order and so as often. The receipts of the clients are those of all calls that the histories note, each
-    /// once.
-    pub fn close(self, clients: Vec<ClientSeat<N>>, seats: Vec<WorkSeat<N>>) -> Closing
+    /// once. What each client saw that waited was so, at that point of its project's history, and the farm was stopped
+    /// where one saw that.
+    pub fn close(
+        self,
+        floor: Floor<N>,
+        clients: Vec<ClientSeat<N>>,
+        seats: Vec<WorkSeat<N>>,
+    ) -> Closing
         requires clients { vec_len clients ≡ self.given }
         requires all { vec_len seats ≡ self.workers }
         requires ring { IsRing seats.items }
@@ -171,12 +199,12 @@ impl<N: FarmNames> Farm<N> {
         ensures seats { map closed_as result.seats.items ≡ clients.items }
         ensures receipts { ForRight (λ p. AreTheCalls (all_receipts result.seats.items) result.book) }
         ensures full { ForRight (λ p. AreFull result.seats.items result.book) }
+        ensures looks { ForRight (λ p. SawTruly p result.seats.items result.book result.stopped) }
         ensures ended { HaveEnded result.rows.items }
         ensures reported { ForRight (λ p. AgreesWithHistories result.rows.items result.book) }
         ensures spent { IsSpent seats.items }
     {
         let Farm {
-            floor,
             mut opened,
             mut ended,
             calls,

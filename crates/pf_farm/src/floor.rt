@@ -1,10 +1,9 @@
 //! What all threads of a farm share.
 
-ghost use Rattle.std.specs.Prelude.{◌≡◌, true, false, is_some, IfOk, OnErr, option_map};
-ghost use Rattle.pf_desks.specs.Calls.{stage_of};
-ghost use Rattle.pf_desks.specs.Desk.{held_at};
+ghost use Rattle.std.specs.Prelude.{◌≡◌, true, false, is_some, IfOk, OnErr};
 ghost use Rattle.pf_desks.specs.Desks.{desk_at};
-ghost use Rattle.pf_farm_state.specs.Clients.{GetsReceipt, StaysFull};
+ghost use Rattle.pf_farm_laws.specs.Stages.{stage_at};
+ghost use Rattle.pf_farm_state.specs.Clients.{with_look, GetsReceipt, StaysFull};
 ghost use Rattle.pf_farm.specs.Floors.{must_wait, IsTrialOver};
 ghost use Rattle.pf_farm.specs.Seats.{HasFiled, IsAsBefore};
 
@@ -14,7 +13,7 @@ use pf_book::Reply;
 use pf_desks::TrialStage;
 use pf_errors::NoMemory;
 use pf_farm_accounts::{FarmNames, OpenClaim};
-use pf_farm_state::{ClaimedTrial, ClientSeat, Hall};
+use pf_farm_state::{ClaimedTrial, ClientSeat, Hall, TrialLook};
 use pf_request::Call;
 use pf_sched::{Finished, Job};
 use std::alloc::Global;
@@ -22,54 +21,32 @@ use std::array::from_fn;
 use std::sync::atomic::{AtomicBool, Ordering};
 use std::sync::{Condvar, Mutex, Wait};
 
-/// What lies under the lock: book, ledgers and calls (`Hall`), how often something came for which a worker may wait,
-/// how many workers wait, which clients do, and whether the farm stops.
+/// What lies under the lock: book, ledgers, calls and whether the farm was stopped (`Hall`), how often something came
+/// for which a worker may wait, how many workers wait, and which clients do.
 #[derive(Drop)]
 pub(crate) struct SharedState<N: FarmNames> {
     pub hall: Hall<N>,
     moves: u64,
     idle: u32,
     clients: WaitingClients,
-    stopped: bool,
 }
 
 impl<N: FarmNames> SharedState<N> {
     /// Something came for which a worker may wait.
     fn moved(&mut self)
-        ensures hall { self.new.hall ≡ self.old.hall }
-        ensures stopped { self.new.stopped ≡ self.old.stopped }
+        ensures { self.new.hall ≡ self.old.hall }
     {
         self.moves = self.moves.wrapping_add(1);
     }
 
-    /// How far the trial of a project's ticket is, and whether the farm stops.
-    fn look(&self, project: u32, ticket: u64) -> LastSeen
-        ensures stage { result.stage
-            ≡ option_map (λ t. stage_of t.state) (held_at (desk_at project self.now.hall.desks).trials ticket) }
-        ensures stops { result.stops ≡ self.now.stopped }
-    {
-        LastSeen {
-            stage: self.hall.stage(project, ticket),
-            stops: self.stopped,
-        }
-    }
-
     /// Whether the trial of a project's ticket waits for a worker, or one has it, while the farm goes on.
     fn is_undone(&self, project: u32, ticket: u64) -> bool
-        ensures { result ≡ must_wait
-            (option_map (λ t. stage_of t.state) (held_at (desk_at project self.now.hall.desks).trials ticket))
-            self.now.stopped }
+        ensures { result
+            ≡ must_wait (stage_at (desk_at project self.now.hall.desks) ticket) self.now.hall.stopped }
     {
-        let seen = self.look(project, ticket);
-        !seen.stops && matches!(seen.stage, Some(TrialStage::Queued | TrialStage::Running))
+        let stage = self.hall.stage(project, ticket);
+        !self.hall.is_stopped() && matches!(stage, Some(TrialStage::Queued | TrialStage::Running))
     }
-}
-
-/// What a client saw last that waited for a trial: how far this was, if it was held, and whether the farm stopped.
-#[derive(Clone, Copy, Debug, PartialEq, Eq)]
-pub struct LastSeen {
-    pub stage: Option<TrialStage>,
-    pub stops: bool,
 }
 
 /// What all threads share: the state under its lock, and what they wait for. Workers wait for trials that are queued
@@ -79,7 +56,7 @@ pub struct Floor<N: FarmNames> {
     pub(crate) shared: Mutex<SharedState<N>>,
     work: Condvar,
     done: [Condvar; SLOTS],
-    /// The same as `stopped`, for workers between two slices.
+    /// Whether the farm was stopped, for workers between two slices.
     stopping: AtomicBool,
 }
 
@@ -91,7 +68,6 @@ impl<N: FarmNames> Floor<N> {
             moves: 0,
             idle: 0,
             clients: WaitingClients::new(),
-            stopped: false,
         };
         Floor {
             shared: Mutex::new(shared),
@@ -114,7 +90,6 @@ impl<N: FarmNames> Floor<N> {
             moves: _,
             idle: _,
             clients: _,
-            stopped: _,
         } = shared.into_inner();
         hall
     }
@@ -150,9 +125,11 @@ impl<N: FarmNames> Floor<N> {
     }
 
     /// Waits until the trial of a ticket of the seat's project is done, or isn't held; or until the farm stops.
-    /// Returns what it saw last.
-    pub fn wait_done<R: Wait>(&self, rt: &R, seat: &ClientSeat<N>, ticket: u64) -> LastSeen
-        ensures { result.stops ≡ false → IsTrialOver result.stage }
+    /// Returns what it saw last, which the seat keeps: at the close of the farm that turns out to have been so.
+    pub fn wait_done<R: Wait>(&self, rt: &R, seat: &mut ClientSeat<N>, ticket: u64) -> TrialLook
+        ensures seat { seat.new ≡ with_look seat.old result }
+        ensures own { (result.project ≡ seat.old.project) × (result.ticket ≡ ticket) }
+        ensures over { result.stops ≡ false → IsTrialOver result.stage }
     {
         let project = seat.project();
         let slot = slot_of(project);
@@ -164,13 +141,13 @@ impl<N: FarmNames> Floor<N> {
             |shared| shared.is_undone(project, ticket),
         );
         shared.clients.leave(slot);
-        shared.look(project, ticket)
+        shared.hall.look(seat, ticket)
     }
 
     /// Has all workers return, once their runs are filed or handed back.
     pub fn stop<R: Wait>(&self, rt: &R) {
         let mut shared = self.shared.lock(rt);
-        shared.stopped = true;
+        shared.hall.stop();
         self.stopping.store(true, Ordering::SeqCst);
         self.work.notify_all();
         for done in &self.done {
@@ -281,7 +258,7 @@ impl<N: FarmNames> Floor<N> {
         let mut shared = self.shared.lock(rt);
         shared.idle = shared.idle.wrapping_add(1);
         let mut shared = self.work.wait_while(rt, shared, |shared| {
-            shared.moves == seen && !shared.stopped
+            shared.moves == seen && !shared.hall.is_stopped()
         });
         shared.idle = shared.idle.wrapping_sub(1);
     }

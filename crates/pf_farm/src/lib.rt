@@ -11,12 +11,12 @@ mod tally;
 mod waiting;
 mod workers;
 
-pub use farm::{Blanks, Farm, MOST_SEATS, NoSeat};
-pub use floor::{Floor, LastSeen};
+pub use farm::{Blanks, Farm, MOST_SEATS, NoSeat, OpenFarm};
+pub use floor::Floor;
 pub use gate::{Direct, DueSlice, Gate};
 pub use seat::WorkSeat;
 pub use tally::WorkTally;
 pub use workers::{work, work_all};
 
-/// What a client has, and what is left when a farm is closed.
-pub use pf_farm_state::{ClientSeat, ClosedSeat, Closing};
+/// What a client has, what it sees that waits, and what is left when a farm is closed.
+pub use pf_farm_state::{ClientSeat, ClosedSeat, Closing, TrialLook};

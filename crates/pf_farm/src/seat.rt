@@ -36,7 +36,7 @@ pub struct WorkSeat<N: FarmNames> {
 
 impl<N: FarmNames> Model for WorkSeat<N> {
     ghost use Rattle.std.specs.Prelude.{◌≡◌};
-    ghost use Rattle.pf_farm.specs.Seats.{WorkSeatView, seat_of, IsBalanced, CountsSteals};
+    ghost use Rattle.pf_farm.specs.Seats.{WorkSeatView, seat_of, CountsClaims, CountsSteals, IsBalanced};
 
     ghost Value = { WorkSeatView };
 
@@ -45,12 +45,14 @@ impl<N: FarmNames> Model for WorkSeat<N> {
     ghost invariant = { λ s. (s.opened.parts ≡ 1)
         × (s.ended.parts ≡ 1)
         × IsBalanced s.opened.amount s.ended.amount (seat_of s.own s.next s.busy s.filed s.tally)
-        × CountsSteals (seat_of s.own s.next s.busy s.filed s.tally) };
+        × CountsSteals (seat_of s.own s.next s.busy s.filed s.tally)
+        × CountsClaims s.opened.amount s.ended.amount (seat_of s.own s.next s.busy s.filed s.tally) };
 }
 
 impl<N: FarmNames> WorkSeat<N> {
     /// What its worker did so far.
     pub fn tally(&self) -> WorkTally
+        ensures all { result ≡ self.now.tally }
         ensures steals { result.steals ≡ saturated (length (stolen_by self.now.next)) }
         ensures parks { result.parks ≡ saturated (length self.now.own.pushed) }
     {

@@ -1,9 +1,9 @@
 -- What a seat knows of its receipts.
 use Rattle.std.proofs.Common.{◌≡◌, ℕ, ◌+◌, ◌≤◌, List, [], ◌∷◌, ◌++◌, length, refl, sym, ap, ◌∙◌, length-append, arith}
 use Rattle.std.proofs.lemmas.List.Elements.{All-push, All-weaker}
-use Rattle.pf_farm_accounts.specs.Places.{AreBelow, StartsWith}
+use Rattle.pf_farm_accounts.specs.Places.{standing_at, AreBelow, StartsWith}
 use Rattle.pf_farm_accounts.specs.declared.receipt.Receipt.{Receipt}
-use Rattle.pf_farm_accounts.specs.Receipts.{of_project, standing_at, IsSeat}
+use Rattle.pf_farm_accounts.specs.Receipts.{of_project, IsSeat}
 use Rattle.pf_farm_accounts.proofs.Standing.{grows, standing_append, is_still_there, last_is_there}
 use Rattle.pf_farm_accounts.proofs.Numbers.{no_fewer, one_more, rising_push}
 

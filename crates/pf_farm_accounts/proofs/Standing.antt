@@ -2,9 +2,10 @@
 use Rattle.std.proofs.Common.{◌≡◌, ℕ, zero, suc, ◌+◌, ◌-◌, ◌≤◌, List, [], ◌∷◌, ◌++◌, length, Option, Some, None, refl}
 use Rattle.std.proofs.Common.{sym, ap, ◌∙◌, subst, arith}
 use Rattle.std.specs.Prelude.{slice_get}
-use Rattle.pf_farm_accounts.specs.Places.{weigh as weigh_places, weigh_below, AreBelow, StartsWith}
+use Rattle.pf_farm_accounts.specs.Places.{weigh as weigh_places, weigh_below, put_some, standing_at, AreBelow}
+use Rattle.pf_farm_accounts.specs.Places.{StartsWith}
 use Rattle.pf_farm_accounts.specs.declared.receipt.Receipt.{Receipt}
-use Rattle.pf_farm_accounts.specs.Receipts.{weigh, EachOnce, put_some, standing_at}
+use Rattle.pf_farm_accounts.specs.Receipts.{weigh, EachOnce}
 
 first_below : (f : ℕ → ℕ) (n : ℕ) → weigh_below f (suc n) ≡ f 0 + weigh_below (λ k. f (suc k)) n
 first_below f zero = omega arith
@@ -62,6 +63,36 @@ module _ {T : Type 0} where
   last_get [] x = refl
   last_get (y ∷ ys) x = last_get ys x
 
+  some_append : (o : Option T) (xs ys : List T) → put_some o (xs ++ ys) ≡ put_some o xs ++ ys
+  some_append None xs ys = refl
+  some_append (Some r) xs ys = refl
+
+  pub standing_append : (ks js : List ℕ) (log : List T)
+      → standing_at (ks ++ js) log ≡ standing_at ks log ++ standing_at js log
+  standing_append [] js log = refl
+  standing_append (k ∷ ks) js log = ap (put_some (slice_get log k)) (standing_append ks js log)
+      ∙ some_append (slice_get log k) (standing_at ks log) (standing_at js log)
+
+  is_there : (ks : List ℕ) (log rest : List T) → weigh_places (λ k. absent (slice_get log k)) ks ≡ 0
+      → standing_at ks (log ++ rest) ≡ standing_at ks log
+  is_there [] log rest h = refl
+  is_there (k ∷ ks) log rest h =
+      let here = stays log rest k (omega (arith, h)) in
+      let others = is_there ks log rest (omega (arith, h)) in
+      λ i. put_some (here i) (others i)
+
+  -- what was there is there when more were logged
+  pub is_still_there : (ks : List ℕ) (seen log : List T) → AreBelow ks (length seen) → StartsWith log seen
+      → standing_at ks log ≡ standing_at ks seen
+  is_still_there ks seen log below starts =
+      let none : weigh_places (λ k. absent (slice_get seen k)) ks ≡ 0 =
+      omega (arith, below (λ k. absent (slice_get seen k)), none_absent seen) in
+      subst (λ l. standing_at ks l ≡ standing_at ks seen) (sym starts.1) (is_there ks seen starts.0 none)
+
+  pub last_is_there : (log : List T) (r : T)
+      → standing_at (length log ∷ []) (log ++ r ∷ []) ≡ r ∷ []
+  last_is_there log r = ap (λ o. put_some o []) (last_get log r)
+
 module _ {C A : Type 0} where
   abbrev worth : (Receipt C A → ℕ) → Option (Receipt C A) → ℕ
   worth h None = 0
@@ -111,33 +142,3 @@ module _ {C A : Type 0} where
       → length log ≤ length (standing_at ks log) → EachOnce (standing_at ks log) log
   each_once ks log below all h = weigh_standing h ks log ∙ same_weight (at_place h log) (weigh h log) (most h log) ks
       (length log) below (omega (arith, all, length_standing ks log)) ∙ sym (weigh_log h log)
-
-  some_append : (o : Option (Receipt C A)) (xs ys : List (Receipt C A)) → put_some o (xs ++ ys) ≡ put_some o xs ++ ys
-  some_append None xs ys = refl
-  some_append (Some r) xs ys = refl
-
-  pub standing_append : (ks js : List ℕ) (log : List (Receipt C A))
-      → standing_at (ks ++ js) log ≡ standing_at ks log ++ standing_at js log
-  standing_append [] js log = refl
-  standing_append (k ∷ ks) js log = ap (put_some (slice_get log k)) (standing_append ks js log)
-      ∙ some_append (slice_get log k) (standing_at ks log) (standing_at js log)
-
-  is_there : (ks : List ℕ) (log rest : List (Receipt C A)) → weigh_places (λ k. absent (slice_get log k)) ks ≡ 0
-      → standing_at ks (log ++ rest) ≡ standing_at ks log
-  is_there [] log rest h = refl
-  is_there (k ∷ ks) log rest h =
-      let here = stays log rest k (omega (arith, h)) in
-      let others = is_there ks log rest (omega (arith, h)) in
-      λ i. put_some (here i) (others i)
-
-  -- what was there is there when more were logged
-  pub is_still_there : (ks : List ℕ) (seen log : List (Receipt C A)) → AreBelow ks (length seen) → StartsWith log seen
-      → standing_at ks log ≡ standing_at ks seen
-  is_still_there ks seen log below starts =
-      let none : weigh_places (λ k. absent (slice_get seen k)) ks ≡ 0 =
-      omega (arith, below (λ k. absent (slice_get seen k)), none_absent seen) in
-      subst (λ l. standing_at ks l ≡ standing_at ks seen) (sym starts.1) (is_there ks seen starts.0 none)
-
-  pub last_is_there : (log : List (Receipt C A)) (r : Receipt C A)
-      → standing_at (length log ∷ []) (log ++ r ∷ []) ≡ r ∷ []
-  last_is_there log r = ap (λ o. put_some o []) (last_get log r)

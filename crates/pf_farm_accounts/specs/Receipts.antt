@@ -1,9 +1,9 @@
 -- Receipts of calls.
 use Rattle.std.specs.Prelude.{⊤, ℕ, suc, ◌≡◌, ◌+◌, ◌<◌, ◌≤◌, ◌==◌, if◌then◌else◌, Bool, false, List, [], ◌∷◌, length}
-use Rattle.std.specs.Prelude.{Option, Some, None, slice_get, All}
+use Rattle.std.specs.Prelude.{All}
 use Rattle.std.specs.declared.snapshot.Snapshot.{Snapshot}
 use Rattle.std.specs.Coded.{×_prop, Unit-prop, le_prop}
-use Rattle.pf_farm_accounts.specs.Places.{AreBelow}
+use Rattle.pf_farm_accounts.specs.Places.{standing_at, AreBelow}
 use Rattle.pf_farm_accounts.specs.declared.receipt.Receipt.{Receipt}
 
 abbrev pub remembered : {T : Type 0} → T → Snapshot T
@@ -76,15 +76,6 @@ module _ {C A : Type 0} where
   empty_seat q = seat_of q [] []
 
   -- ---- what is kept
-
-  abbrev pub put_some : Option (Receipt C A) → List (Receipt C A) → List (Receipt C A)
-  put_some None rs = rs
-  put_some (Some r) rs = r ∷ rs
-
-  -- the receipts that are at some places
-  abbrev pub standing_at : List ℕ → List (Receipt C A) → List (Receipt C A)
-  standing_at [] log = []
-  standing_at (k ∷ ks) log = put_some (slice_get log k) (standing_at ks log)
 
   -- a seat's receipts are at the places that it bears, and of its project; their numbers rise, up to the number of
   -- calls of the project that it has seen

@@ -31,8 +31,8 @@ pub struct Gathering<N: FarmNames, C, A> {
 
 impl<N: FarmNames, C, A> Model for Gathering<N, C, A> {
     ghost use Rattle.std.specs.Prelude.{◌≡◌, length};
-    ghost use Rattle.pf_farm_accounts.specs.Places.{AreBelow};
-    ghost use Rattle.pf_farm_accounts.specs.Receipts.{AreNumbered, GatheringView, gathering_of, standing_at};
+    ghost use Rattle.pf_farm_accounts.specs.Places.{standing_at, AreBelow};
+    ghost use Rattle.pf_farm_accounts.specs.Receipts.{AreNumbered, GatheringView, gathering_of};
 
     ghost Value = { GatheringView C A };
 

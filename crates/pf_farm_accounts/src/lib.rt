@@ -2,7 +2,7 @@
 //! One name for all that a running farm counts and registers.
 //! The claims of all workers, in order, each with its one end.
 //! Receipts of calls: which calls were logged, in order, and the seats of clients, which keep a receipt of each call of
-//! theirs.
+//! theirs; and what they saw under the farm's lock.
 //! The deque of a worker: it puts in and takes out itself, first in, first out, and one other worker steals.
 #![tactic(auto)]
 
@@ -13,7 +13,9 @@ pub use register::{NewRegister, Register, RegisterName, RegisterToken};
 
 mod names;
 
-pub use names::{CallLedger, ClaimRegister, EndedLedger, FarmNames, OpenedLedger, ReceiptRegister};
+pub use names::{
+    CallLedger, ClaimRegister, EndedLedger, FarmNames, LookRegister, OpenedLedger, ReceiptRegister,
+};
 
 mod ledger;
 mod row;
@@ -30,6 +32,10 @@ pub use gathering::{Gathering, SeatReceipts};
 pub use log::CallLog;
 pub use receipt::Receipt;
 pub use seat::Seat;
+
+mod looks;
+
+pub use looks::{ClosedLooks, LookLog, SeatLooks};
 
 mod deque;
 mod deque_part;

@@ -4,7 +4,7 @@ use crate::RegisterName;
 use std::marker::{Brand, PhantomData};
 use std::sync::ledger::Ledger;
 
-/// Which farm it is: the names of its three ledgers and the numbers of their parts, and where its two registers are.
+/// Which farm it is: the names of its three ledgers and the numbers of their parts, and where its three registers are.
 /// One type parameter stands for all of them. Whoever makes a farm passes `Brand` for it, with the members that the new
 /// ledgers and registers have.
 pub trait FarmNames {
@@ -23,10 +23,12 @@ pub trait FarmNames {
 
     ghost workers: { ℕ };
 
-    // The registers of the receipts and of the claims.
+    // The registers of the receipts, of the claims, and of what clients saw that waited.
     ghost receipts: { Option ((ℕ × ℕ) × Global) };
 
     ghost claims: { Option ((ℕ × ℕ) × Global) };
+
+    ghost looks: { Option ((ℕ × ℕ) × Global) };
 }
 
 impl FarmNames for Brand {
@@ -45,6 +47,8 @@ impl FarmNames for Brand {
     ghost receipts = { None };
 
     ghost claims = { None };
+
+    ghost looks = { None };
 }
 
 /// The ledger of the calls that were logged: the amount of a seat's share is the number of its receipts.
@@ -96,4 +100,13 @@ pub struct ClaimRegister<N: FarmNames> {
 
 impl<N: FarmNames> RegisterName for ClaimRegister<N> {
     ghost home = { N.claims };
+}
+
+/// The register of what clients saw, whose places their seats bear.
+pub struct LookRegister<N: FarmNames> {
+    farm: PhantomData<N>,
+}
+
+impl<N: FarmNames> RegisterName for LookRegister<N> {
+    ghost home = { N.looks };
 }

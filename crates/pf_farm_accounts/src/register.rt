@@ -53,8 +53,8 @@ impl<T, R: RegisterName> Model for Register<T, R> {
 /// begins.
 #[derive(Drop)]
 pub struct RegisterToken<T, R: RegisterName> {
-    pass: Pass<(), Knowledge<T>>,
-    name: PhantomData<R>,
+    pub(crate) pass: Pass<(), Knowledge<T>>,
+    pub(crate) name: PhantomData<R>,
 }
 
 impl<T, R: RegisterName> Model for RegisterToken<T, R> {

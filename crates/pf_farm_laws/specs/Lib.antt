@@ -4,6 +4,7 @@ pub mod Claims
 pub mod Gone
 pub mod Reported
 pub mod Points
+pub mod Stages
 pub mod Notes
 pub mod Laws
 pub mod Orders

@@ -1,7 +1,8 @@
 -- The state under the lock, open claims and clients' seats may go to another thread: a lemma for each type, from those
 -- of its parts.
 use denote.RattleType.{RattleType}
-use denote.Param.Send.{IsSend, recorded_send, sendable}
+use denote.Param.Send.{AllSend, IsSend, recorded_send, sendable, struct_send}
+use denote.Struct.Declared.{shape}
 use Rattle.std.proofs.Crossing as heap
 use Rattle.std.proofs.sync.ledger.Book.TheSendSync as book
 use Rattle.std.proofs.sync.ledger.Share.TheSendSync as share
@@ -17,9 +18,14 @@ use Rattle.pf_farm_accounts.specs.contracts.ledger.OpenClaim as OpenClaim
 use Rattle.pf_book.specs.contracts.reply.Reply as Reply
 use Rattle.pf_farm_accounts.specs.contracts.receipt.Receipt as Receipt
 use Rattle.pf_farm_accounts.specs.contracts.log.CallLog as CallLog
+use Rattle.pf_farm_accounts.specs.contracts.looks.LookLog as LookLog
+use Rattle.pf_farm_accounts.specs.contracts.looks.SeatLooks as SeatLooks
 use Rattle.pf_farm_accounts.specs.contracts.seat.Seat as Seat
 use Rattle.pf_farm_state.specs.contracts.client.ClientSeat as ClientSeat
+use Rattle.pf_farm_state.specs.contracts.client.ClientSeat.TheInside as SeatInside
 use Rattle.pf_farm_state.specs.contracts.hall.Hall as Hall
+use Rattle.pf_farm_state.specs.contracts.hall.Hall.TheInside as HallInside
+use Rattle.pf_farm_state.specs.contracts.look.TrialLook as Look
 use Rattle.pf_farm_state.proofs.BookCrossing.{book_send}
 
 -- ---- claims and receipts
@@ -50,8 +56,20 @@ module _ (N : RattleType) (g : names.Ghosts N.Denot) where
   seat_send : IsSend (Seat.the_row N Call.the_row Reply.the_row g)
   seat_send = search (receipt_send, share.the_send, token.the_send, heap.crosses, sendable) depth 30
 
+  seat_looks_send : IsSend (SeatLooks.the_row N Look.the_row g)
+  seat_looks_send = search (token.the_send, sendable) depth 30
+
+  seat_inside_send : IsSend (SeatInside.the_row N g)
+  seat_inside_send =
+      let all : AllSend (shape (SeatInside.the_type N g)).fields = (
+        seat_send,
+        (seat_looks_send, (search sendable depth 30, tt)),
+      ) in
+      recorded_send (SeatInside.the_field N g).row _ _ (SeatInside.the_type N g).to_one
+      (struct_send (shape (SeatInside.the_type N g)) all)
+
   pub client_seat_send : IsSend (ClientSeat.the_row N g)
-  client_seat_send = search (seat_send, sendable) depth 30
+  client_seat_send = search (seat_inside_send, sendable) depth 30
 
   -- ---- the state under the lock
 
@@ -61,5 +79,17 @@ module _ (N : RattleType) (g : names.Ghosts N.Denot) where
   log_send : IsSend (CallLog.the_row N Call.the_row Reply.the_row g)
   log_send = search (book.the_send, register.the_send, sendable) depth 30
 
+  look_log_send : IsSend (LookLog.the_row N Look.the_row g)
+  look_log_send = search (register.the_send, sendable) depth 30
+
+  hall_inside_send : IsSend (HallInside.the_row N g)
+  hall_inside_send =
+      let all : AllSend (shape (HallInside.the_type N g)).fields = (
+        book_send,
+        (ledger_send, (log_send, (look_log_send, (search sendable depth 30, tt)))),
+      ) in
+      recorded_send (HallInside.the_field N g).row _ _ (HallInside.the_type N g).to_one
+      (struct_send (shape (HallInside.the_type N g)) all)
+
   pub hall_send : IsSend (Hall.the_row N g)
-  hall_send = search (book_send, ledger_send, log_send, sendable) depth 30
+  hall_send = search (hall_inside_send, sendable) depth 30

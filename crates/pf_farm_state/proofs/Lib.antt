@@ -2,6 +2,7 @@ pub mod BookCrossing
 pub mod Closed
 pub mod Crossing
 pub mod Full
+pub mod Grown
 pub mod Language
 pub mod Logged
 pub mod Noted

@@ -70,13 +70,13 @@ placed q rows w d mine others r = subst (IsReportedAt r rows) (sym (desk_placed 
     by true e = subst (λ n. IsReportedAt n rows d) (same_by q r e) mine
     by false e = others r e
 
-worked_done : (q : ℕ) (w w' : Desks) (b : Bool) (k : Desk)
+pub worked_done : (q : ℕ) (w w' : Desks) (b : Bool) (k : Desk)
     → ◌≡◌ {A = Desks × Answer} (worked q w (if b then Some k else None)) (w', work_done)
     → (b ≡ true) × (w' ≡ put_desk q k w)
 worked_done q w w' true k h = (refl, sym (ap (λ (x : Desks × Answer). x.0) h))
 worked_done q w w' false k h = let reported : not_now ≡ work_done = ap (λ (x : Desks × Answer). x.1) h in absurd (cc)
 
-worked_not : (q : ℕ) (w w' : Desks) (b : Bool) (k : Desk)
+pub worked_not : (q : ℕ) (w w' : Desks) (b : Bool) (k : Desk)
     → ◌≡◌ {A = Desks × Answer} (worked q w (if b then Some k else None)) (w', not_now) → (b ≡ false) × (w' ≡ w)
 worked_not q w w' true k h = let reported : work_done ≡ not_now = ap (λ (x : Desks × Answer). x.1) h in absurd (cc)
 worked_not q w w' false k h = (refl, sym (ap (λ (x : Desks × Answer). x.0) h))
@@ -91,7 +91,7 @@ jobs_kept : (rows : List (ClaimRow Job)) (w w' : Desks) → KeepsAllTickets w w'
     → AreOfTheirJobs rows w'
 jobs_kept rows w w' keeps all = λ k d less. keeps _ _ _ (all k d less)
 
-all_at : {X : Type 0} (P : X → Type 0) (xs : List X) (i : ℕ) (x : X) → slice_get xs i ≡ Some x → All P xs → P x
+pub all_at : {X : Type 0} (P : X → Type 0) (xs : List X) (i : ℕ) (x : X) → slice_get xs i ≡ Some x → All P xs → P x
 all_at P xs i x h all = subst P (get_or_from_slice_get xs i x x h) (all i x (slice_get_within xs i x h))
 
 own_job : (rows : List (ClaimRow Job)) (w : Desks) (n : ℕ) (c : Claim Job) (e : Option ClaimEnd)

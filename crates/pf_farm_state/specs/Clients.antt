@@ -13,20 +13,23 @@ use Rattle.pf_book.specs.declared.reply.Reply as reply_code
 use Rattle.pf_book.specs.View.{view_of_reply}
 use Rattle.pf_farm_accounts.specs.declared.receipt.Receipt.{Receipt}
 use Rattle.pf_farm_accounts.specs.Receipts.{receipt_of, of_project, AreNumbered, EachOnce}
+use Rattle.pf_farm_state.specs.Looks.{AreTrueLooks}
 use Rattle.pf_farm_state.specs.declared.client.ClosedSeat.{ClosedSeat}
+use Rattle.pf_farm_state.specs.declared.look.TrialLook.{TrialLook}
 
 -- a receipt of a client's call, and of its reply
 abbrev pub ClientReplies : Type 0
 ClientReplies = Receipt call_code.Call reply_code.Reply
 
--- a client's seat: its project, its receipts, and whether the log of its project is full
+-- a client's seat: its project, its receipts, what it saw that waited, and whether the log of its project is full
 pub record ClientView : Type 0 where
   pub project : ℕ
   pub receipts : List ClientReplies
+  pub looks : List TrialLook
   pub is_full : Bool
 
 abbrev pub empty_client : (project : ℕ) → ClientView
-empty_client q = record { project = q; receipts = []; is_full = false }
+empty_client q = record { project = q; receipts = []; looks = []; is_full = false }
 
 -- what the history notes of a call that has this receipt
 abbrev pub noted_by : ClientReplies → Entry
@@ -53,6 +56,10 @@ AreTheCalls rs w = (log : List ClientReplies) × EachOnce rs log × IsLogged log
 -- the seat with one receipt more
 abbrev pub with_receipt : ClientView → ClientReplies → ClientView
 with_receipt s r = record s { receipts = s.receipts ++ r ∷ [] }
+
+-- the seat with one look more
+abbrev pub with_look : ClientView → TrialLook → ClientView
+with_look s l = record s { looks = s.looks ++ l ∷ [] }
 
 -- the seat, of a project whose log is full
 abbrev pub full_seat : ClientView → ClientView
@@ -82,7 +89,12 @@ all_receipts (s ∷ ss) = s.reported.receipts.items ++ all_receipts ss
 
 -- what is left of each of these seats
 abbrev pub closed_as : ClosedSeat → ClientView
-closed_as s = record { project = s.reported.project; receipts = s.reported.receipts.items; is_full = s.is_full }
+closed_as s = record {
+  project = s.reported.project;
+  receipts = s.reported.receipts.items;
+  looks = s.looks;
+  is_full = s.is_full;
+}
 
 -- the history of each seat's project is legal: replayed on an empty desk it gives the desk, and its own replies
 abbrev pub AreLegal : Profile → List ClosedSeat → Desks → Type 0
@@ -91,3 +103,7 @@ AreLegal p ss w = All (λ s. IsLegalDesk p (desk_at s.reported.project w)) ss
 -- the project of each seat that is full has as many calls as a log holds
 abbrev pub AreFull : List ClosedSeat → Desks → Type 0
 AreFull ss w = All (λ s. s.is_full ≡ true → calls_in (desk_at s.reported.project w).history ≡ MOST_CALLS) ss
+
+-- what each of these clients saw was so, and the farm was stopped if one saw that
+abbrev pub SawTruly : Profile → List ClosedSeat → Desks → (stopped : Bool) → Type 0
+SawTruly p ss w stopped = All (λ s. AreTrueLooks p w stopped s.looks) ss

@@ -1,6 +1,6 @@
 -- The book of all desks and the ledger of all claims, which are under one lock.
-use Rattle.std.specs.Prelude.{◌≡◌, ℕ, zero, suc, Bool, false, if◌then◌else◌, List, [], refl}
-use Rattle.std.specs.Coded.{Coded, code_by, coded×, coded_ℕ, coded_list, coded_option}
+use Rattle.std.specs.Prelude.{◌≡◌, ℕ, zero, suc, Bool, true, false, if◌then◌else◌, List, [], length, refl}
+use Rattle.std.specs.Coded.{Coded, code_by, coded×, coded_ℕ, coded_bool, coded_list, coded_option}
 use Rattle.pf_request.specs.Encoding.{coded_job}
 use Rattle.pf_request.specs.Job.{Job}
 use Rattle.pf_desks.specs.Desk.{held_at}
@@ -13,15 +13,27 @@ use Rattle.pf_farm_accounts.specs.declared.row.ClaimEnd.TheVariants.{Filed, Hand
 use Rattle.pf_farm_accounts.specs.Rows.{claim_of, row_of}
 use Rattle.pf_book.specs.Profile.{ForRight}
 use Rattle.pf_farm_laws.specs.Reported.{AgreesWithHistories, AreOfTheirJobs}
+use Rattle.pf_farm_laws.specs.Stages.{stage_at}
 use Rattle.pf_farm_state.specs.Clients.{ClientReplies, IsLogged}
+use Rattle.pf_farm_state.specs.Looks.{look_of}
+use Rattle.pf_farm_state.specs.declared.look.TrialLook.{TrialLook}
 
--- the rows of the ledger, and the desks by project
+-- the rows of the ledger, the desks by project, and whether the farm was stopped
 pub record Hall : Type 0 where
   pub rows : List (ClaimRow Job)
   pub desks : Desks
+  pub stopped : Bool
 
 abbrev pub no_hall : Hall
-no_hall = record { rows = []; desks = [] }
+no_hall = record { rows = []; desks = []; stopped = false }
+
+-- with nothing else changed the farm was stopped
+abbrev pub stopped_hall : Hall → Hall
+stopped_hall h = record h { stopped = true }
+
+-- what a client of a project sees now that waits for the trial of a ticket
+abbrev pub look_at : Hall → (project ticket : ℕ) → TrialLook
+look_at h q t = look_of q t (length (desk_at q h.desks).history) (stage_at (desk_at q h.desks) t) h.stopped
 
 -- what the ledger and the receipts say is what the histories of the desks say, and each claim is of the job of its
 -- ticket
@@ -63,5 +75,5 @@ coded_row =
     (λ x. row_of (claim_of x.0 x.1.0 x.1.1.0) x.1.1.1) (λ _. refl)
 
 abbrev pub coded_hall : Coded Hall
-coded_hall = code_by _ (coded× (coded_list coded_row) coded_desks) (λ h. (h.rows, h.desks))
-    (λ x. record { rows = x.0; desks = x.1 }) (λ _. refl)
+coded_hall = code_by _ (coded× (coded_list coded_row) (coded× coded_desks coded_bool))
+    (λ h. (h.rows, (h.desks, h.stopped))) (λ x. record { rows = x.0; desks = x.1.0; stopped = x.1.1 }) (λ _. refl)

@@ -1,18 +1,20 @@
 //! The seats of clients.
 
-ghost use Rattle.std.specs.Prelude.{◌≡◌, false, []};
-ghost use Rattle.pf_farm_state.specs.Clients.{empty_client};
+ghost use Rattle.std.specs.Prelude.{◌≡◌, false};
 
+use crate::look::TrialLook;
 use pf_book::Reply;
-use pf_farm_accounts::{FarmNames, Receipt, Seat, SeatReceipts};
+use pf_farm_accounts::{ClosedLooks, FarmNames, Receipt, Seat, SeatLooks, SeatReceipts};
 use pf_request::Call;
 use std::marker::Model;
 
-/// A client's seat: what its calls were answered, and whether the log of its project is full. Contracts see its
-/// project, its receipts, and whether it is full: then it has seen as many calls of the project as a log holds.
+/// A client's seat: what its calls were answered, what it saw that waited, and whether the log of its project is full.
+/// Contracts see its project, its receipts, its looks, and whether it is full: then it has seen as many calls of the
+/// project as a log holds.
 #[derive(Drop)]
 pub struct ClientSeat<N: FarmNames> {
     pub(crate) seat: Seat<N, Call, Reply>,
+    pub(crate) looks: SeatLooks<N, TrialLook>,
     pub(crate) is_full: bool,
 }
 
@@ -31,6 +33,7 @@ impl<N: FarmNames> Model for ClientSeat<N> {
     ghost view = { λ c. record {
       project = c.seat.project;
       receipts = c.seat.receipts;
+      looks = c.looks;
       is_full = c.is_full;
     } };
 
@@ -38,12 +41,18 @@ impl<N: FarmNames> Model for ClientSeat<N> {
 }
 
 impl<N: FarmNames> ClientSeat<N> {
-    /// The seat that has no receipt yet.
-    pub(crate) fn new(seat: Seat<N, Call, Reply>) -> ClientSeat<N>
-        ensures { result ≡ record { project = seat.project; receipts = seat.receipts; is_full = false } }
+    /// The seat with these receipts and looks, which isn't full.
+    pub(crate) fn new(seat: Seat<N, Call, Reply>, looks: SeatLooks<N, TrialLook>) -> ClientSeat<N>
+        ensures { result ≡ record {
+          project = seat.project;
+          receipts = seat.receipts;
+          looks = looks;
+          is_full = false;
+        } }
     {
         ClientSeat {
             seat,
+            looks,
             is_full: false,
         }
     }
@@ -74,5 +83,7 @@ impl<N: FarmNames> ClientSeat<N> {
 #[derive(Drop)]
 pub struct ClosedSeat {
     pub reported: SeatReceipts<Call, Reply>,
+    /// What the client saw that waited, which is known to proofs alone.
+    pub looks: ClosedLooks<TrialLook>,
     pub is_full: bool,
 }

@@ -1,28 +1,31 @@
 //! What is left of a farm that is closed.
 
-ghost use Rattle.std.specs.Prelude.{◌≡◌, ◌+◌, ◌≤◌, ◌++◌, [], true, map, length};
+ghost use Rattle.std.specs.Prelude.{◌≡◌, ◌+◌, ◌≤◌, ◌++◌, [], true, map, length, All};
 ghost use Rattle.std.specs.Vec.{vec_len, vec_capacity};
 ghost use Rattle.pf_quota.specs.declared.refusals.TheConstants.{MOST_CALLS};
 ghost use Rattle.pf_desks.specs.Calls.{calls_in};
 ghost use Rattle.pf_desks.specs.History.{IsLegalDesk};
 ghost use Rattle.pf_desks.specs.Desks.{desk_at};
 ghost use Rattle.pf_book.specs.Profile.{ForRight};
+ghost use Rattle.pf_farm_accounts.specs.Places.{AreAmong};
 ghost use Rattle.pf_farm_accounts.specs.Receipts.{gathering_of};
 ghost use Rattle.pf_farm_state.specs.Clients.{all_receipts, closed_as, AreFull, AreLegal, IsLogged};
 
 use crate::client::{ClientSeat, ClosedSeat};
+use crate::look::TrialLook;
 use pf_book::{Book, Reply};
-use pf_farm_accounts::{ClaimRow, FarmNames, Gathering};
+use pf_farm_accounts::{ClaimRow, FarmNames, Gathering, LookLog};
 use pf_request::Call;
 use pf_sched::Job;
 
-/// What is left of a farm that is closed: what each client was answered, all claims with their ends, and the desks of
-/// all projects.
+/// What is left of a farm that is closed: what each client was answered, all claims with their ends, the desks of all
+/// projects, and whether the farm was stopped.
 #[derive(Drop)]
 pub struct Closing {
     pub seats: Vec<ClosedSeat>,
     pub rows: Vec<ClaimRow<Job>>,
     pub book: Book,
+    pub stopped: bool,
 }
 
 impl Closing {
@@ -56,6 +59,7 @@ impl Closing {
 pub(crate) fn close<N: FarmNames>(
     book: &Book,
     gathering: &mut Gathering<N, Call, Reply>,
+    looks: &mut LookLog<N, TrialLook>,
     clients: Vec<ClientSeat<N>>,
     closed: Vec<ClosedSeat>,
 ) -> Vec<ClosedSeat>
@@ -66,10 +70,12 @@ pub(crate) fn close<N: FarmNames>(
     ensures gathered { gathering.new ≡ gathering_of gathering.old.log (all_receipts result.items)
         (gathering.old.parts + vec_len clients) }
     ensures full { ForRight (λ p. AreFull result.items book.now) }
+    ensures among { All (λ s. AreAmong s.looks looks.old) result.items }
+    ensures same { looks.new ≡ looks.old }
 {
     let mut closed = closed;
     for client in clients {
-        closed.push_reserved(close_one(book, gathering, client));
+        closed.push_reserved(close_one(book, gathering, looks, client));
     }
     closed
 }
@@ -78,6 +84,7 @@ pub(crate) fn close<N: FarmNames>(
 fn close_one<N: FarmNames>(
     book: &Book,
     gathering: &mut Gathering<N, Call, Reply>,
+    looks: &mut LookLog<N, TrialLook>,
     client: ClientSeat<N>,
 ) -> ClosedSeat
     requires { ForRight (λ p. IsLogged gathering.old.log book.now) }
@@ -86,11 +93,18 @@ fn close_one<N: FarmNames>(
         (gathering.old.receipts ++ result.reported.receipts.items) (gathering.old.parts + 1) }
     ensures full { ForRight (λ p. result.is_full ≡ true
         → calls_in (desk_at result.reported.project book.now).history ≡ MOST_CALLS) }
+    ensures among { AreAmong result.looks looks.old }
+    ensures same { looks.new ≡ looks.old }
 {
-    let ClientSeat { seat, is_full } = client;
+    let ClientSeat {
+        seat,
+        looks: seen,
+        is_full,
+    } = client;
     book.note_count(seat.project());
     ClosedSeat {
         reported: gathering.add(seat),
+        looks: looks.close(seen),
         is_full,
     }
 }

@@ -1,4 +1,5 @@
-//! The book of all desks, and beside it the ledger of all claims and the log of all calls.
+//! The book of all desks, and beside it the ledger of all claims, the log of all calls, and what clients saw that
+//! waited.
 
 ghost use Rattle.std.specs.Prelude.{◌≡◌, ◌+◌, ◌<◌, ◌≤◌, ◌⊎◌, ◌++◌, [], ◌∷◌, true, false, length, map, slice_get};
 ghost use Rattle.std.specs.Prelude.{slice_set, Some, None, Ok, IfOk, IfSome, IfNone, OnErr, option_map};
@@ -15,18 +16,19 @@ ghost use Rattle.pf_farm_laws.specs.Gone.{IsGone};
 ghost use Rattle.pf_farm_laws.specs.Reported.{AgreesWithHistories};
 ghost use Rattle.std.specs.Vec.{vec_len, vec_capacity};
 ghost use Rattle.pf_farm_state.specs.Clients.{all_receipts, closed_as, empty_client, full_seat, AreFull, AreTheCalls};
-ghost use Rattle.pf_farm_state.specs.Clients.{GetsReceipt, IsOneTooMany, StaysFull};
-ghost use Rattle.pf_farm_state.specs.Hall.{no_hall, end_or_stray, NoneIsQueued};
+ghost use Rattle.pf_farm_state.specs.Clients.{with_look, GetsReceipt, IsOneTooMany, SawTruly, StaysFull};
+ghost use Rattle.pf_farm_state.specs.Hall.{no_hall, end_or_stray, look_at, stopped_hall, NoneIsQueued};
 
 use crate::claimed::ClaimedTrial;
 use crate::client::{ClientSeat, ClosedSeat};
 use crate::closing::{Closing, close};
+use crate::look::TrialLook;
 use pf_book::{Book, Claimed, Reply};
 use pf_desks::TrialStage;
 use pf_errors::NoMemory;
 use pf_farm_accounts::{
-    CallLedger, CallLog, Claim, ClaimEnd, EndedLedger, FarmNames, Ledger, NewRegister, OpenClaim,
-    OpenedLedger, Receipt,
+    CallLedger, CallLog, Claim, ClaimEnd, EndedLedger, FarmNames, Ledger, LookLog, NewRegister,
+    OpenClaim, OpenedLedger, Receipt,
 };
 use pf_quota::MOST_CALLS;
 use pf_request::Call;
@@ -38,48 +40,68 @@ use std::snapshot::Snapshot;
 use std::sync::ledger;
 use std::sync::ledger::Share;
 
-/// The desks of all projects, the claims of all workers with their ends, and which calls of all clients were logged.
-/// What the ledger says of claims and what receipts say of calls is what the histories of the desks say, at each
-/// moment. Contracts see the rows of the ledger, and the desks by project.
+/// The desks of all projects, the claims of all workers with their ends, which calls of all clients were logged, what
+/// clients saw that waited, and whether the farm was stopped. What the ledger says of claims and what receipts say of
+/// calls is what the histories of the desks say, at each moment, and what clients saw was so. Contracts see the rows of
+/// the ledger, the desks by project, and whether the farm was stopped.
 #[derive(Drop)]
 pub struct Hall<N: FarmNames> {
     pub(crate) book: Book,
     pub(crate) ledger: Ledger<N, Job>,
     pub(crate) calls: CallLog<N, Call, Reply>,
+    pub(crate) looks: LookLog<N, TrialLook>,
+    pub(crate) stopped: bool,
+}
+
+/// The books of a farm's ledgers, of which nothing was counted yet, and its registers.
+#[derive(Drop)]
+pub struct NewAccounts<N: FarmNames> {
+    pub opened: ledger::Book<OpenedLedger<N>>,
+    pub ended: ledger::Book<EndedLedger<N>>,
+    pub logged: ledger::Book<CallLedger<N>>,
+    pub claims: NewRegister<Claim<Job>>,
+    pub receipts: NewRegister<Receipt<Call, Reply>>,
+    pub looks: NewRegister<TrialLook>,
 }
 
 impl<N: FarmNames> Model for Hall<N> {
+    ghost use Rattle.pf_book.specs.Profile.{ForRight};
     ghost use Rattle.pf_farm_state.specs.Hall as hall;
+    ghost use Rattle.pf_farm_state.specs.Looks.{AreTrueLooks};
 
     ghost Value = { hall.Hall };
 
     ghost coded = { hall.coded_hall };
 
-    ghost view = { λ h. record { rows = h.ledger.0; desks = h.book } };
+    ghost view = { λ h. record { rows = h.ledger.0; desks = h.book; stopped = h.stopped } };
 
-    ghost invariant = { λ h. hall.IsSound h.ledger.0 h.calls h.book };
+    ghost invariant = { λ h. hall.IsSound h.ledger.0 h.calls h.book
+        × ForRight (λ p. AreTrueLooks p h.book h.stopped h.looks) };
 }
 
 impl<N: FarmNames> Hall<N> {
     /// The state with no desk and no claim, which hashes with these keys.
-    pub fn new(
-        alloc: Global,
-        keys: RandomState,
-        opened: ledger::Book<OpenedLedger<N>>,
-        ended: ledger::Book<EndedLedger<N>>,
-        logged: ledger::Book<CallLedger<N>>,
-        claims: NewRegister<Claim<Job>>,
-        receipts: NewRegister<Receipt<Call, Reply>>,
-    ) -> Hall<N>
-        requires none { (opened.total ≡ 0) × (ended.total ≡ 0) × (logged.total ≡ 0) }
-        requires claims { N.claims ≡ Some claims }
-        requires receipts { N.receipts ≡ Some receipts }
+    pub fn new(alloc: Global, keys: RandomState, accounts: NewAccounts<N>) -> Hall<N>
+        requires none { (accounts.opened.total ≡ 0) × (accounts.ended.total ≡ 0) × (accounts.logged.total ≡ 0) }
+        requires claims { N.claims ≡ Some accounts.claims }
+        requires receipts { N.receipts ≡ Some accounts.receipts }
+        requires looks { N.looks ≡ Some accounts.looks }
         ensures { result ≡ no_hall }
     {
+        let NewAccounts {
+            opened,
+            ended,
+            logged,
+            claims,
+            receipts,
+            looks,
+        } = accounts;
         Hall {
             book: Book::new(alloc, keys),
             ledger: Ledger::new(alloc, opened, ended, claims),
             calls: CallLog::new(logged, receipts),
+            looks: LookLog::new(looks),
+            stopped: false,
         }
     }
 
@@ -94,7 +116,8 @@ impl<N: FarmNames> Hall<N> {
         ensures seat { result ≡ empty_client project }
         ensures same { self.new ≡ self.old }
     {
-        ClientSeat::new(self.calls.seat(alloc, share, project))
+        let receipts = self.calls.seat(alloc, share, project);
+        ClientSeat::new(receipts, self.looks.seat())
     }
 
     /// How far the trial of a project's ticket is, if it is held.
@@ -103,6 +126,39 @@ impl<N: FarmNames> Hall<N> {
             ≡ option_map (λ t. stage_of t.state) (held_at (desk_at project self.now.desks).trials ticket) }
     {
         self.book.stage(project, ticket)
+    }
+
+    /// Whether the farm was stopped.
+    pub fn is_stopped(&self) -> bool
+        ensures { result ≡ self.now.stopped }
+    {
+        self.stopped
+    }
+
+    /// The farm is stopped from now on.
+    pub fn stop(&mut self)
+        ensures { self.new ≡ stopped_hall self.old }
+    {
+        self.stopped = true;
+    }
+
+    /// What a client sees now that waits for the trial of a ticket of its seat's project, of which the seat keeps note.
+    /// It takes no memory.
+    pub fn look(&mut self, seat: &mut ClientSeat<N>, ticket: u64) -> TrialLook
+        ensures look { result ≡ look_at self.old seat.old.project ticket }
+        ensures seat { seat.new ≡ with_look seat.old result }
+        ensures same { self.new ≡ self.old }
+    {
+        let project = seat.project();
+        let look = TrialLook {
+            project,
+            ticket,
+            notes: self.book.note_count(project),
+            stage: self.book.stage(project, ticket),
+            stops: self.stopped,
+        };
+        self.looks.look(&mut seat.looks, &look);
+        look
     }
 
     /// Answers a client's call on the desk of its seat's project, and notes it there with its reply, of which the seat
@@ -116,6 +172,7 @@ impl<N: FarmNames> Hall<N> {
     ) -> Result<Reply, NoMemory>
         ensures answer { SimulatesCall self.old.desks seat.old.project (view_of_call call) result self.new.desks }
         ensures rows { self.new.rows ≡ self.old.rows }
+        ensures stopped { self.new.stopped ≡ self.old.stopped }
         ensures project { seat.new.project ≡ seat.old.project }
         ensures receipt { IfOk result (λ r. GetsReceipt call r seat.old seat.new) }
         ensures full { StaysFull seat.old seat.new result }
@@ -154,6 +211,7 @@ impl<N: FarmNames> Hall<N> {
             ⊎ (MOST_CALLS ≤ calls_in (desk_at seat.old.project self.old.desks).history) }
         ensures answer { SimulatesCall self.old.desks seat.old.project (view_of_call call) result self.new.desks }
         ensures rows { self.new.rows ≡ self.old.rows }
+        ensures stopped { self.new.stopped ≡ self.old.stopped }
         ensures seat { seat.new ≡ full_seat seat.old }
         ensures reply { IsOneTooMany result }
     {
@@ -174,6 +232,7 @@ impl<N: FarmNames> Hall<N> {
             ClaimsAt self.old.desks c.claim.1.project c.claim.1.ticket (Ok (Some c.job)) self.new.desks)) }
         ensures row { IfOk result (λ o. IfSome o (λ c.
             (c.claim.0 ≡ length self.old.rows) × (self.new.rows ≡ self.old.rows ++ row_of c.claim.1 None ∷ []))) }
+        ensures stopped { self.new.stopped ≡ self.old.stopped }
         ensures opened { IfOk result (λ o. IfSome o (λ _. share.new.amount ≡ share.old.amount + 1)) }
         ensures none { IfOk result (λ o. IfNone o (NoneIsQueued self.old.desks × (self.new ≡ self.old))) }
         ensures same { IfOk result (λ o. IfNone o (share.new.amount ≡ share.old.amount)) }
@@ -210,6 +269,7 @@ impl<N: FarmNames> Hall<N> {
         ensures was { slice_get self.old.rows claim.0 ≡ Some (row_of claim.1 None) }
         ensures row { self.new.rows
             ≡ slice_set self.old.rows claim.0 (row_of claim.1 (Some (end_or_stray result ClaimEnd.Filed))) }
+        ensures stopped { self.new.stopped ≡ self.old.stopped }
         ensures gone { OnFalse result (ForRight (λ p. IsGone (desk_at claim.1.project self.old.desks) claim.1.ticket)) }
         ensures ended { share.new.amount ≡ share.old.amount + 1 }
         ensures parts { share.new.parts ≡ share.old.parts }
@@ -230,6 +290,7 @@ impl<N: FarmNames> Hall<N> {
         ensures was { slice_get self.old.rows claim.0 ≡ Some (row_of claim.1 None) }
         ensures row { self.new.rows
             ≡ slice_set self.old.rows claim.0 (row_of claim.1 (Some (end_or_stray result ClaimEnd.HandedBack))) }
+        ensures stopped { self.new.stopped ≡ self.old.stopped }
         ensures gone { OnFalse result (ForRight (λ p. IsGone (desk_at claim.1.project self.old.desks) claim.1.ticket)) }
         ensures ended { share.new.amount ≡ share.old.amount + 1 }
         ensures parts { share.new.parts ≡ share.old.parts }
@@ -244,7 +305,7 @@ impl<N: FarmNames> Hall<N> {
 
     /// The seats of all clients, the rows of the ledger, and the book. Where as many claims have ended as were opened,
     /// each has ended. Where all parts of the ledger of calls are there, the receipts of the seats are those of all
-    /// calls that the histories note, each once.
+    /// calls that the histories note, each once. What each client saw that waited was so.
     pub fn settle(
         self,
         opened: &mut Share<OpenedLedger<N>>,
@@ -264,19 +325,24 @@ impl<N: FarmNames> Hall<N> {
         ensures reported { ForRight (λ p. AgreesWithHistories result.rows.items result.book) }
         ensures receipts { ForRight (λ p. AreTheCalls (all_receipts result.seats.items) result.book) }
         ensures full { ForRight (λ p. AreFull result.seats.items result.book) }
+        ensures looks { ForRight (λ p. SawTruly p result.seats.items result.book result.stopped) }
+        ensures stopped { result.stopped ≡ self.stopped }
     {
         let Hall {
             book,
             ledger,
             calls: log,
+            mut looks,
+            stopped,
         } = self;
         let mut gathering = log.gather(calls);
-        let seats = close(&book, &mut gathering, clients, closed);
+        let seats = close(&book, &mut gathering, &mut looks, clients, closed);
         gathering.settle();
         Closing {
             seats,
             rows: ledger.settle(opened, ended),
             book,
+            stopped,
         }
     }
 }

@@ -5,8 +5,10 @@ mod claimed;
 mod client;
 mod closing;
 mod hall;
+mod look;
 
 pub use claimed::ClaimedTrial;
 pub use client::{ClientSeat, ClosedSeat};
 pub use closing::Closing;
-pub use hall::Hall;
+pub use hall::{Hall, NewAccounts};
+pub use look::TrialLook;

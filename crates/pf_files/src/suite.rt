@@ -15,7 +15,7 @@ use pf_cli::{HuntArgs, HuntGoal, Roots};
 use pf_cli_messages::{
     ProgressLine, REFUSED, Seeds, ShownText, WaitingProcesses, failed, say, why_of_root,
 };
-use pf_command::MOST_BYTES;
+use pf_command::{MOST_BYTES, named_property};
 use pf_errors::{NoMemory, OrNoMemory};
 use pf_hunt::Leak;
 use pf_hunt_suite::{
@@ -186,6 +186,15 @@ where
         Ok(())
     }
 
+    /// The line of a root whose hunt ended so.
+    fn line_of(&self, place: RootPlace, end: RootEnd) -> Result<Vec<u8>, NoMemory> {
+        let property = match end {
+            RootEnd::Fails { cause, .. } => named_property(self.args, cause),
+            _ => None,
+        };
+        line_of_root(self.rt.alloc(), place.file, place.root, end, property)
+    }
+
     /// Reports how the hunt of a root ended, and counts it.
     pub(crate) fn report<W: Write, M: Ledger>(
         &mut self,
@@ -195,10 +204,7 @@ where
         writer: &mut Counted<W, M>,
     ) -> SuiteStep {
         self.suite.ends.push(SuiteCounts::Root(end))?;
-        put_now(
-            &line_of_root(self.rt.alloc(), place.file, place.root, end)?,
-            writer,
-        )?;
+        put_now(&self.line_of(place, end)?, writer)?;
         // The line was written: nothing more is said where memory runs out now.
         let _said = self.say_more(place, end, leak);
         if self.args.fail_fast && matches!(end, RootEnd::Fails { .. }) {

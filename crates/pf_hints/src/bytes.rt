@@ -7,6 +7,7 @@ use crate::modules::{
 };
 use crate::pieces::PieceKind;
 use crate::place::SourcePlace;
+use crate::words::TRY;
 
 const RECORD: Cure = Cure {
     word: "#",
@@ -64,6 +65,13 @@ const NOT_ASCII: Cure = Cure {
     write: "\"caf\" ++ [233]",
 };
 
+const BYTE_ORDER_MARK: Cure = Cure {
+    word: "",
+    says: "The file begins with a byte order mark: save it as UTF-8 without one.",
+    instead: "(byte order mark)-module(bank).",
+    write: "-module(bank).",
+};
+
 const ESCAPE: Cure = Cure {
     word: "\\",
     says: "The escapes are `\\n`, `\\t`, `\\s`, `\\\\`, `\\'` and `\\\"`: write any other character as its number.",
@@ -78,9 +86,26 @@ const AMPERSAND: Cure = Cure {
     write: "X > 0 andalso Y > 0",
 };
 
+/// Whether a `:` is after the class of an exception, in a clause of a `catch`.
+fn is_after_class(place: &SourcePlace<'_>) -> bool {
+    let class = place.text(place.before(1));
+    match place.text(place.before(2)) {
+        b"catch" => true,
+        b";" => matches!(class, b"error" | b"exit" | b"throw"),
+        _ => false,
+    }
+}
+
 /// What is said of a `:` after the piece before it.
 fn colon(place: &SourcePlace<'_>) -> FoundCure {
     let front = place.before(1);
+    if is_after_class(place) {
+        let position = place.start(place.before(2));
+        return FoundCure {
+            position,
+            cure: TRY,
+        };
+    }
     let name = place.text(front);
     let function = place.text(place.piece(1));
     let cure = match place.kind(front) {
@@ -148,6 +173,9 @@ pub(crate) fn byte_cure(place: &SourcePlace<'_>) -> Option<FoundCure> {
         b'?' => Some(place.here(MACRO)),
         b'&' => Some(place.here(AMPERSAND)),
         b'\\' => Some(place.here(ESCAPE)),
+        128..=255 if place.offset == 0 && place.has("\u{feff}") => {
+            Some(place.here(BYTE_ORDER_MARK))
+        }
         128..=255 => Some(place.here(NOT_ASCII)),
         _ => None,
     }

@@ -2,6 +2,13 @@
 
 use crate::cure::Cure;
 
+pub(crate) const TRY: Cure = Cure {
+    word: "try",
+    says: "There is no `try`: let the call run in a process of its own, and receive how that ends.",
+    instead: "try risky(X) of _ -> ok catch _:_ -> failed end",
+    write: "{_, M} = spawn_monitor(?MODULE, risky, [X]), receive {'DOWN', M, process, _, normal} -> ok; {'DOWN', M, process, _, _} -> failed end   with   -export([risky/1]).",
+};
+
 pub(crate) const WORDS: [Cure; 16] = [
     Cure {
         word: "fun",
@@ -21,12 +28,7 @@ pub(crate) const WORDS: [Cure; 16] = [
         instead: "R = (catch risky(X))",
         write: "{_, M} = spawn_monitor(?MODULE, risky, [X]), R = receive {'DOWN', M, process, _, Why} -> Why end   with   -export([risky/1]).",
     },
-    Cure {
-        word: "try",
-        says: "There is no `try`: let the call run in a process of its own, and receive how that ends.",
-        instead: "try risky(X) of _ -> ok catch _:_ -> failed end",
-        write: "{_, M} = spawn_monitor(?MODULE, risky, [X]), receive {'DOWN', M, process, _, normal} -> ok; {'DOWN', M, process, _, _} -> failed end   with   -export([risky/1]).",
-    },
+    TRY,
     Cure {
         word: "begin",
         says: "There is no `begin .. end`: write its expressions one after another, or make a function of them.",

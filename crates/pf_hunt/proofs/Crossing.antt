@@ -5,7 +5,9 @@ use Rattle.std.proofs.Crossing as heap
 use Rattle.std.proofs.MapsCrossing as maps
 use Rattle.pf_model.proofs.Crossing as model
 use Rattle.pf_strategy.proofs.strategy.Strategy.TheSendSync as strategy
+use Rattle.pf_property.proofs.Crossing as property
 use Rattle.pf_sched.proofs.Crossing as sched
+use Rattle.pf_verdicts.proofs.Crossing as verdicts
 use Rattle.pf_hunt.specs.contracts.failure.FailingSeed as Failure
 use Rattle.pf_hunt.specs.contracts.failure.Searched as Searched
 use Rattle.pf_hunt.specs.contracts.leak.Leak as Leak
@@ -70,7 +72,15 @@ team_send = recorded_send (Team.the_field).row _ _ (Team.the_type).to_one team_f
 
 -- what is hunted is shared
 pub hunt_field_sync : IsSync (Hunt.the_field).row
-hunt_field_sync = search (sched.crosses, heap.crosses, strategy.the_field_sync, sendable) depth 30
+hunt_field_sync = search (
+  sched.job_sync,
+  verdicts.jobs_field_sync,
+  verdicts.jobs_sync,
+  property.property_sync,
+  heap.crosses,
+  strategy.the_field_sync,
+  sendable,
+) depth 30
 
 pub hunt_sync : IsSync Hunt.the_row
 hunt_sync = recorded_sync (Hunt.the_field).row _ _ (Hunt.the_type).to_one hunt_field_sync

@@ -1,11 +1,11 @@
 -- What an observer received, one after another, and how far a hunt got by it.
-use Rattle.std.proofs.Common.{◌≡◌, ◌<◌, ◌≤◌, ◌-◌, ◌++◌, ℕ, Bool, true, false, List, [], ◌∷◌, Option, Some, None, refl}
+use Rattle.std.proofs.Common.{◌≡◌, ◌<◌, ◌≤◌, ◌-◌, ◌++◌, ℕ, Bool, true, false, List, [], ◌∷◌, Option, Some, None}
 use Rattle.std.proofs.Common.{sym, subst}
 use Rattle.std.specs.Prelude.{is_some, option_map}
 use Rattle.std.proofs.lemmas.List.{append-nil, append_assoc}
 use Rattle.pf_model.specs.Meaning.{Job, Report}
 use Rattle.pf_strategy.specs.declared.strategy.Strategy.{Strategy}
-use Rattle.pf_hunt.specs.Hunts.{IsFirstSo, FirstFailing, fails, first}
+use Rattle.pf_hunt.specs.Hunts.{Failures, IsFirstSo, FirstFailing, fails, first}
 use Rattle.pf_hunt.specs.Notices.{EndsHunt, HuntGoesOn, Hears, HearsSome, Notice, Searches, has_none, stops}
 use Rattle.pf_hunt.specs.Notices.{and_block, at_end, begins, found, found_none, seeds_run, stopped}
 use Rattle.pf_hunt.specs.Views.{failure_of}
@@ -66,15 +66,15 @@ module _ {T : Type 0} (Heard : T → List Notice → Type 0) where
         (λ ns h. found c d s r answer ns h from to within)
 
     -- in its block, which was the last
-    pub found_there : (leaks : Bool) (w : Strategy) (j : Job) (o p q : T) (c d : ℕ) (answer : Pace)
+    pub found_there : (f : Failures) (w : Strategy) (j : Job) (o p q : T) (c d : ℕ) (answer : Pace)
         (x : Option FailingSeed) → is_some x ≡ true
-        → FirstFailing leaks w j c d (option_map failure_of x) → d ≤ b
+        → FirstFailing f w j c d (option_map failure_of x) → d ≤ b
         → HearsSome Heard o (HuntGoesOn has_none m a b c) p
         → Hears Heard p (seeds_run (d - a) 1 answer ∷ []) q
         → HearsSome Heard o (Searches m a b b (option_map failure_of x)) q
-    found_there leaks w j o p q c d answer None some least within so_far reported = absurd (cc)
-    found_there leaks w j o p q c d answer (Some f) some least within so_far reported =
-        found_at (fails leaks) w j o p q c d answer (failure_of f) least within so_far reported
+    found_there f w j o p q c d answer None some least within so_far reported = absurd (cc)
+    found_there f w j o p q c d answer (Some x) some least within so_far reported =
+        found_at (fails f) w j o p q c d answer (failure_of x) least within so_far reported
 
     pub none_there : (o p : T) (c : ℕ) (x : Option FailingSeed) → is_some x ≡ false
         → HearsSome Heard o (EndsHunt has_none m a b c) p

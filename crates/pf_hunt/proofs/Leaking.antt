@@ -8,7 +8,7 @@ use Rattle.pf_strategy.specs.Strategies.{MeansBySeed}
 use Rattle.pf_strategy.specs.declared.strategy.Strategy.{Strategy}
 use Rattle.pf_hunt.specs.Hunts.{FirstLeaking, NoneIs, fails, first, is_leak, looked_to, none_is}
 use Rattle.pf_hunt.specs.Known.{FindsFailure}
-use Rattle.pf_hunt.specs.Views.{failure_of, leak_of}
+use Rattle.pf_hunt.specs.Views.{failure_of, failures_of, leak_of}
 use Rattle.pf_hunt.specs.declared.failure.FailingSeed.{FailingSeed}
 use Rattle.pf_hunt.specs.declared.failure.Searched.{Searched}
 use Rattle.pf_hunt.specs.declared.leak.Leak.{Leak}
@@ -66,17 +66,17 @@ searched x l b = record { failure = x; leak = l; end = b }
 module _ (h : Hunt) where
   -- of two parts, of which none fails in the first
   pub finds_both : (a c b : ℕ) (x : Option FailingSeed) (m n : Option Leak) (e : ℕ) → a ≤ c → c ≤ b
-      → NoneIs (fails h.leaks) h.strategy h.job.asked a c
+      → NoneIs (fails (failures_of h)) h.strategy h.job.asked a c
       → ((d : ℕ) → c ≤ d → FirstLeaking h.strategy h.job.asked c d (option_map leak_of m)
       → FirstLeaking h.strategy h.job.asked a d (option_map leak_of n))
       → FindsFailure h c b (searched x m e) → FindsFailure h a b (searched x n b)
   finds_both a c b x m n e le le' none on found =
       record {
-        failure = in_second (fails h.leaks) h.strategy h.job.asked a c b (option_map failure_of x) le
+        failure = in_second (fails (failures_of h)) h.strategy h.job.asked a c b (option_map failure_of x) le
             none found.failure;
         leak =
             on (looked_to b (option_map failure_of x))
-            (looks_past (fails h.leaks) h.strategy h.job.asked c b (option_map failure_of x) le' found.failure)
+            (looks_past (fails (failures_of h)) h.strategy h.job.asked c b (option_map failure_of x) le' found.failure)
             found.leak;
         end = refl;
       }
@@ -88,7 +88,7 @@ module _ (h : Hunt) where
   finds_further a c b None l e le some found = absurd (cc)
   finds_further a c b (Some f) l e le some found =
       record {
-        failure = in_first (fails h.leaks) h.strategy h.job.asked a c b (failure_of f) le found.failure;
+        failure = in_first (fails (failures_of h)) h.strategy h.job.asked a c b (failure_of f) le found.failure;
         leak =
             found.leak;
         end = refl;
@@ -97,7 +97,11 @@ module _ (h : Hunt) where
   -- where none fails
   pub none_fails_in : (a b : ℕ) (x : Option FailingSeed) (l : Option Leak) (e : ℕ) → is_some x ≡ false
       → FindsFailure h a b (searched x l e)
-      → NoneIs (fails h.leaks) h.strategy h.job.asked a b × FirstLeaking h.strategy h.job.asked a b
+      → NoneIs (fails (failures_of h)) h.strategy h.job.asked a b × FirstLeaking h.strategy h.job.asked a b
       (option_map leak_of l)
-  none_fails_in a b None l e none found = (none_of (fails h.leaks) h.strategy h.job.asked a b found.failure, found.leak)
+  none_fails_in a b None l e none found = (
+    none_of (fails (failures_of h)) h.strategy h.job.asked a b
+        found.failure,
+    found.leak,
+  )
   none_fails_in a b (Some f) l e none found = absurd (cc)

@@ -1,11 +1,14 @@
 -- Hunts: the results of the runs by many seeds, by a strategy.
 use Rattle.std.specs.Prelude.{◌≡◌, ◌<◌, ◌≤◌, ℕ, suc, Bool, true, false, ◌&&◌, ◌||◌, nat_lt, List, [], Option, Some}
 use Rattle.std.specs.Prelude.{None, option_map}
+use Rattle.std.specs.List.{list_any}
 use Rattle.pf_model.specs.Meaning.{Job, Report}
+use Rattle.pf_model.specs.Properties.{Property}
 use Rattle.pf_model.specs.Shrinking.{is_failure}
 use Rattle.pf_sched.specs.Waiting.{waiting_in}
 use Rattle.pf_strategy.specs.Strategies.{MeansBySeed}
 use Rattle.pf_strategy.specs.declared.strategy.Strategy.{Strategy}
+use Rattle.pf_verdicts.specs.Causes.{fails_by}
 use Rattle.pf_hunt.specs.Rows.{OutcomeRow, met, with_row}
 
 -- ---- the first of many
@@ -26,13 +29,27 @@ pub data IsFirstSo (so : Report → Bool) (w : Strategy) (j : Job) (a b : ℕ) :
 abbrev pub is_leak : Report → Bool
 is_leak r = nat_lt 0 (waiting_in r)
 
--- a run fails: its property does; or, where leaks are failures too, processes still wait though its root returned
-abbrev pub fails : (leaks : Bool) → Report → Bool
-fails leaks r = is_failure r.verdict || (leaks && is_leak r)
+-- what makes a run fail beside its job's property: one of further properties, and leaks where they are failures too
+pub record Failures : Type 0 where
+  pub further : List Property
+  pub leaks : Bool
+
+-- no further property
+abbrev pub only_leaks : (leaks : Bool) → Failures
+only_leaks leaks = record { further = []; leaks = leaks }
+
+-- nothing else
+abbrev pub property_alone : Failures
+property_alone = only_leaks false
+
+-- a run fails: its property does, or a further one; or, where leaks are failures too, processes still wait though its
+-- root returned
+abbrev pub fails : Failures → Report → Bool
+fails f r = is_failure r.verdict || (list_any (fails_by r) f.further || (f.leaks && is_leak r))
 
 -- of the seeds from a to before b the least whose run fails, with the report of that run; or none
-abbrev pub FirstFailing : (leaks : Bool) → Strategy → Job → (a b : ℕ) → Option (ℕ × Report) → Type 0
-FirstFailing leaks = IsFirstSo (fails leaks)
+abbrev pub FirstFailing : Failures → Strategy → Job → (a b : ℕ) → Option (ℕ × Report) → Type 0
+FirstFailing f = IsFirstSo (fails f)
 
 -- of the seeds from a to before b the least whose root returned while processes still waited, and how many did; or none
 abbrev pub FirstLeaking : Strategy → Job → (a b : ℕ) → Option (ℕ × ℕ) → Type 0

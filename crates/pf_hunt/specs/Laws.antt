@@ -1,15 +1,15 @@
 -- The laws of hunts.
-use Rattle.std.specs.Prelude.{◌≡◌, ◌≤◌, ◌-◌, ◌↔◌, ℕ, Bool, List, Option, true}
+use Rattle.std.specs.Prelude.{◌≡◌, ◌≤◌, ◌-◌, ◌↔◌, ℕ, List, Option, true}
 use Rattle.pf_model.specs.Meaning.{Job, Report}
 use Rattle.pf_strategy.specs.declared.strategy.Strategy.{Strategy}
-use Rattle.pf_hunt.specs.Hunts.{FirstFailing, FirstLeaking, Tallies}
+use Rattle.pf_hunt.specs.Hunts.{Failures, FirstFailing, FirstLeaking, Tallies}
 use Rattle.pf_hunt.specs.Rows.{OutcomeRow, seeds_counted, is_like, rows_joined}
 
 -- seeds have one answer only
 abbrev pub OneFirst : Type 0
 OneFirst =
-    (leaks : Bool) (w : Strategy) (j : Job) (a b : ℕ) (x y : Option (ℕ × Report)) → FirstFailing leaks w j a b x
-    → FirstFailing leaks w j a b y → x ≡ y
+    (f : Failures) (w : Strategy) (j : Job) (a b : ℕ) (x y : Option (ℕ × Report)) → FirstFailing f w j a b x
+    → FirstFailing f w j a b y → x ≡ y
 
 abbrev pub OneLeak : Type 0
 OneLeak = (w : Strategy) (j : Job) (a b : ℕ) (x y : Option (ℕ × ℕ)) → FirstLeaking w j a b x

@@ -1,5 +1,4 @@
 pub mod Hunts
-pub mod Judging
 pub mod Rows
 pub mod Hashes
 pub mod RowHashes

@@ -1,8 +1,9 @@
 //! The least seed whose run fails.
 
-ghost use Rattle.std.specs.Prelude.{◌≡◌, IfOk};
+ghost use Rattle.std.specs.Prelude.{◌≡◌, List, IfOk};
 ghost use Rattle.pf_model.specs.Meaning.{Report as ReportOf};
-ghost use Rattle.pf_sched.specs.Judging.{IsJudged};
+ghost use Rattle.pf_model.specs.Properties.{Property};
+ghost use Rattle.pf_verdicts.specs.Judging.{IsJudgedBy};
 ghost use Rattle.pf_hunt.specs.Hunts.{fails};
 ghost use Rattle.pf_hunt.specs.Known.{FindsFailure};
 
@@ -10,7 +11,8 @@ use crate::leak::{Leak, earlier, leak_at};
 use crate::seeded::{Hunt, judged_by_seed, run_by_seed};
 use pf_errors::NoMemory;
 use pf_model::report::Report;
-use pf_sched::{Judged, Scratch};
+use pf_sched::Scratch;
+use pf_verdicts::JudgedSeed;
 use std::alloc::Global;
 
 /// A seed whose run fails, and the report of that run.
@@ -29,12 +31,14 @@ pub struct Searched {
     pub end: u64,
 }
 
-/// Whether a run fails: its property does; or, if leaks are failures too, processes still wait though its root
-/// returned.
-fn fails(leaks: bool, judged: &Judged) -> bool
-    ensures { (r : ReportOf) → IsJudged r judged.now → result ≡ fails leaks r }
+/// Whether a run fails: its property does, or a further one; or, if leaks are failures too, processes still wait though
+/// its root returned.
+fn fails(leaks: bool, seed: &JudgedSeed) -> bool
+    ensures { (ps : List Property) (r : ReportOf) → IsJudgedBy ps r seed.now
+        → result ≡ fails (record { further = ps; leaks = leaks }) r }
 {
-    matches!(judged.verdict, Some(false)) || (leaks && judged.waiting > 0)
+    let judged = &seed.judged;
+    matches!(judged.verdict, Some(false)) || seed.fails_further || (leaks && judged.waiting > 0)
 }
 
 /// The least seed from a first to before an end whose run fails, with the report of that run, which is made once more
@@ -52,7 +56,7 @@ pub fn first_in(
     let mut leak = None;
     for seed in from..end {
         let judged = judged_by_seed(alloc, hunt, worker, &mut scratch, seed)?;
-        leak = earlier(leak, leak_at(seed, judged.waiting));
+        leak = earlier(leak, leak_at(seed, judged.judged.waiting));
         if fails(hunt.leaks, &judged) {
             let report = run_by_seed(alloc, hunt, &mut scratch, seed)?;
             let failure = Some(FailingSeed { seed, report });

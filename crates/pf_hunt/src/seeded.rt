@@ -1,42 +1,62 @@
 //! The run of a job by a seed.
 
-ghost use Rattle.std.specs.Prelude.{◌≡◌, All, IfOk};
+ghost use Rattle.std.specs.Prelude.{IfOk, map};
+ghost use Rattle.std.proofs.Props.{props};
 ghost use Rattle.pf_model.specs.Reports.{view_of_report};
 ghost use Rattle.pf_strategy.specs.Strategies.{MeansBySeed};
-ghost use Rattle.pf_hunt.specs.Judging.{JudgesBySeed};
+ghost use Rattle.pf_property.specs.Views.{property_of};
+ghost use Rattle.pf_request.specs.Encoding.{coded_property};
+ghost use Rattle.pf_verdicts.specs.Judging.{JudgesBySeed};
+ghost use Rattle.pf_verdicts.specs.Watching.{AreJobsOf};
 
 use pf_errors::NoMemory;
 use pf_model::report::Report;
-use pf_sched::{Job, Judged, Scratch, judged_run, report_of_run};
+use pf_property::Property;
+use pf_sched::{Job, Scratch, report_of_run};
 use pf_strategy::{SeedChoice, Strategy};
+use pf_verdicts::{JudgedSeed, WatchedJob, WorkerJobs, judged_by};
 use std::alloc::Global;
 
 /// What is the same for all seeds of a hunt: the job in whose place their runs go, of whose own choices the weights
-/// alone play a part; how a seed chooses; and whether one fails too whose root returned while processes still waited.
+/// alone play a part; how a seed chooses; and what makes a run fail beside the job's property: one of further
+/// properties, and, if leaks are failures too, that processes still wait though the root returned.
 #[derive(Drop)]
 pub struct Hunt {
     pub job: Job,
-    /// The same job over modules of their own: one for each worker after the first, so that no two workers count the
-    /// holders of one module. Where there are fewer, the others share that of the first.
-    pub others: Vec<Job>,
+    /// The jobs of its workers, so that no two of them count the holders of one module. Where there are fewer, the
+    /// others share that of the first.
+    pub jobs: WorkerJobs,
     pub strategy: Strategy,
+    pub further: Vec<Property>,
     pub leaks: bool,
-    ghost alike: { All (λ j. j ≡ job) others.items },
+    ghost alike: { AreJobsOf job (map property_of further.items) jobs } by { Prim.hlevel (props, coded_property) },
 }
 
 impl Hunt {
-    ghost use Rattle.std.specs.Prelude.{◌≡◌};
+    ghost use Rattle.std.specs.Prelude.{◌≡◌, IfSome, map};
+    ghost use Rattle.pf_property.specs.Views.{property_of};
+    ghost use Rattle.pf_verdicts.specs.Watching.{Watches};
 
     /// The job of a worker, counted from 0.
     fn job_of(&self, worker: u64) -> &Job
         ensures { result.now ≡ self.now.job }
     {
         match usize::try_from(worker) {
-            Ok(number) if number > 0 => match self.others.get(number - 1) {
+            Ok(number) if number > 0 => match self.jobs.others.get(number - 1) {
                 Some(job) => job,
                 None => &self.job,
             },
             _ => &self.job,
+        }
+    }
+
+    /// The job of a worker by the property that is watched, if there is one.
+    fn watched_of(&self, worker: u64) -> Option<&WatchedJob>
+        ensures { IfSome result (λ w. Watches self.now.job (map property_of self.now.further.items) w.now) }
+    {
+        match usize::try_from(worker) {
+            Ok(number) if number < self.jobs.watched.len() => self.jobs.watched.get(number),
+            _ => self.jobs.watched.first(),
         }
     }
 }
@@ -60,18 +80,21 @@ pub fn run_by_seed(
     )
 }
 
-/// The outcome and the verdict of that report, and how many processes still wait though its root returned. No event is
-/// kept. The run is that of this worker, counted from 0.
+/// How the run by a seed is judged, and how many processes still wait though its root returned. It is made once, by
+/// this worker, counted from 0.
 pub(crate) fn judged_by_seed(
     alloc: Global,
     hunt: &Hunt,
     worker: u64,
     scratch: &mut Scratch,
     seed: u64,
-) -> Result<Judged, NoMemory>
-    ensures { IfOk result (λ v. JudgesBySeed hunt.now.strategy hunt.now.job.asked seed v) }
+) -> Result<JudgedSeed, NoMemory>
+    ensures { IfOk result (λ v.
+        JudgesBySeed hunt.now.strategy (map property_of hunt.now.further.items) hunt.now.job.asked seed v) }
 {
-    let job = hunt.job_of(worker);
     let strategy = hunt.strategy;
-    judged_run(alloc, job, Some(SeedChoice { seed, strategy }), scratch)
+    let by = SeedChoice { seed, strategy };
+    let watched = hunt.watched_of(worker);
+    let further = hunt.further.as_slice();
+    judged_by(alloc, hunt.job_of(worker), watched, by, further, scratch)
 }

@@ -34,7 +34,7 @@ pub fn tally_in(
     let mut tally = Tally::new(alloc);
     let mut leak = None;
     for seed in from..end {
-        let judged = judged_by_seed(alloc, hunt, worker, &mut scratch, seed)?;
+        let judged = judged_by_seed(alloc, hunt, worker, &mut scratch, seed)?.judged;
         leak = earlier(leak, leak_at(seed, judged.waiting));
         tally.add(OutcomeRow::met(seed, judged))?;
     }

@@ -1,5 +1,6 @@
 -- What is reported of hunts over several sources and roots: a line for each, and a summary.
-use Rattle.std.specs.Prelude.{ℕ, ◌==◌, nat_lt, Bool, true, false, if◌then◌else◌, List, [], ◌++◌, codes}
+use Rattle.std.specs.Prelude.{ℕ, ◌==◌, nat_lt, Bool, true, false, if◌then◌else◌}
+use Rattle.std.specs.Prelude.{List, [], ◌++◌, Option, None, Some, codes}
 use Rattle.std.specs.List.{count_by}
 use Rattle.std.specs.Fmt.{decimal}
 use Rattle.pf_errors.specs.Codes.{code_text}
@@ -16,7 +17,7 @@ abbrev pub is_few : (seeds : ℕ) → Bool
 is_few n = nat_lt n 100
 
 abbrev pub root_end_text : RootEnd → List ℕ
-root_end_text (Fails s) = codes "seed " ++ decimal s ++ codes " fails"
+root_end_text (Fails s cause) = codes "seed " ++ decimal s ++ codes " fails"
 root_end_text (NoFailure n) = codes "no failure in " ++ decimal n ++ codes " seeds"
 root_end_text (Stopped n) = (if is_few n then codes "cut short after " else codes "stopped after ") ++ decimal n
     ++ codes " seeds, no failure"
@@ -30,8 +31,13 @@ root_name file root = file ++ codes " " ++ atom_text root
 abbrev pub reported_line : (name reported : List ℕ) → List ℕ
 reported_line name reported = name ++ codes ": " ++ line reported
 
-abbrev pub root_line : (file root : List ℕ) → RootEnd → List ℕ
-root_line file root e = reported_line (root_name file root) (root_end_text e)
+-- the property that fails is named after a blank, if it is
+abbrev pub named_text : (property : Option (List ℕ)) → List ℕ
+named_text None = []
+named_text (Some property) = codes " " ++ property
+
+abbrev pub root_line : (file root : List ℕ) → RootEnd → (property : Option (List ℕ)) → List ℕ
+root_line file root e property = reported_line (root_name file root) (root_end_text e ++ named_text property)
 
 abbrev pub rootless_text : List ℕ
 rootless_text = codes "no root"
@@ -44,7 +50,7 @@ is_root Lost = false
 is_root (Root e) = true
 
 abbrev pub some_root_fails : SuiteCounts → Bool
-some_root_fails (Root (Fails s)) = true
+some_root_fails (Root (Fails s cause)) = true
 some_root_fails _ = false
 
 -- a root of which too few seeds were run before the time was over

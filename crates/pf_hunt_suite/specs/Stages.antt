@@ -3,7 +3,9 @@ use Rattle.std.specs.Prelude.{◌≡◌, ◌≤◌, ◌<◌, ℕ, Bool, true, �
 use Rattle.std.specs.Prelude.{None, Ok}
 use Rattle.pf_model.specs.Meaning.{Report}
 use Rattle.pf_sched.specs.Asked.{Asks}
+use Rattle.pf_verdicts.specs.Further.{AreProperties}
 use Rattle.pf_hunt.specs.Hunts.{FirstFailing}
+use Rattle.pf_hunt.specs.Views.{failures_of, further_of}
 use Rattle.pf_hunt.specs.Notices.{Notice, SearchNotices}
 use Rattle.pf_cli.specs.Args.{HuntArgs, view_of_hunt_args}
 use Rattle.pf_hunt_suite.specs.Ends.{IsLeastOfRoot, RootEnds, request_for}
@@ -26,10 +28,11 @@ pub record IsOpen (h : RootHunt) (o : OpenRoot) : Type 0 where
   pub hunted : o.hunted ≡ h
   pub asked : Asks h.«module».now (asked_of h).edition (request_for (asked_of h) h.root.now) (Ok o.hunt.job)
   pub strategy : o.hunt.strategy ≡ (asked_of h).strategy
+  pub properties : AreProperties h.«module».now.code.atoms (asked_of h).further (further_of o.hunt)
   pub leaks : o.hunt.leaks ≡ (asked_of h).leaks
   pub from : (asked_of h).seeds.0 ≤ o.next
   pub left : o.next < (asked_of h).seeds.1
-  pub none : IsLeastOfRoot (asked_of h) o.hunt.job o.next None
+  pub none : IsLeastOfRoot (asked_of h) (further_of o.hunt) o.hunt.job o.next None
 
 -- IsStageOf h s: the hunt of a root is so far, or it is over
 pub data IsStageOf (h : RootHunt) : RootStage → Type 0 where
@@ -43,7 +46,7 @@ Leads o s = (h : RootHunt) → IsOpen h o → IsStageOf h s
 -- it does if of the seeds from the next to before an end the least that fails is this one, or there is none
 abbrev pub LeadsBySeeds : OpenRoot → (end : ℕ) → Option (ℕ × Report) → RootStage → Type 0
 LeadsBySeeds o end x s =
-    (h : RootHunt) → IsOpen h o → FirstFailing o.hunt.leaks o.hunt.strategy o.hunt.job.asked o.next end x
+    (h : RootHunt) → IsOpen h o → FirstFailing (failures_of o.hunt) o.hunt.strategy o.hunt.job.asked o.next end x
     → o.next < end → end ≤ (asked_of h).seeds.1 → IsStageOf h s
 
 -- the hunt of a root ends so, if its time is over and it has had a seed
@@ -63,5 +66,5 @@ part_end o to = if nat_lt o.next to && nat_lt to o.hunted.args.now.end then to e
 -- of the seeds of an open root from the next to before an end some are hunted, and an observer receives these notices
 abbrev pub PartNotices : OpenRoot → (may_stop : Bool) → (end : ℕ) → List Notice → Type 0
 PartNotices o may_stop end ns =
-    (c : ℕ) × (x : Option (ℕ × Report)) × FirstFailing o.hunt.leaks o.hunt.strategy o.hunt.job.asked o.next c x
+    (c : ℕ) × (x : Option (ℕ × Report)) × FirstFailing (failures_of o.hunt) o.hunt.strategy o.hunt.job.asked o.next c x
     × SearchNotices o.hunt.strategy o.hunt.job.asked may_stop o.next end c x ns

@@ -1,13 +1,14 @@
 //! How a hunt of a root ended.
 
 use pf_errors::Code;
+use pf_verdicts::FailureCause;
 use std::fmt;
 
 /// How the hunt of a root ended. It prints as it appears in the root's line.
 #[derive(Clone, Copy, Debug, PartialEq, Eq)]
 pub enum RootEnd {
-    /// This is the least seed whose run fails.
-    Fails { seed: u64 },
+    /// This is the least seed whose run fails, and why it does.
+    Fails { seed: u64, cause: FailureCause },
     /// No run of so many seeds fails.
     NoFailure { seeds: u64 },
     /// Its time was over after so many seeds, and no run of these fails. If they are few, it was cut short.
@@ -24,7 +25,7 @@ impl fmt::Display for RootEnd {
 
     fn fmt<W: fmt::Write>(&self, f: &mut fmt::Formatter<W>) -> fmt::Result {
         match self {
-            RootEnd::Fails { seed } => write!(f, "seed {seed} fails"),
+            RootEnd::Fails { seed, .. } => write!(f, "seed {seed} fails"),
             RootEnd::NoFailure { seeds } => write!(f, "no failure in {seeds} seeds"),
             RootEnd::Stopped { seeds } if *seeds < 100 => {
                 write!(f, "cut short after {seeds} seeds, no failure")

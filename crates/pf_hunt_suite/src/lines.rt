@@ -1,8 +1,8 @@
 //! The lines of hunts over several sources and roots.
 
-ghost use Rattle.std.specs.Prelude.{◌≡◌, IfOk};
+ghost use Rattle.std.specs.Prelude.{◌≡◌, ◌++◌, IfOk, OnOk, option_map};
 ghost use Rattle.pf_errors.specs.Codes.{refusal_text};
-ghost use Rattle.pf_hunt_suite.specs.Lines.{root_line, root_name, rootless_text, reported_line};
+ghost use Rattle.pf_hunt_suite.specs.Lines.{named_text, root_line, root_name, rootless_text, reported_line};
 
 use crate::end::RootEnd;
 use pf_errors::{NoMemory, SourceRefusal};
@@ -38,17 +38,34 @@ fn file_line(alloc: Global, file: &str, reported: &str) -> Result<Vec<u8>, NoMem
     reported_line(Vec::from_slice(alloc, file.as_bytes())?, reported)
 }
 
-/// The line of a root that was hunted.
+/// Puts the property that fails, if it is named.
+fn put_named(line: &mut Vec<u8>, property: Option<&[u8]>) -> Result<(), NoMemory>
+    ensures { OnOk result (line.new.items ≡ line.old.items ++ named_text (option_map (λ s. s.now) property.entry)) }
+{
+    let Some(property) = property else {
+        return Ok(());
+    };
+    put_byte(line, b' ')?;
+    put(line, property)
+}
+
+/// The line of a root that was hunted, with the property that fails where it is named.
 pub fn line_of_root(
     alloc: Global,
     file: &str,
     root: &[u8],
     end: RootEnd,
+    property: Option<&[u8]>,
 ) -> Result<Vec<u8>, NoMemory>
-    ensures { IfOk result (λ v. v.items ≡ root_line file.now root.now end) }
+    ensures { IfOk result (λ v. v.items ≡ root_line file.now root.now end (option_map (λ s. s.now) property.entry)) }
 {
     let reported = format!(in alloc; "{end}")?;
-    reported_line(root_name(alloc, file, root)?, &reported)
+    let mut line = root_name(alloc, file, root)?;
+    put(&mut line, b": ")?;
+    put(&mut line, reported.as_bytes())?;
+    put_named(&mut line, property)?;
+    put_byte(&mut line, b'\n')?;
+    Ok(line)
 }
 
 /// The line of a source that is refused.

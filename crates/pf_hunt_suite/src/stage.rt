@@ -1,7 +1,10 @@
 //! The hunt of one root of a module, part by part.
 
-ghost use Rattle.std.specs.Prelude.{◌≡◌, ◌≤◌, ◌<◌, ◌-◌, ◌*◌, max, IfOk, IfSome, Ok, OnErr, option_map};
+ghost use Rattle.std.specs.Prelude.{◌≡◌, ◌≤◌, ◌<◌, ◌-◌, ◌*◌, max, IfOk, IfSome, Ok, OnErr, map};
+ghost use Rattle.std.specs.Prelude.{option_map};
+ghost use Rattle.pf_property.specs.Views.{property_of};
 ghost use Rattle.pf_sched.specs.Asked.{Asks};
+ghost use Rattle.pf_verdicts.specs.Watching.{AreJobsOf};
 ghost use Rattle.pf_hunt.specs.Hunts.{SearchedTo};
 ghost use Rattle.pf_hunt.specs.Notices.{CutNotices, HearsSome, has_none};
 ghost use Rattle.pf_hunt.specs.Views.{failure_of};
@@ -13,8 +16,10 @@ ghost use Rattle.pf_hunt_suite.specs.Stages.{part_end};
 use crate::end::RootEnd;
 use crate::hunt::{RootHunt, job_for, request_for};
 use pf_errors::{NoMemory, OrNoMemory};
-use pf_hunt::{Hunt, HuntObserver, HuntRange, Searched, first_failing, other_jobs};
+use pf_hunt::{Hunt, HuntObserver, HuntRange, Searched, first_failing};
+use pf_property::Property;
 use pf_sched::Job;
+use pf_verdicts::{HuntAsked, WorkerJobs, cause_of, further_properties, worker_jobs};
 use std::alloc::Global;
 use std::thread::Threads;
 
@@ -35,23 +40,47 @@ pub enum RootStage<'a> {
     Over(RootEnd),
 }
 
+/// By which jobs the workers of a root run its seeds: those that have any.
+fn jobs_of(
+    alloc: Global,
+    hunted: &RootHunt,
+    job: &Job,
+    further: &[Property],
+) -> Result<WorkerJobs, NoMemory>
+    ensures { IfOk result (AreJobsOf job.now (map property_of further.now)) }
+{
+    let args = hunted.args;
+    let request = request_for(alloc, args, hunted.root)?;
+    let asked = HuntAsked {
+        module: hunted.module,
+        request: &request,
+        further: args.further.as_slice(),
+        workers: hunted.workers.min(args.end.saturating_sub(args.first)),
+    };
+    worker_jobs(alloc, job, further, &asked)
+}
+
 /// A root whose job is this one, before any of its seeds is hunted.
 fn open_job<'a>(alloc: Global, hunted: RootHunt<'a>, job: Job) -> Result<RootStage<'a>, NoMemory>
     requires { Asks hunted.«module».now (view_of_hunt_args hunted.args.now).edition
         (request_for (view_of_hunt_args hunted.args.now) hunted.root.now) (Ok job) }
     ensures { IfOk result (IsStageOf hunted.entry) }
 {
-    let RootHunt { args, workers, .. } = hunted;
+    let args = hunted.args;
+    let further = match further_properties(alloc, hunted.module, args.further.as_slice()) {
+        Ok(further) => further,
+        Err(OrNoMemory::Fault(code)) => return Ok(RootStage::Over(RootEnd::Refused(code))),
+        Err(OrNoMemory::NoMemory) => return Err(NoMemory),
+    };
     if args.end <= args.first {
         return Ok(RootStage::Over(RootEnd::NoFailure { seeds: 0 }));
     }
-    let request = request_for(alloc, args, hunted.root)?;
-    let most = workers.min(args.end.saturating_sub(args.first));
-    let others = other_jobs(alloc, &job, hunted.module, &request, most)?;
+    let jobs = jobs_of(alloc, &hunted, &job, further.as_slice())?;
     let hunt = Hunt {
         job,
-        others,
+        jobs,
         strategy: args.strategy,
+        further,
         leaks: args.leaks,
     };
     let next = args.first;
@@ -94,7 +123,10 @@ impl<'a> OpenRoot<'a> {
         let OpenRoot { hunted, hunt, .. } = self;
         let (next, args) = (searched.end, hunted.args);
         match &searched.failure {
-            Some(failure) => RootStage::Over(RootEnd::Fails { seed: failure.seed }),
+            Some(failure) => RootStage::Over(RootEnd::Fails {
+                seed: failure.seed,
+                cause: cause_of(&failure.report, hunt.further.as_slice()),
+            }),
             None if next < args.end => RootStage::Open(OpenRoot { hunted, hunt, next }),
             None => RootStage::Over(RootEnd::NoFailure {
                 seeds: args.end.saturating_sub(args.first),

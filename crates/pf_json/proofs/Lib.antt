@@ -3,3 +3,4 @@ pub mod Ends
 pub mod Pieces
 pub mod Starts
 pub mod Tokens
+pub mod Below

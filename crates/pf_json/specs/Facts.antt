@@ -1,7 +1,8 @@
 -- The facts that a line of text reports, and the parts of the shapes that lines have.
 use Rattle.std.specs.Prelude.{ℕ, ◌+◌, ◌^◌, ◌==◌, nat_eq, nat_lt, nat_le, Bool, true, false, not, ◌&&◌, if◌then◌else◌}
 use Rattle.std.specs.Prelude.{List, [], ◌∷◌, length, take, drop, Option, Some, None, option_map, option_and_then}
-use Rattle.std.specs.Prelude.{unwrap_or}
+use Rattle.std.specs.Prelude.{unwrap_or, ◌||◌, codes}
+use Rattle.std.specs.Str.{bytes_eq}
 use Rattle.std.specs.List.{prefix_len, starts_with}
 use Rattle.pf_tokens.specs.Bytes.{is_digit}
 use Rattle.pf_text.specs.Numbers.{is_numeral, long_number_of}
@@ -56,6 +57,8 @@ pub data ShapePart : Type 0 where
   code : (key : List ℕ) → ShapePart
   -- all the rest, as a text
   rest : (key : List ℕ) → ShapePart
+  -- all the rest, as a text, which is the name of a property or begins as a pattern that is never sent
+  property : (key : List ℕ) → ShapePart
   -- all the rest, by the rule of words: a word alone, or one before the others
   says : ShapePart
   -- nothing, and yet this is reported
@@ -86,6 +89,12 @@ word_fact key t n = reported_if (nat_lt 0 n) (text (take n t)) key t n
 abbrev pub coded : (key t : List ℕ) → (n : ℕ) → Option (List ℕ × Option Fact)
 coded key t n = reported_if (is_code (take n t)) (text (take n t)) key t n
 
+abbrev pub is_property : List ℕ → Bool
+is_property t =
+    bytes_eq t (codes "returns") || (bytes_eq t (codes "true") || (bytes_eq t (codes "nocrash")
+    || (bytes_eq t (codes "nodeadlock") || (bytes_eq t (codes "withinlimit")
+    || starts_with nat_eq t (codes "never:")))))
+
 -- what follows a part at the front of a text, and what the part reports; nothing if it isn't there
 abbrev pub part_step : ShapePart → List ℕ → Option (List ℕ × Option Fact)
 part_step (words w) t = option_map (λ following. (following, None)) (after_words w t)
@@ -94,6 +103,7 @@ part_step (count key) t = counted_fact key t (prefix_len is_digit t)
 part_step (word key) t = word_fact key t (prefix_len is_no_blank t)
 part_step (code key) t = coded key t (1 + prefix_len is_digit (drop 1 t))
 part_step (rest key) t = Some ([], Some (fact key (text t)))
+part_step (property key) t = if is_property t then Some ([], Some (fact key (text t))) else None
 part_step says t = Some ([], Some (said t))
 part_step (reports f) t = Some (t, Some f)
 

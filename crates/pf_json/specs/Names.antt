@@ -1,8 +1,9 @@
 -- The lines of a hunt over several files or roots: a name, and after `: ` what is reported of it.
-use Rattle.std.specs.Prelude.{ℕ, suc, ◌+◌, ◌-◌, ◌==◌, nat_eq, Bool, ◌&&◌, nat_lt, get_or, if◌then◌else◌, List, [], ◌∷◌}
+use Rattle.std.specs.Prelude.{ℕ, zero, suc, ◌+◌, ◌-◌, ◌==◌, nat_eq, Bool, ◌&&◌, nat_lt, get_or, if◌then◌else◌}
+use Rattle.std.specs.Prelude.{List, [], ◌∷◌}
 use Rattle.std.specs.Prelude.{◌++◌, length, take, drop, codes, Option, Some, None, option_map, option_and_then}
 use Rattle.std.specs.List.{starts_with}
-use Rattle.pf_json.specs.Facts.{Fact, fact, text, facts_by_first, or_else}
+use Rattle.pf_json.specs.Facts.{Fact, after_words, fact, text, facts_by_first, or_else}
 use Rattle.pf_json.specs.Shapes.{file_shapes, root_shapes}
 
 abbrev pub start_here : (w t : List ℕ) → Option ℕ
@@ -41,9 +42,15 @@ root_facts name reported =
     or_else (both_facts (of_root name) (facts_by_first root_shapes reported))
     (both_facts (Some (of_file name ∷ [])) (facts_by_first file_shapes reported))
 
+-- what is reported where a name of n bytes is first, and then `: `
 abbrev pub named_at : (line : List ℕ) → (n : ℕ) → Option (List Fact)
-named_at line n = root_facts (take n line) (drop (n + 2) line)
+named_at line n = option_and_then (root_facts (take n line)) (after_words (codes ": ") (drop n line))
+
+-- what is reported after the longest name, of less than n bytes, after which something is
+abbrev pub named_below : (line : List ℕ) → (n : ℕ) → Option (List Fact)
+named_below line zero = None
+named_below line (suc n) = or_else (named_at line n) (named_below line n)
 
 -- `a.erl main: seed 0 fails`, `a.erl: E4 at 0`
 abbrev pub named_root : (line : List ℕ) → Option (List Fact)
-named_root line = option_and_then (named_at line) (last_start (codes ": ") line)
+named_root line = named_below line (length line)

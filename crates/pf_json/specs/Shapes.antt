@@ -1,7 +1,7 @@
 -- The shapes of lines that report several facts, or one in words of their own.
 use Rattle.std.specs.Prelude.{ℕ, true, false, List, [], ◌∷◌, codes}
 use Rattle.pf_json.specs.Facts.{ShapePart, fact, number, text, truth, words, maybe, count, word, code, rest, says}
-use Rattle.pf_json.specs.Facts.{reports}
+use Rattle.pf_json.specs.Facts.{property, reports}
 
 -- ---- lines of a report
 
@@ -134,6 +134,11 @@ abbrev pub seed_fails : List ShapePart
 seed_fails = reports (fact (codes "failure") (truth true)) ∷ words (codes "seed ") ∷ count (codes "seed")
     ∷ words (codes " fails") ∷ []
 
+-- `seed 0 fails nocrash`
+abbrev pub seed_fails_by : List ShapePart
+seed_fails_by = reports (fact (codes "failure") (truth true)) ∷ words (codes "seed ") ∷ count (codes "seed")
+    ∷ words (codes " fails ") ∷ property (codes "property") ∷ []
+
 -- `stopped after 512 seeds, no failure`
 abbrev pub stopped_well : List ShapePart
 stopped_well =
@@ -155,7 +160,7 @@ rootless = words (codes "no root") ∷ reports (fact (codes "roots") (number 0))
 
 -- what is reported of a root
 abbrev pub root_shapes : List (List ShapePart)
-root_shapes = seed_fails ∷ no_failure ∷ stopped_well ∷ cut_short ∷ refusal ∷ []
+root_shapes = seed_fails ∷ seed_fails_by ∷ no_failure ∷ stopped_well ∷ cut_short ∷ refusal ∷ []
 
 -- what is reported of a file
 abbrev pub file_shapes : List (List ShapePart)

@@ -7,7 +7,8 @@ use Rattle.pf_json.specs.declared.facts.Value.TheVariants.{Number, Text, Truth}
 use Rattle.pf_json.specs.declared.facts.Fact.{Fact}
 use Rattle.pf_json.specs.declared.parts.TakenPart.{TakenPart}
 use Rattle.pf_json.specs.declared.parts.ShapePart.{ShapePart}
-use Rattle.pf_json.specs.declared.parts.ShapePart.TheVariants.{Words, Maybe, Count, Word, Code, Rest, Says, Reports}
+use Rattle.pf_json.specs.declared.parts.ShapePart.TheVariants.{Words, Maybe, Count, Word, Code}
+use Rattle.pf_json.specs.declared.parts.ShapePart.TheVariants.{Rest, Property, Says, Reports}
 
 abbrev pub view_of_value : Value → facts.Value
 view_of_value (Number n) = number n
@@ -27,6 +28,7 @@ view_of_part (Count key) = facts.count key.now
 view_of_part (Word key) = facts.word key.now
 view_of_part (Code key) = facts.code key.now
 view_of_part (Rest key) = facts.rest key.now
+view_of_part (Property key) = facts.property key.now
 view_of_part Says = facts.says
 view_of_part (Reports f) = facts.reports (view_of_fact f)
 

@@ -2,13 +2,13 @@
 
 ghost use Rattle.std.specs.Prelude.{◌≡◌, ◌<◌, ◌≤◌, ◌+◌, ◌∷◌, ◌++◌, [], IfOk, IfSome, Some, length, option_map};
 ghost use Rattle.pf_json.specs.Facts.{facts_by_first};
-ghost use Rattle.pf_json.specs.Names.{blank_before, both_facts, is_quoted, last_start, named_root, of_file, of_root};
-ghost use Rattle.pf_json.specs.Names.{root_facts};
+ghost use Rattle.pf_json.specs.Names.{blank_before, both_facts, is_quoted, last_start, of_file, of_root};
+ghost use Rattle.pf_json.specs.Names.{named_at, named_root, root_facts};
 ghost use Rattle.pf_json.specs.Shapes.{file_shapes, root_shapes};
 ghost use Rattle.pf_json.specs.Views.{view_of_fact, views_of};
 
 use crate::facts::{Fact, Value};
-use crate::parts::facts_by_first;
+use crate::parts::{after, facts_by_first};
 use crate::shapes::{FILE_SHAPES, ROOT_SHAPES};
 use std::alloc::{AllocError, Global};
 
@@ -130,12 +130,32 @@ fn reported_of<'a>(
     }
 }
 
+/// What a line reports of a name of this length.
+fn named_at<'a>(
+    alloc: Global,
+    line: &'a [u8],
+    end: usize,
+) -> Result<Option<Vec<Fact<'a>>>, AllocError>
+    requires { end ≤ length line.now }
+    ensures { IfOk result (λ fs. option_map (λ v. views_of v.items) fs ≡ named_at line.entry.now end) }
+{
+    let (name, rest) = line.split_at(end);
+    match after(b": ", rest) {
+        Some(reported) => reported_of(alloc, name, reported),
+        None => Ok(None),
+    }
+}
+
 /// What a line reports of the name that it begins with.
 pub(crate) fn named(alloc: Global, line: &[u8]) -> Result<Option<Vec<Fact<'_>>>, AllocError>
     ensures { IfOk result (λ fs. option_map (λ v. views_of v.items) fs ≡ named_root line.now) }
 {
-    let Some(end) = last_start(b": ", line) else {
-        return Ok(None);
-    };
-    reported_of(alloc, &line[..end], &line[end + 2..])
+    let mut end = line.len();
+    while end > 0 {
+        end -= 1;
+        if let Some(facts) = named_at(alloc, line, end)? {
+            return Ok(Some(facts));
+        }
+    }
+    Ok(None)
 }

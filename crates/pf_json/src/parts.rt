@@ -4,7 +4,7 @@ ghost use Rattle.std.specs.Prelude.{◌≡◌, ◌≤◌, ◌+◌, IfOk, Some, d
 ghost use Rattle.std.specs.List.{prefix_len};
 ghost use Rattle.pf_tokens.specs.Bytes.{is_digit};
 ghost use Rattle.pf_json.specs.Facts.{after_words, coded, counted_fact, fact, facts_by, facts_by_first, is_code};
-ghost use Rattle.pf_json.specs.Facts.{is_no_blank, part_step, word_fact};
+ghost use Rattle.pf_json.specs.Facts.{is_no_blank, is_property, part_step, property, word_fact};
 ghost use Rattle.pf_json.specs.Views.{view_of_part, view_of_taken, view_of_value, views_of};
 
 use crate::facts::{Fact, Value, before_blank, said, value_of};
@@ -27,6 +27,8 @@ pub(crate) enum ShapePart<'a> {
     Code(&'a [u8]),
     /// All the rest, as a text.
     Rest(&'a [u8]),
+    /// The same, which is the name of a property or begins as a pattern that is never sent.
+    Property(&'a [u8]),
     /// All the rest, by the rule of words: a word alone, or one before the others.
     Says,
     /// Nothing, and yet this is reported.
@@ -118,6 +120,29 @@ fn coded<'a>(key: &'a [u8], text: &'a [u8]) -> Option<TakenPart<'a>>
     }
 }
 
+/// Whether a text is the name of a property, or begins as a pattern that is never sent.
+fn is_property(text: &[u8]) -> bool
+    ensures { result ≡ is_property text.now }
+{
+    text == b"returns".as_slice()
+        || text == b"true".as_slice()
+        || text == b"nocrash".as_slice()
+        || text == b"nodeadlock".as_slice()
+        || text == b"withinlimit".as_slice()
+        || text.starts_with(b"never:")
+}
+
+/// A text, if it may be that of a property.
+fn judged<'a>(key: &'a [u8], text: &'a [u8]) -> Option<TakenPart<'a>>
+    ensures { option_map view_of_taken result ≡ part_step (property key.entry.now) text.entry.now }
+{
+    if is_property(text) {
+        reported(key, Value::Text(text), b"")
+    } else {
+        None
+    }
+}
+
 /// What follows a part at the front of a text, and what the part reports.
 fn step<'a>(part: ShapePart<'a>, text: &'a [u8]) -> Option<TakenPart<'a>>
     ensures { option_map view_of_taken result ≡ part_step (view_of_part part.entry) text.entry.now }
@@ -135,6 +160,7 @@ fn step<'a>(part: ShapePart<'a>, text: &'a [u8]) -> Option<TakenPart<'a>>
         ShapePart::Word(key) => worded(key, text),
         ShapePart::Code(key) => coded(key, text),
         ShapePart::Rest(key) => reported(key, Value::Text(text), b""),
+        ShapePart::Property(key) => judged(key, text),
         ShapePart::Says => {
             let fact = Some(said(text));
             Some(TakenPart { rest: b"", fact })

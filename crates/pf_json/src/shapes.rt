@@ -261,6 +261,18 @@ const SEED_FAILS: [ShapePart<'static>; 4] = [
     ShapePart::Words(b" fails"),
 ];
 
+/// `seed 0 fails nocrash`
+const SEED_FAILS_BY: [ShapePart<'static>; 5] = [
+    ShapePart::Reports(Fact {
+        key: b"failure",
+        value: Value::Truth(true),
+    }),
+    ShapePart::Words(b"seed "),
+    ShapePart::Count(b"seed"),
+    ShapePart::Words(b" fails "),
+    ShapePart::Property(b"property"),
+];
+
 /// `stopped after 512 seeds, no failure`
 const STOPPED_WELL: [ShapePart<'static>; 5] = [
     ShapePart::Reports(Fact {
@@ -305,8 +317,9 @@ const ROOTLESS: [ShapePart<'static>; 2] = [
 ];
 
 /// The shapes of what is reported of a root.
-pub(crate) const ROOT_SHAPES: [&[ShapePart<'static>]; 5] = [
+pub(crate) const ROOT_SHAPES: [&[ShapePart<'static>]; 6] = [
     &SEED_FAILS,
+    &SEED_FAILS_BY,
     &NO_FAILURE,
     &STOPPED_WELL,
     &CUT_SHORT,

@@ -7,3 +7,4 @@ pub mod Executed
 pub mod Judged
 pub mod Begun
 pub mod Reached
+pub mod Ongoing

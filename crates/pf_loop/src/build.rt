@@ -2,6 +2,7 @@
 
 ghost use Rattle.std.specs.Prelude.{◌≡◌, Err, IfOk, MatchBool};
 ghost use Rattle.std.specs.List.{All};
+ghost use Rattle.pf_terms.specs.Value as value;
 ghost use Rattle.pf_terms.specs.Value.{atom, list, tuple as tuple_of, Value};
 ghost use Rattle.pf_terms.specs.Fixed.{badarg};
 ghost use Rattle.pf_ops.specs.Operations as spec;
@@ -49,6 +50,20 @@ pub(crate) fn is_list(heap: &Heap, word: Word) -> bool
             false
         }
         Word::Int(_) | Word::Atom(_) | Word::Ref(_) | Word::Pid(_) => false,
+    }
+}
+
+/// Whether two values are the same. Integers and atoms are compared in place.
+#[inline(always)]
+pub(crate) fn same(heap: &Heap, first: Word, second: Word) -> bool
+    requires first { IsWordOf heap.now first }
+    requires second { IsWordOf heap.now second }
+    ensures { result ≡ value.same (word_value heap.now first) (word_value heap.now second) }
+{
+    match (first, second) {
+        (Word::Int(x), Word::Int(y)) => x == y,
+        (Word::Atom(x), Word::Atom(y)) => x == y,
+        _ => heap.equal(first, second),
     }
 }
 

@@ -7,6 +7,7 @@ mod flow;
 mod laws;
 mod machine;
 mod operations;
+mod quick;
 mod setting;
 mod stack;
 

@@ -113,6 +113,22 @@ pub(crate) fn give_up<N: FarmNames, R: Wait>(
     }
 }
 
+/// Waits for the trial of a ticket, which is so far then, while the farm goes on.
+pub(crate) fn wait_for<N: FarmNames, R: Wait>(
+    rt: &R,
+    floor: &Floor<N>,
+    seat: &mut ClientSeat<N>,
+    ticket: u64,
+    stage: Option<TrialStage>,
+) -> Result<(), Missed> {
+    let look = floor.wait_done(rt, seat, ticket);
+    if look.ticket == ticket && look.stage == stage && !look.stops {
+        Ok(())
+    } else {
+        Err(Missed::that("a wait ends with something else"))
+    }
+}
+
 /// Waits until the trial of a ticket is done, but not for ever.
 pub(crate) fn await_done<N: FarmNames, R: Wait>(
     alloc: Global,

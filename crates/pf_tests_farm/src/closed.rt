@@ -2,11 +2,12 @@
 
 ghost use Rattle.pf_sched.specs.Slices.{SimulatesSlice};
 
-use crate::calls::{ENDLESS, SENDERS, fetch, give_up, order, submit};
+use crate::calls::{ENDLESS, SENDERS, fetch, give_up, order, submit, wait_for};
 use crate::missed::Missed;
 use crate::scene::{Scene, play};
 use crate::waiting::GateMark;
 use pf_book::{CallRefusal, Reply};
+use pf_desks::TrialStage;
 use pf_farm::{ClientSeat, Closing, DueSlice, Floor, Gate};
 use pf_farm_accounts::{ClaimEnd, FarmNames};
 use pf_quota::LimitRefusal as Limit;
@@ -110,7 +111,7 @@ impl Plays {
             order(alloc, rt, floor, seat, 1, seed, 2_000)?;
         }
         for ticket in 1..51u64 {
-            floor.wait_done(rt, seat, ticket);
+            wait_for(rt, floor, seat, ticket, Some(TrialStage::Done))?;
             fetch(alloc, rt, floor, seat, ticket)?;
         }
         Ok(())
@@ -149,18 +150,21 @@ impl Scene for Plays {
                 self.slices.wait_for("the trial doesn't begin")?;
                 give_up(alloc, rt, floor, seat, ticket)?;
                 self.dropped.set();
-                floor.wait_done(rt, seat, ticket);
-                Ok(())
+                wait_for(rt, floor, seat, ticket, None)
             }
             Play::Stop => {
                 submit(alloc, rt, floor, seat, ENDLESS)?;
                 for seed in 0..20u64 {
                     order(alloc, rt, floor, seat, 1, seed, 100_000)?;
                 }
-                if self.slices.wait(30) {
+                if !self.slices.wait(30) {
+                    return Err(Missed::that("the trials don't begin"));
+                }
+                floor.stop(rt);
+                if floor.wait_done(rt, seat, 1).stops {
                     Ok(())
                 } else {
-                    Err(Missed::that("the trials don't begin"))
+                    Err(Missed::that("a wait doesn't see that the farm stops"))
                 }
             }
             Play::Full => self.calls(alloc, rt, floor, seat),
@@ -223,6 +227,7 @@ fn runs_that_are_parked_at_the_stop_are_handed_back(rt: HostRuntime) -> Result<(
     let handed_back = ended_as(&closing, ClaimEnd::HandedBack);
     // Some trials may not have been claimed yet, and one that was handed back may be claimed again by a worker that
     // hasn't seen the end.
+    assert!(rt; closing.stopped, "the farm was stopped");
     assert!(rt;
         handed_back > 0 && closing.rows.len() == filed.saturating_add(handed_back),
         "each claim has ended"

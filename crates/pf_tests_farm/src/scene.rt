@@ -8,7 +8,8 @@ use crate::missed::Missed;
 use crate::waiting::GateMark;
 use pf_errors::OrNoMemory;
 use pf_farm::{
-    Blanks, ClientSeat, Closing, Farm, Floor, Gate, MOST_SEATS, NoSeat, WorkSeat, work_all,
+    Blanks, ClientSeat, Closing, Farm, Floor, Gate, MOST_SEATS, NoSeat, OpenFarm, WorkSeat,
+    work_all,
 };
 use pf_farm_accounts::{FarmNames, NewRegister};
 use std::alloc::Global;
@@ -35,6 +36,7 @@ pub(crate) trait Scene: Gate + Sync {
 pub(crate) fn seated<N: FarmNames>(
     alloc: Global,
     farm: &mut Farm<N>,
+    floor: &mut Floor<N>,
     projects: &[u32],
 ) -> Result<Vec<ClientSeat<N>>, Missed>
     requires none { farm.old.given ≡ 0 }
@@ -44,7 +46,7 @@ pub(crate) fn seated<N: FarmNames>(
 {
     let mut seats = Vec::new(alloc);
     'projects: for project in projects {
-        match farm.seat(alloc, *project) {
+        match farm.seat(floor, alloc, *project) {
             Ok(seat) => seats.push(seat)?,
             Err(OrNoMemory::Fault(NoSeat)) => return Err(Missed::that("no seat is left")),
             Err(OrNoMemory::NoMemory) => return Err(Missed::that("memory ran out")),
@@ -152,16 +154,20 @@ fn play_by<N: FarmNames + Send + Sync, R: Threads + Wait + Sync, S: Scene>(
     requires calls { (blanks.calls.name ≡ N.calls) × (blanks.calls.parts ≡ N.seats) }
     requires claims { N.claims ≡ Some blanks.claims }
     requires receipts { N.receipts ≡ Some blanks.receipts }
+    requires looks { N.looks ≡ Some blanks.looks }
     requires workers { (0 < workers) × (workers < N.workers) }
     requires seats { MOST_SEATS < N.seats }
     requires few { (0 < length projects.now) × (length projects.now ≤ MOST_SEATS) }
 {
-    let (mut farm, mut seats) = Farm::<N>::open(alloc, keys, blanks, workers)?;
-    let mut clients = seated(alloc, &mut farm, projects)?;
+    let OpenFarm {
+        mut farm,
+        mut floor,
+        mut seats,
+    } = Farm::<N>::open(alloc, keys, blanks, workers)?;
+    let mut clients = seated(alloc, &mut farm, &mut floor, projects)?;
     let failed = GateMark::new();
-    let floor = farm.floor();
-    all_play(alloc, rt, floor, scene, &failed, &mut clients, &mut seats);
-    let closing = farm.close(clients, seats);
+    all_play(alloc, rt, &floor, scene, &failed, &mut clients, &mut seats);
+    let closing = farm.close(floor, clients, seats);
     if failed.count() > 0 {
         return Err(Missed::that("a client failed"));
     }
@@ -178,6 +184,7 @@ pub(crate) fn blanks(alloc: Global) -> Result<Blanks, Fail>
         calls: Blank::new(4_097),
         claims: NewRegister::new(alloc)?,
         receipts: NewRegister::new(alloc)?,
+        looks: NewRegister::new(alloc)?,
     })
 }
 

@@ -5,7 +5,7 @@ ghost use Rattle.std.specs.Prelude.{◌≡◌, ◌<◌, Some};
 use crate::missed::Missed;
 use crate::scene::{blanks, seated};
 use pf_errors::OrNoMemory;
-use pf_farm::{Blanks, Farm, MOST_SEATS, NoSeat};
+use pf_farm::{Blanks, Farm, MOST_SEATS, NoSeat, OpenFarm};
 use pf_farm_accounts::FarmNames;
 use std::alloc::Global;
 use std::hash::RandomState;
@@ -23,12 +23,17 @@ fn refuses_one_more<N: FarmNames>(
     requires calls { (blanks.calls.name ≡ N.calls) × (blanks.calls.parts ≡ N.seats) }
     requires claims { N.claims ≡ Some blanks.claims }
     requires receipts { N.receipts ≡ Some blanks.receipts }
+    requires looks { N.looks ≡ Some blanks.looks }
     requires workers { 1 < N.workers }
     requires seats { MOST_SEATS < N.seats }
 {
-    let (mut farm, _works) = Farm::<N>::open(alloc, keys, blanks, 1)?;
-    let _seats = seated(alloc, &mut farm, &[7; 4_096])?;
-    match farm.seat(alloc, 7) {
+    let OpenFarm {
+        mut farm,
+        mut floor,
+        seats: _,
+    } = Farm::<N>::open(alloc, keys, blanks, 1)?;
+    let _seats = seated(alloc, &mut farm, &mut floor, &[7; 4_096])?;
+    match farm.seat(&mut floor, alloc, 7) {
         Err(OrNoMemory::Fault(NoSeat)) => Ok(true),
         Err(OrNoMemory::NoMemory) => Err(Missed::that("memory ran out")),
         Ok(_) => Ok(false),

@@ -2,10 +2,11 @@
 
 ghost use Rattle.pf_sched.specs.Slices.{SimulatesSlice};
 
-use crate::calls::{SPAWNING, SUM, fetch, order, submit};
+use crate::calls::{SPAWNING, SUM, fetch, order, submit, wait_for};
 use crate::missed::Missed;
 use crate::scene::{Scene, play};
 use crate::waiting::GateMark;
+use pf_desks::TrialStage;
 use pf_farm::{ClientSeat, DueSlice, Floor, Gate};
 use pf_farm_accounts::FarmNames;
 use pf_sched::{Scratch, Slice, run_slice};
@@ -69,7 +70,7 @@ impl OneIsStolen {
     ) -> Result<(), Missed> {
         submit(alloc, rt, floor, seat, SPAWNING)?;
         let ticket = order(alloc, rt, floor, seat, 1, 1, 2_000)?;
-        floor.wait_done(rt, seat, ticket);
+        wait_for(rt, floor, seat, ticket, Some(TrialStage::Done))?;
         fetch(alloc, rt, floor, seat, ticket)?;
         self.first_fetched.set();
         Ok(())
@@ -98,7 +99,7 @@ impl Scene for OneIsStolen {
         if project == 2 {
             self.second_ordered.set();
         }
-        floor.wait_done(rt, seat, ticket);
+        wait_for(rt, floor, seat, ticket, Some(TrialStage::Done))?;
         fetch(alloc, rt, floor, seat, ticket)?;
         Ok(())
     }

@@ -1,10 +1,11 @@
 //! Hunts by workers in threads, over modules of their own, and what their observer is notified of.
 
 use pf_check::{ReadModule, Source};
-use pf_hunt::{Hunt, HuntObserver, HuntRange, Leak, Pace, first_failing, other_jobs, tally_all};
+use pf_hunt::{Hunt, HuntObserver, HuntRange, Leak, Pace, first_failing, tally_all};
 use pf_request::{Request, RequestKind, RunChoices, ShortBytes};
 use pf_sched::Job;
 use pf_strategy::{Sampling, Strategy};
+use pf_verdicts::{FailureCause, HuntAsked, cause_of, further_properties, worker_jobs};
 use std::alloc::Global;
 use std::test::Fail;
 use std::thread::Threads;
@@ -18,7 +19,7 @@ read(C) -> C ! {read, self()}, receive {value, N} -> N end.\n\
 counter(N) -> receive {read, P} -> P ! {value, N}, counter(N);\n\
 {write, M, P} -> P ! written, counter(M) end.\n";
 
-/// Of five processes two wait for ever: the root returned, one ended, and one is killed.
+/// Of five processes two wait for ever: the root returned, one ended, and one is killed, which is a crash.
 const TWO_WAIT: &str = "-module(m).\n-export([main/0, waits/0, ends/0]).\n\
 main() -> spawn(m, waits, []), spawn_monitor(m, waits, []), spawn(m, ends, []), P = spawn(m, waits, []), exit(P, kill), ok.\n\
 waits() -> receive never -> ok end.\n\
@@ -46,33 +47,43 @@ fn hunt_in(
     alloc: Global,
     module: &ReadModule,
     request: &Request,
+    further: &[&str],
     sampling: Sampling,
     leaks: bool,
 ) -> Result<Hunt, Fail> {
     let job = Job::new(alloc, module.share()?, request, 1)?;
-    let others = other_jobs(alloc, &job, module, request, 3)?;
+    let asked = HuntAsked {
+        module,
+        request,
+        further,
+        workers: 3,
+    };
+    let further = further_properties(alloc, module, further)?;
+    let jobs = worker_jobs(alloc, &job, &further, &asked)?;
     Ok(Hunt {
         job,
-        others,
+        jobs,
         strategy: Strategy {
             sampling,
             last: None,
         },
+        further,
         leaks,
     })
 }
 
-/// The hunt of a source.
+/// The hunt of a source by the first of these properties and by those after it.
 fn hunt_of(
     alloc: Global,
     source: &str,
-    property: &str,
+    properties: (&str, &[&str]),
     sampling: Sampling,
     leaks: bool,
 ) -> Result<Hunt, Fail> {
-    let request = request_of(alloc, property)?;
+    let (first, further) = properties;
+    let request = request_of(alloc, first)?;
     let module = module_of(alloc, source)?;
-    hunt_in(alloc, &module, &request, sampling, leaks)
+    hunt_in(alloc, &module, &request, further, sampling, leaks)
 }
 
 /// How many seeds a hunt reported at last; the leak that it reported, by its seed and its processes, and how often. It
@@ -111,39 +122,133 @@ const FORTY: HuntRange = HuntRange {
     workers: 3,
 };
 
-/// The seed that fails of forty, with the verdict of its report, by three workers.
+/// The seed that fails of forty, with the verdict of its report and why it fails, by three workers.
 fn failing<R: Threads + Sync>(
     rt: &R,
     alloc: Global,
     hunt: &Hunt,
-) -> Result<Option<(u64, Option<bool>)>, Fail> {
+) -> Result<Option<(u64, Option<bool>, FailureCause)>, Fail> {
     let mut watch = NOTHING;
     let searched = first_failing(rt, alloc, hunt, FORTY, &mut watch)?;
     match &searched.failure {
-        Some(failure) => Ok(Some((failure.seed, failure.report.verdict))),
+        Some(failure) => {
+            let cause = cause_of(&failure.report, &hunt.further);
+            Ok(Some((failure.seed, failure.report.verdict, cause)))
+        }
         None => Ok(None),
     }
 }
 
-/// Hunts by their source, their property and their strategy, and whether leaks are failures; and the verdict of the
-/// seed 0, which fails.
-const HUNTS: [(&str, &str, Sampling, bool, bool); 3] = [
-    (LOST_UPDATE, "true", Sampling::Uniform, false, false),
-    (TWO_WAIT, "nodeadlock", Sampling::Uniform, true, true),
-    (TWO_WAIT, "nodeadlock", Sampling::Priorities, true, true),
+/// A hunt by its source, its properties and its strategy, and whether leaks are failures; the verdict of the seed 0,
+/// which fails for this cause; and how many of its three workers keep no events of several properties.
+#[derive(Clone, Copy)]
+struct WantedFailure {
+    source: &'static str,
+    properties: (&'static str, &'static [&'static str]),
+    sampling: Sampling,
+    leaks: bool,
+    verdict: bool,
+    cause: FailureCause,
+    watched: usize,
+}
+
+const HUNTS: [WantedFailure; 7] = [
+    WantedFailure {
+        source: LOST_UPDATE,
+        properties: ("true", &[]),
+        sampling: Sampling::Uniform,
+        leaks: false,
+        verdict: false,
+        cause: FailureCause::Property,
+        watched: 0,
+    },
+    WantedFailure {
+        source: TWO_WAIT,
+        properties: ("nodeadlock", &[]),
+        sampling: Sampling::Uniform,
+        leaks: true,
+        verdict: true,
+        cause: FailureCause::Leak,
+        watched: 0,
+    },
+    WantedFailure {
+        source: TWO_WAIT,
+        properties: ("nodeadlock", &[]),
+        sampling: Sampling::Priorities,
+        leaks: true,
+        verdict: true,
+        cause: FailureCause::Leak,
+        watched: 0,
+    },
+    WantedFailure {
+        source: TWO_WAIT,
+        properties: ("returns", &["nodeadlock", "nocrash"]),
+        sampling: Sampling::Uniform,
+        leaks: false,
+        verdict: true,
+        cause: FailureCause::Further(1),
+        watched: 3,
+    },
+    WantedFailure {
+        source: TWO_WAIT,
+        properties: ("nodeadlock", &["true", "nocrash"]),
+        sampling: Sampling::Priorities,
+        leaks: true,
+        verdict: true,
+        cause: FailureCause::Further(0),
+        watched: 3,
+    },
+    WantedFailure {
+        source: TWO_WAIT,
+        properties: ("nocrash", &["true"]),
+        sampling: Sampling::Priorities,
+        leaks: false,
+        verdict: false,
+        cause: FailureCause::Property,
+        watched: 3,
+    },
+    WantedFailure {
+        source: TWO_WAIT,
+        properties: ("nodeadlock", &["never:{done, _}", "nocrash"]),
+        sampling: Sampling::Uniform,
+        leaks: false,
+        verdict: true,
+        cause: FailureCause::Further(1),
+        watched: 0,
+    },
 ];
 
 #[test]
 fn three_workers_find_the_least_seed_that_fails(rt: HostRuntime) -> Result<(), Fail> {
     let alloc = rt.alloc();
-    for (source, property, sampling, leaks, verdict) in HUNTS {
-        let hunt = hunt_of(alloc, source, property, sampling, leaks)?;
+    for wanted in HUNTS {
+        let hunt = hunt_of(
+            alloc,
+            wanted.source,
+            wanted.properties,
+            wanted.sampling,
+            wanted.leaks,
+        )?;
         assert_eq!(rt;
-            failing(&rt, alloc, &hunt)?,
-            Some((0, Some(verdict))),
-            "{property}"
+            (failing(&rt, alloc, &hunt)?, hunt.jobs.watched.len()),
+            (
+                Some((0, Some(wanted.verdict), wanted.cause)),
+                wanted.watched
+            )
         );
     }
+    Ok(())
+}
+
+#[test]
+fn a_text_that_is_no_property_is_refused(rt: HostRuntime) -> Result<(), Fail> {
+    let alloc = rt.alloc();
+    let module = module_of(alloc, TWO_WAIT)?;
+    assert!(rt; further_properties(alloc, &module, &["nocrash", "fine"]).is_err());
+    assert_eq!(rt;
+        further_properties(alloc, &module, &["nocrash", "true"])?.len(),
+        2
+    );
     Ok(())
 }
 
@@ -198,8 +303,9 @@ fn a_hunt_stops_where_it_is_asked_to_and_reports_its_leak_once(
     rt: HostRuntime,
 ) -> Result<(), Fail> {
     let alloc = rt.alloc();
-    let hunt = hunt_of(alloc, TWO_WAIT, "nodeadlock", Sampling::Uniform, false)?;
-    assert_eq!(rt; hunt.others.len(), 2);
+    let properties: (&str, &[&str]) = ("nodeadlock", &[]);
+    let hunt = hunt_of(alloc, TWO_WAIT, properties, Sampling::Uniform, false)?;
+    assert_eq!(rt; hunt.jobs.others.len(), 2);
     for (may_stop, end, seeds) in ENDS {
         let wanted = (end, seeds, (10, 2), 1);
         assert_eq!(rt; searched(&rt, alloc, &hunt, may_stop)?, wanted);

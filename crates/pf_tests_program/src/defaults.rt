@@ -57,6 +57,7 @@ fn is_plain_hunt(hunt: &HuntArgs) -> bool {
                 last: None,
             })
         && !hunt.fail_fast
+        && matches!(hunt.further.as_slice(), ["nocrash", "nodeadlock"])
         && !hunt.leaks
         && matches!(hunt.roots, Roots::Main)
         && matches!(hunt.sought, HuntGoal::Failure { runs: None })

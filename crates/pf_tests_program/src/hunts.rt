@@ -8,17 +8,20 @@ use pf_cli::{Args, HuntArgs, HuntGoal, Roots};
 pub enum Named {
     /// Every root.
     Roots,
-    /// Each outcome.
+    /// Each outcome, by one property.
     Outcomes,
+    /// That a run evaluates to `true`, and nothing else.
+    Property,
     /// The least seed that fails, whose schedule is shrunk within 7 runs.
     Shrinking,
     /// The seeds from the first to before the second, for so many seconds if any.
     Span(u64, u64, Option<u64>),
 }
 
-const CASES: [(&str, Named); 11] = [
+const CASES: [(&str, Named); 12] = [
     ("--all-roots", Named::Roots),
     ("--all", Named::Outcomes),
+    ("--property=true", Named::Property),
     ("--shrink=7", Named::Shrinking),
     ("--seeds=7..1000", Named::Span(7, 1000, None)),
     ("--seeds=5..=5", Named::Span(5, 6, None)),
@@ -43,7 +46,10 @@ const CASES: [(&str, Named); 11] = [
 fn has(hunt: &HuntArgs, named: Named) -> bool {
     match named {
         Named::Roots => matches!(hunt.roots, Roots::Every),
-        Named::Outcomes => matches!(hunt.sought, HuntGoal::Outcomes),
+        Named::Outcomes => { matches!(hunt.sought, HuntGoal::Outcomes) && hunt.further.is_empty() }
+        Named::Property => {
+            hunt.request.property.as_slice() == b"true".as_slice() && hunt.further.is_empty()
+        }
         Named::Shrinking => matches!(hunt.sought, HuntGoal::Failure { runs: Some(7) }),
         Named::Span(first, end, time) => {
             hunt.first == first && hunt.end == end && hunt.time == time

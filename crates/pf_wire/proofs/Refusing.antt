@@ -90,7 +90,7 @@ text_stays (b ∷ bs) more h = same_text (b == 10) b bs (bs ++ more) (first_line
     (text_stays bs more) h
 
 -- what is due has the same first line, whatever may follow
-due_text : (over : Bool) (rest more : List ℕ) → is_due over rest ≡ true → MayFollow over more
+pub due_text : (over : Bool) (rest more : List ℕ) → is_due over rest ≡ true → MayFollow over more
     → (first_line (rest ++ more)).text ≡ (first_line rest).text
 due_text false rest more due f =
     text_stays rest more (both (first_line rest).is_ended

@@ -1,6 +1,6 @@
 //! Where reading ended before the input did, for whoever says why.
 
-ghost use Rattle.std.specs.Prelude.{◌≡◌, None, false};
+ghost use Rattle.std.specs.Prelude.{◌≡◌, None, Some, false};
 ghost use Rattle.pf_protocol.specs.Commands.{first_line};
 ghost use Rattle.pf_wire.specs.Endings.{IsKept, ReportsLine};
 
@@ -41,6 +41,20 @@ fn kept(alloc: Global, line: &[u8]) -> (Vec<u8>, bool)
     }
 }
 
+impl RefusedLine {
+    /// The first line of some bytes, which would be the command of this number.
+    pub fn of(alloc: Global, number: u64, bytes: &[u8]) -> RefusedLine
+        ensures { ReportsLine (Some result) number (first_line bytes.now).text }
+    {
+        let (text, is_whole) = kept(alloc, first_line(bytes).text);
+        RefusedLine {
+            number,
+            text,
+            is_whole,
+        }
+    }
+}
+
 impl InputEnd {
     /// Nothing was read yet.
     pub fn new() -> InputEnd
@@ -58,11 +72,6 @@ impl InputEnd {
         ensures line { ReportsLine self.new.refused number (first_line bytes.now).text }
         ensures full { self.new.is_full ≡ self.old.is_full }
     {
-        let (text, is_whole) = kept(alloc, first_line(bytes).text);
-        self.refused = Some(RefusedLine {
-            number,
-            text,
-            is_whole,
-        });
+        self.refused = Some(RefusedLine::of(alloc, number, bytes));
     }
 }

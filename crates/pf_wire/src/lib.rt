@@ -12,4 +12,4 @@ pub use ending::{InputEnd, RefusedLine};
 pub use outcome::{Requester, put_outcome};
 pub use reported::{ReportedReport, WrittenAnswer};
 pub use steps::{MOST_BYTES, WORKERS, put_no_command, run_steps};
-pub use stream::Gathered;
+pub use stream::{Gathered, Input};

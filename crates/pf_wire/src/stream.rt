@@ -23,7 +23,7 @@ pub(crate) const ROOM: usize = 65_536;
 
 /// What was taken of an input and isn't answered yet.
 #[derive(Drop)]
-pub(crate) struct Input {
+pub struct Input {
     pub bytes: Vec<u8>,
     /// How many bytes were taken in all.
     pub taken: usize,

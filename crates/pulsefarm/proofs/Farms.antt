@@ -1,41 +1,16 @@
--- Farms that a fault ended, and farms that began before anything was written.
-use Rattle.std.proofs.Common.{◌≡◌, ◌<◌, ◌+◌, ◌||◌, ◌⊎◌, ℕ, suc, Bool, true, false, List, [], ◌∷◌, ◌++◌, map, take, drop}
-use Rattle.std.proofs.Common.{get_or, length, Option, Result, Ok, Err, inr, ◌∙◌, refl, ap, subst, sym}
-use Rattle.std.specs.Prelude.{IfOk, IsErr}
+-- Farms that were run, and words that have no file.
+use Rattle.std.proofs.Common.{◌≡◌, ◌<◌, ◌+◌, ◌||◌, ◌⊎◌, ℕ, Bool, true, false, List, [], ◌∷◌, ◌++◌, map, take, drop}
+use Rattle.std.proofs.Common.{arith, get_or, length, Option, inr, ◌∙◌, refl, ap, subst, sym}
 use Rattle.std.specs.List.{list_any}
-use Rattle.std.proofs.lemmas.List.{drop_more, map-append, map_more, take-append-drop}
+use Rattle.std.proofs.lemmas.List.{drop_more, length-map, length-take-le, map-append, map_more, take-append-drop}
 use Rattle.std.proofs.lemmas.List.Folds.{list_any-append}
-use Rattle.pf_errors.specs.declared.fault.OrNoMemory.{OrNoMemory}
-use Rattle.pf_streams.specs.declared.stream.StreamFault.{StreamFault}
-use Rattle.pf_cli_messages.specs.Texts.{HasStatus, IsFailure}
+use Rattle.pf_cli_messages.specs.Texts.{HasStatus}
+use Rattle.pf_clients.specs.Pairs.{EachTwo}
+use Rattle.pf_clients.proofs.Pairs.{two_more}
 use Rattle.pf_words.specs.Words.{End}
-use Rattle.pulsefarm.specs.Program.{is_input, path_of, AreOpened, FarmEnds, FarmIsDone, HasReason, LacksFile}
-
--- the status of a fault is that of what fails
-pub of_fault : (r : End) (given : ℕ) → IsErr r → HasStatus r given → IsFailure given
-of_fault (Ok s) given is h = absurd cc
-of_fault (Err e) given is h = h
-
--- of a fault nothing is asked that is asked of an answer
-pub not_answered : (P : ℕ → Type 0) (r : End) → IsErr r → IfOk r P
-not_answered P (Ok s) is = absurd cc
-not_answered P (Err e) is = tt
-
--- one more word opened its file
-pub opened_more : {F : Type 0} (opens : (path : List ℕ) → F → Type 0) (ws : List (List ℕ)) (fs : List F) (w : List ℕ)
-    (f : F) → AreOpened opens ws fs → opens (path_of w) f → AreOpened opens (ws ++ w ∷ []) (fs ++ f ∷ [])
-opened_more opens [] [] w f all one = (one, tt)
-opened_more opens [] (g ∷ fs) w f all one = absurd all
-opened_more opens (v ∷ ws) [] w f all one = absurd all
-opened_more opens (v ∷ ws) (g ∷ fs) w f all one = (all.0, opened_more opens ws fs w f all.1 one)
-
--- there are as many files as words
-pub opened_count : {F : Type 0} (opens : (path : List ℕ) → F → Type 0) (ws : List (List ℕ)) (fs : List F)
-    → AreOpened opens ws fs → length fs ≡ length ws
-opened_count opens [] [] all = refl
-opened_count opens [] (f ∷ fs) all = absurd all
-opened_count opens (w ∷ ws) [] all = absurd all
-opened_count opens (w ∷ ws) (f ∷ fs) all = ap suc (opened_count opens ws fs all.1)
+use Rattle.pf_cli.specs.Args.{FarmArgs}
+use Rattle.pulsefarm.specs.Farms.{FarmIsDone, FarmRuns, HasReason}
+use Rattle.pulsefarm.specs.Sources.{is_input, path_of, LacksFile}
 
 -- a list is what is before a place, what is there, and the rest
 parted : {X Y : Type 0} (f : X → Y) (xs : List X) (i : ℕ) (d : X) → i < length xs
@@ -52,6 +27,18 @@ pub lacks_at : {X : Type 0} (refuses : (path : List ℕ) → Type 0) (f : X → 
     → LacksFile refuses (map f xs)
 lacks_at refuses f xs i d lt why =
     (map f (take i xs), f (get_or xs i d), map f (drop (i + 1) xs), parted f xs i d lt, why)
+
+-- one word more has one source more
+pub source_more : {X Y : Type 0} (P : ℕ → List ℕ → Y → Type 0) (f : X → List ℕ) (xs : List X) (i : ℕ) (d : X)
+    (ys zs : List Y) (y : Y) (n : ℕ) → i < length xs → n ≡ i → zs ≡ ys ++ y ∷ []
+    → EachTwo P 1 (map f (take i xs)) ys → P (n + 1) (f (get_or xs i d)) y → EachTwo P 1 (map f (take (i + 1) xs)) zs
+source_more P f xs i d ys zs y n lt same items all one =
+    let words = map f (take i xs) in
+    let count : length words ≡ i = length-map (take i xs) f ∙ length-take-le i xs (omega (arith, lt)) in
+    let place : n + 1 ≡ 1 + length words = omega (arith, same, count) in
+    subst (λ vs. EachTwo P 1 (map f (take (i + 1) xs)) vs) (sym items)
+    (subst (λ ws. EachTwo P 1 ws (ys ++ y ∷ [])) (sym (map_more f xs i d lt))
+    (two_more P 1 words ys (f (get_or xs i d)) y all (subst (λ k. P k (f (get_or xs i d)) y) place one)))
 
 or_false : (b : Bool) → (b || false) ≡ b
 or_false true = refl
@@ -74,26 +61,30 @@ input_at f xs i d b r lt one same =
     ∙ (input_more (map f (take i xs)) (f (get_or xs i d)) b same
     ∙ ap (λ ws. list_any is_input ws) (sym (map_more f xs i d lt)))
 
-module _ {F : Type 0} (opens : (path : List ℕ) → F → Type 0) (remaining : F → Option (List ℕ)) where
-  -- a farm that was run over its files
-  pub run_over : (s : Bool) (refuses : (path : List ℕ) → Type 0) (ws : List (List ℕ)) (fs : List F)
-      (w0 w1 : Option (List ℕ)) (n0 n1 : ℕ) (r end : End) → AreOpened opens ws fs → r ≡ end
-      → FarmEnds (map remaining fs) w0 w1 n0 n1 r → (status : ℕ) → HasStatus end status
-      → HasReason opens remaining s refuses ws w0 w1 n0 n1 status
-  run_over s refuses ws fs w0 w1 n0 n1 r end opened is ends status has =
-      inr (inr (fs, end, opened, subst (FarmEnds (map remaining fs) w0 w1 n0 n1) is ends, has))
+-- ---- a farm that was run
 
-  -- a farm of the files of these words that a fault ended is done, with a status of what fails
-  pub ended_by : (ws : List (List ℕ)) (fs : List F) (w0 w1 : Option (List ℕ)) (n0 n1 : ℕ) (r : End)
-      (e : OrNoMemory StreamFault) → AreOpened opens ws fs
-      → r ≡ Err e → FarmEnds (map remaining fs) w0 w1 n0 n1 r → (given : ℕ) → IsFailure given
-      → FarmIsDone opens remaining ws w0 w1 n0 n1 given
-  ended_by ws fs w0 w1 n0 n1 r e opened is ends given fails =
-      inr (fs, Err e, opened, subst (FarmEnds (map remaining fs) w0 w1 n0 n1) is ends, fails)
+module _ {F : Type 0} (opens makes : (path : List ℕ) → F → Type 0) (refuses bars : (path : List ℕ) → Type 0)
+    (remaining contents : F → Option (List ℕ)) where
+  -- it has a reason for its status
+  pub run_over : (s : Bool) (args : FarmArgs) (w0 w1 : Option (List ℕ)) (n0 n1 : ℕ) (r end : End) → r ≡ end
+      → FarmRuns opens makes refuses bars remaining contents args w0 w1 n0 n1 r
+      → (status : ℕ) → HasStatus end status
+      → HasReason opens makes refuses bars remaining contents s args w0 w1 n0 n1 status
+  run_over s args w0 w1 n0 n1 r end is runs status has =
+      inr (inr (end, subst (FarmRuns opens makes refuses bars remaining contents args w0 w1 n0 n1) is runs, has))
+
+  -- it is done, with a status of its end
+  pub run_to : (args : FarmArgs) (w0 w1 : Option (List ℕ)) (n0 n1 : ℕ) (r end : End) → r ≡ end
+      → FarmRuns opens makes refuses bars remaining contents args w0 w1 n0 n1 r → (given : ℕ) → HasStatus end given
+      → FarmIsDone opens makes refuses bars remaining contents args w0 w1 n0 n1 given
+  run_to args w0 w1 n0 n1 r end is runs given has =
+      inr (end, subst (FarmRuns opens makes refuses bars remaining contents args w0 w1 n0 n1) is runs, has)
 
   -- one that is done from where nothing was written is done from the beginning
-  pub from_beginning : (ws : List (List ℕ)) (w w0 w1 : Option (List ℕ)) (k n0 n1 given : ℕ) → w ≡ w0 → k ≡ n0
-      → FarmIsDone opens remaining ws w w1 k n1 given → FarmIsDone opens remaining ws w0 w1 n0 n1 given
-  from_beginning ws w w0 w1 k n0 n1 given written failed done =
-      subst (λ i. FarmIsDone opens remaining ws w0 w1 i n1 given) failed
-      (subst (λ (x : Option (List ℕ)). FarmIsDone opens remaining ws x w1 k n1 given) written done)
+  pub from_beginning : (args : FarmArgs) (w w0 w1 : Option (List ℕ)) (k n0 n1 given : ℕ) → w ≡ w0 → k ≡ n0
+      → FarmIsDone opens makes refuses bars remaining contents args w w1 k n1 given
+      → FarmIsDone opens makes refuses bars remaining contents args w0 w1 n0 n1 given
+  from_beginning args w w0 w1 k n0 n1 given written failed done =
+      subst (λ i. FarmIsDone opens makes refuses bars remaining contents args w0 w1 i n1 given) failed
+      (subst (λ (x : Option (List ℕ)). FarmIsDone opens makes refuses bars remaining contents args x w1 k n1 given)
+      written done)

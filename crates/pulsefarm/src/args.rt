@@ -1,15 +1,20 @@
 //! The words that the program is given.
 
-ghost use Rattle.std.specs.Prelude.{ℕ, List, IfOk, map, ⊤};
+ghost use Rattle.std.specs.Prelude.{◌≤◌, ℕ, List, IfOk, IfSome, map, vec_len, ⊤};
 ghost use Rattle.std.specs.String.{string_bytes};
 
 use pf_files::read_word;
 use std::alloc::{AllocError, AllocGlobal};
 use std::env::{Env, FillError};
 
+/// The longest word, in bytes: 16 MiB.
+const MOST_WORD: usize = 1 << 24;
+
 /// The bytes of a word; none if there is no such word.
-fn bytes_at(rt: &(impl Env + AllocGlobal), at: usize) -> Result<Option<Vec<u8>>, AllocError> {
-    for size in [4_096, 1 << 18, 1 << 24] {
+fn bytes_at(rt: &(impl Env + AllocGlobal), at: usize) -> Result<Option<Vec<u8>>, AllocError>
+    ensures { IfOk result (λ word. IfSome word (λ bytes. vec_len bytes ≤ MOST_WORD)) }
+{
+    for size in [4_096, 1 << 18, MOST_WORD] {
         let mut bytes = vec![in rt.alloc(); 0u8; size]?;
         match rt.arg(at, &mut bytes) {
             Ok(length) => {

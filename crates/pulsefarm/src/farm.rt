@@ -1,22 +1,25 @@
 //! `farm`: a client for each file, and workers, on one running farm.
 
-ghost use Rattle.std.specs.Prelude.{◌≡◌, ◌<◌, ◌≤◌, IfOk, IfNone, IfSome, Some, map, vec_len};
+ghost use Rattle.std.specs.Prelude.{◌≡◌, ◌<◌, ◌≤◌, IfOk, Some, option_map, vec_len};
+ghost use Rattle.std.specs.String.{string_bytes};
 ghost use Rattle.pf_cli.specs.Args.{view_of_farm_args};
-ghost use Rattle.pulsefarm.specs.Program.{path_of, AreOpened, FarmAnswers, FarmEnds, FarmIsDone, HasReason, LacksFile};
+ghost use Rattle.pulsefarm.specs.Sources.{GivesStreams, LacksStream};
+ghost use Rattle.pulsefarm.specs.Farms.{FarmAnswers, FarmEnds, FarmIsDone, HasReason};
 
 use crate::opening::Opens;
+use crate::sources::{ClientPaths, sources};
 use crate::watch::FarmWatch;
 use pf_cli::FarmArgs;
-use pf_cli_messages::{REFUSED, end, failed, say};
-use pf_clients::run_farm;
-use pf_errors::{NoMemory, OrNoMemory};
+use pf_cli_messages::{REFUSED, end, say};
+use pf_clients::{Watch, run_farm};
+use pf_errors::OrNoMemory;
 use pf_farm::{Blanks, MOST_SEATS};
 use pf_farm_accounts::{FarmNames, NewRegister};
 use pf_files::AnsweredRoot;
 use pf_streams::{Counted, StreamFault};
 use pf_words::random_keys;
 use std::alloc::AllocGlobal;
-use std::io::{self, Stderr, Write};
+use std::io::{Stderr, Write};
 use std::marker::Brand;
 use std::random::RandomSource;
 use std::sync::Wait;
@@ -47,8 +50,8 @@ pub fn farm<R, W: Write, M: Ledger>(
 ) -> u8
 where
     R: Opens + Print + Eprint + AllocGlobal + RandomSource + Clock + Threads + Wait + Sync,
-    R::File: Send + Drop,
-    ensures { FarmIsDone R.opens R.File.remaining (view_of_farm_args args.now).files
+    ensures { FarmIsDone R.opens R.makes R.refuses R.bars R.Stream.remaining R.Stream.contents
+        (view_of_farm_args args.now)
         (W.contents writer.old.inner) (W.contents writer.new.inner)
         writer.old.failures.total writer.new.failures.total result }
 {
@@ -64,12 +67,13 @@ fn answer<R, W: Write, M: Ledger>(
 ) -> AnsweredRoot
 where
     R: Opens + Print + Eprint + AllocGlobal + RandomSource + Clock + Threads + Wait + Sync,
-    R::File: Send + Drop,
-    ensures answers { FarmAnswers R.opens R.File.remaining (view_of_farm_args args.now).files
+    ensures answers { FarmAnswers R.opens R.makes R.refuses R.bars R.Stream.remaining R.Stream.contents
+        (view_of_farm_args args.now)
         (W.contents writer.old.inner) (W.contents writer.new.inner)
         writer.old.failures.total writer.new.failures.total result }
-    ensures reason { IfOk result (HasReason R.opens R.File.remaining host.has_stack R.refuses
-        (view_of_farm_args args.now).files (W.contents writer.old.inner) (W.contents writer.new.inner)
+    ensures reason { IfOk result (HasReason R.opens R.makes R.refuses R.bars R.Stream.remaining R.Stream.contents
+        host.has_stack (view_of_farm_args args.now)
+        (W.contents writer.old.inner) (W.contents writer.new.inner)
         writer.old.failures.total writer.new.failures.total) }
 {
     if !host.has_stack {
@@ -79,7 +83,7 @@ where
         );
         return Ok(REFUSED);
     }
-    let Some(files) = opened(rt, &args.files)? else {
+    let Some(sources) = sources(rt, args.replies, &args.files)? else {
         return Ok(REFUSED);
     };
     let alloc = rt.alloc();
@@ -89,99 +93,65 @@ where
         calls: Blank::new(SEAT_PARTS),
         claims: NewRegister::new(alloc)?,
         receipts: NewRegister::new(alloc)?,
+        looks: NewRegister::new(alloc)?,
     };
-    let watch = FarmWatch::new(rt, alloc, host.stderr, files.len(), args.summary)?;
-    let answered = run_by::<Brand, R, W, M>(rt, args.workers, blanks, files, &watch, writer);
+    let watch = FarmWatch::new(rt, alloc, host.stderr, &args.files, args.summary)?;
+    let answered = run_by::<Brand, R, W, M>(rt, args.workers, blanks, sources, &watch, writer);
     let status = match answered {
         Ok(status) => status,
-        Err(OrNoMemory::Fault(StreamFault::Read(error))) => {
-            let reported = format!(in alloc; "{error}")?;
-            say(rt, &reported);
-            return Ok(REFUSED);
-        }
+        // The watch has said why.
+        Err(OrNoMemory::Fault(StreamFault::Read(_))) => return Ok(REFUSED),
         Err(stop) => return Err(stop),
     };
     watch.end();
-    if status == REFUSED {
-        say(
-            rt,
-            "a line of a file is no command there: those before it were answered, and nothing after it was read",
-        );
-    }
     Ok(status)
 }
 
-/// The path that a word names.
-fn path_of(word: &str) -> &str
-    ensures { result.now ≡ path_of word.now }
-{
-    if word == "-" { "/dev/stdin" } else { word }
-}
-
-/// Opens the files of all clients; none, if one can't be opened, which is said then. `-` names the standard input.
-fn opened<R>(rt: &R, names: &[&str]) -> Result<Option<Vec<R::File>>, NoMemory>
-where
-    R: Opens + Print + Eprint + AllocGlobal,
-    ensures files { IfOk result (λ files. IfSome files (λ v.
-        AreOpened R.opens (map (λ w. w.now) names.now) v.items)) }
-    ensures none { IfOk result (λ files. IfNone files (LacksFile R.refuses (map (λ w. w.now) names.now))) }
-{
-    let mut files = Vec::new(rt.alloc());
-    let mut is_read = false;
-    'names: for name in names {
-        let is_input = *name == "-";
-        if is_input && is_read {
-            say(rt, "the standard input can be the file of one client only");
-            return Ok(None);
-        }
-        is_read |= is_input;
-        match rt.open_path(path_of(name)) {
-            Ok(file) => files.push(file)?,
-            Err(error) if error.kind() == io::ErrorKind::OutOfMemory => {
-                return Err(NoMemory);
-            }
-            Err(error) => {
-                failed(rt, Some(name), &StreamFault::Read(error));
-                return Ok(None);
-            }
-        }
-    }
-    Ok(Some(files))
-}
-
-/// Runs a farm over these files.
+/// Runs a farm of clients that have their streams there.
 fn run_by<N: FarmNames + Send + Sync, R, W: Write, M: Ledger>(
     rt: &R,
     workers: u32,
     blanks: Blanks,
-    files: Vec<R::File>,
+    sources: Vec<ClientPaths<R>>,
     watch: &FarmWatch<R>,
     writer: &mut Counted<W, M>,
 ) -> AnsweredRoot
 where
     R: Opens + AllocGlobal + RandomSource + Clock + Threads + Wait + Sync,
-    R::File: Send + Drop,
     requires opened { (blanks.opened.name ≡ N.opened) × (blanks.opened.parts ≡ N.workers) }
     requires ended { (blanks.ended.name ≡ N.ended) × (blanks.ended.parts ≡ N.workers) }
     requires calls { (blanks.calls.name ≡ N.calls) × (blanks.calls.parts ≡ N.seats) }
     requires claims { N.claims ≡ Some blanks.claims }
     requires receipts { N.receipts ≡ Some blanks.receipts }
+    requires looks { N.looks ≡ Some blanks.looks }
     requires workers { (0 < workers) × (workers < N.workers) }
     requires seats { MOST_SEATS < N.seats }
-    requires files { (0 < vec_len files) × (vec_len files ≤ MOST_SEATS) }
-    ensures { FarmEnds (map R.File.remaining files.items)
+    requires sources { (0 < vec_len sources) × (vec_len sources ≤ MOST_SEATS) }
+    ensures { FarmEnds
+        (λ k x. GivesStreams R.opens R.makes x.name.now x.file (option_map (λ s. string_bytes s) x.replies))
+        (λ k x. LacksStream R.refuses R.bars x.name.now x.file (option_map (λ s. string_bytes s) x.replies))
+        R.Stream.remaining R.Stream.contents sources.entry.items
         (W.contents writer.old.inner) (W.contents writer.new.inner)
         writer.old.failures.total writer.new.failures.total result }
 {
-    let keys = random_keys(rt)?;
-    run_farm::<N, R::File, W, M, R, FarmWatch<R>>(
+    let keys = match random_keys(rt) {
+        Ok(keys) => keys,
+        Err(stop) => {
+            if let OrNoMemory::Fault(fault) = &stop {
+                watch.not_begun(fault.error());
+            }
+            return Err(stop);
+        }
+    };
+    let end = run_farm::<N, R::Stream, ClientPaths<R>, W, M, R, FarmWatch<R>>(
         rt.alloc(),
         rt,
         keys,
         blanks,
         workers as usize,
-        files,
+        sources,
         watch,
         writer,
-    )
+    )?;
+    end.status
 }

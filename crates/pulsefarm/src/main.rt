@@ -4,6 +4,7 @@
 mod args;
 mod farm;
 mod opening;
+mod sources;
 mod stack;
 mod watch;
 
@@ -22,6 +23,7 @@ use pf_errors::NoMemory;
 use pf_streams::Counted;
 use pf_words::{Obeyed, obey};
 use std::alloc::{AllocGlobal, Global};
+use std::fs::Files;
 use std::io::{self, Read, Write};
 use std::marker::Brand;
 use std::process::ExitCode;
@@ -68,6 +70,7 @@ fn answer_words<R, I: Read, W: Write, L: Ledger, M: Ledger>(
 ) -> Result<u8, NoMemory>
 where
     R: GivesWords
+        + Files
         + Opens
         + Print
         + Eprint
@@ -77,8 +80,8 @@ where
         + Threads
         + Wait
         + Sync,
-    R::File: Send + Drop,
-    ensures { DoesGiven R.opens R.File.remaining R.gives
+    R::File: Drop,
+    ensures { DoesGiven R.opens R.makes R.refuses R.bars R.Stream.remaining R.Stream.contents R.gives
         (streams (I.remaining reader.old.inner) (W.contents writer.old.inner)
         reader.old.failures.total writer.old.failures.total)
         (streams (I.remaining reader.new.inner) (W.contents writer.new.inner)
@@ -105,6 +108,7 @@ fn try_all<R, I: Read + Drop, W: Write + Drop, L: Ledger, M: Ledger>(
 ) -> Result<u8, NoMemory>
 where
     R: GivesWords
+        + Files
         + Opens
         + Print
         + Eprint
@@ -114,7 +118,7 @@ where
         + Threads
         + Wait
         + Sync,
-    R::File: Send + Drop,
+    R::File: Drop,
     requires reads { reads.name ≡ L.name }
     requires read_parts { reads.parts ≡ L.parts }
     requires some_reads { 0 < reads.parts }
@@ -122,7 +126,8 @@ where
     requires write_parts { writes.parts ≡ M.parts }
     requires some_writes { 0 < writes.parts }
     ensures { (after : Streams)
-        × DoesGiven R.opens R.File.remaining R.gives (streams (I.remaining stdin) (W.contents stdout) 0 0)
+        × DoesGiven R.opens R.makes R.refuses R.bars R.Stream.remaining R.Stream.contents R.gives
+        (streams (I.remaining stdin) (W.contents stdout) 0 0)
         after result }
 {
     let mut reader = Counted::<I, L>::new(stdin, reads);
@@ -134,6 +139,7 @@ where
 fn all<R, I: Read + Drop>(rt: &R, stdin: I, host: Host) -> u8
 where
     R: GivesWords
+        + Files
         + Opens
         + Print
         + Eprint
@@ -143,8 +149,8 @@ where
         + Threads
         + Wait
         + Sync,
-    R::File: Send + Drop,
-    ensures { IsStatus R.opens R.File.remaining R.gives result }
+    R::File: Drop,
+    ensures { IsStatus R.opens R.makes R.refuses R.bars R.Stream.remaining R.Stream.contents R.gives result }
 {
     let line = &ProgressLine::new(host.stderr);
     let inner = io::writer(rt);

@@ -90,7 +90,7 @@ update_counter(T, K, N) -> pf_dets:ask({update_counter, T, K, N}).
 sync(T) -> pf_dets:ask({sync, T}).
 
 -spec safe_fixtable(term(), term()) -> ok.
-safe_fixtable(T, On) when is_boolean(On) -> pf_dets:ask({fix, T, On});
+safe_fixtable(T, On) when is_boolean(On) -> pf_dets:ask({fix, T, On, ets:fix_time()});
 safe_fixtable(_, _) -> error(badarg).
 
 %% ---- what a table has
@@ -150,7 +150,8 @@ traversed([X | Xs], F, Vs) ->
 info(T) ->
     case pf_dets:ask({info, T}) of
         false -> undefined;
-        {_, {File, Type, Pos, _, _}, _, _, _, L} -> [{type, Type}, {keypos, Pos}, {size, length(L)}, {filename, File}]
+        {_, {File, Type, Pos, _, _}, _, _, _, L} ->
+            [{type, Type}, {keypos, Pos}, {size, length(L)}, {file_size, file_size(L)}, {filename, File}]
     end.
 
 -spec info(term(), term()) -> term().
@@ -169,8 +170,8 @@ fact(filename, T) -> element(1, element(2, T));
 fact(auto_save, T) -> element(3, T);
 fact(users, T) -> element(4, T);
 fact(fixed, T) -> element(5, T) =/= [];
-fact(safe_fixed, T) -> unfixed(T);
-fact(safe_fixed_monotonic_time, T) -> unfixed(T);
+fact(safe_fixed, T) -> ets:since(element(5, T), fun ets:timestamp/1);
+fact(safe_fixed_monotonic_time, T) -> ets:since(element(5, T), fun(Ns) -> Ns end);
 fact(size, T) -> length(element(6, T));
 fact(no_objects, T) -> length(element(6, T));
 fact(no_keys, T) -> Pos = fact(keypos, T), length(lists:usort([element(Pos, X) || X <- element(6, T)]));
@@ -178,14 +179,15 @@ fact(owner, _) -> erlang:whereis('port@dets');
 fact(pid, _) -> erlang:whereis('port@dets');
 fact(hash, _) -> phash2;
 fact(version, _) -> 9;
-fact(Item, _) when Item =:= memory; Item =:= file_size; Item =:= no_slots; Item =:= bchunk_format;
-                   Item =:= delayed_write ->
+fact(memory, T) -> file_size(element(6, T));
+fact(file_size, T) -> file_size(element(6, T));
+fact(Item, _) when Item =:= no_slots; Item =:= bchunk_format; Item =:= delayed_write ->
     prim:raw(exit, {refused, dets, info, 2});
 fact(_, _) -> undefined.
 
-%% since when a table is fixed isn't known
--spec unfixed(tuple()) -> false.
-unfixed(T) -> fact(fixed, T) andalso prim:raw(exit, {refused, dets, info, 2}).
+%% bytes by a rule: 5,432 of an empty file, and of each object 8 for each word of its term, and 8
+-spec file_size(list()) -> pos_integer().
+file_size(Objects) -> 5432 + lists:sum([8 * pf_room:words(X) + 8 || X <- Objects]).
 
 %% one process keeps all tables, so a pid has no name of its own
 -spec pid2name(term()) -> undefined.

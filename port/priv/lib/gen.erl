@@ -308,4 +308,4 @@ format_status(_, _, Status, _) -> Status.
 -spec format_status_header(term(), term()) -> term().
 format_status_header(Text, N) when is_atom(N) -> lists:concat([Text, " ", N]);
 format_status_header(Text, Name) when not is_pid(Name) -> {Text, Name};
-format_status_header(_, _) -> prim:raw(exit, {refused, gen, format_status_header, 2}).
+format_status_header(Text, _) -> lists:concat([Text, " <pid>"]).

@@ -67,7 +67,7 @@ serve(Ts, Files) ->
 
 -spec without(pid(), tuple()) -> tuple().
 without(P, {Name, Config, Save, Users, Fix, L}) ->
-    {Name, Config, Save, [U || U <- Users, U =/= P], [F || F <- Fix, F =/= P], L}.
+    {Name, Config, Save, [U || U <- Users, U =/= P], ets:without(Fix, P), L}.
 
 %% Tables as they are then: one that nobody uses goes into its file.
 -spec closed([tuple()], list(), list()) -> no_return().
@@ -104,8 +104,10 @@ done({all, _}, _, T) -> {element(6, T), T};
 done({lookup, _, K}, _, T) -> {[X || X <- element(6, T), element(pos(T), X) =:= K], T};
 done({keys, _}, _, T) -> {lists:usort([element(pos(T), X) || X <- element(6, T)]), T};
 done({sync, _}, _, T) -> {ok, T};
-done({fix, _, On}, P, {Name, Config, Save, Users, Fix, L}) ->
-    {ok, {Name, Config, Save, Users, case On of true -> [P | Fix]; false -> lists:delete(P, Fix) end, L}};
+done({fix, _, true, Since}, P, {Name, Config, Save, Users, Fix, L}) ->
+    {ok, {Name, Config, Save, Users, ets:fix(Fix, P, Since), L}};
+done({fix, _, false, _}, P, {Name, Config, Save, Users, Fix, L}) ->
+    {ok, {Name, Config, Save, Users, ets:unfix(Fix, P), L}};
 done({clear, _}, _, {_, {_, _, _, read, _}, _, _, _, _}) -> refused;
 done(_, _, {_, {File, _, _, read, _}, _, _, _, _} = T) -> {{error, {access_mode, File}}, T};
 done({init, _, _}, _, {Name, _, _, _, [_ | _], _} = T) -> {{error, {fixed_table, Name}}, T};

@@ -118,24 +118,24 @@ one(Text) -> {error, lists:sublist(Text, 99)}.
 -spec shown(term()) -> string().
 shown({'#map', L}) -> "#{" ++ joined([shown(K) ++ "=>" ++ shown(V) || {K, V} <- L]) ++ "}";
 shown({'#float', K}) -> exponent(lists:reverse(pf_decimal:format($e, {'#float', K}, 7)));
-shown({'#bin', B}) -> io_lib:write({'#bin', B}, p);
+shown({'#bin', B}) -> pf_pretty:print({'#bin', B}, 1, 0, -1, texts);
 shown(T) when is_tuple(T) -> "{" ++ joined([shown(E) || E <- tuple_to_list(T)]) ++ "}";
 shown([H | T]) ->
-    case io_lib:printable_list([H | T]) of
-        true -> io_lib:write([H | T], p);
+    case pf_format:printable_list([H | T]) of
+        true -> pf_format:quoted([H | T], $");
         false -> "[" ++ joined([shown(E) || E <- [H | T]]) ++ "]"
     end;
 shown(T) when is_atom(T) -> word(atom_to_list(T));
-shown(T) -> io_lib:write(T, p).
+shown(T) -> pf_format:write(T).
 
 %% no word is reserved here
 -spec word(string()) -> string().
 word([C | T]) when C >= $a, C =< $z ->
-    case lists:all(fun(D) -> io_lib:is_word(D) end, T) of
+    case lists:all(fun(D) -> pf_format:is_word(D) end, T) of
         true -> [C | T];
-        false -> io_lib:quoted([C | T], $')
+        false -> pf_format:quoted([C | T], $')
     end;
-word(S) -> io_lib:quoted(S, $').
+word(S) -> pf_format:quoted(S, $').
 
 -spec joined([string()]) -> string().
 joined([]) -> [];

@@ -1,6 +1,6 @@
 %% Handles of qlc, for tables, lists, and what is joined or sorted of them, after OTP 25: each is evaluated in one
-%% piece. Of a query by list comprehension the generators are evaluated in their order, each once. Cursors and tables
-%% by functions of one's own are refused.
+%% piece, by a cursor when it is asked first. Of a query by list comprehension the generators are evaluated in their
+%% order, each once. Tables by functions of one's own are refused.
 -module(qlc).
 -compile([export_all, nowarn_export_all]).
 -spec q(term()) -> {qlc_handle, term()}.
@@ -45,6 +45,78 @@ fold(F, A, Q) -> lists:foldl(F, A, eval(Q, [])).
 
 -spec fold(term(), term(), term(), term()) -> term().
 fold(F, A, Q, Options) -> lists:foldl(F, A, eval(Q, Options)).
+
+%% ---- cursors: a process each, which has the answers that nobody was given yet, or how they are found
+
+-spec cursor(term()) -> {qlc_cursor, {pid(), pid()}}.
+cursor(Q) -> cursor(Q, []).
+
+-spec cursor(term(), term()) -> {qlc_cursor, {pid(), pid()}}.
+cursor(Q, Options) ->
+    All = case is_list(Options) of true -> Options; false -> [Options] end,
+    Unique = flags([O || O <- All, not is_of_cursor(O)], [unique_all, cache_all]),
+    is_handle(Q) orelse error(badarg),
+    Owner = self(),
+    Find = fun() -> once(Unique, answers(Q)) end,
+    {qlc_cursor, {spawn(fun() -> gives(monitor(process, Owner), Owner, Find) end), Owner}}.
+
+-spec is_of_cursor(term()) -> boolean().
+is_of_cursor({max_list_size, N}) -> is_integer(N) andalso N >= 0;
+is_of_cursor({spawn_options, L}) -> is_list(L) orelse L =:= default;
+is_of_cursor({tmpdir, Folder}) -> is_list(Folder) orelse is_binary(Folder) orelse is_atom(Folder);
+is_of_cursor({tmpdir_usage, How}) -> lists:member(How, [allowed, not_allowed, info_msg, warning_msg, error_msg]);
+is_of_cursor(_) -> false.
+
+-spec gives(reference(), pid(), list() | fun(() -> list())) -> term().
+gives(M, Owner, Answers) ->
+    receive
+        {Owner, _, stop} -> ok;
+        {Owner, R, N} -> found(M, Owner, R, N, Answers);
+        {'DOWN', M, process, Owner, _} -> ok
+    end.
+
+-spec found(reference(), pid(), reference(), all | pos_integer(), list() | fun(() -> list())) -> term().
+found(M, Owner, R, N, Find) when is_function(Find) ->
+    try Find() of
+        Answers -> found(M, Owner, R, N, Answers)
+    catch Class:Why -> Owner ! {R, Class, Why}
+    end;
+found(M, Owner, R, N, Answers) ->
+    {Given, Rest} = case N of
+        _ when is_integer(N), N < length(Answers) -> lists:split(N, Answers);
+        _ -> {Answers, []}
+    end,
+    Owner ! {R, Given},
+    gives(M, Owner, Rest).
+
+-spec next_answers(term()) -> list().
+next_answers(C) -> next_answers(C, 10).
+
+-spec next_answers(term(), term()) -> list().
+next_answers({qlc_cursor, {_, Owner}}, _) when Owner =/= self() -> error(not_cursor_owner);
+next_answers({qlc_cursor, {P, _}}, all_remaining) -> asked(P, all);
+next_answers({qlc_cursor, {P, _}}, N) when is_integer(N), N > 0 -> asked(P, N);
+next_answers(_, _) -> error(badarg).
+
+-spec asked(pid(), all | pos_integer()) -> list().
+asked(P, N) ->
+    R = monitor(process, P),
+    P ! {self(), R, N},
+    receive
+        {R, Answers} -> demonitor(R, [flush]), Answers;
+        {R, Class, Why} -> demonitor(R, [flush]), erlang:raise(Class, Why, []);
+        {'DOWN', R, process, _, _} -> error({qlc_cursor_pid_no_longer_exists, P})
+    end.
+
+-spec delete_cursor(term()) -> ok.
+delete_cursor({qlc_cursor, {_, Owner}}) when Owner =/= self() -> error(not_cursor_owner);
+delete_cursor({qlc_cursor, {P, _}}) ->
+    R = monitor(process, P),
+    P ! {self(), R, stop},
+    receive {'DOWN', R, process, _, _} -> ok end;
+delete_cursor(_) -> error(badarg).
+
+%% ---- what handles are made of
 
 -spec append(list()) -> {qlc_handle, term()}.
 append(Qs) -> lists:all(fun is_handle/1, Qs) orelse error(badarg), {qlc_handle, {append, Qs}}.

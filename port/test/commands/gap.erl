@@ -3,9 +3,9 @@
 -export([main/0, other/0, measure/0, tied/0, between/0]).
 
 main() ->
-    T = ets:new(t, []),
-    self() ! memory,
-    receive Item -> try ets:info(T, Item) catch _:_ -> caught end end.
+    _ = ets:new(t, []),
+    self() ! reductions,
+    receive Item -> try erlang:statistics(Item) catch _:_ -> caught end end.
 
 other() ->
     self() ! {file, read_file, ["x"]},

@@ -22,7 +22,7 @@ main() ->
     C = receive {'DOWN', M1, process, P1, W1} -> W1 end,
     P2 = proc_lib:spawn_opt(?MODULE, hi, [Me, 1], [link, {priority, low}]),
     D = receive {hi, 1} -> receive {'EXIT', P2, W2} -> W2 end end,
-    {P3, M3} = proc_lib:spawn_opt(?MODULE, boom, [x], [link, monitor]),
+    {P3, M3} = proc_lib:spawn_opt(?MODULE, boom, [x], [link, {monitor, []}]),
     E = {receive {'DOWN', M3, process, P3, W3} -> tidy(W3) end, receive {'EXIT', P3, W4} -> tidy(W4) end},
     P4 = proc_lib:spawn_link(fun() -> throw(ball) end),
     F = receive {'EXIT', P4, W5} -> tidy(W5) end,

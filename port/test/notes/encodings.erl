@@ -36,7 +36,7 @@ main() ->
 %% note: 12: what is logged or printed is left out; a crash in formatting it isn't seen
 %% note: 13: process dictionaries are kept by one process, and each access is a message and its answer
 %% note: 14: atoms and their texts are those of the program; list_to_atom of others is refused
-%% note: 15: pids, references and funs are formatted without numbers, and ~p breaks no lines
+%% note: 15: pids, references and funs are formatted without numbers, and what comes is a flat list
 %% note: 17: an error of the limits (a value over 4,096 nodes, an integer past 64 bits) ends the process and is not caught
 %% note: 18: a monitor of a name is whereis and then a monitor of the pid: the name may pass to another between
 %% note: 19: no application has an environment here, so get_env answers the default; starting one does nothing

@@ -3,9 +3,7 @@
 main() ->
     T = ets:new(t, []),
     Q = ets:table(T),
-    C = qlc:cursor(Q),
-    qlc:next_answers(C, 1),
+    _ = qlc:string_to_handle("[1]."),
     qlc:info(Q).
-%% refused: 6: qlc:cursor/1 is a query that is made at run time; evaluate a handle of a table, or take match_object or select of ets
-%% refused: 7: qlc:next_answers/2 is a query that is made at run time; evaluate a handle of a table, or take match_object or select of ets
-%% refused: 8: qlc:info/1 is a query that is made at run time; evaluate a handle of a table, or take match_object or select of ets
+%% refused: 6: qlc:string_to_handle/1 is a query that is made at run time; evaluate a handle of a table, or take match_object or select of ets
+%% refused: 7: qlc:info/1 is a query that is made at run time; evaluate a handle of a table, or take match_object or select of ets

@@ -55,6 +55,48 @@ two_files() {
   farm 0 2 c1
 }
 
+# Counts whether standard error says that command $2 of the file c1 is none, since $1, and no more.
+is_reported() {
+  printf 'pulsefarm: c1: command %s is none: %s; those before it were answered, and nothing after it was read\n' \
+    "$2" "$1" | cmp -s - err
+  note "what is said: $1" $?
+}
+
+# Counts whether a farm says that the line $1 of project 1 is none, since $2.
+reason() {
+  printf 'log 1\n%s\nlog 1\n' "$1" > c1
+  printf 'p1 log 0\ncommand 2 refused C1\n' > wanted
+  farm 2 1 c1
+  is_reported "$2" 2
+}
+
+# What is said of a line that is no command.
+reasons() {
+  number='a number from 0 to 4294967295 without leading zeros'
+  reason 'claim 0 1 1' '`claim` is a line of workers, and not of clients'
+  reason 'await 2 1' '`2` is another project: the lines of this file are those of project 1'
+  reason 'submit 2 3' '`2` is another project: the lines of this file are those of project 1'
+  reason 'await 1' '`T` is missing: `await` wants `P T` after it'
+  reason 'await 1 1 1' 'it has too many words: `await` wants `P T` after it'
+  reason 'await 1 01' "\`01\` is no \`T\` of \`await\`: it wants $number"
+  reason 'fetch x 1' "\`x\` is no \`P\` of \`fetch\`: it wants $number"
+  reason 'AWAIT 1 1' 'no command begins with `AWAIT`'
+  reason '' 'the line is empty'
+  reason 'submit 1 500' 'the source of as many bytes, and a line end, don'"'"'t follow `submit`'
+}
+
+# Two files with a line that is none are both reported, by name.
+both_are_reported() {
+  printf 'log 1\nnone\n' > c1
+  printf 'none\nlog 2\n' > c2
+  printf 'p1 log 0\ncommand 2 refused C1\ncommand 1 refused C1\n' > wanted
+  farm 2 2 c1 c2
+  rest='no command begins with `none`; those before it were answered, and nothing after it was read'
+  printf 'pulsefarm: c1: command 2 is none: %s\npulsefarm: c2: command 1 is none: %s\n' "$rest" "$rest" > wanted
+  sort err | cmp -s - wanted
+  note 'two files with a line that is none' $?
+}
+
 # A line that is no command ends its file, and that file alone.
 lines_that_are_none() {
   begin 1 one.erl
@@ -63,9 +105,7 @@ lines_that_are_none() {
   printf 'log 2\n' >> c2
   printf 'p1 module 1\ncommand 2 refused C1\np2 module 1\np2 log 1\n' > wanted
   farm 2 2 c1 c2
-  [ "$(cat err)" = \
-    'pulsefarm: a line of a file is no command there: those before it were answered, and nothing after it was read' ]
-  note 'what is said of a line that is none' $?
+  is_reported '`2` is another project: the lines of this file are those of project 1' 2
   for line in 'claim 0 1 1' 'slice 0 1 1 5' 'park 0 1 1' 'await 2 1' 'await 1' 'await 1 1 1' 'await  1 1' 'await 1 01' \
     'await 1 -1' 'await 1 4294967296' \
     'once 1 1' 'AWAIT 1 1' 'await' '' 'fetch 2 1' 'submit 2 3' 'submit 1 500'; do
@@ -106,7 +146,7 @@ files() {
   [ $? = 2 ] && [ ! -s out ] && [ "$(cat err)" = 'pulsefarm: the standard input can be the file of one client only' ]
   note 'the standard input twice' $?
   timeout 20 "$program" farm --workers 1 . > out 2> err
-  [ $? = 2 ] && [ ! -s out ] && [ -s err ]
+  [ $? = 2 ] && [ ! -s out ] && [ "$(wc -l < err)" = 1 ] && grep -q '^pulsefarm: .: ' err
   note 'a folder' $?
   begin 1 one.erl
   timeout 20 "$program" farm --workers 1 c1 > /dev/full 2> err
@@ -199,6 +239,8 @@ on_a_terminal() {
 two_files
 on_a_terminal
 lines_that_are_none
+reasons
+both_are_reported
 nothing_to_wait_for
 files
 many_trials 4 50

@@ -85,6 +85,7 @@ hunts() {
     shards_tell 18446744073709551515..18446744073709551615 $locks --all --weights 9:1
     shards_tell 0..16 $reply --property true --shrink 300
     shards_tell 0..2000 $reply --property 'never:{reply,"x",_}'
+    shards_tell 0..2000 $reply --property withinlimit --property true
     COUNTS=16 shards_tell 0..1000000 $reply --property true --all
   }
 }

@@ -77,11 +77,12 @@ f(N, L) -> self() ! L, receive X -> f(N - 1, X) end.
 g(0) -> [];
 g(N) -> [N | g(N - 1)].
 END
-printf 'submit 1 %s\n%s\norder 1 1 main returns none 100\nclaim 0 1 1\nslice 0 1 1 9\nfile 0 1 1\nfetch 1 1\nlog 1\nusage 1\n' "$(printf -- '-module(m).\n-export([main/0]).\nmain() -> 7.\n' | wc -c)" "$(printf -- '-module(m).\n-export([main/0]).\nmain() -> 7.\n')" > commands
-printf 'submit 1 %s\n%s\norder 1 1 main returns none 100\nawait 1 1\nfetch 1 1\n' \
-  "$(printf -- '-module(m).\n-export([main/0]).\nmain() -> 7.\n' | wc -c)" \
-  "$(printf -- '-module(m).\n-export([main/0]).\nmain() -> 7.\n')" > client1
-sed 's/ 1 / 2 /; s/ 1$/ 2/' client1 > client2
+module=$(printf -- '-module(m).\n-export([main/0]).\nmain() -> 7.')
+submit=$(printf 'submit 1 %s\n%s' "${#module}" "$module")
+printf '%s\norder 1 1 main returns none 100\nclaim 0 1 1\nslice 0 1 1 9\nfile 0 1 1\nfetch 1 1\nlog 1\nusage 1\n' \
+  "$submit" > commands
+printf '%s\norder 1 1 main returns none 100\nawait 1 1\nfetch 1 1\n' "$submit" > client1
+sed 's/^\([a-z]*\) 1 /\1 2 /' client1 > client2
 : > in
 
 asked='--root main --limit 20000 --property returns'

@@ -283,6 +283,9 @@ row_refused shrink_wait_within_three_runs ended_well
 printf '%s\n' 'seed 7' 'schedule 0' memory 'steps 0' 'no verdict' > "$room/stopped"
 hunt_refused hunt_of_a_wait
 hunt_refused hunt_of_a_wait_shrunk
+printf '%s\n' 'seed 7' 'fails nodeadlock' 'schedule 0' memory 'steps 0' 'no verdict' > "$room/stopped"
+hunt_refused hunt_by_several_properties
+hunt_refused hunt_by_several_properties_shrunk
 row_refused hunt_of_each_outcome ended_well
 chart_refused
 some_commands

@@ -189,6 +189,97 @@ lacking() {
   }
 }
 
+# Of the properties from $4 on the first that fails of the module $1 by the seed $2, with the report of that run in
+# `report`; nothing where none does. The limit is $3.
+first_failed() {
+  source=$1 seed=$2 limit=$3
+  shift 3
+  for property in "$@"; do
+    prints "$room/report" run "$source" --root main --limit "$limit" --property "$property" --seed "$seed" \
+      --strategy "$strategy"
+    if [ "$status" = 1 ]; then
+      echo "$property"
+      return
+    fi
+  done
+}
+
+# The least seed below 60 by which one of the properties from $3 on fails of the module $1, what is reported of it, and
+# what comes after where its schedule is shrunk, against runs and shrinkings with each of them; $2 is the limit.
+several() {
+  source=$1 limit=$2
+  shift 2
+  named=
+  for property in "$@"; do named="$named --property $property"; done
+  seed=0 first=
+  while [ "$seed" -lt 60 ]; do
+    first=$(first_failed "$source" "$seed" "$limit" "$@")
+    [ -z "$first" ] || break
+    seed=$((seed + 1))
+  done
+  wanted_status=1
+  if [ -z "$first" ]; then
+    echo 'no failure in 60 seeds' > "$room/wanted"
+    wanted_status=0
+  else
+    prints "$room/report" run "$source" --root main --limit "$limit" --property "$first" --seed "$seed" \
+      --strategy "$strategy"
+    schedule=$(choices_of "$room/report")
+    { printf 'seed %s\nfails %s\n' "$seed" "$first"; [ "$strategy" = uniform ] || echo 'strategy pos'
+      printf 'schedule %s\n' "$schedule"; } > "$room/front"
+    cat "$room/front" "$room/report" > "$room/wanted"
+  fi
+  # The words in `$named` have no blanks in them.
+  # shellcheck disable=SC2086
+  {
+    for workers in 1 4; do
+      compare "$source by$named by $workers" "$wanted_status" /dev/null "$room/wanted" \
+        hunt "$source" --root main --limit "$limit" --seeds 0..60 --workers "$workers" --strategy "$strategy" $named
+    done
+    [ -n "$first" ] || return
+    prints "$room/shrunk" shrink "$source" --root main --limit "$limit" --property "$first" --schedule "$schedule" \
+      --runs 100
+    cat "$room/front" "$room/shrunk" > "$room/wanted"
+    compare "$source by$named, shrunk" 1 /dev/null "$room/wanted" hunt "$source" --root main --limit "$limit" \
+      --seeds 0..60 --shrink 100 --strategy "$strategy" $named
+  }
+}
+
+# Several properties at once: one run a seed, the least seed that fails one of them, and of these the first.
+several_properties() {
+  # By some seeds the last fails alone, by others the first does; a message is sent in each run.
+  printf '%s\n' '-module(s).' '-export([main/0, w/2]).' 'main() ->' '  A = spawn(?MODULE, w, [self(), 0]),' \
+    '  spawn(?MODULE, w, [self(), 1]),' '  receive {A, N} -> N end, receive {_, M} -> 1 div M, true end.' \
+    'w(P, N) -> P ! {self(), N}.' > "$room/several.erl"
+  for strategy in uniform pos; do
+    for source in "$examples/two_locks.erl" "$examples/unexpected_messages.erl" "$room/several.erl"; do
+      several "$source" 2000 returns nocrash nodeadlock
+      several "$source" 2000 nodeadlock nocrash returns
+      several "$source" 2000 withinlimit true nocrash
+      several "$source" 12 nocrash withinlimit
+      several "$source" 2000 withinlimit 'never:{X,Y}' returns
+    done
+    several "$examples/two_locks_mended.erl" 2000 returns nocrash nodeadlock
+  done
+  asked="$examples/two_locks.erl --root main --limit 2000 --seeds 0..60"
+  # The words in `$asked` have no blanks in them.
+  # shellcheck disable=SC2086
+  {
+    prints "$room/wanted" hunt $asked --property returns --property nocrash --property nodeadlock
+    compare 'no property' "$status" /dev/null "$room/wanted" hunt $asked
+    prints "$room/wanted" hunt $asked --property returns --all
+    compare 'each outcome without a property' "$status" /dev/null "$room/wanted" hunt $asked --all
+    : > "$room/wanted"
+    compare 'each outcome of several properties' 2 /dev/null "$room/wanted" hunt $asked --all --property true \
+      --property returns
+    note 'several properties are named' \
+      "$(grep -q "'--all' cannot be used with several properties" "$room/err"; echo $?)"
+    echo P1 > "$room/wanted"
+    compare 'a second property that is none' 2 /dev/null "$room/wanted" hunt $asked --property true --property truth
+    note 'the text that is none is named' "$(grep -q 'there is no property `truth`' "$room/err"; echo $?)"
+  }
+}
+
 # What is refused: $1 names it, $2 is the source, $3 the text, and then come the words.
 refused() {
   name=$1 source=$2
@@ -226,5 +317,6 @@ while read -r module property _; do
 done < "$room/table"
 times_refused lost_update
 lacking stale_monitor main
+several_properties
 refusals
 tell_counts

@@ -99,7 +99,7 @@ def end_of(value):
     if "stopped" in value:
         return f"stopped after {value['seeds']} seeds, no failure"
     if "seed" in value:
-        return f"seed {value['seed']} fails"
+        return f"seed {value['seed']} fails" + (f" {value['property']}" if "property" in value else "")
     if "seeds" in value:
         return f"no failure in {value['seeds']} seeds"
     if "roots" in value:

@@ -134,6 +134,17 @@ hunts() {
 {"finished":"false"}
 {"steps":2}
 {"property":"fails"}' hunt e.erl --property true --strategy uniform --seeds 18446744073709551614..18446744073709551615
+  objects 'the property that fails' 1 '{"seed":0}
+{"fails":"true"}
+{"strategy":"pos"}
+{"schedule":"0"}
+{"choice":0,"count":1,"actor":"<0>","label":"end normal"}
+{"finished":"false"}
+{"steps":2}
+{"property":"fails"}' hunt e.erl --property nocrash --property true --property returns --seeds 5
+  agrees 'a pattern that fails' hunt "$top/examples/wrong_reply.erl" --property returns \
+    --property 'never:{reply, "x", _}' --seeds 50 --shrink 20
+  agrees 'a hunt without a property' hunt "$top/examples/two_locks.erl" --seeds 50
   objects 'no failure' 0 '{"failure":false,"seeds":5}' hunt t.erl --property true --seeds 5
   objects 'outcomes' 0 '{"strategy":"pos"}
 {"property":"holds","seeds":5,"least":3,"finished":"true"}' hunt t.erl --property true --seeds 3..8 --all
@@ -179,6 +190,13 @@ suites() {
 {"file":"folder/it'"'s: a 'b"'.erl","root":"main","failure":false,"seeds":5}
 {"file":"folder/seed 3 fails.erl","roots":0}
 {"files":4,"roots":2,"fail":1,"refused":1}' hunt folder --property true --seeds 5
+  objects 'roots that fail by the second of two' 1 '{"file":"e.erl","root":"main","failure":true,"seed":0,"property":"true"}
+{"file":"t.erl","root":"main","failure":false,"seeds":5}
+{"files":2,"roots":2,"fail":1,"refused":0}' hunt e.erl t.erl --property nodeadlock --property true --seeds 5
+  printf -- "-module(p).\n-export(['a: b'/0]).\n'a: b'() -> self() ! x.\n" > p.erl
+  objects 'a property with what is between the facts of a line' 1 \
+    '{"file":"p.erl","root":"'"'a: b'"'","failure":true,"seed":0,"property":"never: _"}
+{"files":1,"roots":1,"fail":1,"refused":0}' hunt p.erl --all-roots --property returns --property 'never: _' --seeds 5
   objects 'roots in quotes' 0 '{"file":"m.erl","root":"'"'Go now'"'","failure":false,"seeds":5}
 {"file":"m.erl","root":"'"' '"'","failure":false,"seeds":5}
 {"file":"m.erl","root":"'"'a: b'"'","failure":false,"seeds":5}

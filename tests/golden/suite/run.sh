@@ -184,6 +184,21 @@ input() {
   : > in
 }
 
+# The property that fails is named in the line of a root where a hunt looks for several.
+several() {
+  printf -- '-module(x).\n-export([main/0]).\nmain() -> 1 div 0.\n' > crash.erl
+  line='crash.erl main: seed 0 fails'
+  prints 'one property' 1 "$line\n1 file, 1 root: 1 fails, 0 refused\n" hunt crash.erl --all-roots --property nocrash
+  prints 'the first of several' 1 "$line returns\n1 file, 1 root: 1 fails, 0 refused\n" hunt crash.erl --all-roots
+  prints 'the second of several' 1 "$line nocrash\n1 file, 1 root: 1 fails, 0 refused\n" hunt crash.erl --all-roots \
+    --property withinlimit --property nocrash --property returns
+  prints 'a second that is none' 2 'crash.erl main: P1\n1 file, 1 root: 0 fail, 1 refused\n' hunt crash.erl --all-roots \
+    --property true --property truth
+  prints 'by JSON' 1 '{"file":"crash.erl","root":"main","failure":true,"seed":0,"property":"nocrash"}
+{"files":1,"roots":1,"fail":1,"refused":0}\n' hunt crash.erl --all-roots --format json --property withinlimit \
+    --property nocrash
+}
+
 # A hunt for a time stops, whatever the roots are: no line is of all seeds, and none has less than half of the seeds of
 # another.
 time_over() {
@@ -292,6 +307,7 @@ roots
 ended
 input
 time_over
+several
 turns
 cut_short
 waiting

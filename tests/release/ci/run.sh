@@ -58,6 +58,9 @@ answers() {
   "$program" hunt "$top/examples/wrong_reply.erl" --root main --limit 2000 --property true --seeds 0..9 |
     python3 "$top/examples/ci/answer.py" > "$room/json"
   holds "$room/json" 'it["seed"] == 2 and "shrinking" not in it and len(it["schedule"]) == len(it["events"]) == 20'
+  printf 'seed 7\nfails nocrash\nstrategy pos\nschedule 0\n0/1 <0> end normal\nfinished 1\nsteps 1\nproperty fails\n' |
+    python3 "$top/examples/ci/answer.py" > "$room/json"
+  holds "$room/json" '(it["seed"], it["property"], it["strategy"], it["schedule"]) == (7, "nocrash", "pos", [0])'
   printf 'stopped after 512 seeds\nno failure in 512 seeds\n' | python3 "$top/examples/ci/answer.py" > "$room/json"
   holds "$room/json" 'it == {"answer": "none", "seeds": 512, "stopped": 512}'
   printf 'stopped after 8 seeds\nstrategy pos\nholds 8 seeds, least 0: finished true\n' |

@@ -19,12 +19,16 @@ clients-preserved g c =
       answers = c.push_reserved-in-clients.ensures.items ∙ ap (λ t. t ++ answers_of x.reported x.ended ∷ [])
           l.invariant.answers
           ∙ sym (map-append (λ k. answers_of k.reported k.ended) l.yielded (x ∷ []));
+      replies = c.push_reserved-in-clients-2.ensures.items ∙ ap (λ t. t ++ x.replies ∷ []) l.invariant.replies
+          ∙ sym (map-append (λ k. k.replies) l.yielded (x ∷ []));
       seats_len = omega (arith, c.push_reserved.ensures.len, l.invariant.seats_len, more);
       answers_len = omega (arith, c.push_reserved-in-clients.ensures.len, l.invariant.answers_len, more);
+      replies_len = omega (arith, c.push_reserved-in-clients-2.ensures.len, l.invariant.replies_len, more);
       rest = l.invariant.rest ∙ ap (λ t. l.yielded ++ t) steps ∙ sym (append_assoc l.yielded (x ∷ []) left);
       rest_len = omega (arith, l.invariant.rest_len, ap (λ t. length t) steps, more);
       seats_room = omega (arith, c.push_reserved.ensures.capacity, l.invariant.seats_room);
       answers_room = omega (arith, c.push_reserved-in-clients.ensures.capacity, l.invariant.answers_room);
+      replies_room = omega (arith, c.push_reserved-in-clients-2.ensures.capacity, l.invariant.replies_room);
     }
 
 pub returns-clause-seats : goal.returns-clause-seats
@@ -44,3 +48,12 @@ returns-clause-answers g c =
     let all = l.invariant.rest ∙ ap (λ t. l.yielded ++ t) (nothing_left (into_iter_items l.client-iterator) left)
     ∙ append-nil l.yielded in
     l.invariant.answers ∙ sym (ap (λ t. map (λ k. answers_of k.reported k.ended) t) all)
+
+pub returns-clause-replies : goal.returns-clause-replies
+returns-clause-replies g c =
+    let l = c.clients in
+    let left : length (into_iter_items l.client-iterator) ≡ 0 = sym l.client-iterator.rest.ok.0
+    ∙ c.in-None.ensures.steps.0 in
+    let all = l.invariant.rest ∙ ap (λ t. l.yielded ++ t) (nothing_left (into_iter_items l.client-iterator) left)
+    ∙ append-nil l.yielded in
+    l.invariant.replies ∙ sym (ap (λ t. map (λ k. k.replies) t) all)

@@ -4,7 +4,7 @@ use Rattle.pf_hunt.specs.Notices.{HearsSome}
 use Rattle.pf_hunt.proofs.Hearing.{hears_none, hears_weaker}
 use Rattle.pf_cli.specs.Args.{view_of_hunt_args}
 use Rattle.pf_cli.specs.declared.args.HuntGoal.TheVariants.{Failure, Outcomes}
-use Rattle.pf_command.specs.Hunts.{OfEach}
+use Rattle.pf_command.specs.Hunts.{OfEach, properties_of}
 use Rattle.pf_command.specs.Printed.{HuntEndsAs, PrintsAs}
 use Rattle.pf_command.specs.declared.answers.Answer.TheVariants.{Reported}
 use Rattle.pf_command.proofs.Found.{answered_as, ends_as, refused_as}
@@ -21,12 +21,14 @@ returns-in-Failure g c =
     let old = c.args.seeds.now in
     let new = c.seek_failure.new.seeds in
     IfOk-weaker c.seek_failure.result
-    (λ e. HearsSome heard old (OfEach x.module (λ bytes. PrintsAs h bytes x.job sought e)) new)
+    (λ e. HearsSome heard old (OfEach x.module (λ bytes. PrintsAs h bytes x.job (properties_of x) sought e)) new)
     (λ e. HearsSome heard old (HuntEndsAs h h.sought bytes e) new)
     (λ e.
-    hears_weaker heard (OfEach x.module (λ bytes. PrintsAs h bytes x.job sought e)) (HuntEndsAs h h.sought bytes e) old
+    hears_weaker heard (OfEach x.module (λ bytes. PrintsAs h bytes x.job (properties_of x) sought e))
+    (HuntEndsAs h h.sought bytes e) old
     new
-    (λ ns reports. ends_as h bytes x.module x.job ns sought (sym c.in-Failure.is) known.0 known.1 e
+    (λ ns reports. ends_as h bytes x.module x.job (properties_of x) ns sought (sym c.in-Failure.is) known.0 known.1
+    known.2 e
     (reports bytes known.0)))
     c.seek_failure.ensures
 
@@ -39,7 +41,9 @@ returns-in_ok-answer-in-Outcomes g c =
     let answer = c.in_ok-answer-in-Outcomes.answer in
     let heard = c.in_ok-answer-in-Outcomes.ensures in (
       heard.0,
-      answered_as h bytes x.module x.job heard.0 Outcomes (sym c.in-Outcomes.is) known.0 known.1 answer (heard.1 bytes),
+      answered_as h bytes x.module x.job (properties_of x) heard.0 Outcomes
+          (sym c.in-Outcomes.is) known.0 known.1 known.2
+          answer (heard.1 bytes),
       heard.2,
     )
 

@@ -11,6 +11,6 @@ returns-in-Err c =
     let h = view_of_hunt_args c.args.args.now in
     let m = c.args.module.now in
     let runs = c.args.runs in
-    refusal_weaker (AsksOf (shrinking_of h [] runs) m) (HuntAsksFor h (Failure (Some runs)) m)
+    refusal_weaker (AsksOf (shrinking_of h h.request.property [] runs) m) (HuntAsksFor h (Failure (Some runs)) m)
     (λ code is. shrinking_refused runs m code is)
     c.in-Err.refusal c.in-Err.ensures

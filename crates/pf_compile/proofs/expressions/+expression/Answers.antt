@@ -22,6 +22,7 @@ use Rattle.pf_compile.proofs.Evaluated.{evaluates_tuple, evaluates_cons, evaluat
 use Rattle.pf_compile.proofs.Evaluated.{evaluates_builtin}
 use Rattle.pf_compile.proofs.Clauses.{inner_target, Begun}
 use Rattle.pf_compile.proofs.Parts.{evaluates_decided, evaluates_match, evaluates_bind, evaluates_case, evaluates_if}
+use Rattle.pf_compile.proofs.Parts.{evaluates_case_of, variable_below}
 use Rattle.pf_compile.proofs.Parts.{evaluates_call, evaluates_receive, evaluates_undefined}
 use Rattle.pf_compile.specs.Scopes.{register_of}
 use Rattle.pf_compile.specs.declared.target.Subject.TheVariants as subjects
@@ -514,6 +515,32 @@ case-pick-requires t c = (
     ),
   ),
 )
+
+pub case_of_variable-pick-requires : goal.case_of_variable-pick-requires
+case_of_variable-pick-requires t c =
+    let slots = slots_in c.args.scope.now in
+    let old = code_of c.args.maker.now in (
+      omega (arith, c.decreases),
+      (
+        target_on old (code_of c.raise_with.new.maker) slots c.args.to c.args.to c.args.to.free (omega arith)
+            c.in_ok-raise.ensures.grown refl c.requires.target,
+        (
+          variable_below old slots c.args.to c.args.variable.0 c.args.variable.1 c.requires.target c.requires.register,
+          c.in_ok-raise.ensures.place,
+        ),
+      ),
+    )
+
+pub case_of_variable-returns : goal.case_of_variable-returns
+case_of_variable-returns t c =
+    let slots = slots_in c.args.scope.now in
+    let old = code_of c.args.maker.now in
+    let ks = clauses_over (tables_in c.args.scope.now) c.args.clauses.now in
+    let below = variable_below old slots c.args.to c.args.variable.0 c.args.variable.1 c.requires.target
+    c.requires.register in
+    evaluates_case_of c.args.scope.now ks c.args.to c.args.variable.0 c.args.variable.1 old
+    (code_of c.raise_with.new.maker) (code_of c.pick.new.maker) (code_of c.step.new.maker) c.in_ok-raise.raise
+    c.in_ok-first.first _ below c.requires.register c.in_ok-raise.ensures c.in_ok-first.ensures c.in_ok-step.ensures
 
 pub choice-pick-requires : goal.choice-pick-requires
 choice-pick-requires t c = (

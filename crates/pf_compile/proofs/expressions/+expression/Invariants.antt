@@ -37,6 +37,9 @@ abbrev pub decreases-case : goal.decreases-case
 decreases-case l = 6 * (weight (part_over (tables_in l.scope.now) l.part)
     + clauses_weight (clauses_over (tables_in l.scope.now) l.clauses.now)) + 9
 
+abbrev pub decreases-case_of_variable : goal.decreases-case_of_variable
+decreases-case_of_variable l = 6 * clauses_weight (clauses_over (tables_in l.scope.now) l.clauses.now) + 7
+
 abbrev pub decreases-choice : goal.decreases-choice
 decreases-choice l = 6 * clauses_weight (clauses_over (tables_in l.scope.now) l.clauses.now) + 7
 

@@ -14,3 +14,6 @@ returns g c =
     → IsExplored (with_last y.last j.asked) y.may_stop y.budget (levels_of y.deviations) c.in_ok-explored.explored
     → AnswersJob y j a) (AnswersJob x j)
     (λ a is. is x c.in_ok-explored.ensures) c.write_explored.ensures
+
+pub invariant_of-hunt : goal.invariant_of-hunt
+invariant_of-hunt g c = record { alike = c.none.ensures c.args.job _ }

@@ -1,11 +1,14 @@
-use Rattle.std.proofs.Common.{◌≡◌, ◌+◌, [], ◌∷◌, ◌++◌, length, map, sym, ap, ◌∙◌, subst, append_assoc, arith}
+use Rattle.std.proofs.Common.{◌≡◌, ◌+◌, List, [], ◌∷◌, ◌++◌, length, map, sym, ap, ◌∙◌, subst, append_assoc, arith}
 use Rattle.std.proofs.lemmas.List.{map-append, length_push}
 use Rattle.std.specs.Vec.Iter.{into_iter_items}
 use Rattle.pf_book.specs.Profile.{ForRight}
+use Rattle.pf_farm_accounts.specs.Places.{AreAmong}
 use Rattle.pf_farm_accounts.specs.Receipts.{gathering_of}
 use Rattle.pf_farm_state.specs.declared.client.ClosedSeat.{ClosedSeat}
+use Rattle.pf_farm_state.specs.declared.look.TrialLook.{TrialLook}
 use Rattle.pf_farm_state.specs.Clients.{ClientView, all_receipts, closed_as, AreFull}
 use Rattle.pf_farm_state.proofs.Closed.{all_more, full_more}
+use Rattle.pf_farm_state.proofs.Grown.{among_more, AllAmong}
 use Rattle.pf_farm_state.proofs.closing.close.Goals as goal
 
 pub loop-client-preserved : goal.loop-client-preserved
@@ -34,6 +37,10 @@ loop-client-preserved g c =
           ∙ (λ i. gathering_of log (receipts i) (parts i));
       full = subst (λ l. ForRight (λ p. AreFull l w)) (sym items)
           (λ p right. full_more at.closed.items s w (v.full p right) (c.close_one.ensures.full p right));
+      among = subst (λ (l : List ClosedSeat). AllAmong l c.args.looks.now) (sym items)
+          (among_more at.closed.items s c.args.looks.now v.among
+          (subst (λ (l : List TrialLook). AreAmong s.looks l) v.same c.close_one.ensures.among));
+      same = c.close_one.ensures.same ∙ v.same;
       room = omega (
         arith,
         v.room,

@@ -1,7 +1,9 @@
 use Rattle.std.proofs.Common.{◌≡◌, ◌+◌, ◌≤◌, ◌++◌, length, map}
+use Rattle.std.specs.Prelude.{All}
 use Rattle.std.specs.Vec.{vec_capacity}
 use Rattle.std.specs.Vec.Iter.{into_iter_items}
 use Rattle.pf_book.specs.Profile.{ForRight}
+use Rattle.pf_farm_accounts.specs.Places.{AreAmong}
 use Rattle.pf_farm_accounts.specs.Receipts.{gathering_of}
 use Rattle.pf_farm_state.specs.Clients.{all_receipts, closed_as, AreFull}
 use Rattle.pf_farm_state.proofs.closing.close.Given as goal
@@ -13,5 +15,7 @@ invariant-loop-client g l = record {
   gathered : l.gathering ≡ gathering_of l.fn.gathering.log (all_receipts l.closed.items)
       (l.fn.gathering.parts + length l.yielded);
   full : ForRight (λ p. AreFull l.closed.items l.book);
+  among : All (λ s. AreAmong s.looks l.fn.looks) l.closed.items;
+  same : l.looks ≡ l.fn.looks;
   room : length l.yielded + length (into_iter_items l.client-iterator) ≤ vec_capacity l.closed;
 }

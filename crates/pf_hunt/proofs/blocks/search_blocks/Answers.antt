@@ -2,7 +2,7 @@ use Rattle.std.proofs.Common.{◌≡◌, ◌<◌, false, None, inl, inr, refl, s
 use Rattle.std.specs.Prelude.{option_map}
 use Rattle.pf_hunt.specs.Hunts.{fails, less_far, none_is, to_end}
 use Rattle.pf_hunt.specs.Notices.{has_none, stops}
-use Rattle.pf_hunt.specs.Views.{leak_of}
+use Rattle.pf_hunt.specs.Views.{failures_of, leak_of}
 use Rattle.pf_hunt.proofs.Firsts.{no_seeds}
 use Rattle.pf_hunt.proofs.Leaking.{finds_both, finds_further, leaks_there, no_leak, none_fails_in}
 use Rattle.pf_hunt.proofs.Hearing.{all_run, block_run, found_there, none_run, none_there, stopped_there}
@@ -18,7 +18,7 @@ loop-at-init g c =
     record {
       after = omega arith;
       within = inl refl;
-      none = no_seeds (fails h.leaks) h.strategy h.job.asked from from (omega arith);
+      none = no_seeds (fails (failures_of h)) h.strategy h.job.asked from from (omega arith);
       leak = no_leak h.strategy h.job.asked from from (omega arith);
       heard = none_run g.O.HuntObserver.Heard has_none c.args.range.may_stop from c.args.range.end c.args.observer.now;
     }
@@ -58,7 +58,8 @@ returns-then-is_some-clause-reach g c = to_end
 pub returns-then-is_some-clause-heard : goal.returns-then-is_some-clause-heard
 returns-then-is_some-clause-heard g c =
     let h = c.args.hunt.now in
-    found_there g.O.HuntObserver.Heard c.args.range.may_stop c.args.range.first c.args.range.end h.leaks h.strategy
+    found_there g.O.HuntObserver.Heard c.args.range.may_stop c.args.range.first c.args.range.end
+    (failures_of h) h.strategy
     h.job.asked
     c.args.observer.now c.loop-at.observer
     c.progress.new.self c.loop-at.at c.block_end-next.result c.progress.result c.in_ok-block.block.failure

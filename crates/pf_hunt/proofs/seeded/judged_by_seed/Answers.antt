@@ -1,22 +1,25 @@
-use Rattle.std.proofs.Common.{ap, subst, sym, Some}
-use Rattle.std.proofs.lemmas.Result.{IfOk-weaker}
-use Rattle.std.specs.Prelude.{IfOk}
-use Rattle.pf_strategy.specs.declared.strategy.SeedChoice.{SeedChoice}
-use Rattle.pf_sched.specs.Choosing.{choosing_of}
-use Rattle.pf_sched.specs.Judging.{Judges}
-use Rattle.pf_sched.proofs.BySeed.{means_by_seed}
-use Rattle.pf_hunt.specs.Judging.{JudgesBySeed}
+use Rattle.std.proofs.Common.{map, sym, subst}
+use Rattle.std.specs.Prelude.{IfOk, IfSome}
+use Rattle.pf_property.specs.Views.{property_of}
+use Rattle.pf_request.specs.Job.{Job}
+use Rattle.pf_verdicts.specs.Judging.{JudgesBySeed}
+use Rattle.pf_verdicts.specs.Watching.{Watches}
 use Rattle.pf_hunt.proofs.seeded.judged_by_seed.Goals as goal
 
-pub judged_run-requires : goal.judged_run-requires
-judged_run-requires c none = absurd cc
+pub judged_by-requires : goal.judged_by-requires
+judged_by-requires c =
+    let h = c.args.hunt.now in
+    let found = c.watched_of-watched.result in
+    subst (λ ps. IfSome found (λ w. Watches c.job_of.result.now (map property_of ps) w.now))
+    (sym c.as_slice-further.ensures.value)
+    (subst (λ (j : Job). IfSome found (λ w. Watches j (map property_of h.further.items) w.now)) (sym c.job_of.ensures)
+    c.watched_of-watched.ensures)
 
 pub returns : goal.returns
 returns c =
-    let by : SeedChoice = record { seed = c.args.seed; strategy = c.args.hunt.now.strategy } in
-    subst (λ j. IfOk c.judged_run.result (λ v. JudgesBySeed by.strategy j.asked by.seed v)) c.job_of-job.ensures
-    (IfOk-weaker c.judged_run.result (λ v. Judges (choosing_of (Some by) c.job_of-job.result.now.asked)
-    c.job_of-job.result.now.asked v)
-    (λ v. JudgesBySeed by.strategy c.job_of-job.result.now.asked by.seed v)
-    (λ v judges. (judges.0, means_by_seed by c.job_of-job.result.now.asked judges.0 judges.1, judges.2))
-    c.judged_run.ensures)
+    let h = c.args.hunt.now in
+    let v = c.judged_by.result in
+    subst (λ ps. IfOk v (JudgesBySeed h.strategy (map property_of ps) h.job.asked c.args.seed))
+    c.as_slice-further.ensures.value
+    (subst (λ (j : Job). IfOk v (JudgesBySeed h.strategy (map property_of c.as_slice-further.result.now) j.asked
+    c.args.seed)) c.job_of.ensures c.judged_by.ensures)

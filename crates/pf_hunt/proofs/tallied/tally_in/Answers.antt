@@ -22,7 +22,7 @@ add-requires c =
     let counted = each_is_counted c.args.hunt.now.strategy c.args.hunt.now.job.asked c.args.from at.seed
     (rows_of at.tally) at.invariant.rows in
     let judged = c.in_ok-judged.ensures in
-    let one = ap (λ x. x.count) (c.met.ensures judged.0 judged.2) in
+    let one = ap (λ x. x.count) (c.met.ensures judged.0 judged.2.judged) in
     let fits = c.ranges.end.fits in
     let more = c.loop-seed-test.true in
     omega (arith, counted, one, fits, more)
@@ -34,13 +34,13 @@ loop-seed-preserved c =
     let judged = c.in_ok-judged.ensures in
     record {
       rows =
-          rw (c.in_ok-add.ensures, c.met.ensures judged.0 judged.2)
+          rw (c.in_ok-add.ensures, c.met.ensures judged.0 judged.2.judged)
           (one_seed_more c.args.hunt.now.strategy j c.args.from at.seed (rows_of at.tally) judged.0
           (omega (arith, at.auto.seed)) at.invariant.rows judged.1);
       leak =
           c.earlier-leak.ensures c.args.hunt.now.strategy j c.args.from at.seed (at.seed + 1)
           (omega (arith, at.auto.seed)) (omega arith) at.invariant.leak
-          (c.leak_at.ensures c.args.hunt.now.strategy j judged.0 judged.1 judged.2.2);
+          (c.leak_at.ensures c.args.hunt.now.strategy j judged.0 judged.1 judged.2.judged.2);
       at = inr (omega (arith, c.loop-seed-test.true));
     }
 

@@ -12,4 +12,5 @@ ghosts-play_by g a =
       workers = a.blanks.opened.parts;
       receipts = Some a.blanks.receipts;
       claims = Some a.blanks.claims;
+      looks = Some a.blanks.looks;
     }

@@ -1,47 +1,80 @@
-use Rattle.std.proofs.Common.{◌∙◌, arith, length, map, Ok, inr, subst}
-use Rattle.std.specs.Prelude.{IfSome}
+use Rattle.std.proofs.Common.{◌∙◌, arith, inl, length, map, refl}
+use Rattle.std.specs.Prelude.{option_map}
+use Rattle.std.specs.String.{string_bytes}
 use Rattle.std.proofs.lemmas.List.{length-map}
-use Rattle.pulsefarm.specs.Program.{AreOpened}
-use Rattle.pulsefarm.proofs.Farms.{ended_by, not_answered, of_fault, opened_count}
+use Rattle.pf_cli.specs.Args.{view_of_farm_args}
+use Rattle.pulsefarm.proofs.Farms.{run_over, run_to}
+use Rattle.pulsefarm.proofs.Given.{each_count, runs_over}
 use Rattle.pulsefarm.proofs.farm.answer.Goals as goal
 
-pub run_by-answered-requires-clause-files : goal.run_by-answered-requires-clause-files
-run_by-answered-requires-clause-files g c =
-    let opens = g.R.Opens.opens in
-    let opened = subst (λ o. IfSome o (λ v. AreOpened opens (map (λ w. w.now) c.deref.result.now) v.items))
-    c.in-Some.is c.in_ok-files.ensures.files in
-    let count = opened_count opens (map (λ w. w.now) c.deref.result.now) c.in-Some.files.items opened
+pub run_by-answered-requires-clause-sources : goal.run_by-answered-requires-clause-sources
+run_by-answered-requires-clause-sources g c =
+    let each = rw c.in-Some.is at c.in_ok-sources.ensures.sources in
+    let count = each_count _ 1 (map (λ w. w.now) c.deref.result.now) c.in-Some.sources.items each
     ∙ length-map c.deref.result.now (λ w. w.now) in
     let len = c.deref.ensures.len in
-    let ok = c.in-Some.files.ok in
+    let ok = c.in-Some.sources.ok in
     let some = c.args.args.now.some_files in
     λ lives outlive. (omega (arith, count, len, ok, some.0), omega (arith, count, len, ok, some.1))
 
-pub returns-in_err-reported-in-Err-Fault-Read : goal.returns-in_err-reported-in-Err-Fault-Read
-returns-in_err-reported-in-Err-Fault-Read g c =
+pub returns-in-Err-Fault-Read : goal.returns-in-Err-Fault-Read
+returns-in-Err-Fault-Read g c =
     let opens = g.R.Opens.opens in
-    let remaining = g.R.File.Read.remaining in
-    let opened = subst (λ o. IfSome o (λ v. AreOpened opens (map (λ w. w.now) c.deref.result.now) v.items))
-    c.in-Some.is c.in_ok-files.ensures.files in
+    let makes = g.R.Opens.makes in
+    let refuses = g.R.Opens.refuses in
+    let bars = g.R.Opens.bars in
+    let remaining = g.R.Stream.Read.remaining in
+    let contents = g.R.Stream.Write.contents in
+    let args = view_of_farm_args c.args.args.now in
+    let each = rw (c.in-Some.is, c.deref.ensures.value) at c.in_ok-sources.ensures.sources in
+    let runs = runs_over opens makes refuses bars remaining contents (λ x. x.name.now) (λ x. x.file)
+    (λ x. option_map (λ s. string_bytes s) x.replies) args c.in-Some.sources.items _ _ _ _ c.run_by-answered.result
+    each c.run_by-answered.ensures in
     record {
-      answers =
-          λ given h.
-          ended_by opens remaining _ _ _ _ _ _ c.run_by-answered.result c.in-Err-Fault-Read.field-0
-          (rw c.deref.ensures.value at opened) c.in-Err-Fault-Read.is c.run_by-answered.ensures given
-          (of_fault _ given c.from_residual-in_err-reported-in-Err-Fault-Read.ensures.0 h);
-      reason = not_answered _ _ c.from_residual-in_err-reported-in-Err-Fault-Read.ensures.0;
+      answers = λ given h.
+          run_to opens makes refuses bars remaining contents args _ _ _ _ c.run_by-answered.result _
+          c.in-Err-Fault-Read.is runs given (inl h);
+      reason = run_over opens makes refuses bars remaining contents _ args _ _ _ _ c.run_by-answered.result _
+          c.in-Err-Fault-Read.is runs _ (inl refl);
     }
 
 pub returns-in-Err : goal.returns-in-Err
 returns-in-Err g c =
     let opens = g.R.Opens.opens in
-    let remaining = g.R.File.Read.remaining in
-    let opened = subst (λ o. IfSome o (λ v. AreOpened opens (map (λ w. w.now) c.deref.result.now) v.items))
-    c.in-Some.is c.in_ok-files.ensures.files in
+    let makes = g.R.Opens.makes in
+    let refuses = g.R.Opens.refuses in
+    let bars = g.R.Opens.bars in
+    let remaining = g.R.Stream.Read.remaining in
+    let contents = g.R.Stream.Write.contents in
+    let args = view_of_farm_args c.args.args.now in
+    let each = rw (c.in-Some.is, c.deref.ensures.value) at c.in_ok-sources.ensures.sources in
+    let runs = runs_over opens makes refuses bars remaining contents (λ x. x.name.now) (λ x. x.file)
+    (λ x. option_map (λ s. string_bytes s) x.replies) args c.in-Some.sources.items _ _ _ _ c.run_by-answered.result
+    each c.run_by-answered.ensures in
     record {
-      answers =
-          λ given fails.
-          ended_by opens remaining _ _ _ _ _ _ c.run_by-answered.result c.in-Err.stop
-          (rw c.deref.ensures.value at opened) c.in-Err.is c.run_by-answered.ensures given fails;
+      answers = λ given fails.
+          run_to opens makes refuses bars remaining contents args _ _ _ _ c.run_by-answered.result _ c.in-Err.is runs
+          given fails;
       reason = tt;
+    }
+
+pub returns : goal.returns
+returns g c =
+    let opens = g.R.Opens.opens in
+    let makes = g.R.Opens.makes in
+    let refuses = g.R.Opens.refuses in
+    let bars = g.R.Opens.bars in
+    let remaining = g.R.Stream.Read.remaining in
+    let contents = g.R.Stream.Write.contents in
+    let args = view_of_farm_args c.args.args.now in
+    let each = rw (c.in-Some.is, c.deref.ensures.value) at c.in_ok-sources.ensures.sources in
+    let runs = runs_over opens makes refuses bars remaining contents (λ x. x.name.now) (λ x. x.file)
+    (λ x. option_map (λ s. string_bytes s) x.replies) args c.in-Some.sources.items _ _ _ _ c.run_by-answered.result
+    each c.run_by-answered.ensures in
+    record {
+      answers = λ given h.
+          run_to opens makes refuses bars remaining contents args _ _ _ _ c.run_by-answered.result _ c.in-Ok.is runs
+          given h;
+      reason = run_over opens makes refuses bars remaining contents _ args _ _ _ _ c.run_by-answered.result _
+          c.in-Ok.is runs _ refl;
     }

@@ -1,7 +1,7 @@
 use Rattle.std.proofs.Common.{◌≡◌, ℕ, ◌+◌, List, ◌++◌, length, sym, ap, ◌∙◌, subst, length-append, arith}
-use Rattle.pf_farm_accounts.specs.Places.{StartsWith}
+use Rattle.pf_farm_accounts.specs.Places.{standing_at, StartsWith}
 use Rattle.pf_farm_accounts.specs.declared.receipt.Receipt.{Receipt}
-use Rattle.pf_farm_accounts.specs.Receipts.{AreNumbered, IsSeat, standing_at, gathering_of}
+use Rattle.pf_farm_accounts.specs.Receipts.{AreNumbered, IsSeat, gathering_of}
 use Rattle.pf_farm_accounts.proofs.Standing.{standing_append, is_still_there}
 use Rattle.pf_farm_accounts.proofs.gathering.Gathering.add.Goals as goal
 

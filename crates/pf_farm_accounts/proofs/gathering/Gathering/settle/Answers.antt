@@ -1,5 +1,6 @@
 use Rattle.std.proofs.Common.{rules, ◌≡◌, arith}
-use Rattle.pf_farm_accounts.specs.Receipts.{EachOnce, standing_at}
+use Rattle.pf_farm_accounts.specs.Places.{standing_at}
+use Rattle.pf_farm_accounts.specs.Receipts.{EachOnce}
 use Rattle.pf_farm_accounts.proofs.Standing.{each_once}
 use Rattle.pf_farm_accounts.proofs.gathering.Gathering.settle.Goals as goal
 

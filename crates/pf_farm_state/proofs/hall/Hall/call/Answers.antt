@@ -3,12 +3,13 @@ use Rattle.std.specs.Prelude.{Ok}
 use Rattle.pf_request.specs.View.{view_of_call}
 use Rattle.pf_quota.specs.declared.refusals.TheConstants.{MOST_CALLS}
 use Rattle.pf_desks.specs.Calls.{calls_in}
-use Rattle.pf_desks.specs.Desks.{desk_at}
+use Rattle.pf_desks.specs.Desks.{Desks, desk_at}
 use Rattle.pf_farm_accounts.specs.Receipts.{receipt_of, of_project}
 use Rattle.pf_book.specs.Answers.{SimulatesCall}
 use Rattle.pf_farm_state.specs.Clients.{ClientReplies}
 use Rattle.pf_farm_state.specs.Hall.{IsSound}
 use Rattle.pf_farm_state.proofs.Full.{HasMost, most_and_more}
+use Rattle.pf_farm_state.proofs.Grown.{stays, true_still, call_extends}
 use Rattle.pf_farm_state.proofs.Noted.{room_below}
 use Rattle.pf_farm_state.proofs.Sound.{is_next, sound_called}
 use Rattle.pf_farm_state.proofs.hall.Hall.call.Goals as goal
@@ -22,9 +23,19 @@ log_call-requires-clause-number g c =
     c.in_ok-reply.ensures.answer in
     let own : q ≡ c.make_room.new.self.project = search rules in
     c.call_count-number.ensures
-    ∙ is_next h.ledger.0 h.calls h.book c.call-2.new.self q c.args.call c.in_ok-reply.reply does c.self.invariant
+    ∙ is_next h.ledger.0 h.calls h.book c.call-2.new.self q c.args.call c.in_ok-reply.reply does c.self.invariant.0
     (room_below (desk_at q h.book) less)
     ∙ ap (λ n. length (of_project n h.calls) + 1) own
+
+-- memory ran out, and the desks are as they were
+pub invariant_of-self : goal.invariant_of-self
+invariant_of-self g c =
+    let h = c.self.inside in
+    let w' = c.call-2.new.self in
+    let same : w' ≡ h.book = c.in_err-reply.ensures.answer.1 in (
+      subst (λ (w : Desks). IsSound h.ledger.0 h.calls w) (sym same) c.self.invariant.0,
+      true_still h.book w' h.stopped h.looks (stays h.book w' same) c.self.invariant.1,
+    )
 
 pub invariant_of-self-2 : goal.invariant_of-self-2
 invariant_of-self-2 g c =
@@ -37,11 +48,14 @@ invariant_of-self-2 g c =
     let does : SimulatesCall h.book q (view_of_call c.args.call) (Ok reply) c.call-2.new.self =
     c.in_ok-reply.ensures.answer in
     let number : n ≡ length (of_project q h.calls) + 1 = c.call_count-number.ensures ∙ is_next h.ledger.0 h.calls h.book
-    c.call-2.new.self q c.args.call reply does c.self.invariant room in
-    let now : c.log_call.new.self ≡ h.calls ++ receipt_of q n c.args.call reply ∷ [] = search rules in
-    subst (λ (l : List ClientReplies). IsSound h.ledger.0 l c.call-2.new.self) (sym now)
-    (sound_called h.ledger.0 h.calls h.book c.call-2.new.self q c.args.call reply does c.self.invariant n room number
-    c.call-2.ensures.tickets)
+    c.call-2.new.self q c.args.call reply does c.self.invariant.0 room in
+    let now : c.log_call.new.self ≡ h.calls ++ receipt_of q n c.args.call reply ∷ [] = search rules in (
+      subst (λ (l : List ClientReplies). IsSound h.ledger.0 l c.call-2.new.self) (sym now)
+          (sound_called h.ledger.0 h.calls h.book c.call-2.new.self q c.args.call reply does c.self.invariant.0 n room
+          number c.call-2.ensures.tickets),
+      true_still h.book c.call-2.new.self h.stopped h.looks (call_extends h.book c.call-2.new.self q
+          (view_of_call c.args.call) (Ok reply) does) c.self.invariant.1,
+    )
 
 pub invariant_of-seat-2 : goal.invariant_of-seat-2
 invariant_of-seat-2 g c = λ full.

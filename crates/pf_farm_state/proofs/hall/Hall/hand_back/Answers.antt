@@ -7,6 +7,7 @@ use Rattle.pf_farm_accounts.specs.declared.row.ClaimEnd.TheVariants.{HandedBack}
 use Rattle.pf_farm_accounts.specs.Rows.{row_of}
 use Rattle.pf_book.specs.Answers.{SimulatesHandBack}
 use Rattle.pf_farm_state.specs.Hall.{IsSound, end_or_stray}
+use Rattle.pf_farm_state.proofs.Grown.{true_still, back_extends}
 use Rattle.pf_farm_state.proofs.Sound.{sound_back, back_gone}
 use Rattle.pf_farm_state.proofs.hall.Hall.hand_back.Goals as goal
 
@@ -20,9 +21,13 @@ invariant_of-self g c =
     ∙ ap (λ (e : ClaimEnd). slice_set rows k.0 (row_of k.1 (Some e))) c.end_or_stray.ensures in
     let does : SimulatesHandBack c.self.inside.book k.1.project k.1.ticket c.hand_back-taken.result
     c.hand_back-taken.new.self = search rules in
-    subst (λ (r : List (ClaimRow Job)). IsSound r c.self.inside.calls c.hand_back-taken.new.self) (sym now)
-    (sound_back rows c.self.inside.calls c.self.inside.book k.0 k.1 at c.self.invariant c.hand_back-taken.new.self
-    c.hand_back-taken.result does)
+    let w = c.self.inside.book in
+    let w' = c.hand_back-taken.new.self in (
+      subst (λ (r : List (ClaimRow Job)). IsSound r c.self.inside.calls w') (sym now)
+          (sound_back rows c.self.inside.calls w k.0 k.1 at c.self.invariant.0 w' c.hand_back-taken.result does),
+      true_still w w' c.self.inside.stopped c.self.inside.looks
+          (back_extends w w' k.1.project k.1.ticket c.hand_back-taken.result does) c.self.invariant.1,
+    )
 
 pub returns-clause-gone : goal.returns-clause-gone
 returns-clause-gone g c =
@@ -30,4 +35,4 @@ returns-clause-gone g c =
     let does : SimulatesHandBack c.self.inside.book k.1.project k.1.ticket c.hand_back-taken.result
     c.hand_back-taken.new.self = search rules in
     rw (← c.self.view_is) (back_gone c.self.inside.ledger.0 c.self.inside.calls c.self.inside.book k.0 k.1
-    c.end.ensures.was c.self.invariant c.hand_back-taken.new.self c.hand_back-taken.result does)
+    c.end.ensures.was c.self.invariant.0 c.hand_back-taken.new.self c.hand_back-taken.result does)

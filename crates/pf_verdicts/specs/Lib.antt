@@ -1,0 +1,5 @@
+pub mod Causes
+pub mod Further
+pub mod Judging
+pub mod Watching
+pub mod Laws
