@@ -255,8 +255,22 @@ nowhere() {
   note "the standard input (status $status)" $?
 }
 
+# Whether each reply in the file $1, which is a beginning of the file $2, is whole. Only the last may be cut short, and
+# only where a page of its file ends: there the system ends the write of a program that a signal ends.
+are_whole() {
+  size=$(wc -c < "$1")
+  head -c "$size" "$2" | cmp -s - "$1" || return 1
+  [ $((size % page)) = 0 ] && return 0
+  awk '/^p[0-9]+ report / { if (left) bad = 1; left = $3; next }
+    left { left--; next }
+    /^p[0-9]+ / { next }
+    { bad = 1 }
+    END { exit bad || left > 0 }' "$1" && [ "$(tail -c 1 "$1" | od -An -c | tr -d ' ')" = '\n' ]
+}
+
 # A farm that is ended by a signal: what was answered is in the files, each reply whole.
 is_ended() {
+  page=$(getconf PAGESIZE)
   names=''
   for p in 1 2; do
     begin "$p" senders.erl
@@ -279,14 +293,7 @@ is_ended() {
     wait "$farm" 2> /dev/null
     whole=0
     for p in 1 2; do
-      size=$(wc -c < "r/$p")
-      head -c "$size" "wanted$p" | cmp -s - "r/$p" || whole=1
-      awk '/^p[0-9]+ report / { if (left) bad = 1; left = $3; next }
-        left { left--; next }
-        /^p[0-9]+ / { next }
-        { bad = 1 }
-        END { exit bad || left > 0 }' "r/$p" || whole=1
-      [ "$size" = 0 ] || [ "$(tail -c 1 "r/$p" | od -An -c | tr -d ' ')" = '\n' ] || whole=1
+      are_whole "r/$p" "wanted$p" || whole=1
     done
     note "ended at moment $moment" "$whole"
     [ "$(wc -c < r/1)" -lt "$(wc -c < wanted1)" ] && early=$((early + 1))
