@@ -5,16 +5,17 @@ use Rattle.std.specs.Prelude.{slice_get}
 use Rattle.std.proofs.lemmas.Bool.Decides.{eqb_tells}
 use Rattle.std.proofs.lemmas.List.{length-set}
 use Rattle.std.proofs.lemmas.Option.{same_Some, slice_get-get_or, slice_get_within}
-use Rattle.pf_chart.specs.Signals.{AreJoined, IsJoinedBy}
+use Rattle.pf_model.specs.Meaning.{Event}
+use Rattle.pf_chart.specs.Signals.{AreJoined, AreReceipts, IsJoinedBy}
 use Rattle.pf_chart.specs.declared.arrows.Arrow.{Arrow}
 use Rattle.pf_chart.proofs.Sending.{Reports}
 
-set_there : (xs : List Arrow) (n : ℕ) (b : Arrow) → n < length xs → slice_get (set xs n b) n ≡ Some b
+pub set_there : {X : Type 0} (xs : List X) (n : ℕ) (b : X) → n < length xs → slice_get (set xs n b) n ≡ Some b
 set_there [] n b low = absurd (omega arith)
 set_there (x ∷ xs) zero b low = refl
 set_there (x ∷ xs) (suc n) b low = set_there xs n b (omega arith)
 
-set_besides : (xs : List Arrow) (n i : ℕ) (b : Arrow) → (i ≡ n → ⊥) → slice_get (set xs n b) i ≡ slice_get xs i
+pub set_besides : {X : Type 0} (xs : List X) (n i : ℕ) (b : X) → (i ≡ n → ⊥) → slice_get (set xs n b) i ≡ slice_get xs i
 set_besides [] n i b other = refl
 set_besides (x ∷ xs) zero zero b other = absurd (other refl)
 set_besides (x ∷ xs) zero (suc i) b other = refl
@@ -50,10 +51,11 @@ joined_next rs n xs ys a b h low read joined = record {
         (a, ap (slice_get xs) same.1 ∙ there, subst (λ z. IsJoinedBy rs a.kind a.reach a z) one joined)
     front i c less is (inr other) = h.front i c (omega (arith, less, other.1)) (sym (set_besides ys n i b other.1) ∙ is)
 
-pub joined_all : (rs : List (Option ℕ)) (n : ℕ) (xs ys : List Arrow) → AreJoinedTo rs n xs ys → length ys ≤ n
-    → AreJoined xs ys
-joined_all rs n xs ys h all = record {
+pub joined_all : (es : List Event) (rs : List (Option ℕ)) (n : ℕ) (xs ys : List Arrow) → AreReceipts es rs
+    → AreJoinedTo rs n xs ys → length ys ≤ n → AreJoined es xs ys
+joined_all es rs n xs ys are h all = record {
   receipts = rs;
+  are = are;
   count = h.count;
   each = λ i b is. h.front i b (omega (arith, all, slice_get_within ys i b is)) is;
 }

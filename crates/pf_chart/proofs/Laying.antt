@@ -180,7 +180,7 @@ event_at g es i e low read = slice_get-map g es i ∙ ap (option_map g) (slice_g
 -- all are laid out
 pub all_laid : {X : Type 0} (g : X → Event) (es : List X) (n : ℕ) (compact : Bool) (l m : Layout)
     → IsLaid (map g es) n l → length es ≤ n → m.columns ≡ l.columns
-    → IsManner compact l.traffic.arrows.items m.traffic.arrows.items → IsLayout (map g es) compact m
+    → IsManner (map g es) compact l.traffic.arrows.items m.traffic.arrows.items → IsLayout (map g es) compact m
 all_laid g es n compact l m laid all columns manner = record {
   by_pid = subst (λ cs. IsNonDecreasingBy (λ (p : Process). p.pid) (map process_of cs.items)) (sym columns) laid.by_pid;
   signals = l.traffic.arrows.items;

@@ -4,6 +4,7 @@ mod Joined
 mod Laying
 mod Lined
 mod Placed
+mod Received
 mod Sending
 mod Spawned
 mod Starred

@@ -125,7 +125,7 @@ pub record ShowsSignals (m : Manner) (r : Report) (processes : List Process) (be
   pub signals : List Arrow
   pub are : AreArrows r.events processes (length r.events) signals
   pub arrows : List Arrow
-  pub manner : IsManner m.compact signals arrows
+  pub manner : IsManner r.events m.compact signals arrows
   pub lines : HaveLines (page_drawn m r (length processes)) (length processes) arrows before after
 
 -- after what was there comes a chart of this report, drawn in this manner, of the processes of its run, whose functions

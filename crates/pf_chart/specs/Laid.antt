@@ -46,4 +46,4 @@ pub record IsLayout (es : List Event) (compact : Bool) (l : Layout) : Type 0 whe
   pub by_pid : IsNonDecreasingBy (λ p. p.pid) (map process_of l.columns.items)
   pub signals : List Arrow
   pub are : AreArrows es (map process_of l.columns.items) (length es) signals
-  pub manner : IsManner compact signals l.traffic.arrows.items
+  pub manner : IsManner es compact signals l.traffic.arrows.items

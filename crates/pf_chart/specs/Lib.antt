@@ -4,6 +4,7 @@ pub mod Lines
 pub mod Origins
 pub mod Pages
 pub mod Processes
+pub mod Receipts
 pub mod Rows
 pub mod Sheets
 pub mod Signals

@@ -1,8 +1,9 @@
 -- Which signals a chart shows: each as an arrow from the mark of the event that sends it to that of the event that
 -- delivers it.
 use Rattle.std.specs.Prelude.{◌≡◌, ◌<◌, ℕ, Bool, true, false, List, Option, Some, length, slice_get}
-use Rattle.pf_model.specs.Channels.{Signal}
-use Rattle.pf_model.specs.Labels.{Suffix, delivers}
+use Rattle.pf_terms.specs.Value.{Value, same}
+use Rattle.pf_model.specs.Channels.{Signal, message}
+use Rattle.pf_model.specs.Labels.{Suffix, delivers, takes, took_effect}
 use Rattle.pf_model.specs.Meaning.{Event}
 use Rattle.pf_model.specs.declared.report.Actor.{Actor}
 use Rattle.pf_model.specs.declared.report.Actor.TheVariants as actors
@@ -62,6 +63,26 @@ pub record AreArrows (es : List Event) (ps : List Process) (count : ℕ) (arrows
       → e.actor ≡ actors.Channel p q → e.label ≡ delivers signal x → HasPid ps i p → HasPid ps j q
       → (k : ℕ) × (a : Arrow) × (slice_get arrows k ≡ Some a) × Delivers ps a x e × (a.reach ≡ reach_of x n)
 
+-- an event brings this message into a mailbox
+abbrev pub BringsIn : List Event → (event : ℕ) → Value → Event → Type 0
+BringsIn es n v e = (slice_get es n ≡ Some e) × (e.label ≡ delivers (message v) took_effect)
+
+-- an event takes a message that one before it brought: of the same value, to the same process
+pub record IsReceipt (es : List Event) (delivery receipt : ℕ) : Type 0 where
+  pub delivered : Event
+  pub taken : Event
+  pub brought : Value
+  pub value : Value
+  pub brings : BringsIn es delivery brought delivered
+  pub takes : (slice_get es receipt ≡ Some taken) × (taken.label ≡ takes value)
+  pub later : delivery < receipt
+  pub one_value : same brought value ≡ true
+  pub one_process : marked taken.actor ≡ marked delivered.actor
+
+-- of each event the one that takes the message that it brings
+abbrev pub AreReceipts : List Event → (receipts : List (Option ℕ)) → Type 0
+AreReceipts es receipts = (d r : ℕ) → slice_get receipts d ≡ Some (Some r) → IsReceipt es d r
+
 -- what a message that was delivered in this event becomes, where these are the events that take messages
 abbrev pub reach_by : Option (Option ℕ) → ArrowEnd
 reach_by (Some (Some n)) = reach.Received n
@@ -77,12 +98,13 @@ IsJoinedBy receipts kind.Message (reach.Taken n) a b =
 IsJoinedBy receipts k r a b = b ≡ a
 
 -- in a compact chart arrows are joined so
-pub record AreJoined (old new : List Arrow) : Type 0 where
+pub record AreJoined (es : List Event) (old new : List Arrow) : Type 0 where
   pub receipts : List (Option ℕ)
+  pub are : AreReceipts es receipts
   pub count : length new ≡ length old
   pub each : (i : ℕ) (b : Arrow) → slice_get new i ≡ Some b
       → (a : Arrow) × (slice_get old i ≡ Some a) × IsJoinedBy receipts a.kind a.reach a b
 
-abbrev pub IsManner : (compact : Bool) → (old new : List Arrow) → Type 0
-IsManner true xs ys = AreJoined xs ys
-IsManner false xs ys = ys ≡ xs
+abbrev pub IsManner : List Event → (compact : Bool) → (old new : List Arrow) → Type 0
+IsManner es true xs ys = AreJoined es xs ys
+IsManner es false xs ys = ys ≡ xs

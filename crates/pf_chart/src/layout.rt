@@ -188,7 +188,7 @@ fn join_receipts(
     events: &[Event],
     columns: &[Column],
 ) -> Result<(), NoMemory>
-    ensures { OnOk result (AreJoined arrows.old.items arrows.new.items) }
+    ensures { OnOk result (AreJoined (map view_of_event events.now) arrows.old.items arrows.new.items) }
 {
     let receipts = receipts_of(alloc, events, columns)?;
     for index in 0..arrows.len() {
@@ -205,7 +205,8 @@ fn in_manner(
     compact: bool,
 ) -> Result<(), NoMemory>
     ensures columns { layout.new.columns ≡ layout.old.columns }
-    ensures manner { OnOk result (IsManner compact layout.old.traffic.arrows.items layout.new.traffic.arrows.items) }
+    ensures manner { OnOk result (IsManner (map view_of_event events.now) compact layout.old.traffic.arrows.items
+        layout.new.traffic.arrows.items) }
 {
     if !compact {
         return Ok(());

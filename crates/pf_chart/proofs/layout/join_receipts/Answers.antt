@@ -19,5 +19,5 @@ loop-index-preserved c =
 pub returns : goal.returns
 returns c =
     let count = c.loop-index.invariant.count in
-    joined_all _ _ _ _ c.loop-index.invariant
+    joined_all _ _ _ _ _ c.in_ok-receipts.ensures c.loop-index.invariant
     (omega (arith, count, c.loop-index-test.false, c.len-index-end.ensures, c.args.arrows.now.ok.0))

@@ -1,8 +1,10 @@
 use Rattle.std.proofs.Common.{◌≡◌, ◌<◌, List, get_or, length, map, rules, sym, subst, arith}
 use Rattle.std.specs.List.Sorted.{IsPermutation}
 use Rattle.pf_model.specs.Reports.{view_of_event, view_of_report}
+use Rattle.pf_model.specs.declared.report.Event.{Event}
 use Rattle.pf_chart.specs.Origins.{process_of}
 use Rattle.pf_chart.specs.Processes.{Process, processes_of}
+use Rattle.pf_chart.specs.Signals.{IsManner}
 use Rattle.pf_chart.proofs.Laying.{all_laid, event_at, none_yet}
 use Rattle.pf_chart.proofs.layout.layout_of.Goals as goal
 
@@ -39,5 +41,8 @@ returns c =
           c.loop-row.invariant.processes;
       laid = all_laid view_of_event es c.loop-row.row c.args.compact c.loop-row.layout c.in_manner.new.layout
           c.loop-row.invariant.laid (omega arith)
-          c.in_manner.ensures.columns c.in_ok-in_manner.ensures.manner;
+          c.in_manner.ensures.columns
+          (subst (λ (xs : List Event). IsManner (map view_of_event xs) c.args.compact
+          c.loop-row.layout.traffic.arrows.items c.in_manner.new.layout.traffic.arrows.items) c.deref.ensures.value
+          c.in_ok-in_manner.ensures.manner);
     }
