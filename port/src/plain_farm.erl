@@ -37,7 +37,7 @@ gather(Port, Before) ->
 -spec said(file:filename()) -> ok.
 said(Errors) ->
     {ok, Text} = file:read_file(Errors),
-    Lines = [Line || Line <- binary:split(Text, <<"\n">>, [global, trim]), re:run(Line, "still waits? although the root returned") =:= nomatch],
+    Lines = [Line || Line <- binary:split(Text, <<"\n">>, [global, trim]), re:run(Line, "still waits? although the root returned|^pulsefarm: reproduce: ") =:= nomatch],
     [plain_command:complain([Line, "\n"]) || Line <- Lines],
     ok.
 

@@ -19,14 +19,18 @@ use std::time::Clock;
 /// A source whose roots are hunted, with the name of its file.
 #[derive(Drop)]
 pub(crate) struct RoundSource {
+    /// The name as it was given; none of the standard input.
+    pub name: Option<String>,
+    /// The name as it is shown.
     pub file: String,
     pub source: ReadSource,
     pub hunted: Hunted,
 }
 
-/// Where a root is: its file, the source, and its name.
+/// Where a root is: its file, by its name and as this is shown, the source, and the root's name.
 #[derive(Clone, Copy)]
 pub(crate) struct RootPlace<'a> {
+    pub name: Option<&'a str>,
     pub file: &'a str,
     pub source: &'a ReadSource,
     pub root: &'a [u8],
@@ -36,6 +40,7 @@ impl RoundSource {
     /// The place of a root of this source.
     pub fn place<'a>(&'a self, root: &'a [u8]) -> RootPlace<'a> {
         RootPlace {
+            name: self.name.as_deref(),
             file: &self.file,
             source: &self.source,
             root,

@@ -1,10 +1,11 @@
 //! Hunts over several sources and roots: a line for each root as soon as its hunt is over, and a summary.
 
 ghost use Rattle.std.specs.Prelude.{◌≡◌, ◌≢◌, ◌≤◌, true, is_some, ◌||◌, None, Ok, IfNone, IfSome, IsSomeAnd};
-ghost use Rattle.std.specs.Prelude.{MatchOption, OnOk};
+ghost use Rattle.std.specs.Prelude.{IfOk, MatchOption, OnOk, Some, option_map};
+ghost use Rattle.std.specs.String.{string_bytes};
 ghost use Rattle.std.specs.Io.KnownBytes.{Appends};
 ghost use Rattle.pf_cli.specs.declared.args.HuntGoal.TheVariants.{Failure};
-ghost use Rattle.pf_cli.specs.Args.{view_of_hunt_args};
+ghost use Rattle.pf_cli.specs.Args.{file_named, view_of_hunt_args};
 ghost use Rattle.pf_files.specs.Suites.{goes_over_several};
 
 use crate::contents::bytes_of_file;
@@ -22,6 +23,7 @@ use pf_hunt_suite::{
     RootEnd, RootHunt, RootStage, Suite, SuiteCounts, line_of_refusal, line_of_root,
     line_of_rootless, open_root, read_hunted, request_for, root_name,
 };
+use pf_reproduce::{FailedRun, command_of};
 use pf_request::Request;
 use pf_streams::{Counted, StreamFault};
 use std::alloc::{AllocGlobal, Global};
@@ -75,6 +77,17 @@ fn what_is_root(roots: Roots) -> &'static str {
             "it is an exported function without arguments that is `main` or whose name ends in `_test`, `_race` or `_scenario`; `--root F` names another, and `--all-roots` takes every one"
         }
         Roots::Every => "it is an exported function without arguments",
+    }
+}
+
+/// The name of a file; none of the standard input.
+fn named(alloc: Global, name: &str) -> Result<Option<String>, NoMemory>
+    ensures { IfOk result (λ n. option_map string_bytes n ≡ file_named (Some name.now)) }
+{
+    if name == "-" {
+        Ok(None)
+    } else {
+        Ok(Some(String::from_str(alloc, name)?))
     }
 }
 
@@ -188,11 +201,27 @@ where
 
     /// The line of a root whose hunt ended so.
     fn line_of(&self, place: RootPlace, end: RootEnd) -> Result<Vec<u8>, NoMemory> {
-        let property = match end {
-            RootEnd::Fails { cause, .. } => named_property(self.args, cause),
-            _ => None,
+        let alloc = self.rt.alloc();
+        let RootPlace {
+            name,
+            file,
+            root,
+            ..
+        } = place;
+        let RootEnd::Fails { seed, cause } = end else {
+            return line_of_root(alloc, file, root, end, None, None);
         };
-        line_of_root(self.rt.alloc(), place.file, place.root, end, property)
+        let args = self.args;
+        let run = FailedRun {
+            args,
+            file: name,
+            root,
+            seed,
+            cause,
+        };
+        let command = command_of(alloc, &run)?;
+        let property = named_property(args, cause);
+        line_of_root(alloc, file, root, end, property, command.as_deref())
     }
 
     /// Reports how the hunt of a root ended, and counts it.
@@ -283,6 +312,7 @@ where
     /// Hunts the roots of the source of these bytes, or says why it is refused.
     fn source<W: Write, M: Ledger>(
         &mut self,
+        name: Option<String>,
         file: String,
         bytes: Vec<u8>,
         writer: &mut Counted<W, M>,
@@ -292,6 +322,7 @@ where
         match read_hunted(alloc, args, &source) {
             Ok(hunted) => {
                 let from = RoundSource {
+                    name,
                     file,
                     source,
                     hunted,
@@ -323,8 +354,9 @@ where
                     text: name,
                     has_lines,
                 };
-                let file = format!(in self.rt.alloc(); "{shown}")?;
-                self.source(file, bytes, writer)
+                let alloc = self.rt.alloc();
+                let file = format!(in alloc; "{shown}")?;
+                self.source(named(alloc, name)?, file, bytes, writer)
             }
             Err(OrNoMemory::Fault(fault)) => self.lost(name, fault),
             Err(OrNoMemory::NoMemory) => Err(OrNoMemory::NoMemory),

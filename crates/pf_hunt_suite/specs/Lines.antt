@@ -36,8 +36,14 @@ abbrev pub named_text : (property : Option (List ℕ)) → List ℕ
 named_text None = []
 named_text (Some property) = codes " " ++ property
 
-abbrev pub root_line : (file root : List ℕ) → RootEnd → (property : Option (List ℕ)) → List ℕ
-root_line file root e property = reported_line (root_name file root) (root_end_text e ++ named_text property)
+-- and after it the command that makes the run again that fails, if it is known
+abbrev pub reproduce_text : (command : Option (List ℕ)) → List ℕ
+reproduce_text None = []
+reproduce_text (Some command) = codes "; reproduce: " ++ command
+
+abbrev pub root_line : (file root : List ℕ) → RootEnd → (property command : Option (List ℕ)) → List ℕ
+root_line file root e property command =
+    reported_line (root_name file root) (root_end_text e ++ named_text property ++ reproduce_text command)
 
 abbrev pub rootless_text : List ℕ
 rootless_text = codes "no root"

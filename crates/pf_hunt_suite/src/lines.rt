@@ -2,7 +2,8 @@
 
 ghost use Rattle.std.specs.Prelude.{◌≡◌, ◌++◌, IfOk, OnOk, option_map};
 ghost use Rattle.pf_errors.specs.Codes.{refusal_text};
-ghost use Rattle.pf_hunt_suite.specs.Lines.{named_text, root_line, root_name, rootless_text, reported_line};
+ghost use Rattle.pf_hunt_suite.specs.Lines.{named_text, reported_line, reproduce_text, root_line};
+ghost use Rattle.pf_hunt_suite.specs.Lines.{root_name, rootless_text};
 
 use crate::end::RootEnd;
 use pf_errors::{NoMemory, SourceRefusal};
@@ -49,21 +50,37 @@ fn put_named(line: &mut Vec<u8>, property: Option<&[u8]>) -> Result<(), NoMemory
     put(line, property)
 }
 
-/// The line of a root that was hunted, with the property that fails where it is named.
+/// Puts the command that makes the run again that fails, if it is known.
+fn put_reproduce(line: &mut Vec<u8>, command: Option<&[u8]>) -> Result<(), NoMemory>
+    ensures { OnOk result
+        (line.new.items ≡ line.old.items ++ reproduce_text (option_map (λ s. s.now) command.entry)) }
+{
+    let Some(command) = command else {
+        return Ok(());
+    };
+    put(line, b"; reproduce: ")?;
+    put(line, command)
+}
+
+/// The line of a root that was hunted, with the property that fails where it is named, and the command that makes the
+/// run again that fails where it is known.
 pub fn line_of_root(
     alloc: Global,
     file: &str,
     root: &[u8],
     end: RootEnd,
     property: Option<&[u8]>,
+    command: Option<&[u8]>,
 ) -> Result<Vec<u8>, NoMemory>
-    ensures { IfOk result (λ v. v.items ≡ root_line file.now root.now end (option_map (λ s. s.now) property.entry)) }
+    ensures { IfOk result (λ v. v.items ≡ root_line file.now root.now end (option_map (λ s. s.now) property.entry)
+        (option_map (λ s. s.now) command.entry)) }
 {
     let reported = format!(in alloc; "{end}")?;
     let mut line = root_name(alloc, file, root)?;
     put(&mut line, b": ")?;
     put(&mut line, reported.as_bytes())?;
     put_named(&mut line, property)?;
+    put_reproduce(&mut line, command)?;
     put_byte(&mut line, b'\n')?;
     Ok(line)
 }

@@ -36,10 +36,20 @@ abbrev pub both_facts : Option (List Fact) → Option (List Fact) → Option (Li
 both_facts (Some fs) (Some gs) = Some (fs ++ gs)
 both_facts _ _ = None
 
+-- what is before the command that makes a run again, and the command, which begins after the first so many bytes
+abbrev pub facts_before : (reported : List ℕ) → (start : Option ℕ) → Option (List Fact)
+facts_before reported None = facts_by_first root_shapes reported
+facts_before reported (Some n) = both_facts (facts_by_first root_shapes (take n reported))
+    (Some (fact (codes "reproduce") (text (drop (n + 13) reported)) ∷ []))
+
+-- what is reported of a root, with the command if there is one
+abbrev pub reported_facts : (reported : List ℕ) → Option (List Fact)
+reported_facts reported = facts_before reported (last_start (codes "; reproduce: ") reported)
+
 -- what is reported of a root, or of a file
 abbrev pub root_facts : (name reported : List ℕ) → Option (List Fact)
 root_facts name reported =
-    or_else (both_facts (of_root name) (facts_by_first root_shapes reported))
+    or_else (both_facts (of_root name) (reported_facts reported))
     (both_facts (Some (of_file name ∷ [])) (facts_by_first file_shapes reported))
 
 -- what is reported where a name of n bytes is first, and then `: `

@@ -84,6 +84,14 @@ pub worked_root : facts_of (codes "a.erl 'a: b c': seed 0 fails")
 unfolding facts_by_first
 worked_root = refl
 
+pub worked_reproduced : facts_of (codes "a.erl main: seed 0 fails never:x; reproduce: pulsefarm run a.erl")
+    ≡ fact (codes "file") (text (codes "a.erl")) ∷ fact (codes "root") (text (codes "main"))
+    ∷ fact (codes "failure") (truth true)
+    ∷ fact (codes "seed") (number 0) ∷ fact (codes "property") (text (codes "never:x"))
+    ∷ fact (codes "reproduce") (text (codes "pulsefarm run a.erl")) ∷ []
+unfolding facts_by_first
+worked_reproduced = refl
+
 pub worked_file : facts_of (codes "seed 3 fails: E4 at 0")
     ≡ fact (codes "file") (text (codes "seed 3 fails")) ∷ fact (codes "refusal") (text (codes "E4")) ∷ fact (codes "at")
     (number 0) ∷ []

@@ -2,15 +2,18 @@
 
 ghost use Rattle.std.specs.Prelude.{◌≡◌, ◌<◌, ◌≤◌, ◌+◌, ◌∷◌, ◌++◌, [], IfOk, IfSome, Some, length, option_map};
 ghost use Rattle.pf_json.specs.Facts.{facts_by_first};
-ghost use Rattle.pf_json.specs.Names.{blank_before, both_facts, is_quoted, last_start, of_file, of_root};
-ghost use Rattle.pf_json.specs.Names.{named_at, named_root, root_facts};
-ghost use Rattle.pf_json.specs.Shapes.{file_shapes, root_shapes};
+ghost use Rattle.pf_json.specs.Names.{blank_before, both_facts, facts_before, is_quoted, last_start, of_file};
+ghost use Rattle.pf_json.specs.Names.{named_at, named_root, of_root, reported_facts, root_facts};
+ghost use Rattle.pf_json.specs.Shapes.{file_shapes};
 ghost use Rattle.pf_json.specs.Views.{view_of_fact, views_of};
 
 use crate::facts::{Fact, Value};
 use crate::parts::{after, facts_by_first};
 use crate::shapes::{FILE_SHAPES, ROOT_SHAPES};
 use std::alloc::{AllocError, Global};
+
+/// What is before the command that makes a run again.
+const COMMAND: &[u8] = b"; reproduce: ";
 
 /// Where these words begin last in a text.
 fn last_start(words: &[u8], text: &[u8]) -> Option<usize>
@@ -81,6 +84,40 @@ fn joined<'a>(
     Ok(facts)
 }
 
+/// The facts before the command that makes a run again, which begins after the first so many bytes, and the command.
+fn facts_with_command<'a>(
+    alloc: Global,
+    reported: &'a [u8],
+    start: usize,
+) -> Result<Option<Vec<Fact<'a>>>, AllocError>
+    requires { start + 13 ≤ length reported.now }
+    ensures { IfOk result (λ fs. option_map (λ v. views_of v.items) fs
+        ≡ facts_before reported.entry.now (Some start)) }
+{
+    let Some(front) = facts_by_first(alloc, &ROOT_SHAPES, &reported[..start])? else {
+        return Ok(None);
+    };
+    let command = Fact {
+        key: b"reproduce",
+        value: Value::Text(&reported[start + COMMAND.len()..]),
+    };
+    let facts = joined(alloc, &front, &[command])?;
+    Ok(Some(facts))
+}
+
+/// The facts of what is reported of a root, with the command that makes a run again if there is one.
+fn reported_facts<'a>(
+    alloc: Global,
+    reported: &'a [u8],
+) -> Result<Option<Vec<Fact<'a>>>, AllocError>
+    ensures { IfOk result (λ fs. option_map (λ v. views_of v.items) fs ≡ reported_facts reported.entry.now) }
+{
+    match last_start(COMMAND, reported) {
+        Some(start) => facts_with_command(alloc, reported, start),
+        None => facts_by_first(alloc, &ROOT_SHAPES, reported),
+    }
+}
+
 /// What is reported of a root.
 fn reported_of_root<'a>(
     alloc: Global,
@@ -88,12 +125,12 @@ fn reported_of_root<'a>(
     reported: &'a [u8],
 ) -> Result<Option<Vec<Fact<'a>>>, AllocError>
     ensures { IfOk result (λ fs. option_map (λ v. views_of v.items) fs
-        ≡ both_facts (of_root name.entry.now) (facts_by_first root_shapes reported.entry.now)) }
+        ≡ both_facts (of_root name.entry.now) (reported_facts reported.entry.now)) }
 {
     let Some((file, root)) = of_root(name) else {
         return Ok(None);
     };
-    let Some(back) = facts_by_first(alloc, &ROOT_SHAPES, reported)? else {
+    let Some(back) = reported_facts(alloc, reported)? else {
         return Ok(None);
     };
     let facts = joined(alloc, &[file, root], &back)?;

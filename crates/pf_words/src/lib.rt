@@ -3,6 +3,7 @@
 
 mod answer;
 mod explore;
+mod reproduce;
 mod request;
 mod schedule;
 mod steps;

@@ -9,6 +9,7 @@ ghost use Rattle.pf_streams.specs.Streams.{CountsReadOrNone};
 ghost use Rattle.pf_words.specs.Words.{FromNamed, FromOne, is_farm};
 
 use crate::answer::{answer_of, has_source, say_more, seeds_of, send};
+use crate::reproduce::{reproduction_in, say_reproduction};
 use crate::steps::{answer_file, answer_steps};
 use pf_check::ReadSource;
 use pf_cli::{Args, CliCommand};
@@ -143,8 +144,12 @@ where
     };
     let mut seeds = seeds_of(&asked.args, rt, line);
     let answer = answer_of(rt, &asked.args, &source, &mut seeds, line);
+    let command = reproduction_in(rt.alloc(), &answer);
     let answered = send(rt, &asked.args, answer, &seeds, writer, line);
     line.clear();
     say_more(rt, asked, &source, &answered);
+    if let (Ok(_), Some(command)) = (&answered, &command) {
+        say_reproduction(rt, command);
+    }
     end(rt, file, form, answered)
 }

@@ -99,7 +99,9 @@ def end_of(value):
     if "stopped" in value:
         return f"stopped after {value['seeds']} seeds, no failure"
     if "seed" in value:
-        return f"seed {value['seed']} fails" + (f" {value['property']}" if "property" in value else "")
+        named = f" {value['property']}" if "property" in value else ""
+        command = f"; reproduce: {value['reproduce']}" if "reproduce" in value else ""
+        return f"seed {value['seed']} fails{named}{command}"
     if "seeds" in value:
         return f"no failure in {value['seeds']} seeds"
     if "roots" in value:

@@ -185,17 +185,19 @@ suites() {
   printf -- '-module(lib).\n-export([f/1]).\nf(X) -> X.\n' > 'folder/seed 3 fails.erl'
   printf -- \
     "-module(m).\n-export(['Go now'/0, ' '/0, 'a: b'/0, plain/0, 'it\\\\'s'/0]).\n'Go now'() -> true.\n' '() -> true.\n'a: b'() -> true.\nplain() -> true.\n'it\\\\'s'() -> true.\n" > m.erl
+  bounds='--root main --limit 100000 --property true --edition 1 --strategy pos --seed 0'
   objects 'a folder' 2 '{"file":"folder/c.erl","refusal":"E6","at":41}
-{"file":"folder/e.erl","root":"main","failure":true,"seed":0}
+{"file":"folder/e.erl","root":"main","failure":true,"seed":0,"reproduce":"pulsefarm run folder/e.erl '"$bounds"'"}
 {"file":"folder/it'"'s: a 'b"'.erl","root":"main","failure":false,"seeds":5}
 {"file":"folder/seed 3 fails.erl","roots":0}
 {"files":4,"roots":2,"fail":1,"refused":1}' hunt folder --property true --seeds 5
-  objects 'roots that fail by the second of two' 1 '{"file":"e.erl","root":"main","failure":true,"seed":0,"property":"true"}
+  objects 'roots that fail by the second of two' 1 '{"file":"e.erl","root":"main","failure":true,"seed":0,"property":"true","reproduce":"pulsefarm run e.erl '"$bounds"'"}
 {"file":"t.erl","root":"main","failure":false,"seeds":5}
 {"files":2,"roots":2,"fail":1,"refused":0}' hunt e.erl t.erl --property nodeadlock --property true --seeds 5
   printf -- "-module(p).\n-export(['a: b'/0]).\n'a: b'() -> self() ! x.\n" > p.erl
+  command="pulsefarm run p.erl --root 'a: b' --limit 100000 --property 'never: _' --edition 1 --strategy pos --seed 0"
   objects 'a property with what is between the facts of a line' 1 \
-    '{"file":"p.erl","root":"'"'a: b'"'","failure":true,"seed":0,"property":"never: _"}
+    '{"file":"p.erl","root":"'"'a: b'"'","failure":true,"seed":0,"property":"never: _","reproduce":"'"$command"'"}
 {"files":1,"roots":1,"fail":1,"refused":0}' hunt p.erl --all-roots --property returns --property 'never: _' --seeds 5
   objects 'roots in quotes' 0 '{"file":"m.erl","root":"'"'Go now'"'","failure":false,"seeds":5}
 {"file":"m.erl","root":"'"' '"'","failure":false,"seeds":5}

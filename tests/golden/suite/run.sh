@@ -10,12 +10,19 @@ top=$(cd "$(dirname "$0")/../../.." && pwd)
 cd "$room" || exit 1
 
 # Compares what is reported with the text $3: $1 names the hunt, $2 is its status, and the words come after; the input
-# is the file `in`.
+# is the file `in`. The commands after roots that fail are compared in tests/golden/reproduce.
 prints() {
   name=$1 wanted=$2
   printf -- "$3" > text
   shift 3
-  compare "$name" "$wanted" in text "$@"
+  timeout 120 "$program" "$@" < in > whole 2> err
+  status=$?
+  sed 's/; reproduce: pulsefarm run .*//' whole > out
+  if [ "$status" = "$wanted" ] && cmp -s out text; then
+    pass
+  else
+    fail "$name: status $status for $wanted, output: $(head -c 300 whole)"
+  fi
 }
 
 # Compares what standard error says of the last run with the text $2; $1 names the check.
@@ -115,7 +122,7 @@ below() {
   tree='tree/b-x.erl main: seed 0 fails\ntree/b/c/z.erl main: no failure in 50 seeds\ntree/b/e.erl main: seed 0 fails\n'
   tree="${tree}tree/linked.erl main: seed 0 fails\n4 files, 4 roots: 3 fail, 0 refused\n"
   prints 'folders below' 1 "$tree" hunt tree $words
-  (cd tree && timeout 60 "$program" hunt _build $words > ../out)
+  (cd tree && timeout 60 "$program" hunt _build $words | sed 's/; reproduce: .*//' > ../out)
   printf '_build/lib/e.erl main: seed 0 fails\n1 file, 1 root: 1 fails, 0 refused\n' | cmp -s - out
   note 'a folder that is named is gone into' $?
 }
@@ -194,7 +201,8 @@ several() {
     --property withinlimit --property nocrash --property returns
   prints 'a second that is none' 2 'crash.erl main: P1\n1 file, 1 root: 0 fail, 1 refused\n' hunt crash.erl --all-roots \
     --property true --property truth
-  prints 'by JSON' 1 '{"file":"crash.erl","root":"main","failure":true,"seed":0,"property":"nocrash"}
+  reproduce='pulsefarm run crash.erl --root main --limit 100000 --property nocrash --edition 1 --strategy pos --seed 0'
+  prints 'by JSON' 1 '{"file":"crash.erl","root":"main","failure":true,"seed":0,"property":"nocrash","reproduce":"'"$reproduce"'"}
 {"files":1,"roots":1,"fail":1,"refused":0}\n' hunt crash.erl --all-roots --format json --property withinlimit \
     --property nocrash
 }
@@ -228,7 +236,7 @@ turns() {
   cp "$top/examples/lost_update_mended.erl" two/a_clean.erl
   cp "$top/examples/rare/expired_lease.erl" two/b_racy.erl
   timeout 60 "$program" hunt two --property true --for 3s > out 2> err
-  [ $? = 1 ] && grep -q '^two/b_racy.erl main: seed 5 fails$' out &&
+  [ $? = 1 ] && grep -q '^two/b_racy.erl main: seed 5 fails; reproduce: pulsefarm run two/b_racy.erl ' out &&
     grep -q '^two/a_clean.erl main: stopped after [1-9][0-9]* seeds, no failure$' out &&
     [ "$(tail -n 1 out)" = '2 files, 2 roots: 1 fails, 0 refused' ]
   note 'the last of two files races' $?
@@ -239,7 +247,7 @@ turns() {
     hunt folder/b.erl folder/c.erl folder/d.erl --root other --property true --for 1h
   timeout 60 "$program" hunt folder/b.erl folder/d.erl --property true --for 1h --fail-fast > out 2> err
   [ $? = 1 ] && [ "$(tail -n 1 out)" = '2 files, 2 roots: 1 fails, 0 refused, 1 cut short' ] &&
-    [ "$(head -n 1 out)" = 'folder/d.erl second_test: seed 0 fails' ] &&
+    [ "$(head -n 1 out | sed 's/; reproduce: .*//')" = 'folder/d.erl second_test: seed 0 fails' ] &&
     grep -q '^folder/b.erl main: cut short after [1-9][0-9]* seeds\{0,1\}, no failure$' out
   note 'the first that fails in a round' $?
 }
@@ -262,7 +270,7 @@ cut_short() {
   note 'roots that are cut short beside another' $?
   printf -- '-module(x).\n-export([main/0]).\nmain() -> 1 div 0.\n' > x.erl
   timeout 120 "$program" hunt slow.erl x.erl --property nocrash --limit 100000 --for 1s > out 2> err
-  [ $? = 1 ] && [ "$(head -n 1 out)" = 'x.erl main: seed 0 fails' ] &&
+  [ $? = 1 ] && [ "$(head -n 1 out | sed 's/; reproduce: .*//')" = 'x.erl main: seed 0 fails' ] &&
     [ "$(tail -n 1 out)" = '2 files, 41 roots: 1 fails, 0 refused, 40 cut short' ]
   note 'a failure beside roots that are cut short' $?
 }
@@ -287,7 +295,8 @@ waiting() {
   timeout 60 "$program" hunt w.erl --property true --seeds 3..8 --strategy uniform --leaks > out 2> err
   [ $? = 1 ] && [ "$(head -n 1 out)" = 'seed 3' ] && [ "$(tail -n 1 out)" = 'property holds' ]
   note 'a leak that fails' $?
-  said 'what is said of it' "pulsefarm: $one: seed 3\n"
+  command='pulsefarm run w.erl --root main --limit 100000 --property true --edition 1 --strategy uniform --seed 3'
+  said 'what is said of it' "pulsefarm: $one: seed 3\npulsefarm: reproduce: $command\n"
   prints 'a hunt without a leak' 0 'no failure in 5 seeds\n' hunt t.erl --root one_test --property true --seeds 5 --leaks
   said 'nothing of no leak' ''
   prints 'leaks of many' 1 \
