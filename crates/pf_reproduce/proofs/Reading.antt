@@ -1,11 +1,11 @@
 -- A shell reads the words back that are written.
 use Rattle.std.proofs.Common.{◌≡◌, ℕ, Bool, true, false, List, [], ◌∷◌, ◌++◌, refl, inl, inr, ◌∙◌, ap, sym}
 use Rattle.std.proofs.Common.{append_assoc, append-nil}
-use Rattle.std.specs.Prelude.{codes, ◌==◌, flat_map, Option, Some, option_map, if◌then◌else◌}
+use Rattle.std.specs.Prelude.{codes, ◌==◌, flat_map, Some, option_map, if◌then◌else◌}
 use Rattle.std.specs.List.{list_all}
 use Rattle.std.proofs.lemmas.Bool.Decides.{eqb_tells}
 use Rattle.pf_errors.proofs.Bools.{both}
-use Rattle.pf_reproduce.specs.Shell.{Reading, argument_text, arguments_text, between, command_text, escaped, is_plain_byte}
+use Rattle.pf_reproduce.specs.Shell.{arguments_text, between, command_text, is_plain_byte}
 use Rattle.pf_reproduce.specs.Shell.{is_plain_word, outside, quoted, quoted_byte, quoted_word, shell_words, word_text}
 use Rattle.pf_reproduce.specs.Shell.{words_from}
 
