@@ -13,8 +13,8 @@ use Rattle.pf_cli.specs.Args.{HuntArgs, view_of_hunt_args}
 use Rattle.pf_reproduce.specs.Shell.{command_text, printable}
 use Rattle.pf_reproduce.specs.declared.command.FailedRun as code
 
--- a run of a hunt that fails: what the hunt was asked for, the file of its source, if that isn't the standard input, its
--- root, its seed, and why it fails
+-- a run of a hunt that fails: what the hunt was asked for, the file of its source, if that isn't the standard input,
+-- its root, its seed, and why it fails
 pub record FailedRun : Type 0 where
   pub hunt : HuntArgs
   pub file : Option Text
@@ -50,10 +50,19 @@ failing_property h Property = h.request.property
 failing_property h (Further i) = unwrap_or (slice_get h.further i) h.request.property
 failing_property h Leak = h.request.property
 
+abbrev pub limit_words : (limit : ℕ) → List Text
+limit_words n = codes "--limit" ∷ decimal n ∷ []
+
+abbrev pub property_words : (property : Text) → List Text
+property_words text = codes "--property" ∷ text ∷ []
+
+abbrev pub edition_words : (edition : ℕ) → List Text
+edition_words n = codes "--edition" ∷ decimal n ∷ []
+
 abbrev pub bounds_words : FailedRun → List Text
 bounds_words r =
-    codes "--limit" ∷ decimal r.hunt.request.limit ∷ codes "--property" ∷ failing_property r.hunt r.cause
-    ∷ codes "--edition" ∷ decimal r.hunt.edition ∷ []
+    limit_words r.hunt.request.limit ++ (property_words (failing_property r.hunt r.cause)
+    ++ edition_words r.hunt.edition)
 
 -- ---- what chooses
 
@@ -70,20 +79,26 @@ abbrev pub sampling_word : Sampling → Text
 sampling_word Uniform = codes "uniform"
 sampling_word Priorities = codes "pos"
 
+abbrev pub sampling_words : Sampling → List Text
+sampling_words s = codes "--strategy" ∷ sampling_word s ∷ []
+
 abbrev pub last_words : Option ℕ → List Text
 last_words None = []
 last_words (Some pid) = codes "--last" ∷ decimal pid ∷ []
 
+abbrev pub seed_words : (seed : ℕ) → List Text
+seed_words n = codes "--seed" ∷ decimal n ∷ []
+
 abbrev pub choosing_words : FailedRun → List Text
 choosing_words r =
-    weight_words r.hunt.request.kind ++ (codes "--strategy" ∷ sampling_word r.hunt.strategy.sampling ∷ [])
-    ++ last_words r.hunt.strategy.last ++ (codes "--seed" ∷ decimal r.seed ∷ [])
+    weight_words r.hunt.request.kind ++ (sampling_words r.hunt.strategy.sampling
+    ++ (last_words r.hunt.strategy.last ++ seed_words r.seed))
 
 -- ---- the whole
 
 -- what follows `pulsefarm run`
 abbrev pub run_words : FailedRun → List Text
-run_words r = source_words r ++ bounds_words r ++ choosing_words r
+run_words r = source_words r ++ (bounds_words r ++ choosing_words r)
 
 -- the text of the command, from which a shell reads these words; none where a word has a control character
 abbrev pub reproduction : FailedRun → Option (List ℕ)

@@ -4,9 +4,10 @@ ghost use Rattle.std.specs.Prelude.{◌≡◌, ◌++◌, ◌∷◌, [], IfOk, On
 ghost use Rattle.std.specs.Fmt.{decimal};
 ghost use Rattle.pf_request.specs.View.{view_of_kind};
 ghost use Rattle.pf_cli.specs.Args.{view_of_hunt_args};
-ghost use Rattle.pf_reproduce.specs.Command.{begins_with_dash, bounds_words, choosing_words, failing_property};
-ghost use Rattle.pf_reproduce.specs.Command.{file_words, last_words, reproduction, root_words, run_words};
-ghost use Rattle.pf_reproduce.specs.Command.{sampling_word, source_words, view_of_run, weight_words, weights_text};
+ghost use Rattle.pf_reproduce.specs.Command.{begins_with_dash, bounds_words, choosing_words, edition_words};
+ghost use Rattle.pf_reproduce.specs.Command.{failing_property, file_words, last_words, limit_words, property_words};
+ghost use Rattle.pf_reproduce.specs.Command.{reproduction, root_words, run_words, sampling_word, sampling_words};
+ghost use Rattle.pf_reproduce.specs.Command.{seed_words, source_words, view_of_run, weight_words, weights_text};
 ghost use Rattle.pf_reproduce.specs.Shell.{arguments_text, command_text};
 
 use crate::shell::{has_control, put_argument};
@@ -110,13 +111,37 @@ fn failing_property<'a>(args: &'a HuntArgs, cause: FailureCause) -> &'a [u8]
     }
 }
 
+/// Puts the limit of a hunt.
+fn put_limit(out: &mut Vec<u8>, args: &HuntArgs) -> Result<(), NoMemory>
+    ensures { OnOk result (out.new.items
+        ≡ out.old.items ++ arguments_text (limit_words (view_of_hunt_args args.now).request.limit)) }
+{
+    put_count(out, "--limit", u64::from(args.request.limit))
+}
+
+/// Puts the property that fails.
+fn put_property(out: &mut Vec<u8>, args: &HuntArgs, cause: FailureCause) -> Result<(), NoMemory>
+    ensures { OnOk result (out.new.items
+        ≡ out.old.items ++ arguments_text (property_words (failing_property (view_of_hunt_args args.now) cause))) }
+{
+    put_option(out, "--property", failing_property(args, cause))
+}
+
+/// Puts the edition of a hunt.
+fn put_edition(out: &mut Vec<u8>, args: &HuntArgs) -> Result<(), NoMemory>
+    ensures { OnOk result (out.new.items
+        ≡ out.old.items ++ arguments_text (edition_words (view_of_hunt_args args.now).edition)) }
+{
+    put_count(out, "--edition", u64::from(args.edition.number()))
+}
+
 /// Puts within what it is run, and by what it is judged.
 fn put_bounds(out: &mut Vec<u8>, run: &FailedRun) -> Result<(), NoMemory>
     ensures { OnOk result (out.new.items ≡ out.old.items ++ arguments_text (bounds_words (view_of_run run.now))) }
 {
-    put_count(out, "--limit", u64::from(run.args.request.limit))?;
-    put_option(out, "--property", failing_property(run.args, run.cause))?;
-    put_count(out, "--edition", u64::from(run.args.edition.number()))
+    put_limit(out, run.args)?;
+    put_property(out, run.args, run.cause)?;
+    put_edition(out, run.args)
 }
 
 /// The weight of a process and that of a channel.
@@ -150,6 +175,13 @@ fn sampling_word(sampling: Sampling) -> &'static str
     }
 }
 
+/// Puts the strategy.
+fn put_sampling(out: &mut Vec<u8>, sampling: Sampling) -> Result<(), NoMemory>
+    ensures { OnOk result (out.new.items ≡ out.old.items ++ arguments_text (sampling_words sampling)) }
+{
+    put_option(out, "--strategy", sampling_word(sampling).as_bytes())
+}
+
 /// Puts the process that goes last, if one is named.
 fn put_last(out: &mut Vec<u8>, last: Option<u32>) -> Result<(), NoMemory>
     ensures { OnOk result (out.new.items ≡ out.old.items ++ arguments_text (last_words last)) }
@@ -160,30 +192,38 @@ fn put_last(out: &mut Vec<u8>, last: Option<u32>) -> Result<(), NoMemory>
     }
 }
 
+/// Puts the seed.
+fn put_seed(out: &mut Vec<u8>, seed: u64) -> Result<(), NoMemory>
+    ensures { OnOk result (out.new.items ≡ out.old.items ++ arguments_text (seed_words seed)) }
+{
+    put_count(out, "--seed", seed)
+}
+
 /// Puts what chooses: a seed, and how it does.
 fn put_choosing(alloc: Global, out: &mut Vec<u8>, run: &FailedRun) -> Result<(), NoMemory>
     ensures { OnOk result (out.new.items ≡ out.old.items ++ arguments_text (choosing_words (view_of_run run.now))) }
 {
-    let strategy = run.args.strategy;
     put_weights(alloc, out, &run.args.request.kind)?;
-    put_option(
-        out,
-        "--strategy",
-        sampling_word(strategy.sampling).as_bytes(),
-    )?;
-    put_last(out, strategy.last)?;
-    put_count(out, "--seed", run.seed)
+    put_sampling(out, run.args.strategy.sampling)?;
+    put_last(out, run.args.strategy.last)?;
+    put_seed(out, run.seed)
+}
+
+/// Puts what follows `pulsefarm run`.
+fn put_words(alloc: Global, out: &mut Vec<u8>, run: &FailedRun) -> Result<(), NoMemory>
+    ensures { OnOk result (out.new.items ≡ out.old.items ++ arguments_text (run_words (view_of_run run.now))) }
+{
+    put_source(alloc, out, run)?;
+    put_bounds(out, run)?;
+    put_choosing(alloc, out, run)
 }
 
 /// The text of the command that makes the run again.
 fn text_of(alloc: Global, run: &FailedRun) -> Result<Vec<u8>, NoMemory>
     ensures { IfOk result (λ text. text.items ≡ command_text (run_words (view_of_run run.now))) }
 {
-    let mut text = Vec::new(alloc);
-    put(&mut text, b"pulsefarm run")?;
-    put_source(alloc, &mut text, run)?;
-    put_bounds(&mut text, run)?;
-    put_choosing(alloc, &mut text, run)?;
+    let mut text = Vec::from_slice(alloc, b"pulsefarm run")?;
+    put_words(alloc, &mut text, run)?;
     Ok(text)
 }
 
