@@ -36,11 +36,15 @@ abbrev pub both_facts : Option (List Fact) → Option (List Fact) → Option (Li
 both_facts (Some fs) (Some gs) = Some (fs ++ gs)
 both_facts _ _ = None
 
--- what is before the command that makes a run again, and the command, which begins after the first so many bytes
+-- the command that makes a run again, which begins after the first so many bytes
+abbrev pub command_fact : (reported : List ℕ) → (start : ℕ) → Fact
+command_fact reported n = fact (codes "reproduce") (text (drop (n + 13) reported))
+
+-- what is before the command, and the command
 abbrev pub facts_before : (reported : List ℕ) → (start : Option ℕ) → Option (List Fact)
 facts_before reported None = facts_by_first root_shapes reported
-facts_before reported (Some n) = both_facts (facts_by_first root_shapes (take n reported))
-    (Some (fact (codes "reproduce") (text (drop (n + 13) reported)) ∷ []))
+facts_before reported (Some n) =
+    both_facts (facts_by_first root_shapes (take n reported)) (Some (command_fact reported n ∷ []))
 
 -- what is reported of a root, with the command if there is one
 abbrev pub reported_facts : (reported : List ℕ) → Option (List Fact)

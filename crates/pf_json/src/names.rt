@@ -2,7 +2,7 @@
 
 ghost use Rattle.std.specs.Prelude.{◌≡◌, ◌<◌, ◌≤◌, ◌+◌, ◌∷◌, ◌++◌, [], IfOk, IfSome, Some, length, option_map};
 ghost use Rattle.pf_json.specs.Facts.{facts_by_first};
-ghost use Rattle.pf_json.specs.Names.{blank_before, both_facts, facts_before, is_quoted, last_start, of_file};
+ghost use Rattle.pf_json.specs.Names.{blank_before, both_facts, command_fact, facts_before, is_quoted, last_start, of_file};
 ghost use Rattle.pf_json.specs.Names.{named_at, named_root, of_root, reported_facts, root_facts};
 ghost use Rattle.pf_json.specs.Shapes.{file_shapes};
 ghost use Rattle.pf_json.specs.Views.{view_of_fact, views_of};
@@ -84,6 +84,17 @@ fn joined<'a>(
     Ok(facts)
 }
 
+/// The command that makes a run again, which begins after the first so many bytes.
+fn command_fact(reported: &[u8], start: usize) -> Fact<'_>
+    requires { start + 13 ≤ length reported.now }
+    ensures { view_of_fact result ≡ command_fact reported.now start }
+{
+    Fact {
+        key: b"reproduce",
+        value: Value::Text(&reported[start + COMMAND.len()..]),
+    }
+}
+
 /// The facts before the command that makes a run again, which begins after the first so many bytes, and the command.
 fn facts_with_command<'a>(
     alloc: Global,
@@ -97,10 +108,7 @@ fn facts_with_command<'a>(
     let Some(front) = facts_by_first(alloc, &ROOT_SHAPES, &reported[..start])? else {
         return Ok(None);
     };
-    let command = Fact {
-        key: b"reproduce",
-        value: Value::Text(&reported[start + COMMAND.len()..]),
-    };
+    let command = command_fact(reported, start);
     let facts = joined(alloc, &front, &[command])?;
     Ok(Some(facts))
 }
