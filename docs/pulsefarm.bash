@@ -7,7 +7,7 @@ _pulsefarm_properties='returns true nocrash nodeadlock withinlimit never:'
 _pulsefarm_options() {
   case $1 in
     run) echo '--root --limit --edition --seed --weights --strategy --last --schedule --property --format --explain --help' ;;
-    chart) echo '--root --limit --edition --seed --weights --strategy --last --schedule --property --compact --page --help' ;;
+    chart) echo '--root --limit --edition --seed --weights --strategy --last --schedule --property --compact --page --format --help' ;;
     hunt)
       echo '--root --limit --edition --property --seeds --for --weights --strategy --last --workers --all --shrink --all-roots --fail-fast --leaks --format --help'
       ;;
@@ -18,6 +18,11 @@ _pulsefarm_options() {
     farm) echo '--workers --replies --summary --help' ;;
     *) echo '--help --version' ;;
   esac
+}
+
+# The forms in which the command $1 answers.
+_pulsefarm_forms() {
+  if [ "$1" = chart ]; then echo 'svg html'; else echo 'text json'; fi
 }
 
 # The exported functions without arguments of the files among the words.
@@ -51,7 +56,7 @@ _pulsefarm() {
       ;;
     --strategy) mapfile -t COMPREPLY < <(compgen -W 'pos uniform' -- "$word") ;;
     --replies) mapfile -t COMPREPLY < <(compgen -d -- "$word") ;;
-    --format) mapfile -t COMPREPLY < <(compgen -W 'text json' -- "$word") ;;
+    --format) mapfile -t COMPREPLY < <(compgen -W "$(_pulsefarm_forms "$command")" -- "$word") ;;
     --edition) mapfile -t COMPREPLY < <(compgen -W '1 2' -- "$word") ;;
     --limit | --seed | --seeds | --for | --weights | --last | --workers | --shrink | --runs | --page) ;;
     --budget | --deviations) ;;

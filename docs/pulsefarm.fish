@@ -56,5 +56,6 @@ complete -c pulsefarm -n '__fish_seen_subcommand_from chart' -l page -x -d 'Page
 complete -c pulsefarm -n '__fish_seen_subcommand_from run' -l explain -d 'Report the status of each process at the end'
 complete -c pulsefarm -n '__fish_seen_subcommand_from check' -l explain -d 'Say how to fix a refusal'
 complete -c pulsefarm -n '__fish_seen_subcommand_from run hunt explore shrink check' -l format -x -a 'text json' -d 'Lines of text or JSON'
+complete -c pulsefarm -n '__fish_seen_subcommand_from chart' -l format -x -a 'svg html' -d 'A picture or a page'
 complete -c pulsefarm -n '__fish_seen_subcommand_from farm' -l replies -x -a '(__fish_complete_directories)' -d 'Folder of the replies'
 complete -c pulsefarm -n '__fish_seen_subcommand_from farm' -l summary -d 'Tell what each worker did'

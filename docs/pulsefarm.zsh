@@ -51,7 +51,8 @@ _pulsefarm() {
   case $command in
     run) own=($job '--seed[seed]:seed: ' $weights $strategy $last $schedule $format '--explain[report the status of each process at the end]') ;;
     chart)
-      own=($job '--seed[seed]:seed: ' $weights $strategy $last $schedule '--compact[join send and receive]' '--page[page of 500 rows]:page: ')
+      own=($job '--seed[seed]:seed: ' $weights $strategy $last $schedule '--compact[join send and receive]' '--page[page of 500 rows]:page: '
+        '--format[a picture or a page]:format:(svg html)')
       ;;
     hunt)
       own=(${job/#--property/'*--property'} '--seeds[seeds A..B]:seeds: ' '--for[time after which it stops]:time: ' $weights $strategy $last '--workers[threads]:threads: ' '--all[report each outcome]'

@@ -322,7 +322,7 @@ work_shown : (name : Text) (rows : List Row) → is_shown (work_fault name rows)
 work_shown name rows = either_shown (bytes_eq name (codes "farm")) kind.InvalidValue _ refl (one_file_shown name rows)
 
 under_shown : (name : Text) (rows : List Row) → is_shown (fault_under name rows) ≡ false
-under_shown name rows = either_shown (is_some (format_in rows)) (work_fault name rows) kind.InvalidValue
+under_shown name rows = either_shown (is_some (format_in name rows)) (work_fault name rows) kind.InvalidValue
     (work_shown name rows) refl
 
 own_shown : (o : Option (Text × List Row)) → is_shown (own_fault o) ≡ false

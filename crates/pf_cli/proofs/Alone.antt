@@ -10,6 +10,7 @@ use Rattle.pf_cli.specs.Args.{is_given, option_number, schedule_numbers, of_comm
 use Rattle.pf_cli.specs.Args.{file_placed, property_named, root_named, run_asked, run_args_of}
 use Rattle.pf_cli.specs.Commands.{pulsefarm}
 use Rattle.pf_cli.specs.Args.{schedule_file_of, shrink_of, shrinking_asked, unless_refused, wanted_as, wanted_by}
+use Rattle.pf_cli.specs.Form.{chart_form_named}
 use Rattle.pf_cli.specs.Args.{CommandWork, work_of, explain_of, format_in, run, chart, shrink}
 
 alone_word : (text word : Text) → file_at word ≡ None → schedule_numbers (Some text) word ≡ schedule_numbers None word
@@ -47,7 +48,8 @@ alone_shrink text rows e =
 alone_chart : (text : Text) (rows : List Row) → option_and_then file_at (first_of (codes "schedule") rows) ≡ None
     → chart_of (Some text) rows ≡ chart_of None rows
 alone_chart text rows e =
-    ap (λ (r : Option RunArgs). chart_asked r (is_given (first_of (codes "compact") rows))
+    ap (λ (r : Option RunArgs). chart_asked r (chart_form_named (first_of (codes "format") rows))
+    (is_given (first_of (codes "compact") rows))
     (page_named (first_of (codes "page") rows))) (alone_run text rows e)
 
 -- a choice between alike is alike
@@ -70,7 +72,7 @@ alone_work text name rows e = alike_either (bytes_eq name (codes "farm")) _ _ _ 
 
 alone_command : (text name : Text) (rows : List Row) → option_and_then file_at (first_of (codes "schedule") rows) ≡ None
     → of_command (Some text) name rows ≡ of_command None name rows
-alone_command text name rows e = ap (λ (w : Option CommandWork). wanted_as (format_in rows) (explain_of rows) w)
+alone_command text name rows e = ap (λ (w : Option CommandWork). wanted_as (format_in name rows) (explain_of rows) w)
     (alone_work text name rows e)
 
 alone_asked : (text : Text) (o : Option (Text × List Row))

@@ -7,6 +7,7 @@ use Rattle.pf_model.specs.Meaning.{Choices}
 use Rattle.pf_strategy.specs.declared.strategy.SeedChoice.{SeedChoice}
 use Rattle.pf_cli.specs.Args.{RunArgs, bounds_in, chart_asked, choices_in, choices_named, guided_in, property_named}
 use Rattle.pf_cli.specs.Args.{root_named, run_asked, run_fault, run_args_of, values_fault}
+use Rattle.pf_cli.specs.declared.args.ChartForm.{ChartForm}
 
 -- where a seed or a schedule is read the fault is a value's
 pub values_chosen : (text s w t : Option Text) (cs : Choices) → choices_named text s w t ≡ Some cs
@@ -38,9 +39,16 @@ run_chosen text rows a e = by (choices_in text rows) refl e
         (guided_in None rows) (property_named (first_of (codes "property") rows)) a h)
 
 -- nor is a chart whose page is invalid
-pub unpaged : (r : Option RunArgs) (compact : Bool) → chart_asked r compact None ≡ None
-unpaged None compact = refl
-unpaged (Some a) compact = refl
+pub unpaged : (r : Option RunArgs) (form : Option ChartForm) (compact : Bool) → chart_asked r form compact None ≡ None
+unpaged None None compact = refl
+unpaged None (Some f) compact = refl
+unpaged (Some a) None compact = refl
+unpaged (Some a) (Some f) compact = refl
+
+-- nor one whose form is
+pub unformed : (r : Option RunArgs) (compact : Bool) (page : Option ℕ) → chart_asked r None compact page ≡ None
+unformed None compact page = refl
+unformed (Some a) compact page = refl
 
 none_asked : (root : Text) (bounds : Option (ℕ × ℕ)) (cs : Choices) (property : Text)
     → run_asked root bounds (Some cs) None property ≡ None

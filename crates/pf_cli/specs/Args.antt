@@ -12,7 +12,7 @@ use Rattle.pf_text.specs.Numbers.{number_of_digits, long_number_of, schedule_of}
 use Rattle.pf_cli.specs.Commands.{pulsefarm}
 use Rattle.pf_cli.specs.Seeds.{seeds_named}
 use Rattle.pf_cli.specs.Span.{time_named}
-use Rattle.pf_cli.specs.Form.{format_named}
+use Rattle.pf_cli.specs.Form.{chart_form_named, format_named}
 use Rattle.pf_cli.specs.Pids.{pid_named}
 use Rattle.pf_cli.specs.Explore.{ExploreArgs, ExploreReach, budget_named, deviations_named, explore_reach, runs_named}
 use Rattle.pf_cli.specs.Reach.{HuntScope, clashes, further_named, more_named, names_given, reach_asked, roots_named}
@@ -25,7 +25,9 @@ use Rattle.pf_strategy.specs.declared.strategy.SeedChoice.{SeedChoice}
 use Rattle.pf_strategy.specs.declared.strategy.Strategy.{Strategy}
 use Rattle.pf_cli.specs.declared.args.Edition.{Edition}
 use Rattle.pf_cli.specs.declared.args.Edition.TheVariants.{First, Second}
+use Rattle.pf_cli.specs.declared.args.ChartForm.{ChartForm}
 use Rattle.pf_cli.specs.declared.args.Format.{Format}
+use Rattle.pf_cli.specs.declared.args.Format.TheVariants as format
 use Rattle.pf_cli.specs.declared.args.WeightArgs.{WeightArgs}
 use Rattle.pf_cli.specs.declared.args.Roots.{Roots}
 use Rattle.pf_cli.specs.declared.args.RunArgs as run_code
@@ -51,9 +53,10 @@ pub record RunArgs : Type 0 where
   pub edition : ℕ
   pub by_seed : Option SeedChoice
 
--- a chart is asked for: of a run, compact or not, and which page of it
+-- a chart is asked for: of a run, in a form, compact or not, and which page of it
 pub record ChartArgs : Type 0 where
   pub run : RunArgs
+  pub form : ChartForm
   pub compact : Bool
   pub page : ℕ
 
@@ -247,13 +250,15 @@ abbrev pub page_named : Option Text → Option ℕ
 page_named None = Some 1
 page_named (Some word) = option_and_then as_page (number_of_digits word)
 
-abbrev pub chart_asked : Option RunArgs → (compact : Bool) → (page : Option ℕ) → Option ChartArgs
-chart_asked (Some words_asked) compact (Some page) = Some (record { run = words_asked; compact = compact; page = page })
-chart_asked _ compact _ = None
+abbrev pub chart_asked : Option RunArgs → Option ChartForm → (compact : Bool) → (page : Option ℕ) → Option ChartArgs
+chart_asked (Some words_asked) (Some form) compact (Some page) =
+    Some (record { run = words_asked; form = form; compact = compact; page = page })
+chart_asked _ _ compact _ = None
 
 abbrev pub chart_of : (text : Option Text) → List Row → Option ChartArgs
 chart_of text rows =
-    chart_asked (run_args_of text rows) (is_given (first_of (codes "compact") rows))
+    chart_asked (run_args_of text rows) (chart_form_named (first_of (codes "format") rows))
+    (is_given (first_of (codes "compact") rows))
     (page_named (first_of (codes "page") rows))
 
 abbrev pub shrinking_asked : (root : Text) → (property : Option Text) → (bounds : Option (ℕ × ℕ)) → (runs : Option ℕ)
@@ -474,12 +479,14 @@ wanted_as None explain work = None
 wanted_as (Some format) explain None = None
 wanted_as (Some format) explain (Some work) = Some (record { work = work; format = format; explain = explain })
 
-abbrev pub format_in : List Row → Option Format
-format_in rows = format_named (first_of (codes "format") rows)
+-- a chart has forms of its own, and no report
+abbrev pub format_in : (name : Text) → List Row → Option Format
+format_in name rows =
+    if bytes_eq name (codes "chart") then Some format.Text else format_named (first_of (codes "format") rows)
 
 -- what the command of this name asks for, and the form of its report
 abbrev pub of_command : (text : Option Text) → (name : Text) → List Row → Option Wanted
-of_command text name rows = wanted_as (format_in rows) (explain_of rows) (work_of text name rows)
+of_command text name rows = wanted_as (format_in name rows) (explain_of rows) (work_of text name rows)
 
 abbrev pub words_asked : {T : Type 0} → (Text → List Row → Option T) → Option (Text × List Row) → Option T
 words_asked read None = None
@@ -532,7 +539,8 @@ view_of_run_args a =
     record { request = view_of_request a.request; edition = edition_number a.edition; by_seed = a.by_seed }
 
 abbrev pub view_of_chart_args : chart_code.ChartArgs → ChartArgs
-view_of_chart_args a = record { run = view_of_run_args a.run; compact = a.compact; page = a.page }
+view_of_chart_args a =
+    record { run = view_of_run_args a.run; form = a.form; compact = a.compact; page = a.page }
 
 abbrev pub view_of_hunt_args : hunt_code.HuntArgs → HuntArgs
 view_of_hunt_args a =
@@ -634,7 +642,7 @@ work_fault name rows = if bytes_eq name (codes "farm") then kind.InvalidValue el
 
 -- an invalid form comes first
 abbrev pub fault_under : Text → List Row → ErrorKind
-fault_under name rows = if is_some (format_in rows) then work_fault name rows else kind.InvalidValue
+fault_under name rows = if is_some (format_in name rows) then work_fault name rows else kind.InvalidValue
 
 abbrev pub own_fault : Option (Text × List Row) → ErrorKind
 own_fault None = kind.InvalidValue

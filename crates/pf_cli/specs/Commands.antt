@@ -76,10 +76,11 @@ format_rule = option_rule (codes "format")
 abbrev pub run_app : App
 run_app = with_rule (with_rule (one_run_app true (codes "run")) format_rule) (flag_rule (codes "explain"))
 
--- `chart` takes the same words, and wants neither; and then [--compact] [--page K]
+-- `chart` takes the same words, and wants neither; and then [--compact] [--page K] [--format FORM]
 abbrev pub chart_app : App
-chart_app = with_rule (with_rule (one_run_app false (codes "chart")) (flag_rule (codes "compact")))
-    (option_rule (codes "page"))
+chart_app =
+    with_rule (with_rule (with_rule (one_run_app false (codes "chart")) (flag_rule (codes "compact")))
+    (option_rule (codes "page"))) format_rule
 
 -- what is hunted: hunt [FILE].. [--root F] [--limit N] [--edition E] [--property P]..
 abbrev pub judged_app : App

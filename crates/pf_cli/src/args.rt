@@ -42,6 +42,15 @@ pub enum Format {
     Json,
 }
 
+/// In what form a chart goes out.
+#[derive(Drop, Clone, Copy)]
+pub enum ChartForm {
+    /// A picture, as a document in SVG.
+    Svg,
+    /// A page of HTML, on which the run is followed step by step.
+    Html,
+}
+
 /// The weight of a process and that of a channel, each from 1 to 9.
 #[derive(Drop, Clone, Copy)]
 pub(crate) struct WeightArgs {
@@ -86,9 +95,10 @@ pub struct RunArgs<'a> {
 #[derive(Drop)]
 pub struct ChartArgs<'a> {
     pub run: RunArgs<'a>,
-    /// Whether waits and messages that go into a mailbox have no row.
+    pub form: ChartForm,
+    /// Whether in a picture waits and messages that go into a mailbox have no row.
     pub compact: bool,
-    /// Which page of the rows, from 1.
+    /// Which page of the rows of a picture, from 1.
     pub page: u32,
 }
 

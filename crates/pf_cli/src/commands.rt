@@ -41,6 +41,9 @@ const TIME_HELP: &str =
 const FORMAT_HELP: &str =
     "Form of what goes out: `text`, or `json`, an object in place of each line [default: text]";
 
+const CHART_FORMAT_HELP: &str =
+    "Form of the chart: `svg`, a picture, or `html`, a page on which the run is followed step by step [default: svg]";
+
 const ROOT_HELP: &str = "Name of the function that runs first, exported and without arguments";
 
 const ROOT_OR_MAIN_HELP: &str =
@@ -314,13 +317,14 @@ pub(crate) fn chart_command<'a>(alloc: Global) -> Result<Command<'a>, AllocError
     ensures app { IfOk result (λ c. app_of c ≡ chart_app) }
     ensures local { IfOk result (λ c. (out-Command c).has_globals ≡ false) }
 {
-    let about = "Draws a run as a message sequence chart in SVG";
+    let about = "Draws a run as a chart in SVG, or as a page of HTML to step through";
     let compact =
         "Draws each message from its send to its receive, without rows for waits and deliveries";
     let page = "Page of 500 rows, counted from 1; the last where there are fewer [default: 1]";
     let chart = one_run(alloc, "chart", about, CHART_USAGE, false)?
         .arg(flag(alloc, "compact", compact))?
-        .arg(option(alloc, "page", "K", page))?;
+        .arg(option(alloc, "page", "K", page))?
+        .arg(option(alloc, "format", "FORM", CHART_FORMAT_HELP))?;
     Ok(chart)
 }
 

@@ -17,8 +17,8 @@ mod strategy;
 mod values;
 
 pub use args::{
-    Args, ChartArgs, CheckArgs, CliCommand, Edition, ExploreArgs, ExploreReach, FarmArgs, Format,
-    HuntArgs, HuntGoal, Roots, RunArgs, StepsArgs,
+    Args, ChartArgs, ChartForm, CheckArgs, CliCommand, Edition, ExploreArgs, ExploreReach,
+    FarmArgs, Format, HuntArgs, HuntGoal, Roots, RunArgs, StepsArgs,
 };
 pub use laws::{is_alone, statuses_agree};
 pub use parse::{read_args, status_of_kind};

@@ -18,7 +18,7 @@ use crate::args::{
 use crate::commands::command;
 use crate::explore::explore_args;
 use crate::farm::farm_args;
-use crate::form::format;
+use crate::form::{chart_form, format};
 use crate::reach::{clash, reach_of};
 use crate::refusals::{Valued, mistake, refuse_both};
 use crate::seeds::seeds;
@@ -140,9 +140,14 @@ fn chart_args<'a>(
         Ok(run) => run,
         Err(e) => return Err(e),
     };
+    let form = match chart_form(alloc, rows) {
+        Ok(form) => form,
+        Err(e) => return Err(e),
+    };
     match page(alloc, rows) {
         Ok(page) => Ok(ChartArgs {
             run,
+            form,
             compact: is_given(rows, "compact"),
             page,
         }),

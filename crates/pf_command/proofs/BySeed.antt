@@ -12,8 +12,9 @@ use Rattle.pf_sched.proofs.BySeed.{means_by_seed}
 use Rattle.pf_sched.specs.Choosing.{MeansFor, choosing_of}
 use Rattle.pf_sched.specs.Printing.{HasPrinted, HasStopped}
 use Rattle.pf_sched.specs.declared.printing.PrintedRun.{PrintedRun}
-use Rattle.pf_chart.specs.declared.manner.Manner.{Manner}
-use Rattle.pf_command.specs.Charts.{AreNamesIn, DrawsJob, DrawsRun, IsOfRun}
+use Rattle.pf_cli.specs.declared.args.ChartForm.{ChartForm}
+use Rattle.pf_cli.specs.declared.args.ChartForm.TheVariants.{Svg, Html}
+use Rattle.pf_command.specs.Charts.{AreNamesIn, DrawsJob, Drawing, DrawsRun, IsDrawnAs, IsOfRun}
 use Rattle.pf_command.specs.AskedRuns.{RunsAs, scheduled}
 use Rattle.pf_command.specs.Hunts.{choices_of}
 use Rattle.pf_command.specs.declared.answer.Output.{Output}
@@ -70,15 +71,48 @@ names_scheduled j numbers r names (k, h, d) = (
   d,
 )
 
+-- and it is drawn alike
+drawn_scheduled : (form : ChartForm) (d : Drawing) (j : Job) (numbers : List ℕ) (r : Report)
+    (names : List (List ℕ)) (text : List ℕ)
+    → IsDrawnAs form d j.asked r names text → IsDrawnAs form d (scheduled j numbers).asked r names text
+drawn_scheduled Svg d j numbers r names text h = h
+drawn_scheduled Html d j numbers r names text h =
+    record {
+      page = h.page;
+      is = h.is;
+      atoms = h.atoms;
+      root = h.root;
+      are_names = h.are_names;
+      source = h.source;
+      known = h.known;
+      is_known = record {
+        code = h.is_known.code;
+        root = h.is_known.root;
+        edition = h.is_known.edition;
+        limit = h.is_known.limit;
+        events = h.is_known.events;
+      };
+      shows = h.shows;
+      nearest = h.nearest;
+    }
+
 -- a run that is drawn is that of a job by its own choices
-pub drawn_as : (by_seed : Option SeedChoice) (j : Job) (root : List ℕ) (m : Manner) (r : Report) (a : Output)
+pub drawn_as : (by_seed : Option SeedChoice) (j : Job) (d : Drawing) (r : Report) (a : Output)
     → (IsNone by_seed → j.asked.runs ≡ zero) → MeansFor (choosing_of by_seed j.asked) j.asked r
-    → DrawsRun j.asked root m r a → (k : Job) × RunsAs by_seed j k × DrawsJob root m k a.text.items a.status
-drawn_as None j root m r a one means drawn = (j, refl, draws_one_run root m j a (one refl) (r, means, drawn))
-drawn_as (Some g) j root m r a one means (names, named, drawn, status) =
+    → DrawsRun j.asked d r a → (k : Job) × RunsAs by_seed j k × DrawsJob d k a.text.items a.status
+drawn_as None j d r a one means drawn = (j, refl, draws_one_run d j a (one refl) (r, means, drawn))
+drawn_as (Some g) j d r a one means (names, named, drawn, status) =
     let k = scheduled j (choices_of r) in (
       k,
       (r, means_by_seed g j.asked r means, refl),
-      draws_one_run root m k a refl
-          (r, replayed j g r means, (names, names_scheduled j (choices_of r) r names named, drawn, status)),
+      draws_one_run d k a refl (
+        r,
+        replayed j g r means,
+        (
+          names,
+          names_scheduled j (choices_of r) r names named,
+          drawn_scheduled d.form d j (choices_of r) r names a.text.items drawn,
+          status,
+        ),
+      ),
     )

@@ -6,14 +6,16 @@ use Rattle.pf_model.specs.Meaning as meaning
 use Rattle.pf_model.specs.Meaning.{Means, Report}
 use Rattle.pf_model.specs.Shrinking.{Found, IsResult, by_schedule, report, shrunk_to, nothing_fails, plain, smaller}
 use Rattle.pf_request.specs.Job.{Job}
-use Rattle.pf_chart.specs.declared.manner.Manner.{Manner}
+use Rattle.pf_cli.specs.declared.args.ChartForm.{ChartForm}
+use Rattle.pf_cli.specs.declared.args.ChartForm.TheVariants.{Svg, Html}
 use Rattle.pf_command.specs.Answers.{Refuses}
 use Rattle.pf_model.specs.Configuration.{Configuration}
 use Rattle.pf_cli_messages.specs.Explained.{IsKnownRunOf}
 use Rattle.pf_cli_messages.proofs.Reporting.{leads_to}
 use Rattle.pf_process_status.specs.Known.{RunLeadsTo}
 use Rattle.pf_process_status.specs.declared.known.KnownRun.{KnownRun}
-use Rattle.pf_command.specs.Charts.{AreNamesIn, DrawsJob, DrawsMeaning, IsOfRun, run_drawn, found_drawn, none_drawn}
+use Rattle.pf_command.specs.Charts.{AreNamesIn, DrawsJob, DrawsMeaning, Drawing, IsDrawnAs, IsOfRun, IsPageOf}
+use Rattle.pf_command.specs.Charts.{run_drawn, found_drawn, none_drawn}
 use Rattle.pf_command.specs.declared.answer.Output.{Output}
 
 -- a shrinking ends in no report alone
@@ -55,6 +57,64 @@ rescheduled j ns r names (k, h, d) = (
   d,
 )
 
+-- and so is a page
+page_again : (d : Drawing) (j : meaning.Job) (ns : List ℕ) (r : Report) (names : List (List ℕ)) (text : List ℕ)
+    → IsPageOf d j r names text → IsPageOf d (by_schedule j ns) r names text
+page_again d j ns r names text h =
+    record {
+      page = h.page;
+      is = h.is;
+      atoms = h.atoms;
+      root = h.root;
+      are_names = h.are_names;
+      source = h.source;
+      known = h.known;
+      is_known = record {
+        code = h.is_known.code;
+        root = h.is_known.root;
+        edition = h.is_known.edition;
+        limit = h.is_known.limit;
+        events = h.is_known.events;
+      };
+      shows = h.shows;
+      nearest = h.nearest;
+    }
+
+page_before : (d : Drawing) (j : meaning.Job) (ns : List ℕ) (r : Report) (names : List (List ℕ)) (text : List ℕ)
+    → IsPageOf d (by_schedule j ns) r names text → IsPageOf d j r names text
+page_before d j ns r names text h =
+    record {
+      page = h.page;
+      is = h.is;
+      atoms = h.atoms;
+      root = h.root;
+      are_names = h.are_names;
+      source = h.source;
+      known = h.known;
+      is_known = record {
+        code = h.is_known.code;
+        root = h.is_known.root;
+        edition = h.is_known.edition;
+        limit = h.is_known.limit;
+        events = h.is_known.events;
+      };
+      shows = h.shows;
+      nearest = h.nearest;
+    }
+
+-- it is drawn alike whichever the choices are
+pub drawn_again : (form : ChartForm) (d : Drawing) (j : meaning.Job) (ns : List ℕ) (r : Report)
+    (names : List (List ℕ)) (text : List ℕ)
+    → IsDrawnAs form d j r names text → IsDrawnAs form d (by_schedule j ns) r names text
+drawn_again Svg d j ns r names text h = h
+drawn_again Html d j ns r names text h = page_again d j ns r names text h
+
+pub drawn_before : (form : ChartForm) (d : Drawing) (j : meaning.Job) (ns : List ℕ) (r : Report)
+    (names : List (List ℕ)) (text : List ℕ)
+    → IsDrawnAs form d (by_schedule j ns) r names text → IsDrawnAs form d j r names text
+drawn_before Svg d j ns r names text h = h
+drawn_before Html d j ns r names text h = page_before d j ns r names text h
+
 -- its events lead somewhere
 pub comes_there : (j : meaning.Job) (r : Report) (k : KnownRun) → IsKnownRunOf j r k → IsOfRun j r
     → (d : Configuration) × RunLeadsTo k d
@@ -68,19 +128,20 @@ comes_there j r k h (inr (ns, means)) =
       events = h.events;
     }) None means
 
-module _ (root : List ℕ) (m : Manner) (j : Job) (a : Output) where
-  pub draws_one_run : j.asked.runs ≡ zero → DrawsMeaning j.asked root m a → DrawsJob root m j a.text.items a.status
+module _ (d : Drawing) (j : Job) (a : Output) where
+  pub draws_one_run : j.asked.runs ≡ zero → DrawsMeaning j.asked d a → DrawsJob d j a.text.items a.status
   draws_one_run one (r, means, drawn) = rw drawn.3
       (run_drawn r drawn.0 a.text.items (plain r one means) drawn.1 drawn.2)
 
   -- the run by the schedule that was found is the one of the result
   pub draws_found : (f : Found) (r : Report) → IsResult j.asked (shrunk_to f r)
-      → DrawsMeaning (by_schedule j.asked f.schedule) root m a
-      → DrawsJob root m j a.text.items a.status
+      → DrawsMeaning (by_schedule j.asked f.schedule) d a
+      → DrawsJob d j a.text.items a.status
   draws_found f r is (s, means, drawn) =
       rw drawn.3 (found_drawn f s drawn.0 a.text.items (found_again j.asked f r s is means)
-      (unscheduled j.asked f.schedule s drawn.0 drawn.1) drawn.2)
+      (unscheduled j.asked f.schedule s drawn.0 drawn.1)
+      (drawn_before d.form d j.asked f.schedule s drawn.0 a.text.items drawn.2))
 
   pub draws_none : IsResult j.asked nothing_fails → Refuses a (code_text code.NothingFails)
-      → DrawsJob root m j a.text.items a.status
+      → DrawsJob d j a.text.items a.status
   draws_none is reported = rw (reported.0, reported.1) (none_drawn is)

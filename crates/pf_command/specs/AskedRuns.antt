@@ -11,7 +11,7 @@ use Rattle.pf_strategy.specs.declared.strategy.SeedChoice.{SeedChoice}
 use Rattle.pf_chart.specs.declared.manner.Manner.{Manner}
 use Rattle.pf_cli.specs.Args.{ChartArgs, RunArgs}
 use Rattle.pf_command.specs.Answers.{AnswersBy, CountsBy, ReportsJob}
-use Rattle.pf_command.specs.Charts.{DrawsJob}
+use Rattle.pf_command.specs.Charts.{DrawsJob, Drawing}
 use Rattle.pf_command.specs.Hunts.{choices_of}
 
 -- the run of a job by this schedule in place of what is asked for of it
@@ -41,5 +41,9 @@ RunCounts a = CountsBy (AsksOfRun a)
 abbrev pub manner_of : ChartArgs → Manner
 manner_of a = record { compact = a.compact; page = a.page }
 
+abbrev pub drawing_of : ChartArgs → (bytes : List ℕ) → Drawing
+drawing_of a bytes =
+    record { root = a.run.request.root; form = a.form; manner = manner_of a; source = bytes }
+
 abbrev pub DrawnAnswers : ChartArgs → (bytes text : List ℕ) → ℕ → Type 0
-DrawnAnswers a = AnswersBy (AsksOfRun a.run) (DrawsJob a.run.request.root (manner_of a))
+DrawnAnswers a bytes = AnswersBy (AsksOfRun a.run) (DrawsJob (drawing_of a bytes)) bytes

@@ -1,20 +1,27 @@
 //! What a source is answered with of which the chart of a run is asked for.
 
-ghost use Rattle.std.specs.Prelude.{◌≡◌, ◌<◌, List, ℕ, zero, IfOk, IsNone, map};
+ghost use Rattle.std.specs.Prelude.{◌≡◌, ◌<◌, List, ℕ, zero, IfOk, IfSome, IsNone, IsSomeAnd, map};
+ghost use Rattle.pf_model.specs.Limits.{IsEdition};
+ghost use Rattle.pf_model.specs.Meaning as meaning;
 ghost use Rattle.pf_model.specs.Reports.{view_of_report};
 ghost use Rattle.pf_model.specs.Shrinking.{IsResult, by_schedule};
 ghost use Rattle.pf_sched.specs.Views.{result_of};
 ghost use Rattle.pf_check.specs.Reading.{IsModuleOf};
 ghost use Rattle.pf_cli.specs.Args.{view_of_chart_args};
-ghost use Rattle.pf_command.specs.Charts.{AreNamesIn, DrawsJob, DrawsMeaning, DrawsRun, IsOfRun, IsRootOf};
-ghost use Rattle.pf_command.specs.AskedRuns.{DrawnAnswers, RunsAs, manner_of};
+ghost use Rattle.pf_cli.specs.declared.args.ChartForm.TheVariants.{Svg};
+ghost use Rattle.pf_cli_messages.specs.Explained.{IsKnownRunOf};
+ghost use Rattle.pf_command.specs.Charts.{AreNamesIn, DrawsJob, DrawsMeaning, DrawsRun, IsDrawn, IsDrawnAs, IsOfRun};
+ghost use Rattle.pf_command.specs.Charts.{IsRootOf, view_of_drawing};
+ghost use Rattle.pf_command.specs.AskedRuns.{DrawnAnswers, RunsAs, drawing_of, manner_of};
 ghost use Rattle.pf_request.specs.Job as request;
 
 use crate::answer::{Output, refused_at, refused_by_code, run_status};
+use crate::drawing::Drawing;
+use crate::page::page_of_run;
 use crate::serving::Answering;
 use pf_chart::{Manner, put_chart};
 use pf_check::{ReadModule, ReadSource};
-use pf_cli::ChartArgs;
+use pf_cli::{ChartArgs, ChartForm};
 use pf_errors::{Code, NoMemory, OrNoMemory};
 use pf_model::report::Report;
 use pf_process_status::{KnownRun, names};
@@ -25,150 +32,192 @@ use pf_strategy::SeedChoice;
 use std::alloc::Global;
 use std::sync::Arc;
 
-/// The names of the functions in whose calls the processes of a run of a job began, by pid; an empty one where there is
-/// none.
-fn names_of(
-    alloc: Global,
-    job: &Job,
-    root: &[u8],
-    report: &Report,
-) -> Result<Vec<Vec<u8>>, NoMemory>
-    requires root { IsRootOf job.now root.now }
-    requires run { IsOfRun job.now.asked (view_of_report report.now) }
-    ensures { IfOk result (λ v. AreNamesIn job.now.asked (view_of_report report.now)
-        (map (λ name. name.items) v.items)) }
+/// The run of a job that has this report, from the root of this name.
+fn known_run<'a>(job: &'a Job, root: &[u8], report: &'a Report) -> Option<KnownRun<'a>>
+    requires { IsRootOf job.now root.now }
+    ensures run { IsSomeAnd result (IsKnownRunOf job.now.asked (view_of_report report.now)) }
+    ensures edition { IfSome result (λ k. IsEdition k.edition) }
+    ensures events { IfSome result (λ k. k.events.now ≡ report.now.events.items) }
 {
     let module = job.module();
-    let Some(root) = module.root(root) else {
-        return Ok(Vec::new(alloc));
-    };
-    let run = KnownRun {
+    let root = module.root(root)?;
+    Some(KnownRun {
         module,
         root,
         edition: job.edition(),
         limit: job.limit(),
         events: report.events.as_slice(),
-    };
-    names(alloc, &run)
+    })
+}
+
+/// The picture of a run that is known, with its report and the names of its processes.
+fn picture_of_run(
+    alloc: Global,
+    drawing: &Drawing,
+    known: &KnownRun,
+    names: &[Vec<u8>],
+    report: &Report,
+) -> Result<Vec<u8>, NoMemory>
+    ensures { IfOk result (λ text. (j : meaning.Job) → IsKnownRunOf j (view_of_report report.now) known.now
+        → IsDrawnAs Svg (view_of_drawing drawing.now) j (view_of_report report.now) (map (λ n. n.items) names.now)
+        text.items) }
+{
+    let mut text = Vec::new(alloc);
+    let atoms = known.module.atoms();
+    put_chart(
+        alloc,
+        &mut text,
+        atoms,
+        drawing.root,
+        names,
+        report,
+        drawing.manner,
+    )?;
+    Ok(text)
+}
+
+/// The chart of a run that is known, in the form that is asked for.
+fn chart_of_run(
+    alloc: Global,
+    drawing: &Drawing,
+    known: &KnownRun,
+    names: &[Vec<u8>],
+    report: &Report,
+) -> Result<Vec<u8>, NoMemory>
+    requires edition { IsEdition known.now.edition }
+    requires events { known.now.events.now ≡ report.now.events.items }
+    ensures { IfOk result (λ text. (j : meaning.Job) → IsKnownRunOf j (view_of_report report.now) known.now
+        → IsDrawn (view_of_drawing drawing.now) j (view_of_report report.now) (map (λ n. n.items) names.now)
+        text.items) }
+{
+    match drawing.form {
+        ChartForm::Svg => picture_of_run(alloc, drawing, known, names, report),
+        ChartForm::Html => page_of_run(alloc, drawing, known, names, report),
+    }
+}
+
+/// The chart of a run that is known, with the names of its functions.
+fn draw_known(
+    alloc: Global,
+    drawing: &Drawing,
+    known: &KnownRun,
+    report: &Report,
+) -> Result<Vec<u8>, NoMemory>
+    requires edition { IsEdition known.now.edition }
+    requires events { known.now.events.now ≡ report.now.events.items }
+    ensures { IfOk result (λ text. (j : meaning.Job) → IsKnownRunOf j (view_of_report report.now) known.now
+        → IsOfRun j (view_of_report report.now)
+        → (names : List (List ℕ)) × AreNamesIn j (view_of_report report.now) names
+        × IsDrawn (view_of_drawing drawing.now) j (view_of_report report.now) names text.items) }
+{
+    let names = names(alloc, known)?;
+    chart_of_run(alloc, drawing, known, names.as_slice(), report)
 }
 
 /// The chart of a run of a job, with the status of its verdict.
-fn draw_run(
-    alloc: Global,
-    job: &Job,
-    root: &[u8],
-    manner: Manner,
-    run: &Report,
-) -> Result<Output, NoMemory>
-    requires root { IsRootOf job.now root.now }
+fn draw_run(alloc: Global, job: &Job, drawing: &Drawing, run: &Report) -> Result<Output, NoMemory>
+    requires root { IsRootOf job.now drawing.now.root.now }
     requires run { IsOfRun job.now.asked (view_of_report run.now) }
-    ensures { IfOk result (DrawsRun job.now.asked root.now manner (view_of_report run.now)) }
+    ensures { IfOk result (DrawsRun job.now.asked (view_of_drawing drawing.now) (view_of_report run.now)) }
 {
-    let names = names_of(alloc, job, root, run)?;
-    let mut text = Vec::new(alloc);
-    let atoms = job.module().atoms();
-    put_chart(alloc, &mut text, atoms, root, names.as_slice(), run, manner)?;
-    let status = run_status(run.verdict);
-    Ok(Output { text, status })
+    match known_run(job, drawing.root, run) {
+        Some(known) => Ok(Output {
+            text: draw_known(alloc, drawing, &known, run)?,
+            status: run_status(run.verdict),
+        }),
+        None => unreachable!(),
+    }
 }
 
 /// The chart of the run of a job, by its own choices or by a seed, which is made with its events.
 fn draw_one_run(
     alloc: Global,
-    root: &[u8],
-    manner: Manner,
+    drawing: &Drawing,
     job: &Job,
     by_seed: Option<SeedChoice>,
 ) -> Result<Output, NoMemory>
     requires runs { IsNone by_seed → job.now.asked.runs ≡ zero }
-    requires root { IsRootOf job.now root.now }
+    requires root { IsRootOf job.now drawing.now.root.now }
     ensures { IfOk result (λ a. (k : request.Job) × RunsAs by_seed job.now k
-        × DrawsJob root.now manner k a.text.items a.status) }
+        × DrawsJob (view_of_drawing drawing.now) k a.text.items a.status) }
 {
     let run = report_of_run(alloc, job, by_seed, &mut Scratch::new(alloc))?;
-    draw_run(alloc, job, root, manner, &run)
+    draw_run(alloc, job, drawing, &run)
 }
 
 /// The chart of a job's run by this schedule, which is made with its events: what is filed has none.
 fn draw_by_schedule(
     alloc: Global,
-    root: &[u8],
-    manner: Manner,
+    drawing: &Drawing,
     job: &Job,
     schedule: &[u32],
 ) -> Result<Output, NoMemory>
-    requires { IsRootOf job.now root.now }
-    ensures { IfOk result (DrawsMeaning (by_schedule job.now.asked schedule.now) root.now manner) }
+    requires { IsRootOf job.now drawing.now.root.now }
+    ensures { IfOk result (DrawsMeaning (by_schedule job.now.asked schedule.now)
+        (view_of_drawing drawing.now)) }
 {
     let run = report_by_schedule(alloc, job, schedule, &mut Scratch::new(alloc))?;
-    draw_run(alloc, job, root, manner, &run)
+    draw_run(alloc, job, drawing, &run)
 }
 
 /// The chart of a shrinking's result: of the run by the schedule that it found. If the given schedule doesn't fail,
 /// that is refused.
 fn draw_result(
     alloc: Global,
-    root: &[u8],
-    manner: Manner,
+    drawing: &Drawing,
     job: &Job,
     came: &JobResult,
 ) -> Result<Output, NoMemory>
     requires shrinks { 0 < job.now.asked.runs }
-    requires root { IsRootOf job.now root.now }
+    requires root { IsRootOf job.now drawing.now.root.now }
     requires result { IsResult job.now.asked (result_of came.now) }
-    ensures { IfOk result (λ a. DrawsJob root.now manner job.now a.text.items a.status) }
+    ensures { IfOk result (λ a. DrawsJob (view_of_drawing drawing.now) job.now a.text.items a.status) }
 {
     match came {
         JobResult::Report(_) => unreachable!(),
-        JobResult::Shrunk { schedule, .. } => draw_by_schedule(alloc, root, manner, job, schedule),
+        JobResult::Shrunk { schedule, .. } => draw_by_schedule(alloc, drawing, job, schedule),
         JobResult::NothingFails => refused_by_code(alloc, Code::NothingFails),
     }
 }
 
 /// The chart of a shrinking whose runs are over. If memory ran out within them, there is none.
-fn draw_finished(
-    alloc: Global,
-    root: &[u8],
-    manner: Manner,
-    finished: &Finished,
-) -> Result<Output, NoMemory>
+fn draw_finished(alloc: Global, drawing: &Drawing, finished: &Finished) -> Result<Output, NoMemory>
     requires shrinks { 0 < finished.now.job.asked.runs }
-    requires root { IsRootOf finished.now.job root.now }
-    ensures { IfOk result (λ a. DrawsJob root.now manner finished.now.job a.text.items a.status) }
+    requires root { IsRootOf finished.now.job drawing.now.root.now }
+    ensures { IfOk result (λ a. DrawsJob (view_of_drawing drawing.now) finished.now.job a.text.items a.status) }
 {
     match finished.result() {
-        Some(came) => draw_result(alloc, root, manner, finished.job(), came),
+        Some(came) => draw_result(alloc, drawing, finished.job(), came),
         None => Err(NoMemory),
     }
 }
 
 /// The chart of a shrinking, which is run to its end.
-fn draw_shrinking(alloc: Global, root: &[u8], manner: Manner, job: Job) -> Result<Output, NoMemory>
+fn draw_shrinking(alloc: Global, drawing: &Drawing, job: Job) -> Result<Output, NoMemory>
     requires shrinks { 0 < job.asked.runs }
-    requires root { IsRootOf job root.now }
-    ensures { IfOk result (λ a. DrawsJob root.now manner job a.text.items a.status) }
+    requires root { IsRootOf job drawing.now.root.now }
+    ensures { IfOk result (λ a. DrawsJob (view_of_drawing drawing.now) job a.text.items a.status) }
 {
     let job = Arc::new(alloc, job)?;
     let finished = run_to_end(alloc, job, &mut Scratch::new(alloc), &mut Silent)?;
-    draw_finished(alloc, root, manner, &finished)
+    draw_finished(alloc, drawing, &finished)
 }
 
 /// The chart of a job, or of its run by a seed.
 fn draw_job(
     alloc: Global,
-    root: &[u8],
-    manner: Manner,
+    drawing: &Drawing,
     job: Job,
     by_seed: Option<SeedChoice>,
 ) -> Result<Output, NoMemory>
-    requires { IsRootOf job root.now }
+    requires { IsRootOf job drawing.now.root.now }
     ensures { IfOk result (λ a. (k : request.Job) × RunsAs by_seed job k
-        × DrawsJob root.now manner k a.text.items a.status) }
+        × DrawsJob (view_of_drawing drawing.now) k a.text.items a.status) }
 {
     if by_seed.is_none() && job.runs() > 0 {
-        draw_shrinking(alloc, root, manner, job)
+        draw_shrinking(alloc, drawing, job)
     } else {
-        draw_one_run(alloc, root, manner, &job, by_seed)
+        draw_one_run(alloc, drawing, &job, by_seed)
     }
 }
 
@@ -182,15 +231,32 @@ fn manner_of(args: &ChartArgs) -> Manner
     }
 }
 
-/// The answer to a module of which the chart of a run is asked for.
-fn draw_module(alloc: Global, args: &ChartArgs, module: ReadModule) -> Result<Output, NoMemory>
-    ensures { IfOk result (λ a. (bytes : List ℕ) → IsModuleOf bytes «module»
-        → DrawnAnswers (view_of_chart_args args.now) bytes a.text.items a.status) }
+/// What is asked for of a source.
+fn drawing_of<'a>(args: &'a ChartArgs, source: &'a [u8]) -> Drawing<'a>
+    ensures { view_of_drawing result ≡ drawing_of (view_of_chart_args args.now) source.now }
+{
+    Drawing {
+        root: args.run.request.root.as_slice(),
+        form: args.form,
+        manner: manner_of(args),
+        source,
+    }
+}
+
+/// The answer to a module, of this source, of which the chart of a run is asked for.
+fn draw_module(
+    alloc: Global,
+    args: &ChartArgs,
+    module: ReadModule,
+    source: &[u8],
+) -> Result<Output, NoMemory>
+    ensures { IfOk result (λ a. IsModuleOf source.now «module»
+        → DrawnAnswers (view_of_chart_args args.now) source.now a.text.items a.status) }
 {
     let run = &args.run;
-    let root = run.request.root.as_slice();
+    let drawing = drawing_of(args, source);
     match Job::new(alloc, module, &run.request, run.edition.number()) {
-        Ok(job) => draw_job(alloc, root, manner_of(args), job, run.by_seed),
+        Ok(job) => draw_job(alloc, &drawing, job, run.by_seed),
         Err(OrNoMemory::Fault(refusal)) => refused_by_code(alloc, refusal.code()),
         Err(OrNoMemory::NoMemory) => Err(NoMemory),
     }
@@ -201,7 +267,7 @@ fn draw_source(alloc: Global, args: &ChartArgs, source: &ReadSource) -> Result<O
     ensures { IfOk result (λ a. DrawnAnswers (view_of_chart_args args.now) source.now a.text.items a.status) }
 {
     match source.module() {
-        Ok(module) => draw_module(alloc, args, module.share()?),
+        Ok(module) => draw_module(alloc, args, module.share()?, source.bytes()),
         Err(refusal) => refused_at(alloc, refusal),
     }
 }

@@ -8,3 +8,4 @@ pub mod Putting
 pub mod Struck
 pub mod Texts
 mod Noting
+pub mod Stepping

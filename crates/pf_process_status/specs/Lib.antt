@@ -4,3 +4,4 @@ pub mod Fates
 pub mod Followed
 pub mod Put
 pub mod Lines
+pub mod Places

@@ -45,7 +45,7 @@ pub fn put_function(
 }
 
 /// The node at which a process is.
-fn node_at(module: &Module, point: Point) -> Option<NodeId>
+pub(crate) fn node_at(module: &Module, point: Point) -> Option<NodeId>
     ensures { IsNodeAt «module».now point result }
 {
     match point {

@@ -150,7 +150,7 @@ pub fn standings(alloc: Global, run: &KnownRun) -> Result<Vec<ProcessStatus>, No
 }
 
 /// The name of a function of a module; an empty one where there is none.
-fn name_of(
+pub(crate) fn name_of(
     alloc: Global,
     module: &Module,
     function: Option<FunctionId>,

@@ -2,7 +2,8 @@
 
 use crate::readings::{WantedReading, come_to};
 use pf_cli::{
-    Args, ChartArgs, CliCommand, ExploreArgs, FarmArgs, Format, HuntArgs, HuntGoal, Roots, RunArgs,
+    Args, ChartArgs, ChartForm, CliCommand, ExploreArgs, FarmArgs, Format, HuntArgs, HuntGoal,
+    Roots, RunArgs,
 };
 use pf_request::{Request, RequestKind, RunChoices};
 use pf_strategy::{Sampling, SeedChoice, Strategy};
@@ -38,6 +39,7 @@ const WORDS: [&[&str]; 8] = [
         "never:{a, _}",
         "--compact",
         "--page=4294967295",
+        "--format=html",
         "chart",
     ],
     &[
@@ -144,6 +146,7 @@ fn is_chart(chart: &ChartArgs) -> bool {
             chart.run.request.kind,
             RequestKind::Run(RunChoices::Seed(u64::MAX))
         )
+        && matches!(chart.form, ChartForm::Html)
         && chart.compact
         && chart.page == u32::MAX
 }

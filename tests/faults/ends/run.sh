@@ -98,6 +98,7 @@ all_commands() {
   all_ends "hunt --shrink$1" hunt $2 $asked --seeds 0..50 --shrink 50
   all_ends "hunt --all$1" hunt $2 $asked --seeds 0..20 --all
   all_ends "chart$1" chart $2 $asked --schedule none
+  all_ends "page$1" chart $2 $asked --schedule none --format html
 }
 all_commands ' of a file' race.erl
 cp race.erl in

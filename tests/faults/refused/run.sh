@@ -162,15 +162,15 @@ row_run_refused() {
   run_refused "$1"
 }
 
-# Fails each allocation of a chart in turn, of a race of two senders; the whole chart is the one that comes where none
-# fails.
+# Fails each allocation of a chart in turn, of a race of two senders, in the form $1; the whole chart is the one that
+# comes where none fails.
 chart_refused() {
   some_row race_of_two_senders_right_first
-  sed -i 's/^run /chart /' "$room/words"
+  sed -i "s/^run /chart --format $1 /" "$room/words"
   refusing 0
   cp "$room/out" "$room/chart"
   whole=$room/chart
-  all_refused chart ended_well
+  all_refused "chart in $1" ended_well
 }
 
 # Sets the words and the input of `pulsefarm steps`, over the calls of two projects and a worker's work, and what it
@@ -287,7 +287,8 @@ printf '%s\n' 'seed 7' 'fails nodeadlock' 'schedule 0' memory 'steps 0' 'no verd
 hunt_refused hunt_by_several_properties
 hunt_refused hunt_by_several_properties_shrunk
 row_refused hunt_of_each_outcome ended_well
-chart_refused
+chart_refused svg
+chart_refused html
 some_commands
 all_refused steps commands_ended_well
 row_refused steps_race_in_both_orders commands_ended_well

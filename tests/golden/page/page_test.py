@@ -1,11 +1,12 @@
 #!/usr/bin/env python3
-"""page_test.py CHROMIUM [FOLDER]: opens pages in a browser, steps, filters, hides and searches, by keys, by mouse and
-as a screen reader sees them. Where FOLDER is named, each page and a picture of it stay there."""
+"""page_test.py CHROMIUM FOLDER: opens pages in a browser, steps, filters, hides and searches, by keys, by mouse and as
+a screen reader sees them. `race.html` and `long.html` in FOLDER are pages that the program wrote; each other page and a
+picture of each are left there."""
 
 import os
 import random
+import re
 import sys
-import tempfile
 
 import browser
 import pages
@@ -26,7 +27,7 @@ def holds(name, what):
     same(name, bool(what), True)
 
 
-room = sys.argv[2] if len(sys.argv) > 2 else tempfile.mkdtemp()
+room = sys.argv[2]
 it = browser.Browser(sys.argv[1])
 
 
@@ -299,6 +300,33 @@ def long_run(length, processes, seed):
     work("a filter in " + name, 300, lambda: it.get("document.getElementById('find').oninput()"))
 
 
+# ---- pages that the program wrote
+
+def written(name):
+    with open(os.path.join(room, name + ".html"), encoding="ascii") as file:
+        page = file.read()
+    events = re.findall('<li data-process="([0-9]*)" data-sender="[0-9]*" data-choice="[0-9]*" data-count="[0-9]*"'
+                        ' data-line="([0-9]*)"><code>([^<]*)</code>', page)
+    opened(name, page)
+    holds("%s is there without a wait that one notices (%.0f ms)" % (name, it.worked()), it.worked() < 2000)
+    last = len(events)
+    same("outcome of " + name, text("#outcome"), ", ".join(
+        re.findall("<[bi]>([^<]*)</[bi]>\n", page)[:2]).replace("&gt;", ">").replace("&lt;", "<"))
+    same("event at which %s begins" % name, now(), last)
+    same("red events of " + name, marked("fails"), [last])
+    holds("failing event of %s in view" % name, in_view(last))
+    it.click("#deliveries")
+    same("rows of " + name, rows(), list(range(1, last + 1)))
+    for number in random.Random(3).sample(range(1, last + 1), 12):
+        it.get("document.querySelector('.run li[data-number=\"%d\"]').click()" % number)
+        _, line, label = events[number - 1]
+        if int(line):
+            same("line of event %d of %s" % (number, name), lit(), [int(line)])
+        holds("label of event %d of %s" % (number, name), text("#event pre").startswith(
+            label.replace("&gt;", ">").replace("&lt;", "<")))
+    work("60 steps in " + name, 60 * 100, lambda: [it.key("k") for _ in range(60)])
+
+
 short_run()
 keyboard()
 reader()
@@ -307,6 +335,8 @@ ends()
 markup()
 long_run(400, 7, 1)
 long_run(2000, 12, 2)
+written("race")
+written("long")
 it.close()
 print("%d passed, %d failed" % (passed, failed))
 sys.exit(failed > 0)

@@ -238,6 +238,7 @@ completions() {
   offers 'nocrash nodeadlock' 'pulsefarm run --property no'
   offers '1 2' 'pulsefarm run m.erl --edition '
   offers 'json text' 'pulsefarm hunt m.erl --format '
+  offers 'html svg' 'pulsefarm chart m.erl --format '
   offers "$(grep -o '[a-z][A-Za-z0-9_@]*/0' "$room/m.erl" | cut -d/ -f1 | sort -u | tr '\n' ' ' | sed 's/ $//')" \
     'pulsefarm chart m.erl --root '
   for command in $commands; do

@@ -1,7 +1,7 @@
 use Rattle.std.proofs.Common.{◌≡◌, ◌<◌, ◌∙◌, IfOk, subst, sym}
 use Rattle.pf_model.specs.Shrinking.{IsResult}
 use Rattle.pf_request.specs.Job.{Job}
-use Rattle.pf_command.specs.Charts.{DrawsJob, IsRootOf}
+use Rattle.pf_command.specs.Charts.{DrawsJob, IsRootOf, view_of_drawing}
 use Rattle.pf_command.proofs.chart.draw_finished.Goals as goal
 
 pub draw_result-requires-clause-shrinks : goal.draw_result-requires-clause-shrinks
@@ -12,7 +12,7 @@ draw_result-requires-clause-shrinks c =
 pub draw_result-requires-clause-root : goal.draw_result-requires-clause-root
 draw_result-requires-clause-root c =
     let job : c.deref.result.now ≡ c.args.finished.now.job = c.deref.ensures ∙ c.job.ensures in
-    subst (λ (k : Job). IsRootOf k c.args.root.now) (sym job) c.requires.root
+    subst (λ (k : Job). IsRootOf k c.args.drawing.now.root.now) (sym job) c.requires.root
 
 pub draw_result-requires-clause-result : goal.draw_result-requires-clause-result
 draw_result-requires-clause-result c =
@@ -24,7 +24,7 @@ draw_result-requires-clause-result c =
 pub returns-in-Some : goal.returns-in-Some
 returns-in-Some c =
     let f = c.args.finished.now in
-    let root = c.args.root.now in
+    let d = view_of_drawing c.args.drawing.now in
     let job : c.deref.result.now ≡ f.job = c.deref.ensures ∙ c.job.ensures in
-    subst (λ j. IfOk c.draw_result.result (λ a. DrawsJob root c.args.manner j a.text.items a.status)) job
+    subst (λ j. IfOk c.draw_result.result (λ a. DrawsJob d j a.text.items a.status)) job
     c.draw_result.ensures

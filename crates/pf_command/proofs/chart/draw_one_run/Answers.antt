@@ -1,7 +1,7 @@
 use Rattle.std.proofs.lemmas.Result.{IfOk-weaker}
 use Rattle.pf_model.specs.Reports.{view_of_report}
 use Rattle.pf_request.specs.Job.{Job}
-use Rattle.pf_command.specs.Charts.{DrawsJob, DrawsRun}
+use Rattle.pf_command.specs.Charts.{DrawsJob, DrawsRun, view_of_drawing}
 use Rattle.pf_command.specs.AskedRuns.{RunsAs}
 use Rattle.pf_command.proofs.BySeed.{drawn_as, of_run}
 use Rattle.pf_command.proofs.chart.draw_one_run.Goals as goal
@@ -13,9 +13,9 @@ draw_run-requires-clause-run c =
 pub returns : goal.returns
 returns c =
     let j = c.args.job.now in
-    let root = c.args.root.now in
+    let d = view_of_drawing c.args.drawing.now in
     let run = view_of_report c.in_ok-run.run' in
-    IfOk-weaker c.draw_run.result (DrawsRun j.asked root c.args.manner run)
-    (λ a. (k : Job) × RunsAs c.args.by_seed j k × DrawsJob root c.args.manner k a.text.items a.status)
-    (λ a drawn. drawn_as c.args.by_seed j root c.args.manner run a c.requires.runs c.in_ok-run.ensures drawn)
+    IfOk-weaker c.draw_run.result (DrawsRun j.asked d run)
+    (λ a. (k : Job) × RunsAs c.args.by_seed j k × DrawsJob d k a.text.items a.status)
+    (λ a drawn. drawn_as c.args.by_seed j d run a c.requires.runs c.in_ok-run.ensures drawn)
     c.draw_run.ensures

@@ -6,7 +6,7 @@ use Rattle.pf_command.proofs.chart.draw_shrinking.Goals as goal
 pub draw_finished-requires-clause-root : goal.draw_finished-requires-clause-root
 draw_finished-requires-clause-root c =
     let job : c.in_ok-finished.finished.job ≡ c.args.job = c.in_ok-finished.ensures ∙ c.in_ok-job.ensures.ok in
-    subst (λ (k : Job). IsRootOf k c.args.root.now) (sym job) c.requires.root
+    subst (λ (k : Job). IsRootOf k c.args.drawing.now.root.now) (sym job) c.requires.root
 
 pub draw_finished-requires-clause-shrinks : goal.draw_finished-requires-clause-shrinks
 draw_finished-requires-clause-shrinks c =
