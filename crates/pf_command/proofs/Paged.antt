@@ -9,12 +9,15 @@ use Rattle.pf_model.specs.Reports.{view_of_event}
 use Rattle.pf_model.specs.declared.report.Event.{Event as Coded}
 use Rattle.pf_page.specs.declared.page.PageEvent.{PageEvent}
 use Rattle.pf_positions.specs.declared.places.Position.{Position}
-use Rattle.pf_system.proofs.Bodies.{more_length}
 use Rattle.pf_process_status.specs.Places.{AreEventPlaces, IsEventPlace}
 use Rattle.pf_process_status.specs.declared.known.KnownRun.{KnownRun}
 use Rattle.pf_process_status.specs.declared.places.EventPlace.{EventPlace}
 use Rattle.pf_process_status.proofs.Following.{at_pushed, event_in}
 use Rattle.pf_process_status.proofs.Stepping.{take_next}
+
+more_length : {X : Type 0} (xs : List X) (x : X) → length (xs ++ x ∷ []) ≡ suc (length xs)
+more_length [] x = refl
+more_length (y ∷ xs) x = ap suc (more_length xs x)
 
 -- the place of an event of a page is that of this number
 abbrev pub HasPlace : List EventPlace → (i : ℕ) → PageEvent → Type 0

@@ -150,7 +150,8 @@ module _ (k : KnownRun) (places : List (Option Position)) (xs : List Actor) (e :
 
 -- ---- all events
 
-pub take_next : {A : Type 0} (xs : List A) (i : ℕ) (x : A) → slice_get xs i ≡ Some x → take (suc i) xs ≡ take i xs ++ x ∷ []
+pub take_next : {A : Type 0} (xs : List A) (i : ℕ) (x : A) → slice_get xs i ≡ Some x
+    → take (suc i) xs ≡ take i xs ++ x ∷ []
 take_next [] i x e = absurd (cc)
 take_next (y ∷ xs) zero x e = ap (λ z. z ∷ []) (same_Some y x e)
 take_next (y ∷ xs) (suc i) x e = ap (λ zs. y ∷ zs) (take_next xs i x e)
