@@ -1,0 +1,4 @@
+pub mod Lines
+pub mod Settings
+pub mod Faults
+pub mod Words
