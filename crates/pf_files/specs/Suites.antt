@@ -1,7 +1,8 @@
 -- Which hunts go over several sources or roots, by their words, and where the files of a folder are.
 use Rattle.std.specs.Prelude.{◌≡◌, ◌⊎◌, ◌==◌, ℕ, Bool, true, false, ◌||◌, ◌&&◌, not, List, [], ◌∷◌, ◌++◌, codes}
+use Rattle.std.specs.Prelude.{Option, None, Some}
 use Rattle.std.specs.Str.{bytes_eq}
-use Rattle.pf_cli.specs.Args.{HuntArgs}
+use Rattle.pf_cli.specs.Args.{CommandWork, HuntArgs, ReadWords, hunt, works}
 use Rattle.pf_cli.specs.declared.args.Roots.{Roots}
 use Rattle.pf_cli.specs.declared.args.Roots.TheVariants.{Main, Named, Every}
 
@@ -27,3 +28,13 @@ IsPathOf folder path = (path ≡ folder ++ codes "/")
 abbrev pub is_looked_at : (name : List ℕ) → Bool
 is_looked_at [] = false
 is_looked_at (c ∷ name) = not (c == 46) && not (bytes_eq (c ∷ name) (codes "_build"))
+
+-- ---- the hunt that words ask for
+
+abbrev pub hunt_in : CommandWork → Option HuntArgs
+hunt_in (hunt h) = Some h
+hunt_in w = None
+
+abbrev pub hunt_asked : ReadWords → Option HuntArgs
+hunt_asked (works w file) = hunt_in w.work
+hunt_asked r = None

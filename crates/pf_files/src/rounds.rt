@@ -1,9 +1,11 @@
 //! Rounds of a hunt for a time: some seeds of each root, one root after another, so that none has much less.
 
+use crate::directives::args_by;
 use crate::suite::{AfterRoot, SuiteHunt};
 use pf_check::ReadSource;
 use pf_cli::HuntArgs;
 use pf_cli_messages::Seeds;
+use pf_directives::{Setting, hunt_words};
 use pf_errors::OrNoMemory;
 use pf_hunt::{HuntObserver, Leak, Pace};
 use pf_hunt_suite::{Hunted, OpenRoot, RootHunt, RootStage, open_root, seeds_after_round};
@@ -16,29 +18,36 @@ use std::sync::ledger::Ledger;
 use std::thread::Threads;
 use std::time::Clock;
 
-/// A source whose roots are hunted, with the name of its file.
+/// A source whose roots are hunted, with the name of its file, the settings of its directives, and whether a failure of
+/// its roots is expected.
 #[derive(Drop)]
 pub(crate) struct RoundSource {
     pub file: String,
     pub source: ReadSource,
     pub hunted: Hunted,
+    pub settings: Vec<Setting>,
+    pub expects_failure: bool,
 }
 
-/// Where a root is: its file, the source, and its name.
+/// A root: its file, the source, its name, how it is hunted, and whether a failure of it is expected.
 #[derive(Clone, Copy)]
 pub(crate) struct RootPlace<'a> {
     pub file: &'a str,
     pub source: &'a ReadSource,
     pub root: &'a [u8],
+    pub args: &'a HuntArgs<'a>,
+    pub expects_failure: bool,
 }
 
 impl RoundSource {
-    /// The place of a root of this source.
-    pub fn place<'a>(&'a self, root: &'a [u8]) -> RootPlace<'a> {
+    /// The place of a root of this source, which is hunted so.
+    pub fn place<'a>(&'a self, args: &'a HuntArgs<'a>, root: &'a [u8]) -> RootPlace<'a> {
         RootPlace {
             file: &self.file,
             source: &self.source,
             root,
+            args,
+            expects_failure: self.expects_failure,
         }
     }
 }
@@ -93,6 +102,23 @@ struct RoundRoot<'s> {
     leak: Option<Leak>,
 }
 
+/// A source, and how it is hunted.
+#[derive(Drop)]
+struct SourceHunt<'s> {
+    from: &'s RoundSource,
+    args: HuntArgs<'s>,
+}
+
+/// The most seeds that one of these roots has.
+fn most_seeds(roots: &[RoundRoot<'_>]) -> u64 {
+    let mut most = 0;
+    for root in roots {
+        let args = root.place.args;
+        most = args.end.saturating_sub(args.first).max(most);
+    }
+    most
+}
+
 /// The rounds of a hunt: the roots that have seeds left, and how far it is.
 #[derive(Drop)]
 struct Rounds<'s> {
@@ -124,7 +150,7 @@ where
         writer: &mut Counted<W, M>,
     ) -> Result<(), OrNoMemory<StreamFault>> {
         for root in &from.hunted.roots {
-            let place = from.place(root);
+            let place = from.place(args, root);
             let hunted = RootHunt {
                 args,
                 module: &from.hunted.module,
@@ -153,7 +179,7 @@ where
         writer: &mut Counted<W, M>,
     ) -> Result<(), OrNoMemory<StreamFault>> {
         let RoundRoot { place, open, leak } = root;
-        let to = self.args.first.saturating_add(rounds.each);
+        let to = place.args.first.saturating_add(rounds.each);
         // In the first round every root has its seeds, whatever the time is.
         let may_stop = open.seeds() > 0;
         let mut observer = RootObserver::new(seeds, rounds.done, leak);
@@ -208,11 +234,10 @@ where
         Ok(())
     }
 
-    /// Hunts the roots of these sources, round by round, until the time is over.
+    /// Hunts the roots of these sources, each by its words, round by round, until the time is over.
     fn rounds_of<'s, W: Write, M: Ledger>(
         &mut self,
-        args: &'s HuntArgs<'s>,
-        sources: &'s [RoundSource],
+        asked: &'s [SourceHunt<'s>],
         writer: &mut Counted<W, M>,
     ) -> Result<(), OrNoMemory<StreamFault>> {
         let mut rounds: Rounds<'s> = Rounds {
@@ -221,8 +246,8 @@ where
             done: 0,
             is_over: false,
         };
-        for from in sources {
-            self.open_roots(args, from, &mut rounds, writer)?;
+        for hunt in asked {
+            self.open_roots(&hunt.args, hunt.from, &mut rounds, writer)?;
         }
         self.go_round(&mut rounds, writer)?;
         self.stopped(&rounds.roots, writer)
@@ -237,14 +262,25 @@ where
         self.rounds_over(&sources, writer)
     }
 
-    /// Hunts the roots of these sources by the words that were given.
+    /// Hunts the roots of these sources by the words of the command and the settings of each.
     fn rounds_over<W: Write, M: Ledger>(
         &mut self,
         sources: &[RoundSource],
         writer: &mut Counted<W, M>,
     ) -> Result<(), OrNoMemory<StreamFault>> {
-        let args = self.args;
-        self.rounds_of(args, sources, writer)
+        let (alloc, command) = (self.rt.alloc(), self.words);
+        let mut words = Vec::new(alloc);
+        for from in sources {
+            words.push(hunt_words(alloc, command, &from.settings)?)?;
+        }
+        let mut asked = Vec::new(alloc);
+        for (from, words) in sources.iter().zip(&words) {
+            // These words were read before, when its roots were.
+            if let Ok(args) = args_by(alloc, words)? {
+                asked.push(SourceHunt { from, args })?;
+            }
+        }
+        self.rounds_of(&asked, writer)
     }
 
     /// Goes round the roots until the time is over or none is left.
@@ -253,7 +289,7 @@ where
         rounds: &mut Rounds<'_>,
         writer: &mut Counted<W, M>,
     ) -> Result<(), OrNoMemory<StreamFault>> {
-        let count = self.args.end.saturating_sub(self.args.first);
+        let count = most_seeds(&rounds.roots);
         let mut seeds = Seeds::new(self.line, self.rt, count, self.time_left());
         for _round in 0..u64::MAX {
             if rounds.is_over || rounds.roots.is_empty() {

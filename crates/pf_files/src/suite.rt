@@ -8,6 +8,7 @@ ghost use Rattle.pf_cli.specs.Args.{view_of_hunt_args};
 ghost use Rattle.pf_files.specs.Suites.{goes_over_several};
 
 use crate::contents::bytes_of_file;
+use crate::directives::{args_by, args_said, settings_said};
 use crate::folder::{files_in, is_folder};
 use crate::rounds::{RootObserver, RootPlace, RoundSource};
 use pf_check::{ReadModule, ReadSource};
@@ -16,10 +17,11 @@ use pf_cli_messages::{
     ProgressLine, REFUSED, Seeds, ShownText, WaitingProcesses, failed, say, why_of_root,
 };
 use pf_command::{MOST_BYTES, named_property};
-use pf_errors::{NoMemory, OrNoMemory};
+use pf_directives::{Setting, expects_failure, hunt_words, roots_of};
+use pf_errors::{NoMemory, OrNoMemory, SourceRefusal};
 use pf_hunt::Leak;
 use pf_hunt_suite::{
-    RootEnd, RootHunt, RootStage, Suite, SuiteCounts, line_of_refusal, line_of_root,
+    Hunted, RootEnd, RootHunt, RootStage, Suite, SuiteCounts, line_of_refusal, line_of_root,
     line_of_rootless, open_root, read_hunted, request_for, root_name,
 };
 use pf_request::Request;
@@ -82,6 +84,8 @@ fn what_is_root(roots: Roots) -> &'static str {
 #[derive(Drop)]
 pub(crate) struct SuiteHunt<'a, R> {
     pub(crate) rt: &'a R,
+    /// The words of the command, which the settings of a source's directives go with.
+    pub(crate) words: &'a [&'a str],
     pub(crate) args: &'a HuntArgs<'a>,
     pub(crate) line: &'a ProgressLine,
     pub(crate) workers: u64,
@@ -159,9 +163,15 @@ where
     }
 
     /// Says on standard error why something of this name is refused.
-    fn say_why(&self, name: &str, request: &Request, source: &ReadSource) -> Result<(), NoMemory> {
+    fn say_why(
+        &self,
+        args: &HuntArgs,
+        name: &str,
+        request: &Request,
+        source: &ReadSource,
+    ) -> Result<(), NoMemory> {
         let alloc = self.rt.alloc();
-        let why = why_of_root(alloc, self.args, request, source)?;
+        let why = why_of_root(alloc, args, request, source)?;
         let reported = format!(in alloc; "{name}: {why}")?;
         say(self.rt, &reported);
         Ok(())
@@ -174,8 +184,8 @@ where
         let bytes = root_name(alloc, place.file, place.root)?;
         let name = str::from_utf8(&bytes).unwrap_or(place.file);
         if matches!(end, RootEnd::Refused(_)) {
-            let request = request_for(alloc, self.args, place.root)?;
-            self.say_why(name, &request, place.source)?;
+            let request = request_for(alloc, place.args, place.root)?;
+            self.say_why(place.args, name, &request, place.source)?;
         }
         if let (true, Some(Leak { seed, processes })) = (self.args.leaks, leak) {
             let seed = Some(seed);
@@ -189,13 +199,15 @@ where
     /// The line of a root whose hunt ended so.
     fn line_of(&self, place: RootPlace, end: RootEnd) -> Result<Vec<u8>, NoMemory> {
         let property = match end {
-            RootEnd::Fails { cause, .. } => named_property(self.args, cause),
+            RootEnd::Fails { cause, .. } | RootEnd::FailsAsExpected { cause, .. } => {
+                named_property(place.args, cause)
+            }
             _ => None,
         };
         line_of_root(self.rt.alloc(), place.file, place.root, end, property)
     }
 
-    /// Reports how the hunt of a root ended, and counts it.
+    /// Reports how the hunt of a root ended, and counts it: as it is expected to, where that is expected.
     pub(crate) fn report<W: Write, M: Ledger>(
         &mut self,
         place: RootPlace,
@@ -203,11 +215,13 @@ where
         leak: Option<Leak>,
         writer: &mut Counted<W, M>,
     ) -> SuiteStep {
+        let end = end.as_expected(place.expects_failure);
         self.suite.ends.push(SuiteCounts::Root(end))?;
         put_now(&self.line_of(place, end)?, writer)?;
         // The line was written: nothing more is said where memory runs out now.
         let _said = self.say_more(place, end, leak);
-        if self.args.fail_fast && matches!(end, RootEnd::Fails { .. }) {
+        let fails = matches!(end, RootEnd::Fails { .. } | RootEnd::LacksFailure { .. });
+        if self.args.fail_fast && fails {
             Ok(AfterRoot::Stops)
         } else {
             Ok(AfterRoot::GoesOn)
@@ -217,13 +231,12 @@ where
     /// Hunts a root by all seeds.
     fn root<'s, W: Write, M: Ledger>(
         &mut self,
-        args: &'s HuntArgs<'s>,
         place: RootPlace<'s>,
         module: &'s ReadModule,
         seeds: &mut Seeds<'_, R>,
         writer: &mut Counted<W, M>,
     ) -> SuiteStep {
-        let alloc = self.rt.alloc();
+        let (alloc, args) = (self.rt.alloc(), place.args);
         let mut observer = RootObserver::new(seeds, 0, None);
         let hunted = RootHunt {
             args,
@@ -245,66 +258,130 @@ where
         self.report(place, end, leak, writer)
     }
 
-    /// Hunts the roots of a source.
-    fn roots<W: Write, M: Ledger>(
+    /// Hunts the roots of a source so.
+    fn roots<'s, W: Write, M: Ledger>(
         &mut self,
-        from: &RoundSource,
+        args: &'s HuntArgs<'s>,
+        from: &'s RoundSource,
         writer: &mut Counted<W, M>,
     ) -> SuiteStep {
-        let (args, module) = (self.args, &from.hunted.module);
+        let module = &from.hunted.module;
         let count = args.end.saturating_sub(args.first);
         for root in &from.hunted.roots {
             let mut seeds = Seeds::new(self.line, self.rt, count, None);
-            let place = from.place(root);
-            if self.root(args, place, module, &mut seeds, writer)? == AfterRoot::Stops {
+            let place = from.place(args, root);
+            if self.root(place, module, &mut seeds, writer)? == AfterRoot::Stops {
                 return Ok(AfterRoot::Stops);
             }
         }
         Ok(AfterRoot::GoesOn)
     }
 
-    /// Hunts the roots of a source that is no refused one, or keeps it for the rounds of a hunt for a time.
+    /// Hunts the roots of a source, or keeps it for the rounds of a hunt for a time.
     fn source_of<W: Write, M: Ledger>(
         &mut self,
         from: RoundSource,
         writer: &mut Counted<W, M>,
     ) -> SuiteStep {
+        let alloc = self.rt.alloc();
         if from.hunted.roots.is_empty() {
-            put_now(&line_of_rootless(self.rt.alloc(), &from.file)?, writer)?;
+            put_now(&line_of_rootless(alloc, &from.file)?, writer)?;
             return Ok(AfterRoot::GoesOn);
         }
-        if self.args.time.is_none() {
-            return self.roots(&from, writer);
+        if self.args.time.is_some() {
+            self.sources.push(from)?;
+            return Ok(AfterRoot::GoesOn);
         }
-        self.sources.push(from)?;
+        let words = hunt_words(alloc, self.words, &from.settings)?;
+        match args_by(alloc, &words)? {
+            Ok(args) => self.roots(&args, &from, writer),
+            // These words were read before, when its roots were.
+            Err(_) => Ok(AfterRoot::GoesOn),
+        }
+    }
+
+    /// Counts a source of which it was said why it isn't hunted.
+    fn refused(&mut self) -> SuiteStep {
+        self.suite.ends.push(SuiteCounts::Lost)?;
         Ok(AfterRoot::GoesOn)
     }
 
-    /// Hunts the roots of the source of these bytes, or says why it is refused.
-    fn source<W: Write, M: Ledger>(
+    /// Reports that a source is refused, and counts it.
+    fn refusal<W: Write, M: Ledger>(
         &mut self,
-        file: String,
-        bytes: Vec<u8>,
+        file: &str,
+        source: &ReadSource,
+        refusal: SourceRefusal,
         writer: &mut Counted<W, M>,
     ) -> SuiteStep {
-        let (alloc, args) = (self.rt.alloc(), self.args);
-        let source = ReadSource::new(alloc, bytes)?;
-        match read_hunted(alloc, args, &source) {
-            Ok(hunted) => {
+        self.suite.ends.push(SuiteCounts::Lost)?;
+        put_now(&line_of_refusal(self.rt.alloc(), file, refusal)?, writer)?;
+        let _said = self.say_why(self.args, file, &self.args.request, source);
+        Ok(AfterRoot::GoesOn)
+    }
+
+    /// What is hunted of a source by the words of the command and these settings. Where they exclude each other that is
+    /// said, and nothing is hunted.
+    fn hunted_by(
+        &self,
+        file: &str,
+        source: &ReadSource,
+        settings: &[Setting],
+    ) -> Result<Option<Hunted>, OrNoMemory<SourceRefusal>> {
+        let (alloc, command) = (self.rt.alloc(), self.words);
+        let words = hunt_words(alloc, command, settings)?;
+        let Some(args) = args_said(self.rt, file, &words)? else {
+            return Ok(None);
+        };
+        let mut hunted = read_hunted(alloc, &args, source)?;
+        let named = roots_of(alloc, command, settings)?;
+        if !named.is_empty() {
+            hunted.roots = named;
+        }
+        Ok(Some(hunted))
+    }
+
+    /// Hunts the roots of a source by the words of the command and these settings, or says why it is refused.
+    fn hunt_by<W: Write, M: Ledger>(
+        &mut self,
+        file: String,
+        source: ReadSource,
+        settings: Vec<Setting>,
+        writer: &mut Counted<W, M>,
+    ) -> SuiteStep {
+        match self.hunted_by(&file, &source, &settings) {
+            Ok(Some(hunted)) => {
                 let from = RoundSource {
                     file,
                     source,
                     hunted,
+                    expects_failure: expects_failure(self.words, &settings),
+                    settings,
                 };
                 self.source_of(from, writer)
             }
+            Ok(None) => self.refused(),
+            Err(OrNoMemory::Fault(refusal)) => self.refusal(&file, &source, refusal, writer),
             Err(OrNoMemory::NoMemory) => Err(OrNoMemory::NoMemory),
-            Err(OrNoMemory::Fault(refusal)) => {
-                self.suite.ends.push(SuiteCounts::Lost)?;
-                put_now(&line_of_refusal(alloc, &file, refusal)?, writer)?;
-                let _said = self.say_why(&file, &args.request, &source);
-                Ok(AfterRoot::GoesOn)
-            }
+        }
+    }
+
+    /// Hunts the roots of the source of these bytes, or says why it is refused. The standard input has no directives.
+    fn source<W: Write, M: Ledger>(
+        &mut self,
+        file: String,
+        bytes: Vec<u8>,
+        is_input: bool,
+        writer: &mut Counted<W, M>,
+    ) -> SuiteStep {
+        let alloc = self.rt.alloc();
+        let source = ReadSource::new(alloc, bytes)?;
+        if is_input || source.module().is_err() {
+            return self.hunt_by(file, source, Vec::new(alloc), writer);
+        }
+        match settings_said(self.rt, &file, source.bytes())? {
+            Some(settings) => self.hunt_by(file, source, settings, writer),
+            None => self.refused(),
         }
     }
 
@@ -324,7 +401,7 @@ where
                     has_lines,
                 };
                 let file = format!(in self.rt.alloc(); "{shown}")?;
-                self.source(file, bytes, writer)
+                self.source(file, bytes, name == "-", writer)
             }
             Err(OrNoMemory::Fault(fault)) => self.lost(name, fault),
             Err(OrNoMemory::NoMemory) => Err(OrNoMemory::NoMemory),
@@ -414,6 +491,7 @@ where
 /// Hunts over several sources and roots.
 pub fn hunt_suite<R, I: Read, W: Write, L: Ledger, M: Ledger>(
     rt: &R,
+    words: &[&str],
     args: &HuntArgs,
     stdin: &mut Counted<I, L>,
     writer: &mut Counted<W, M>,
@@ -434,6 +512,7 @@ where
     }
     let mut hunt = SuiteHunt {
         rt,
+        words,
         args,
         line,
         workers: workers_of(rt, args),

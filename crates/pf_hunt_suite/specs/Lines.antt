@@ -7,6 +7,7 @@ use Rattle.pf_errors.specs.Codes.{code_text}
 use Rattle.pf_model.specs.TermText.{atom_text, line}
 use Rattle.pf_hunt_suite.specs.declared.end.RootEnd.{RootEnd}
 use Rattle.pf_hunt_suite.specs.declared.end.RootEnd.TheVariants.{Fails, NoFailure, Stopped, Refused}
+use Rattle.pf_hunt_suite.specs.declared.end.RootEnd.TheVariants.{FailsAsExpected, LacksFailure}
 use Rattle.pf_hunt_suite.specs.declared.end.SuiteCounts.{SuiteCounts}
 use Rattle.pf_hunt_suite.specs.declared.end.SuiteCounts.TheVariants.{Lost, Root}
 
@@ -22,6 +23,15 @@ root_end_text (NoFailure n) = codes "no failure in " ++ decimal n ++ codes " see
 root_end_text (Stopped n) = (if is_few n then codes "cut short after " else codes "stopped after ") ++ decimal n
     ++ codes " seeds, no failure"
 root_end_text (Refused code) = code_text code
+root_end_text (FailsAsExpected s cause) = codes "as expected, seed " ++ decimal s ++ codes " fails"
+root_end_text (LacksFailure n) = codes "expected a failure, none in " ++ decimal n ++ codes " seeds"
+
+-- how the hunt of a root ends of which a failure is expected, or not: too few seeds are no evidence that it is lacking
+abbrev pub as_expected : (expects_failure : Bool) → RootEnd → RootEnd
+as_expected true (Fails s cause) = FailsAsExpected s cause
+as_expected true (NoFailure n) = LacksFailure n
+as_expected true (Stopped n) = if is_few n then Stopped n else LacksFailure n
+as_expected _ e = e
 
 -- a root is named after its file
 abbrev pub root_name : (file root : List ℕ) → List ℕ
@@ -49,9 +59,16 @@ abbrev pub is_root : SuiteCounts → Bool
 is_root Lost = false
 is_root (Root e) = true
 
+-- a root that fails, or that lacks the failure that is expected
 abbrev pub some_root_fails : SuiteCounts → Bool
 some_root_fails (Root (Fails s cause)) = true
+some_root_fails (Root (LacksFailure n)) = true
 some_root_fails _ = false
+
+-- a root that fails as it is expected to
+abbrev pub is_met : SuiteCounts → Bool
+is_met (Root (FailsAsExpected s cause)) = true
+is_met _ = false
 
 -- a root of which too few seeds were run before the time was over
 abbrev pub is_cut_short : SuiteCounts → Bool
@@ -72,12 +89,17 @@ number_with_word n one several = decimal n ++ codes " " ++ (if n == 1 then one e
 abbrev pub cut_short_text : (number : ℕ) → List ℕ
 cut_short_text n = if nat_lt 0 n then codes ", " ++ decimal n ++ codes " cut short" else []
 
+-- the part that there is only if failures were expected and met
+abbrev pub met_text : (number : ℕ) → List ℕ
+met_text n = if nat_lt 0 n then codes ", " ++ decimal n ++ codes " as expected" else []
+
 abbrev pub summary_text : (files : ℕ) → List SuiteCounts → List ℕ
 summary_text files ends =
     number_with_word files (codes "file") (codes "files") ++ codes ", " ++ number_with_word (count_by is_root ends)
     (codes "root") (codes "roots") ++ codes ": "
     ++ number_with_word (count_by some_root_fails ends) (codes "fails") (codes "fail") ++ codes ", "
-    ++ line (decimal (count_by is_refused ends) ++ codes " refused" ++ cut_short_text (count_by is_cut_short ends))
+    ++ line (decimal (count_by is_refused ends) ++ codes " refused" ++ cut_short_text (count_by is_cut_short ends)
+    ++ met_text (count_by is_met ends))
 
 -- 2 if something is refused or can't be read, else 1 if a root fails, else 2 if one was cut short or no root was
 -- hunted, else 0

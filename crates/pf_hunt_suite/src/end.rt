@@ -15,6 +15,30 @@ pub enum RootEnd {
     Stopped { seeds: u64 },
     /// What is asked for of it is refused.
     Refused(Code),
+    /// A failure is expected, and this is the least seed whose run fails, and why it does.
+    FailsAsExpected { seed: u64, cause: FailureCause },
+    /// A failure is expected, and no run of so many seeds fails.
+    LacksFailure { seeds: u64 },
+}
+
+impl RootEnd {
+    ghost use Rattle.std.specs.Prelude.{◌≡◌};
+    ghost use Rattle.pf_hunt_suite.specs.Lines.{as_expected};
+
+    /// How the hunt of a root ended of which a failure may be expected. Too few seeds are no evidence that it lacks.
+    pub fn as_expected(self, expects_failure: bool) -> RootEnd
+        ensures { result ≡ as_expected expects_failure self }
+    {
+        if !expects_failure {
+            return self;
+        }
+        match self {
+            RootEnd::Fails { seed, cause } => RootEnd::FailsAsExpected { seed, cause },
+            RootEnd::NoFailure { seeds } => RootEnd::LacksFailure { seeds },
+            RootEnd::Stopped { seeds } if seeds >= 100 => RootEnd::LacksFailure { seeds },
+            other => other,
+        }
+    }
 }
 
 impl fmt::Display for RootEnd {
@@ -32,6 +56,10 @@ impl fmt::Display for RootEnd {
             }
             RootEnd::Stopped { seeds } => write!(f, "stopped after {seeds} seeds, no failure"),
             RootEnd::Refused(code) => write!(f, "{code}"),
+            RootEnd::FailsAsExpected { seed, .. } => { write!(f, "as expected, seed {seed} fails") }
+            RootEnd::LacksFailure { seeds } => {
+                write!(f, "expected a failure, none in {seeds} seeds")
+            }
         }
     }
 }

@@ -3,7 +3,7 @@
 ghost use Rattle.std.specs.Prelude.{◌≡◌, ◌++◌, OnOk};
 ghost use Rattle.std.specs.List.{count_by};
 ghost use Rattle.pf_hunt_suite.specs.Lines as lines;
-ghost use Rattle.pf_hunt_suite.specs.Lines.{cut_short_text, number_with_word};
+ghost use Rattle.pf_hunt_suite.specs.Lines.{cut_short_text, met_text, number_with_word};
 
 use crate::end::{RootEnd, SuiteCounts};
 use pf_errors::NoMemory;
@@ -17,11 +17,21 @@ fn is_root(ending: &SuiteCounts) -> bool
     matches!(ending, SuiteCounts::Root(_))
 }
 
-/// Whether a root fails.
+/// Whether a root fails, or lacks the failure that is expected.
 fn fails(ending: &SuiteCounts) -> bool
     ensures { result ≡ lines.some_root_fails ending.now }
 {
-    matches!(ending, SuiteCounts::Root(RootEnd::Fails { .. }))
+    matches!(
+        ending,
+        SuiteCounts::Root(RootEnd::Fails { .. } | RootEnd::LacksFailure { .. })
+    )
+}
+
+/// Whether a root fails as it is expected to.
+fn is_met(ending: &SuiteCounts) -> bool
+    ensures { result ≡ lines.is_met ending.now }
+{
+    matches!(ending, SuiteCounts::Root(RootEnd::FailsAsExpected { .. }))
 }
 
 /// Whether something is refused, or can't be read.
@@ -96,6 +106,31 @@ fn cut_short_in(ends: &[SuiteCounts]) -> u64
     count
 }
 
+/// How many roots fail as they are expected to.
+fn met_in(ends: &[SuiteCounts]) -> u64
+    ensures { result ≡ count_by lines.is_met ends.now }
+{
+    let mut count = 0;
+    for ending in ends {
+        if is_met(ending) {
+            count += 1;
+        }
+    }
+    count
+}
+
+/// Puts how many roots fail as they are expected to, if some do.
+fn put_met(out: &mut Vec<u8>, number: u64) -> Result<(), NoMemory>
+    ensures { OnOk result (out.new.items ≡ out.old.items ++ met_text number) }
+{
+    if number > 0 {
+        put(out, b", ")?;
+        put_number(out, number)?;
+        put(out, b" as expected")?;
+    }
+    Ok(())
+}
+
 /// Puts how many roots were cut short, if some were.
 fn put_cut_short(out: &mut Vec<u8>, number: u64) -> Result<(), NoMemory>
     ensures { OnOk result (out.new.items ≡ out.old.items ++ cut_short_text number) }
@@ -155,12 +190,13 @@ impl Suite {
         put_number(&mut out, refusals_in(ends))?;
         put(&mut out, b" refused")?;
         put_cut_short(&mut out, cut_short_in(ends))?;
+        put_met(&mut out, met_in(ends))?;
         put_byte(&mut out, b'\n')?;
         Ok(out)
     }
 
-    /// The status: 2 if something is refused or can't be read, else 1 if a root fails, else 2 if one was cut short or
-    /// no root was hunted, else 0.
+    /// The status: 2 if something is refused or can't be read, else 1 if a root fails or lacks a failure, else 2 if one
+    /// was cut short or no root was hunted, else 0.
     pub fn status(&self) -> u8
         ensures { result ≡ suite_status self.now.ends.items }
     {

@@ -27,6 +27,16 @@ abbrev pub no_failure : List ShapePart
 no_failure = reports (fact (codes "failure") (truth false)) ∷ words (codes "no failure in ") ∷ count (codes "seeds")
     ∷ words (codes " seeds") ∷ []
 
+-- `fails as expected`
+abbrev pub as_expected : List ShapePart
+as_expected = reports (fact (codes "failure") (truth true)) ∷ reports (fact (codes "expected") (truth true))
+    ∷ words (codes "fails as expected") ∷ []
+
+-- `expected a failure`
+abbrev pub lacked : List ShapePart
+lacked = reports (fact (codes "failure") (truth false)) ∷ reports (fact (codes "expected") (truth true))
+    ∷ words (codes "expected a failure") ∷ []
+
 -- `stopped after 512 seeds`
 abbrev pub stopped : List ShapePart
 stopped = reports (fact (codes "stopped") (truth true)) ∷ words (codes "stopped after ") ∷ count (codes "seeds")
@@ -66,6 +76,26 @@ summary_short =
     ∷ maybe (codes "s") ∷ words (codes ": ") ∷ count (codes "fail") ∷ words (codes " fail") ∷ maybe (codes "s")
     ∷ words (codes ", ")
     ∷ count (codes "refused") ∷ words (codes " refused, ") ∷ count (codes "short") ∷ words (codes " cut short") ∷ []
+
+-- `2 files, 3 roots: 0 fail, 0 refused, 1 as expected`
+abbrev pub summary_met : List ShapePart
+summary_met =
+    count (codes "files") ∷ words (codes " file") ∷ maybe (codes "s") ∷ words (codes ", ") ∷ count (codes "roots")
+    ∷ words (codes " root")
+    ∷ maybe (codes "s") ∷ words (codes ": ") ∷ count (codes "fail") ∷ words (codes " fail") ∷ maybe (codes "s")
+    ∷ words (codes ", ")
+    ∷ count (codes "refused") ∷ words (codes " refused, ") ∷ count (codes "expected") ∷ words (codes " as expected")
+    ∷ []
+
+-- `2 files, 3 roots: 0 fail, 0 refused, 1 cut short, 1 as expected`
+abbrev pub summary_short_met : List ShapePart
+summary_short_met =
+    count (codes "files") ∷ words (codes " file") ∷ maybe (codes "s") ∷ words (codes ", ") ∷ count (codes "roots")
+    ∷ words (codes " root")
+    ∷ maybe (codes "s") ∷ words (codes ": ") ∷ count (codes "fail") ∷ words (codes " fail") ∷ maybe (codes "s")
+    ∷ words (codes ", ")
+    ∷ count (codes "refused") ∷ words (codes " refused, ") ∷ count (codes "short") ∷ words (codes " cut short, ")
+    ∷ count (codes "expected") ∷ words (codes " as expected") ∷ []
 
 -- ---- lines of an exploration
 
@@ -124,7 +154,7 @@ blank_line = reports (fact (codes "blank") (truth true)) ∷ []
 abbrev pub shapes : List (List ShapePart)
 shapes =
     event_shape ∷ no_verdict ∷ schedule ∷ no_failure ∷ stopped ∷ row_holds ∷ row_fails ∷ row_without ∷ summary
-    ∷ summary_short ∷ none_fails ∷ deviated
+    ∷ summary_short ∷ summary_met ∷ summary_short_met ∷ as_expected ∷ lacked ∷ none_fails ∷ deviated
     ∷ cut ∷ timed ∷ refusal ∷ refusal_at ∷ position ∷ instead ∷ write ∷ blank_line ∷ []
 
 -- ---- what is reported after a name, in a hunt over several files or roots
@@ -138,6 +168,24 @@ seed_fails = reports (fact (codes "failure") (truth true)) ∷ words (codes "see
 abbrev pub seed_fails_by : List ShapePart
 seed_fails_by = reports (fact (codes "failure") (truth true)) ∷ words (codes "seed ") ∷ count (codes "seed")
     ∷ words (codes " fails ") ∷ property (codes "property") ∷ []
+
+-- a failure that is expected, from here on
+abbrev pub met : List ShapePart → List ShapePart
+met following = reports (fact (codes "failure") (truth true)) ∷ reports (fact (codes "expected") (truth true))
+    ∷ words (codes "as expected, seed ") ∷ count (codes "seed") ∷ following
+
+-- `as expected, seed 0 fails`
+abbrev pub seed_met : List ShapePart
+seed_met = met (words (codes " fails") ∷ [])
+
+-- `as expected, seed 0 fails nocrash`
+abbrev pub seed_met_by : List ShapePart
+seed_met_by = met (words (codes " fails ") ∷ property (codes "property") ∷ [])
+
+-- `expected a failure, none in 200 seeds`
+abbrev pub lacking : List ShapePart
+lacking = reports (fact (codes "failure") (truth false)) ∷ reports (fact (codes "expected") (truth true))
+    ∷ words (codes "expected a failure, none in ") ∷ count (codes "seeds") ∷ words (codes " seeds") ∷ []
 
 -- `stopped after 512 seeds, no failure`
 abbrev pub stopped_well : List ShapePart
@@ -160,7 +208,8 @@ rootless = words (codes "no root") ∷ reports (fact (codes "roots") (number 0))
 
 -- what is reported of a root
 abbrev pub root_shapes : List (List ShapePart)
-root_shapes = seed_fails ∷ seed_fails_by ∷ no_failure ∷ stopped_well ∷ cut_short ∷ refusal ∷ []
+root_shapes =
+    seed_fails ∷ seed_fails_by ∷ seed_met ∷ seed_met_by ∷ lacking ∷ no_failure ∷ stopped_well ∷ cut_short ∷ refusal ∷ []
 
 -- what is reported of a file
 abbrev pub file_shapes : List (List ShapePart)

@@ -109,6 +109,32 @@ pub worked_summary_short : facts_of (codes "6 files, 1 root: 0 fail, 0 refused, 
 unfolding facts_by_first
 worked_summary_short = refl
 
+pub worked_met : facts_of (codes "a.erl main: as expected, seed 7 fails nocrash")
+    ≡ fact (codes "file") (text (codes "a.erl")) ∷ fact (codes "root") (text (codes "main"))
+    ∷ fact (codes "failure") (truth true)
+    ∷ fact (codes "expected") (truth true) ∷ fact (codes "seed") (number 7)
+    ∷ fact (codes "property") (text (codes "nocrash")) ∷ []
+unfolding facts_by_first
+worked_met = refl
+
+pub worked_lacking : facts_of (codes "a.erl main: expected a failure, none in 50 seeds")
+    ≡ fact (codes "file") (text (codes "a.erl")) ∷ fact (codes "root") (text (codes "main"))
+    ∷ fact (codes "failure") (truth false)
+    ∷ fact (codes "expected") (truth true) ∷ fact (codes "seeds") (number 50) ∷ []
+unfolding facts_by_first
+worked_lacking = refl
+
+pub worked_summary_met : facts_of (codes "6 files, 1 root: 0 fail, 0 refused, 1 as expected")
+    ≡ fact (codes "files") (number 6) ∷ fact (codes "roots") (number 1) ∷ fact (codes "fail") (number 0)
+    ∷ fact (codes "refused") (number 0) ∷ fact (codes "expected") (number 1) ∷ []
+unfolding facts_by_first
+worked_summary_met = refl
+
+pub worked_as_expected : facts_of (codes "fails as expected")
+    ≡ fact (codes "failure") (truth true) ∷ fact (codes "expected") (truth true) ∷ []
+unfolding facts_by_first
+worked_as_expected = refl
+
 -- ---- a check
 
 pub worked_refusal : facts_of (codes "E6 at 41") ≡ fact (codes "refusal") (text (codes "E6")) ∷ fact (codes "at")

@@ -39,6 +39,32 @@ const NO_FAILURE: [ShapePart<'static>; 4] = [
     ShapePart::Words(b" seeds"),
 ];
 
+/// `fails as expected`
+const AS_EXPECTED: [ShapePart<'static>; 3] = [
+    ShapePart::Reports(Fact {
+        key: b"failure",
+        value: Value::Truth(true),
+    }),
+    ShapePart::Reports(Fact {
+        key: b"expected",
+        value: Value::Truth(true),
+    }),
+    ShapePart::Words(b"fails as expected"),
+];
+
+/// `expected a failure`
+const LACKED: [ShapePart<'static>; 3] = [
+    ShapePart::Reports(Fact {
+        key: b"failure",
+        value: Value::Truth(false),
+    }),
+    ShapePart::Reports(Fact {
+        key: b"expected",
+        value: Value::Truth(true),
+    }),
+    ShapePart::Words(b"expected a failure"),
+];
+
 /// `stopped after 512 seeds`
 const STOPPED: [ShapePart<'static>; 4] = [
     ShapePart::Reports(Fact {
@@ -128,6 +154,48 @@ const SUMMARY_SHORT: [ShapePart<'static>; 16] = [
     ShapePart::Words(b" refused, "),
     ShapePart::Count(b"short"),
     ShapePart::Words(b" cut short"),
+];
+
+/// `2 files, 3 roots: 0 fail, 0 refused, 1 as expected`
+const SUMMARY_MET: [ShapePart<'static>; 16] = [
+    ShapePart::Count(b"files"),
+    ShapePart::Words(b" file"),
+    ShapePart::Maybe(b"s"),
+    ShapePart::Words(b", "),
+    ShapePart::Count(b"roots"),
+    ShapePart::Words(b" root"),
+    ShapePart::Maybe(b"s"),
+    ShapePart::Words(b": "),
+    ShapePart::Count(b"fail"),
+    ShapePart::Words(b" fail"),
+    ShapePart::Maybe(b"s"),
+    ShapePart::Words(b", "),
+    ShapePart::Count(b"refused"),
+    ShapePart::Words(b" refused, "),
+    ShapePart::Count(b"expected"),
+    ShapePart::Words(b" as expected"),
+];
+
+/// `2 files, 3 roots: 0 fail, 0 refused, 1 cut short, 1 as expected`
+const SUMMARY_SHORT_MET: [ShapePart<'static>; 18] = [
+    ShapePart::Count(b"files"),
+    ShapePart::Words(b" file"),
+    ShapePart::Maybe(b"s"),
+    ShapePart::Words(b", "),
+    ShapePart::Count(b"roots"),
+    ShapePart::Words(b" root"),
+    ShapePart::Maybe(b"s"),
+    ShapePart::Words(b": "),
+    ShapePart::Count(b"fail"),
+    ShapePart::Words(b" fail"),
+    ShapePart::Maybe(b"s"),
+    ShapePart::Words(b", "),
+    ShapePart::Count(b"refused"),
+    ShapePart::Words(b" refused, "),
+    ShapePart::Count(b"short"),
+    ShapePart::Words(b" cut short, "),
+    ShapePart::Count(b"expected"),
+    ShapePart::Words(b" as expected"),
 ];
 
 /// `no schedule fails: 20 runs; a run has at most 14 steps`
@@ -227,7 +295,7 @@ const BLANK: [ShapePart<'static>; 1] = [ShapePart::Reports(Fact {
 })];
 
 /// The shapes, in the order in which they are tried.
-pub(crate) const SHAPES: [&[ShapePart<'static>]; 20] = [
+pub(crate) const SHAPES: [&[ShapePart<'static>]; 24] = [
     &EVENT,
     &NO_VERDICT,
     &SCHEDULE,
@@ -238,6 +306,10 @@ pub(crate) const SHAPES: [&[ShapePart<'static>]; 20] = [
     &ROW_WITHOUT,
     &SUMMARY,
     &SUMMARY_SHORT,
+    &SUMMARY_MET,
+    &SUMMARY_SHORT_MET,
+    &AS_EXPECTED,
+    &LACKED,
     &NONE_FAILS,
     &DEVIATED,
     &CUT,
@@ -271,6 +343,52 @@ const SEED_FAILS_BY: [ShapePart<'static>; 5] = [
     ShapePart::Count(b"seed"),
     ShapePart::Words(b" fails "),
     ShapePart::Property(b"property"),
+];
+
+/// `as expected, seed 0 fails`
+const SEED_MET: [ShapePart<'static>; 5] = [
+    ShapePart::Reports(Fact {
+        key: b"failure",
+        value: Value::Truth(true),
+    }),
+    ShapePart::Reports(Fact {
+        key: b"expected",
+        value: Value::Truth(true),
+    }),
+    ShapePart::Words(b"as expected, seed "),
+    ShapePart::Count(b"seed"),
+    ShapePart::Words(b" fails"),
+];
+
+/// `as expected, seed 0 fails nocrash`
+const SEED_MET_BY: [ShapePart<'static>; 6] = [
+    ShapePart::Reports(Fact {
+        key: b"failure",
+        value: Value::Truth(true),
+    }),
+    ShapePart::Reports(Fact {
+        key: b"expected",
+        value: Value::Truth(true),
+    }),
+    ShapePart::Words(b"as expected, seed "),
+    ShapePart::Count(b"seed"),
+    ShapePart::Words(b" fails "),
+    ShapePart::Property(b"property"),
+];
+
+/// `expected a failure, none in 200 seeds`
+const LACKING: [ShapePart<'static>; 5] = [
+    ShapePart::Reports(Fact {
+        key: b"failure",
+        value: Value::Truth(false),
+    }),
+    ShapePart::Reports(Fact {
+        key: b"expected",
+        value: Value::Truth(true),
+    }),
+    ShapePart::Words(b"expected a failure, none in "),
+    ShapePart::Count(b"seeds"),
+    ShapePart::Words(b" seeds"),
 ];
 
 /// `stopped after 512 seeds, no failure`
@@ -317,9 +435,12 @@ const ROOTLESS: [ShapePart<'static>; 2] = [
 ];
 
 /// The shapes of what is reported of a root.
-pub(crate) const ROOT_SHAPES: [&[ShapePart<'static>]; 6] = [
+pub(crate) const ROOT_SHAPES: [&[ShapePart<'static>]; 9] = [
     &SEED_FAILS,
     &SEED_FAILS_BY,
+    &SEED_MET,
+    &SEED_MET_BY,
+    &LACKING,
     &NO_FAILURE,
     &STOPPED_WELL,
     &CUT_SHORT,

@@ -216,6 +216,12 @@ hunt_of_several a h old new given is so =
     (ap (λ x. may_be_several (view_of_args x) (named_file x)) is
     ∙ ap (λ b. b || goes_over_several (view_of_hunt_args h)) (is_some_of (λ s. s.now) h.file) ∙ so)
 
+-- a hunt of a name
+pub hunt_of_file : (a : Args) (h : hunt_code.HuntArgs) (old new : Streams) (given : ℕ) → a ≡ Hunt h
+    → is_some h.file ≡ true → FromOne (view_of_args a) (named_file a) old new given
+hunt_of_file a h old new given is so =
+    hunt_of_several a h old new given is (ap (λ b. b || goes_over_several (view_of_hunt_args h)) so)
+
 -- all but a farm
 pub is_no_farm : (a : Args) → ((f : FarmArgs) → a ≡ Farm f → ⊥) → is_farm (view_of_args a) ≡ false
 is_no_farm (Run r) not = refl

@@ -3,6 +3,7 @@
 
 mod answer;
 mod explore;
+mod hunt_file;
 mod request;
 mod schedule;
 mod steps;

@@ -54,6 +54,7 @@ fn farm_of<'a>(asked: CliCommand<'a>) -> Result<FarmArgs<'a>, CliCommand<'a>>
 /// Does what is asked for, with a JSON object in place of each line that is written; its status.
 fn work_in_json<R, I: Read, W: Write, L: Ledger, M: Ledger>(
     rt: &R,
+    words: &[&str],
     asked: &CliCommand,
     stdin: &mut Counted<I, L>,
     inner: &mut W,
@@ -74,7 +75,7 @@ where
 {
     let lines = JsonLines::new(rt.alloc(), inner);
     let mut writer = Counted::<JsonLines<&mut W>, M>::new(lines, writes);
-    work(rt, asked, stdin, &mut writer, line)
+    work(rt, words, asked, stdin, &mut writer, line)
 }
 
 /// Does what words ask for, the first of which names the program, between the standard streams and with the files that
@@ -109,9 +110,11 @@ where
         Err(asked) => asked,
     };
     let inner = match asked.format {
-        Format::Text => return Ok(Obeyed::Status(work(rt, &asked, stdin, writer, line))),
+        Format::Text => return Ok(Obeyed::Status(work(rt, words, &asked, stdin, writer, line))),
         Format::Json => &mut writer.inner,
     };
     let writes = Blank::new(1);
-    Ok(Obeyed::Status(work_in_json::<R, I, W, L, Brand>(rt, &asked, stdin, inner, line, writes)))
+    Ok(Obeyed::Status(work_in_json::<R, I, W, L, Brand>(
+        rt, words, &asked, stdin, inner, line, writes,
+    )))
 }

@@ -9,6 +9,7 @@ ghost use Rattle.pf_streams.specs.Streams.{CountsReadOrNone};
 ghost use Rattle.pf_words.specs.Words.{FromNamed, FromOne, is_farm};
 
 use crate::answer::{answer_of, has_source, say_more, seeds_of, send};
+use crate::hunt_file::{FileHunt, hunt_file};
 use crate::steps::{answer_file, answer_steps};
 use pf_check::ReadSource;
 use pf_cli::{Args, CliCommand};
@@ -108,9 +109,11 @@ where
     Ok(ReadSource::new(rt.alloc(), bytes)?)
 }
 
-/// Does what is asked for, with the file that is named or with the standard input; its status.
+/// Does what words ask for, with the file that is named or with the standard input; its status. A hunt goes by the
+/// directives of a file, and the standard input has none.
 pub fn work<R, I: Read, W: Write, L: Ledger, M: Ledger>(
     rt: &R,
+    words: &[&str],
     asked: &CliCommand,
     stdin: &mut Counted<I, L>,
     writer: &mut Counted<W, M>,
@@ -129,8 +132,12 @@ where
     let form = Some(asked.format);
     if let Args::Hunt(args) = &asked.args {
         if is_suite(rt, args) {
-            let answered = hunt_suite(rt, args, stdin, writer, line);
+            let answered = hunt_suite(rt, words, args, stdin, writer, line);
             return end(rt, None, form, answered);
+        }
+        if let Some(name) = args.file {
+            let hunt = FileHunt { name, words, asked };
+            return hunt_file(rt, hunt, writer, line);
         }
     }
     let file = asked.args.file();

@@ -1,12 +1,16 @@
-use Rattle.std.proofs.Common.{sym}
-use Rattle.std.specs.Prelude.{option_map}
+use Rattle.std.proofs.Common.{ap, sym}
+use Rattle.std.specs.Prelude.{is_some, option_map}
 use Rattle.pf_cli.specs.Args.{named_file, view_of_args}
-use Rattle.pf_words.proofs.Ends.{hunt_of_several, source_from, steps_from, unread_from}
+use Rattle.pf_words.proofs.Ends.{hunt_of_file, hunt_of_several, source_from, steps_from, unread_from}
 use Rattle.pf_words.proofs.work.work.Goals as goal
 
 pub returns-then-is_suite : goal.returns-then-is_suite
 returns-then-is_suite g c =
     hunt_of_several c.args.asked.now.args _ _ _ c.end.result c.in-Hunt.is (c.is_suite.ensures.named c.if-is_suite.true)
+
+pub returns-then-Some : goal.returns-then-Some
+returns-then-Some g c =
+    hunt_of_file c.args.asked.now.args _ _ _ c.hunt_file.result c.in-Hunt.is (ap is_some c.in-Some.is)
 
 pub returns-then-not-has_source : goal.returns-then-not-has_source
 returns-then-not-has_source g c =
