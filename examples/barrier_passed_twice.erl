@@ -24,3 +24,4 @@ wait(Barrier, Main) ->
         go -> Main ! {through, self()}, wait(Barrier, Main);
         still_there -> Barrier ! {arrive, self()}, wait(Barrier, Main)
     end.
+%% pulsefarm: property true, expect failure

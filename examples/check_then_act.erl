@@ -21,3 +21,4 @@ start_server() ->
 
 server() ->
     receive {hello, From} -> From ! welcome, server() end.
+%% pulsefarm: property nocrash, expect failure

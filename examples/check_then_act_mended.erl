@@ -15,3 +15,4 @@ client(Main) ->
 
 server() ->
     receive {hello, From} -> From ! welcome, server() end.
+%% pulsefarm: property nocrash

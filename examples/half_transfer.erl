@@ -28,3 +28,4 @@ account(N) ->
         {change, Amount, From} -> From ! {changed, self()}, account(N + Amount);
         {balance, From} -> From ! {balance, self(), N}, account(N)
     end.
+%% pulsefarm: property true, expect failure

@@ -20,3 +20,4 @@ bank(From, To) ->
         {move, Amount, Worker} -> Worker ! moved, bank(From - Amount, To + Amount);
         {total, Client} -> Client ! {total, From + To}, bank(From, To)
     end.
+%% pulsefarm: property true

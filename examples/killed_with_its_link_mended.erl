@@ -25,3 +25,4 @@ owner(Client) ->
 task(Owner) ->
     Owner ! {ready, self()},
     receive go -> ok end.
+%% pulsefarm: property true

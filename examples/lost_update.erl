@@ -24,3 +24,4 @@ counter(N) ->
         {read, From} -> From ! {value, N}, counter(N);
         {write, M, From} -> From ! written, counter(M)
     end.
+%% pulsefarm: property true, expect failure

@@ -23,3 +23,4 @@ counter(N) ->
         {read, From} -> From ! {value, N}, counter(N);
         {add, K, From} -> From ! added, counter(N + K)
     end.
+%% pulsefarm: property true

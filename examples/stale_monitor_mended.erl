@@ -18,3 +18,4 @@ call(Job) ->
 
 worker(Caller, Job) ->
     receive go -> Caller ! {answer, Job} end.
+%% pulsefarm: property true

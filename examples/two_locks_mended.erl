@@ -27,3 +27,4 @@ lock() ->
             Owner ! {granted, self()},
             receive {release, Owner} -> lock() end
     end.
+%% pulsefarm: property nodeadlock

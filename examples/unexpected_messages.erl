@@ -15,3 +15,4 @@ collect(N) ->
 
 worker(Collector, N) ->
     Collector ! {result, N, N * N}.
+%% pulsefarm: property true, expect failure

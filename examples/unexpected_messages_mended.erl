@@ -16,3 +16,4 @@ collect(N) ->
 
 worker(Collector, N) ->
     Collector ! {result, N, N * N}.
+%% pulsefarm: property true

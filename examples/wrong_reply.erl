@@ -19,3 +19,4 @@ doubler() ->
 
 squarer() ->
     receive {ask, From, N} -> From ! {reply, N * N}, squarer() end.
+%% pulsefarm: property true, expect failure

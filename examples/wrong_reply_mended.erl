@@ -24,3 +24,4 @@ doubler() ->
 
 squarer() ->
     receive {ask, From, Ref, N} -> From ! {reply, Ref, N * N}, squarer() end.
+%% pulsefarm: property true

@@ -26,3 +26,4 @@ closed() -> receive {vote, From, _} -> From ! too_late, closed() end.
 objected([]) -> false;
 objected([objects | _]) -> true;
 objected([_ | Votes]) -> objected(Votes).
+%% pulsefarm: property true

@@ -40,3 +40,4 @@ adder(Root, Lock, Register) ->
     receive written -> ok end,
     Lock ! {let_go, Lease},
     Root ! added.
+%% pulsefarm: property true, expect failure

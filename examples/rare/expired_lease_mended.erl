@@ -48,3 +48,4 @@ adder(Root, Lock, Register) ->
         true -> Root ! added;
         false -> adder(Root, Lock, Register)
     end.
+%% pulsefarm: property true

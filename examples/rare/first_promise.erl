@@ -73,3 +73,4 @@ accepted(Missing, Refused) ->
         {promise, _, _} -> accepted(Missing, Refused);
         {refuse, _} -> accepted(Missing, Refused + 1)
     end.
+%% pulsefarm: property true, expect failure

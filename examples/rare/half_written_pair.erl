@@ -38,3 +38,4 @@ reading(Root, Version, Left, Right, Times) ->
         {true, true} -> Root ! {whole, false};
         {_, _} -> reading(Root, Version, Left, Right, Times - 1)
     end.
+%% pulsefarm: property true, expect failure

@@ -38,3 +38,4 @@ reading(Root, Version, Left, Right, Times) ->
         true -> Root ! {whole, false};
         false -> reading(Root, Version, Left, Right, Times - 1)
     end.
+%% pulsefarm: property true

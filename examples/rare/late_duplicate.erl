@@ -42,3 +42,4 @@ receiving(Bit, Items) ->
         {item, From, Other, _} -> From ! {acknowledged, Other}, receiving(Bit, Items);
         {what, From} -> From ! {taken, Items}, receiving(Bit, Items)
     end.
+%% pulsefarm: property true, expect failure

@@ -40,3 +40,4 @@ receiving(Next, Items) ->
         {item, From, Other, _} -> From ! {acknowledged, Other}, receiving(Next, Items);
         {what, From} -> From ! {taken, Items}, receiving(Next, Items)
     end.
+%% pulsefarm: property true

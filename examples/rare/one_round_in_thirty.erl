@@ -33,3 +33,4 @@ bank(One, Two, _, 0) -> One ! {set, 1}, Two ! {set, 1};
 bank(One, Two, Echo, Rounds) ->
     Echo ! {call, self()},
     receive answer -> bank(One, Two, Echo, Rounds - 1) end.
+%% pulsefarm: property true, expect failure

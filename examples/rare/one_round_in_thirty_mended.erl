@@ -30,3 +30,4 @@ bank(Both, _, 0) -> Both ! {set, {1, 1}};
 bank(Both, Echo, Rounds) ->
     Echo ! {call, self()},
     receive answer -> bank(Both, Echo, Rounds - 1) end.
+%% pulsefarm: property true

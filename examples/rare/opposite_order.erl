@@ -22,3 +22,4 @@ hops(To, Number) ->
 
 journal(Root, [A, B, C, D]) -> Root ! {journal, [A, B, C, D]};
 journal(Root, Entries) -> receive {entry, Number} -> journal(Root, [Number | Entries]) end.
+%% pulsefarm: property true, expect failure

@@ -21,3 +21,4 @@ hops(To, Number) ->
 
 journal(Root, 5, Entries) -> Root ! {journal, Entries};
 journal(Root, Next, Entries) -> receive {entry, Next} -> journal(Root, Next + 1, [Next | Entries]) end.
+%% pulsefarm: property true

@@ -33,3 +33,4 @@ watch(Root, Leader, Answers, Ticks) ->
         here -> Leader ! {ask, self()}, watch(Root, Leader, Answers - 1, Ticks);
         {tick, From} -> From ! next, watch(Root, Leader, Answers, Ticks + 1)
     end.
+%% pulsefarm: property true, expect failure

