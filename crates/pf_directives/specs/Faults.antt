@@ -3,8 +3,8 @@ use Rattle.std.specs.Prelude.{ℕ, List, [], ◌∷◌, ◌++◌, codes}
 use Rattle.std.specs.Fmt.{decimal}
 use Rattle.pf_directives.specs.Settings.{Fault}
 use Rattle.pf_directives.specs.declared.setting.SettingName.{SettingName}
-use Rattle.pf_directives.specs.declared.setting.SettingName.TheVariants.{Root, Property, Limit, Edition, Seeds, Strategy}
-use Rattle.pf_directives.specs.declared.setting.SettingName.TheVariants.{Expect}
+use Rattle.pf_directives.specs.declared.setting.SettingName.TheVariants.{Root, Property, Limit, Edition, Seeds}
+use Rattle.pf_directives.specs.declared.setting.SettingName.TheVariants.{Strategy, Expect}
 use Rattle.pf_directives.specs.declared.fault.Flaw.{Flaw}
 use Rattle.pf_directives.specs.declared.fault.Flaw.TheVariants.{Missing, Valueless, Commaless, Unknown, Twice, Invalid}
 

@@ -9,8 +9,8 @@ use Rattle.pf_tokens.specs.Rules.{HasSomeFault, HasTokens}
 use Rattle.pf_cli.specs.Args.{ReadWords, reading_of, works, reads, reports}
 use Rattle.pf_directives.specs.Lines.{Line, directive_in, lines_of, words_of}
 use Rattle.pf_directives.specs.declared.setting.SettingName.{SettingName}
-use Rattle.pf_directives.specs.declared.setting.SettingName.TheVariants.{Root, Property, Limit, Edition, Seeds, Strategy}
-use Rattle.pf_directives.specs.declared.setting.SettingName.TheVariants.{Expect}
+use Rattle.pf_directives.specs.declared.setting.SettingName.TheVariants.{Root, Property, Limit, Edition, Seeds}
+use Rattle.pf_directives.specs.declared.setting.SettingName.TheVariants.{Strategy, Expect}
 use Rattle.pf_directives.specs.declared.setting.Setting as code
 use Rattle.pf_directives.specs.declared.fault.Flaw.{Flaw}
 use Rattle.pf_directives.specs.declared.fault.Flaw.TheVariants.{Missing, Valueless, Commaless, Unknown, Twice, Invalid}
@@ -68,7 +68,8 @@ as_text bytes = if is_utf8 bytes then Some bytes else None
 
 abbrev pub setting_by : SettingName → (text : Option (List ℕ)) → Option Setting
 setting_by name None = None
-setting_by name (Some text) = if is_value (option_of name) text then Some (record { name = name; value = text }) else None
+setting_by name (Some text) =
+    if is_value (option_of name) text then Some (record { name = name; value = text }) else None
 
 -- the setting of a name and a value, if this is a text and one of its values
 abbrev pub setting_of : SettingName → (value : List ℕ) → Option Setting

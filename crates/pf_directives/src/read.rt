@@ -37,7 +37,8 @@ fn with_setting(
     word: &[u8],
     value: &[u8],
 ) -> ReadSettings
-    ensures { Gives (λ v. map view_of_setting v.items) result (with_setting line (map view_of_setting settings.items) word.now value.now) }
+    ensures { Gives (λ v. map view_of_setting v.items) result
+        (with_setting line (map view_of_setting settings.items) word.now value.now) }
 {
     let Some(name) = setting_named(word) else {
         return Err(fault(alloc, line, Flaw::Unknown, word));
@@ -126,7 +127,8 @@ fn with_line(
     settings: Vec<Setting>,
     line: &SourceLine,
 ) -> ReadSettings
-    ensures { Gives (λ v. map view_of_setting v.items) result (with_line (map placed_of tokens.now) (map view_of_setting settings.items)
+    ensures { Gives (λ v. map view_of_setting v.items) result
+        (with_line (map placed_of tokens.now) (map view_of_setting settings.items)
         (view_of_line line.now)) }
 {
     match directive_in(tokens, line) {

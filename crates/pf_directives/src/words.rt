@@ -98,8 +98,8 @@ fn put_settings<'a>(
     Ok(())
 }
 
-/// The words by which a source with these settings is hunted, from those of the command, the first two of which name the
-/// program and the command.
+/// The words by which a source with these settings is hunted, from those of the command, the first two of which name
+/// the program and the command.
 pub fn hunt_words<'a>(
     alloc: Global,
     words: &[&'a str],

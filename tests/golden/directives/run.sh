@@ -25,7 +25,7 @@ said() {
   note "$1" $?
 }
 
-# A module m in the file m.erl, with the lines from $1 on from its fifth line: `main` returns false, and `crash` crashes.
+# A module m in the file m.erl, with the lines from $1 on from its fifth line: `main` returns false, `crash` crashes.
 module() {
   printf '%s\n' '-module(m).' '-export([main/0, crash/0]).' 'main() -> false.' 'crash() -> 1 div 0.' "$@" > m.erl
 }
