@@ -1,5 +1,5 @@
 -- Mailboxes while the events of a run are read.
-use Rattle.std.proofs.Common.{◌≡◌, ◌+◌, ◌<◌, ◌⊎◌, inl, inr, ℕ, zero, suc, true, List, [], ◌∷◌, ◌++◌, Option, Some, None}
+use Rattle.std.proofs.Common.{◌≡◌, ◌+◌, ◌<◌, inl, inr, ℕ, zero, suc, true, List, [], ◌∷◌, Option, Some, None}
 use Rattle.std.proofs.Common.{IfSome, is_some, length, remove, set, sym, ap, ◌∙◌, subst, arith}
 use Rattle.std.specs.Prelude.{slice_get}
 use Rattle.std.specs.Global.{Vec}
@@ -17,14 +17,6 @@ use Rattle.pf_chart.proofs.Sending.{Reports}
 
 -- ---- lists
 
--- what is in a list after a push was in it, or is what was pushed
-pub in_pushed : {X : Type 0} (xs : List X) (x y : X) (i : ℕ) → slice_get (xs ++ x ∷ []) i ≡ Some y
-    → (slice_get xs i ≡ Some y) ⊎ (y ≡ x)
-in_pushed [] x y zero is = inr (sym (same_Some x y is))
-in_pushed [] x y (suc i) is = absurd (cc)
-in_pushed (z ∷ zs) x y zero is = inl is
-in_pushed (z ∷ zs) x y (suc i) is = in_pushed zs x y i is
-
 -- what is in a list after one was removed was in it
 pub in_removed : {X : Type 0} (xs : List X) (n i : ℕ) (x : X) → slice_get (remove xs n) i ≡ Some x
     → (k : ℕ) × (slice_get xs k ≡ Some x)
@@ -40,36 +32,6 @@ what_is_there P (Some x) there h = (x, h)
 what_is_there P None there h = absurd (cc)
 
 -- ---- mailboxes
-
--- those of a new one are empty
-pub empty_pushed : (qs : List (Vec ℕ)) (q : Vec ℕ) → q.items ≡ []
-    → ((i : ℕ) (p : Vec ℕ) → slice_get qs i ≡ Some p → p.items ≡ [])
-    → (i : ℕ) (p : Vec ℕ) → slice_get (qs ++ q ∷ []) i ≡ Some p → p.items ≡ []
-empty_pushed qs q empty all i p is = from (in_pushed qs q p i is)
-  where
-    from : (slice_get qs i ≡ Some p) ⊎ (p ≡ q) → p.items ≡ []
-    from (inl before) = all i p before
-    from (inr last) = ap (λ v. v.items) last ∙ empty
-
-pub none_pushed : (xs : List (Option ℕ)) → ((d r : ℕ) → slice_get xs d ≡ Some (Some r) → ⊥)
-    → (d r : ℕ) → slice_get (xs ++ None ∷ []) d ≡ Some (Some r) → ⊥
-none_pushed xs none d r is = from (in_pushed xs None (Some r) d is)
-  where
-    from : (slice_get xs d ≡ Some (Some r)) ⊎ (Some r ≡ None) → ⊥
-    from (inl before) = none d r before
-    from (inr last) = absurd (cc)
-
--- and nothing was taken yet
-pub none_yet : (es : List Event) (cs : List Column) (m : Mailboxes)
-    → ((i : ℕ) (q : Vec ℕ) → slice_get m.waiting.items i ≡ Some q → q.items ≡ [])
-    → ((d r : ℕ) → slice_get m.taken.items d ≡ Some (Some r) → ⊥) → AreMailboxes es cs 0 m
-none_yet es cs m empty none = record {
-  waiting = λ i k d q is in_it. nothing k d (sym (ap (λ xs. slice_get xs k) (empty i q is)) ∙ in_it);
-  taken = λ d r is. absurd (none d r is);
-}
-  where
-    nothing : {A : Type 0} (k d : ℕ) → slice_get [] k ≡ Some d → A
-    nothing k d is = absurd (cc)
 
 -- more events were read
 pub one_read : (es : List Event) (cs : List Column) (n : ℕ) (m : Mailboxes) → AreMailboxes es cs n m
@@ -95,19 +57,7 @@ one_changed es cs n qs i q low each all = λ j k d p is in_it. from j k d p is i
         (each k d (ap (λ (v : Vec ℕ). slice_get v.items k) one ∙ in_it))
     from j k d p is in_it (inr other) = all j k d p (sym (set_besides qs i j q other.1) ∙ is) in_it
 
--- a message comes into one
-pub one_more_waits : (es : List Event) (cs : List Column) (n : ℕ) (qs : List (Vec ℕ)) (i d : ℕ) (p q : Vec ℕ)
-    → slice_get qs i ≡ Some p → q.items ≡ p.items ++ d ∷ [] → IsWaiting es cs n i d
-    → AreInMailboxes es cs n qs → AreInMailboxes es cs n (set qs i q)
-one_more_waits es cs n qs i d p q is items waits all =
-    one_changed es cs n qs i q (slice_get_within qs i p is)
-    (λ k x in_it. from k x (in_pushed p.items d x k (sym (ap (λ xs. slice_get xs k) items) ∙ in_it))) all
-  where
-    from : (k x : ℕ) → (slice_get p.items k ≡ Some x) ⊎ (x ≡ d) → IsWaiting es cs n i x
-    from k x (inl before) = all i k x p is before
-    from k x (inr last) = subst (λ l. IsWaiting es cs n i l) (sym last) waits
-
--- one goes out of one
+-- a message leaves one
 pub one_goes : (es : List Event) (cs : List Column) (n : ℕ) (qs : List (Vec ℕ)) (i k : ℕ) (p q : Vec ℕ)
     → slice_get qs i ≡ Some p → q.items ≡ remove p.items k
     → AreInMailboxes es cs n qs → AreInMailboxes es cs n (set qs i q)

@@ -8,19 +8,9 @@ set -u
 top=$(cd "$(dirname "$0")/../../.." && pwd)
 # shellcheck source=tests/compare.sh
 . "$top/tests/compare.sh"
+# shellcheck source=tests/farm/lines.sh
+. "$top/tests/farm/lines.sh"
 cd "$room" || exit 2
-
-# Begins the file of project $1, which submits the source in the file $2.
-begin() {
-  { printf 'submit %s %s\n' "$1" "$(wc -c < "$2")"; cat "$2"; echo; } > "c$1"
-}
-
-# What `steps` answers to the lines of project $1 in its file, where each `await` is a worker's work on that trial.
-alone() {
-  awk -v p="$1" '
-    /^await / { print "claim 0 " p " " $3; print "slice 0 " p " " $3 " 1000000"; print "file 0 " p " " $3; next }
-    { print }' "c$1" | timeout 120 "$program" steps | grep -v '^w0 '
-}
 
 # Runs a farm of $2 workers over the files from $3 on, and counts whether it writes what is in `wanted` with status $1.
 farm() {

@@ -8,19 +8,9 @@ set -u
 top=$(cd "$(dirname "$0")/../../.." && pwd)
 # shellcheck source=tests/compare.sh
 . "$top/tests/compare.sh"
+# shellcheck source=tests/farm/lines.sh
+. "$top/tests/farm/lines.sh"
 cd "$room" || exit 2
-
-# Begins the file of project $1, which submits the source in the file $2.
-begin() {
-  { printf 'submit %s %s\n' "$1" "$(wc -c < "$2")"; cat "$2"; echo; } > "c$1"
-}
-
-# What `steps` answers to the lines of project $1 in its file, where each `await` is a worker's work on that trial.
-alone() {
-  awk -v p="$1" '
-    /^await / { print "claim 0 " p " " $3; print "slice 0 " p " " $3 " 1000000"; print "file 0 " p " " $3; next }
-    { print }' "c$1" | timeout 120 "$program" steps | grep -v '^w0 '
-}
 
 # Waits until the file $1 is what the file $2 is, but for no more than 20 seconds.
 until_same() {
@@ -104,7 +94,7 @@ two_pipes() {
   ends 0 'two pipes'
 }
 
-# A client that sleeps delays no other, and one that closes within a source is told so, alone.
+# A client that sleeps delays no other, and of one that closes within a source this is reported, to it alone.
 one_sleeps() {
   fresh
   mkfifo f1
